@@ -199,7 +199,7 @@ Does old (Hears now input) new = HearsOn now input old new
 Does old (Hands now ticket asked) new = HearsSo now (turns.Call ticket asked) old new
 Does old Renews new = RenewsSo old new
 Does old (Follows ticket side path) new =
-    new ≡ record old { subjects = old.subjects ++ record { ticket = ticket; side = side; path = path; progress = progress.Due; is_missing = false; told = None } ∷ [] }
+    new ≡ record old { subjects = old.subjects ++ record { ticket = ticket; side = side; path = path; progress = progress.Due; is_missing = false; is_there = false; told = None } ∷ [] }
 Does old (Unfollows ticket) new = new ≡ record old { subjects = unfollowed ticket old.subjects }
 Does old (Asks ticket asked until) new = AsksSo ticket asked until old new
 Does old (GivesUp now) new = new ≡ record old { line = left (ending.Late now) old.line; told = old.told ++ endings (ending.Late now) old.line }

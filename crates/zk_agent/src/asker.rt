@@ -112,7 +112,7 @@ impl<A: Allocator + Copy> Asker<A> {
         path: Path<A>,
     ) -> Result<(), AllocError>
         ensures client { self.new.follower.client ≡ self.old.follower.client }
-        ensures subjects { OnOk result (self.new.follower.subjects.items ≡ self.old.follower.subjects.items ++ record { ticket = ticket; side = side; path = path; progress = progress.Due; is_missing = false; told = None } ∷ []) }
+        ensures subjects { OnOk result (self.new.follower.subjects.items ≡ self.old.follower.subjects.items ++ record { ticket = ticket; side = side; path = path; progress = progress.Due; is_missing = false; is_there = false; told = None } ∷ []) }
         ensures line { self.new.line ≡ self.old.line }
     {
         self.follower.follow(ticket, side, path)

@@ -56,25 +56,25 @@ of_refusal view call =
 full_by : (view : View) → nat_le MOST_PENDING (calls_pending view.pending) ≡ true → IsFull view
 full_by view e = grind (arith, nat_tests)
 
-refused_later : (now : ℕ) → now < 2 ^ 64 → (view : View) (why : Outcome) → IsDenial view why → IsFull view ⊎ IsRefused now (progress_after now why)
-refused_later now fits view TooManyWatches d = inr (omega arith)
-refused_later now fits view TooManyPending d = inl (full_by view d)
-refused_later now fits view TooLarge d = inr (omega arith)
-refused_later now fits view SessionClosed d = inr (omega arith)
-refused_later now fits view _ d = absurd d
+refused_later : (now : ℕ) → now < 2 ^ 64 → (was_there : Bool) (view : View) (why : Outcome) → IsDenial view why → IsFull view ⊎ IsRefused now (progress_after now was_there why)
+refused_later now fits was_there view TooManyWatches d = inr (omega arith)
+refused_later now fits was_there view TooManyPending d = inl (full_by view d)
+refused_later now fits was_there view TooLarge d = inr (omega arith)
+refused_later now fits was_there view SessionClosed d = inr (omega arith)
+refused_later now fits was_there view _ d = absurd d
 
 is_due_now : Progress → Bool
 is_due_now Due = true
 is_due_now _ = false
 
 -- where it is to be read at once, as many calls wait as may
-full_where_due : (now : ℕ) (view : View) (why : Outcome) → IsDenial view why → progress_after now why ≡ Due → IsFull view
+full_where_due : (now : ℕ) (was_there : Bool) (view : View) (why : Outcome) → IsDenial view why → progress_after now was_there why ≡ Due → IsFull view
 unfolding is_due_now
-full_where_due now view TooManyWatches d e = let f : false ≡ true = ap is_due_now e in cc
-full_where_due now view TooManyPending d e = full_by view d
-full_where_due now view TooLarge d e = let f : false ≡ true = ap is_due_now e in cc
-full_where_due now view SessionClosed d e = let f : false ≡ true = ap is_due_now e in cc
-full_where_due now view _ d e = absurd d
+full_where_due now was_there view TooManyWatches d e = let f : false ≡ true = ap is_due_now e in cc
+full_where_due now was_there view TooManyPending d e = full_by view d
+full_where_due now was_there view TooLarge d e = let f : false ≡ true = ap is_due_now e in cc
+full_where_due now was_there view SessionClosed d e = let f : false ≡ true = ap is_due_now e in cc
+full_where_due now was_there view _ d e = absurd d
 
 -- ---- the turn of a call
 
@@ -166,13 +166,13 @@ module _ {A : Type 0} (now : ℕ) (fits : now < 2 ^ 64) (subject : Subject A) (r
   denied_read denied =
       subst (λ said. IsSettled now view after (heard_all now subject said)) (sym denied.2)
       (subst (IsSettled now view after) (sym (ap (λ b. cond b (answered now denied.0 subject) subject) (eq-eqb subject.ticket subject.ticket refl))) (
-        elim (refused_later now fits view denied.0 denied.1) [
+        elim (refused_later now fits subject.is_there view denied.0 denied.1) [
           | inl full ↦ inr (inr (inl (subst IsFull (sym denied.3) full)))
           | inr refused ↦ inr (inr (inr (inr refused)))
         ],
-        (λ goes_on reading. absurd (no_answer now denied.0 reading)),
+        (λ goes_on reading. absurd (no_answer now subject.is_there denied.0 reading)),
         subst (Asks view) (sym denied.3) (no_calls view),
-        λ due. subst IsFull (sym denied.3) (full_where_due now view denied.0 denied.1 due),
+        λ due. subst IsFull (sym denied.3) (full_where_due now subject.is_there view denied.0 denied.1 due),
       ))
 
   pub read_asked : Rule view (record { input = Call subject.ticket call; outputs = outputs }) after → view.standing.state ≡ Connected

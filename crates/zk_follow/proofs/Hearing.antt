@@ -1,8 +1,8 @@
 -- What a subject has heard leaves its read waiting, where it still counts as one that is being read.
 use Rattle.std.proofs.Common.{◌≡◌, ◌++◌, ℕ, Bool, true, false, cond, List, [], ◌∷◌, refl, sym, ap, subst, ◌∙◌}
-use Rattle.std.specs.Prelude.{◌==◌}
-use Rattle.zk_conversation.specs.Results.{Result, Refused as Refused_by}
-use Rattle.zk_turns.specs.Turns.{Outcome, Replied, Output, Answer, Enters, Turn}
+use Rattle.std.specs.Prelude.{◌==◌, bytes_eq}
+use Rattle.zk_conversation.specs.Results.{Result, NoNode, Refused as Refused_by}
+use Rattle.zk_turns.specs.Turns.{Outcome, Replied, Output, Answer, Enters, Report, Turn}
 use Rattle.zk_turns.specs.View.{View}
 use Rattle.zk_turns.specs.Rule.{Rule, RuleAt}
 use Rattle.zk_follow.specs.declared.subject.Subject.{Subject}
@@ -17,23 +17,30 @@ is_reading Reading = true
 is_reading _ = false
 
 -- with an answer a read waits no more
-no_code : (now : ℕ) (result : Result) → after_code now result ≡ Reading → ⊥
+no_code : (now : ℕ) (was_there : Bool) (result : Result) → after_code now was_there result ≡ Reading → ⊥
 unfolding is_reading
-no_code now (Refused_by code) e = let f = ap is_reading e in cc
-no_code now _ e = let f = ap is_reading e in cc
+no_code now was_there (Refused_by code) e = let f = ap is_reading e in cc
+no_code now true NoNode e = let f = ap is_reading e in cc
+no_code now false NoNode e = let f = ap is_reading e in cc
+no_code now was_there _ e = let f = ap is_reading e in cc
 
-pub no_answer : (now : ℕ) (outcome : Outcome) → progress_after now outcome ≡ Reading → ⊥
+pub no_answer : (now : ℕ) (was_there : Bool) (outcome : Outcome) → progress_after now was_there outcome ≡ Reading → ⊥
 unfolding is_reading
-no_answer now (Replied zxid result) e = no_code now result e
-no_answer now _ e = let f = ap is_reading e in cc
+no_answer now was_there (Replied zxid result) e = no_code now was_there result e
+no_answer now was_there _ e = let f = ap is_reading e in cc
 
 module _ {A : Type 0} (now : ℕ) where
   heard_reading : (subject : Subject A) (output : Output) → (heard now subject output).progress ≡ Reading → (ends_wait subject.ticket output ≡ false) × (subject.progress ≡ Reading)
   heard_reading subject (Answer ticket outcome) e = by (subject.ticket == ticket) refl e
     where
       by : (b : Bool) → (subject.ticket == ticket) ≡ b → (cond b (answered now outcome subject) subject).progress ≡ Reading → ((subject.ticket == ticket) ≡ false) × (subject.progress ≡ Reading)
-      by true same e = absurd (no_answer now outcome e)
+      by true same e = absurd (no_answer now subject.is_there outcome e)
       by false other e = (other, e)
+  heard_reading subject (Report at side event) e = by (bytes_eq at subject.path) e
+    where
+      by : (b : Bool) → (cond b (record subject { is_there = false }) subject).progress ≡ Reading → (false ≡ false) × (subject.progress ≡ Reading)
+      by true same = (refl, same)
+      by false same = (refl, same)
   heard_reading subject (Enters state) e = absurd cc
   heard_reading subject _ e = (refl, e)
 
@@ -41,6 +48,11 @@ module _ {A : Type 0} (now : ℕ) where
   same_ticket subject (Answer ticket outcome) = by (subject.ticket == ticket)
     where
       by : (b : Bool) → (cond b (answered now outcome subject) subject).ticket ≡ subject.ticket
+      by true = refl
+      by false = refl
+  same_ticket subject (Report at side event) = by (bytes_eq at subject.path)
+    where
+      by : (b : Bool) → (cond b (record subject { is_there = false }) subject).ticket ≡ subject.ticket
       by true = refl
       by false = refl
   same_ticket subject _ = refl
@@ -51,12 +63,22 @@ module _ {A : Type 0} (now : ℕ) where
       by : (b : Bool) → (cond b (answered now outcome subject) subject).side ≡ subject.side
       by true = refl
       by false = refl
+  same_side subject (Report at side event) = by (bytes_eq at subject.path)
+    where
+      by : (b : Bool) → (cond b (record subject { is_there = false }) subject).side ≡ subject.side
+      by true = refl
+      by false = refl
   same_side subject _ = refl
 
   same_path : (subject : Subject A) (output : Output) → (heard now subject output).path ≡ subject.path
   same_path subject (Answer ticket outcome) = by (subject.ticket == ticket)
     where
       by : (b : Bool) → (cond b (answered now outcome subject) subject).path ≡ subject.path
+      by true = refl
+      by false = refl
+  same_path subject (Report at side event) = by (bytes_eq at subject.path)
+    where
+      by : (b : Bool) → (cond b (record subject { is_there = false }) subject).path ≡ subject.path
       by true = refl
       by false = refl
   same_path subject _ = refl

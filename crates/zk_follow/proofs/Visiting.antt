@@ -5,10 +5,10 @@ use Rattle.std.proofs.Math.Seq.{take-append_seam}
 use Rattle.std.proofs.lemmas.Grind.{flat_map-append}
 use Rattle.std.proofs.lemmas.List.Elements.{All-map}
 use Rattle.std.proofs.lemmas.Bool.Decides.{Decides-eqb}
-use Rattle.std.specs.Prelude.{◌==◌, All, slice_index_or}
+use Rattle.std.specs.Prelude.{◌==◌, All, bytes_eq, slice_index_or}
 use Rattle.std.specs.List.{FoldsTo}
-use Rattle.zk_conversation.specs.Results.{Refused as Refused_by}
-use Rattle.zk_turns.specs.Turns.{Outcome, Replied, TooManyWatches, TooLarge, SessionClosed, Output, Answer, Enters, Turn, Input, Call}
+use Rattle.zk_conversation.specs.Results.{NoNode, Refused as Refused_by}
+use Rattle.zk_turns.specs.Turns.{Outcome, Replied, TooManyWatches, TooLarge, SessionClosed, Output, Answer, Enters, Report, Turn, Input, Call}
 use Rattle.zk_session.specs.declared.states.State.TheVariants.{Connected, Idle}
 use Rattle.zk_client.specs.Clients.{renewed_start}
 use Rattle.zk_turns.specs.View.{View, view_at}
@@ -131,13 +131,15 @@ whole_written count written rest size = ap (λ n. take n (written ++ rest)) size
 
 -- ---- where a subject counts as refused, its moment is after this one
 
-answer_ahead : (now : ℕ) → now < 2 ^ 64 → (outcome : Outcome) → IsAhead now (progress_after now outcome)
-answer_ahead now fits (Replied zxid (Refused_by code)) = omega arith
-answer_ahead now fits (Replied zxid _) = tt
-answer_ahead now fits TooManyWatches = omega arith
-answer_ahead now fits TooLarge = omega arith
-answer_ahead now fits SessionClosed = omega arith
-answer_ahead now fits _ = tt
+answer_ahead : (now : ℕ) → now < 2 ^ 64 → (was_there : Bool) (outcome : Outcome) → IsAhead now (progress_after now was_there outcome)
+answer_ahead now fits was_there (Replied zxid (Refused_by code)) = omega arith
+answer_ahead now fits true (Replied zxid NoNode) = omega arith
+answer_ahead now fits false (Replied zxid NoNode) = tt
+answer_ahead now fits was_there (Replied zxid _) = tt
+answer_ahead now fits was_there TooManyWatches = omega arith
+answer_ahead now fits was_there TooLarge = omega arith
+answer_ahead now fits was_there SessionClosed = omega arith
+answer_ahead now fits was_there _ = tt
 
 rested_ahead : (now : ℕ) (progress : Progress) → IsAhead now (rested_progress progress)
 rested_ahead now Due = tt
@@ -149,7 +151,12 @@ module _ {A : Type 0} (now : ℕ) (fits : now < 2 ^ 64) where
   one_ahead subject (Answer ticket outcome) ahead = by (subject.ticket == ticket)
     where
       by : (b : Bool) → IsAhead now (cond b (answered now outcome subject) subject).progress
-      by true = answer_ahead now fits outcome
+      by true = answer_ahead now fits subject.is_there outcome
+      by false = ahead
+  one_ahead subject (Report at side event) ahead = by (bytes_eq at subject.path)
+    where
+      by : (b : Bool) → IsAhead now (cond b (record subject { is_there = false }) subject).progress
+      by true = ahead
       by false = ahead
   one_ahead subject (Enters state) ahead = tt
   one_ahead subject _ ahead = ahead

@@ -1,5 +1,5 @@
 -- What it is to follow a subject, and what becomes of its reading.
-use Rattle.std.specs.Prelude.{◌≡◌, ◌≢◌, ◌≤◌, ◌<◌, ◌⊎◌, ◌==◌, ◌+◌, ◌-◌, ◌^◌, ◌||◌, ◌&&◌, not, ⊤, min, ℕ, Bool, true, false, List, [], ◌∷◌, ◌++◌, fold, Option, Some, None, if◌then◌else◌, nat_le, length, slice_index_or, bytes_eq}
+use Rattle.std.specs.Prelude.{◌≡◌, ◌≢◌, ◌≤◌, ◌<◌, ◌⊎◌, ◌==◌, ◌+◌, ◌-◌, ◌^◌, ◌||◌, ◌&&◌, not, ⊤, min, ℕ, negsuc, Bool, true, false, List, [], ◌∷◌, ◌++◌, fold, Option, Some, None, if◌then◌else◌, nat_le, length, slice_index_or, bytes_eq}
 use Rattle.std.specs.List.{filter, list_any, flat_map, FoldsTo}
 use Rattle.std.specs.Ordering.{int_eq}
 use Rattle.zk_nodes.specs.Path.{Text}
@@ -29,18 +29,20 @@ use Rattle.zk_follow.specs.declared.subject.Subject.{Subject}
 abbrev pub later : ℕ → ℕ
 later now = min (now + 1000) (2 ^ 64 - 1)
 
--- How far the reading of a subject is once a read was answered. Where there is no node, it is read in another way; where the connection
--- was lost, or the session is over, it is read once there is another one; where too many calls wait, once fewer do.
-abbrev pub after_code : ℕ → Result → Progress
-after_code now (Refused_by code) = Refused (Code code) (later now)
-after_code now _ = Due
+-- How far the reading of a subject is once a read was answered. Where there is no node, it is read in another way; but where the server has
+-- just said that there is one, and has reported nothing of the path since, it contradicts itself, and that counts as a refusal. Where the
+-- connection was lost, or the session is over, it is read once there is another one; where too many calls wait, once fewer do.
+abbrev pub after_code : ℕ → (was_there : Bool) → Result → Progress
+after_code now was_there (Refused_by code) = Refused (Code code) (later now)
+after_code now true NoNode = Refused (Code (negsuc 100)) (later now)
+after_code now was_there _ = Due
 
-abbrev pub progress_after : ℕ → Outcome → Progress
-progress_after now (Replied zxid result) = after_code now result
-progress_after now Too_many_watches = Refused TooManyWatches (later now)
-progress_after now Too_large = Refused TooLarge (later now)
-progress_after now Session_closed = Refused SessionClosed (later now)
-progress_after now _ = Due
+abbrev pub progress_after : ℕ → (was_there : Bool) → Outcome → Progress
+progress_after now was_there (Replied zxid result) = after_code now was_there result
+progress_after now was_there Too_many_watches = Refused TooManyWatches (later now)
+progress_after now was_there Too_large = Refused TooLarge (later now)
+progress_after now was_there Session_closed = Refused SessionClosed (later now)
+progress_after now was_there _ = Due
 
 -- whether the last reply said that there is no node
 abbrev pub missing_by : Bool → Result → Bool
@@ -52,13 +54,28 @@ abbrev pub missing_after : Bool → Outcome → Bool
 missing_after was (Replied zxid result) = missing_by was result
 missing_after was _ = was
 
--- What one output makes of a subject. With another state no call waits any more.
+-- whether the last reply said that there is a node, where the one before it said that there is none
+abbrev pub there_by : (was_missing was_there : Bool) → Result → Bool
+there_by was_missing was_there NoNode = false
+there_by was_missing was_there (Refused_by code) = was_there
+there_by was_missing was_there _ = was_missing
+
+abbrev pub there_after : (was_missing was_there : Bool) → Outcome → Bool
+there_after was_missing was_there (Replied zxid result) = there_by was_missing was_there result
+there_after was_missing was_there _ = was_there
+
+-- What one output makes of a subject. With another state no call waits any more. A report of its path says that the node is another one.
 abbrev pub answered : {A : Type 0} → ℕ → Outcome → Subject A → Subject A
-answered now outcome subject = record subject { progress = progress_after now outcome; is_missing = missing_after subject.is_missing outcome }
+answered now outcome subject = record subject {
+  progress = progress_after now subject.is_there outcome;
+  is_missing = missing_after subject.is_missing outcome;
+  is_there = there_after subject.is_missing subject.is_there outcome;
+}
 
 abbrev pub heard : {A : Type 0} → ℕ → Subject A → Output → Subject A
 heard now subject (turns.Answer ticket outcome) = if subject.ticket == ticket then answered now outcome subject else subject
-heard now subject (Enters state) = record subject { progress = Due }
+heard now subject (turns.Report at side event) = if bytes_eq at subject.path then record subject { is_there = false } else subject
+heard now subject (Enters state) = record subject { progress = Due; is_there = false }
 heard now subject _ = subject
 
 -- what outputs make of it, in order
@@ -151,7 +168,7 @@ rested_progress Reading = Reading
 rested_progress _ = Due
 
 abbrev pub rested : {A : Type 0} → Subject A → Subject A
-rested subject = record subject { progress = rested_progress subject.progress; is_missing = false }
+rested subject = record subject { progress = rested_progress subject.progress; is_missing = false; is_there = false }
 
 -- Calls were asked, and nothing else has happened to a client.
 pub record Asks (view after : View) : Type 0 where
@@ -217,7 +234,7 @@ pub record Steps {A : Type 0} (now : ℕ) (view : View) (input : Input) (old : L
 
 -- to be read: another session begins
 abbrev pub due_again : {A : Type 0} → Subject A → Subject A
-due_again subject = record subject { progress = Due }
+due_again subject = record subject { progress = Due; is_there = false }
 
 -- those that are followed on, once this ticket is followed no more
 abbrev pub unfollowed : {A : Type 0} → (ticket : ℕ) → List (Subject A) → List (Subject A)

@@ -187,7 +187,7 @@ impl<A: Allocator + Copy> Follower<A> {
     /// subject that is followed after it.
     pub fn follow(&mut self, ticket: u64, side: Side, path: Path<A>) -> Result<(), AllocError>
         ensures client { self.new.client ≡ self.old.client }
-        ensures subjects { OnOk result (self.new.subjects.items ≡ self.old.subjects.items ++ record { ticket = ticket; side = side; path = path; progress = Progress.Due; is_missing = false; told = None } ∷ []) }
+        ensures subjects { OnOk result (self.new.subjects.items ≡ self.old.subjects.items ++ record { ticket = ticket; side = side; path = path; progress = Progress.Due; is_missing = false; is_there = false; told = None } ∷ []) }
     {
         match self.subjects.push(Subject::new(ticket, side, path)) {
             Ok(()) => Ok(()),

@@ -4,7 +4,7 @@ ghost use Rattle.std.specs.Prelude.{◌≡◌};
 ghost use Rattle.zk_records.specs.Codes.{code_number};
 ghost use Rattle.zk_conversation.specs.Views.{code_result};
 ghost use Rattle.zk_client.specs.Views.{outcome_view};
-ghost use Rattle.zk_follow.specs.Following.{after_code, later, missing_after, progress_after};
+ghost use Rattle.zk_follow.specs.Following.{after_code, later, missing_after, progress_after, there_after};
 
 use std::alloc::Allocator;
 use zk_client::{CallResult, Code, Outcome};
@@ -18,7 +18,8 @@ const NO_NODE: i32 = -101;
 /// Why a read was refused.
 #[derive(Clone, Copy)]
 pub enum Refusal {
-    /// The server answered with the code of this number, which is not that of a node that is not there.
+    /// The server answered with the code of this number. With that of a node that is not there, -101, it contradicts itself: it had said that
+    /// there is one, and has reported nothing of the path since.
     Code(i32),
     /// The client watches 65,536 paths of the side.
     TooManyWatches,
@@ -47,11 +48,11 @@ fn later(now: u64) -> u64
 }
 
 /// How far the reading is once a reply with this code has come.
-fn after_code(now: u64, code: Code) -> Progress
-    ensures { result ≡ after_code now (code_result (code_number code)) }
+fn after_code(now: u64, was_there: bool, code: Code) -> Progress
+    ensures { result ≡ after_code now was_there (code_result (code_number code)) }
 {
     let number = code.number();
-    if number == NO_NODE {
+    if number == NO_NODE && !was_there {
         return Progress::Due;
     }
     Progress::Refused {
@@ -61,15 +62,19 @@ fn after_code(now: u64, code: Code) -> Progress
 }
 
 /// How far the reading is once a read was answered at this moment.
-pub(crate) fn progress_after<A: Allocator>(now: u64, outcome: &Outcome<A>) -> Progress
-    ensures { result ≡ progress_after now (outcome_view outcome.now) }
+pub(crate) fn progress_after<A: Allocator>(
+    now: u64,
+    was_there: bool,
+    outcome: &Outcome<A>,
+) -> Progress
+    ensures { result ≡ progress_after now was_there (outcome_view outcome.now) }
 {
     let until = later(now);
     match outcome {
         Outcome::Replied {
             result: CallResult::Code(code),
             ..
-        } => after_code(now, *code),
+        } => after_code(now, was_there, *code),
         Outcome::TooManyWatches => Progress::Refused {
             why: Refusal::TooManyWatches,
             until,
@@ -97,5 +102,23 @@ pub(crate) fn missing_after<A: Allocator>(was_missing: bool, outcome: &Outcome<A
         } => { was_missing || code.number() == NO_NODE }
         Outcome::Replied { .. } => false,
         _ => was_missing,
+    }
+}
+
+/// Whether the last reply said that there is a node, where the one before it said that there is none, once a read was answered.
+pub(crate) fn there_after<A: Allocator>(
+    was_missing: bool,
+    was_there: bool,
+    outcome: &Outcome<A>,
+) -> bool
+    ensures { result ≡ there_after was_missing was_there (outcome_view outcome.now) }
+{
+    match outcome {
+        Outcome::Replied {
+            result: CallResult::Code(code),
+            ..
+        } => was_there && code.number() != NO_NODE,
+        Outcome::Replied { .. } => was_missing,
+        _ => was_there,
     }
 }

@@ -12,7 +12,7 @@ ghost use Rattle.zk_follow.specs.Following.{heard, heard_all, read_of, rested, t
 
 use crate::kept::is_shown;
 use crate::news::News;
-use crate::progress::{Progress, missing_after, progress_after};
+use crate::progress::{Progress, missing_after, progress_after, there_after};
 use crate::reads::read_of;
 use crate::stop::Stop;
 use std::alloc::Allocator;
@@ -26,6 +26,7 @@ pub struct Subject<A: Allocator> {
     pub(crate) path: Path<A>,
     pub(crate) progress: Progress,
     pub(crate) is_missing: bool,
+    pub(crate) is_there: bool,
     pub(crate) told: Option<News>,
 }
 
@@ -40,7 +41,7 @@ fn is_connected<A: Allocator + Copy>(client: &Client<A>) -> bool
 impl<A: Allocator> Subject<A> {
     /// A subject that is to be read. The tickets of its reads are this number.
     pub(crate) fn new(ticket: u64, side: Side, path: Path<A>) -> Subject<A>
-        ensures { result ≡ record { ticket = ticket; side = side; path = path; progress = Progress.Due; is_missing = false; told = None } }
+        ensures { result ≡ record { ticket = ticket; side = side; path = path; progress = Progress.Due; is_missing = false; is_there = false; told = None } }
     {
         Subject {
             ticket,
@@ -48,6 +49,7 @@ impl<A: Allocator> Subject<A> {
             path,
             progress: Progress::Due,
             is_missing: false,
+            is_there: false,
             told: None,
         }
     }
@@ -59,11 +61,17 @@ impl<A: Allocator> Subject<A> {
         match output {
             Output::Answer { ticket, outcome } => {
                 if self.ticket == *ticket {
-                    self.progress = progress_after(now, outcome);
+                    self.progress = progress_after(now, self.is_there, outcome);
+                    self.is_there = there_after(self.is_missing, self.is_there, outcome);
                     self.is_missing = missing_after(self.is_missing, outcome);
                 }
             }
-            Output::State(_) => self.progress = Progress::Due,
+            Output::State(_) => self.begin(),
+            Output::Report { path, .. } => {
+                if path.as_str() == self.path.as_str() {
+                    self.is_there = false;
+                }
+            }
             _ => {}
         }
     }
@@ -101,6 +109,7 @@ impl<A: Allocator> Subject<A> {
         ensures { self.new ≡ due_again self.old }
     {
         self.progress = Progress::Due;
+        self.is_there = false;
     }
 }
 
@@ -146,6 +155,7 @@ impl<A: Allocator + Copy> Subject<A> {
         ensures { self.new ≡ rested self.old }
     {
         self.is_missing = false;
+        self.is_there = false;
         if !matches!(self.progress, Progress::Reading) {
             self.progress = Progress::Due;
         }
