@@ -226,7 +226,7 @@ tree_text form printed = flat_map (tree_line form) printed
 abbrev pub most_words : ℕ → List ℕ
 most_words most = decimal most ++ codes " nodes are printed, and there are more"
 
--- what is told of a walk from a root of this name that prints so many nodes at most
+-- what is told of a walk from a root of this name that prints this many nodes at most
 abbrev pub ending_told : (name : Text) (most : ℕ) → Ending → List ℕ
 ending_told root most Whole = []
 ending_told root most Full = fault_line (codes "cut off: ") root (most_words most)

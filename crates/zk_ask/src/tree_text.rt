@@ -61,7 +61,7 @@ fn full_told<A: Allocator + Copy>(alloc: A, name: &str, most: u64) -> Result<Str
     fault_line(alloc, "cut off: ", name, why.as_str())
 }
 
-/// What is told of a walk from a root of this name that prints so many nodes at most.
+/// What is told of a walk from a root of this name that prints this many nodes at most.
 pub(crate) fn ending_told<A: Allocator + Copy>(
     alloc: A,
     name: &str,
