@@ -946,7 +946,7 @@ run_stopped() {
     known=()
     start_three stopped "${ports[@]}"
     outside "${ports[0]}" create /stopped one
-    begin_data stopped "127.0.0.1:${ports[0]}" "127.0.0.1:${ports[1]}" "127.0.0.1:${ports[2]}" --timeout 30000
+    begin_data stopped "127.0.0.1:${ports[0]},127.0.0.1:${ports[1]},127.0.0.1:${ports[2]}" --timeout 30000
     first=$(port_of stopped)
     for port in "${ports[@]:0:3}"; do
         [[ $port == "$first" ]] || other=$port

@@ -14,7 +14,8 @@ use Rattle.zk_nodes.specs.PathFault.{fault_of as path_fault}
 use Rattle.zk_script.specs.Numbers.{natural_of}
 use Rattle.zk_script.specs.Reads.{data_at}
 use Rattle.zk_script.specs.declared.script_fault.ScriptFault.{ScriptFault}
-use Rattle.zk_live.specs.Addresses.{is_address, parted}
+use Rattle.zk_link.specs.Hosts.{parted}
+use Rattle.zk_live.specs.Addresses.{is_server}
 use Rattle.zk_commands.specs.declared.status.Status.{Status}
 use Rattle.zk_commands.specs.declared.status.Status.TheVariants as status
 use Rattle.zk_commands.specs.declared.verb.Verb.{Verb}
@@ -99,7 +100,7 @@ is_root (b ∷ bytes) = not (is_some (path_fault (b ∷ bytes)))
 -- The word has addresses with commas between them, and a chroot after them where there is one.
 abbrev pub IsServers : (addresses : List Text) → (chroot : Text) → (word : Text) → Type 0
 IsServers addresses chroot word =
-    (addresses ≡ slice_split (λ b. b == 44) (cut_at_slash word).0) × (list_all is_address addresses ≡ true)
+    (addresses ≡ slice_split (λ b. b == 44) (cut_at_slash word).0) × (list_all is_server addresses ≡ true)
     × (chroot ≡ chroot_text (cut_at_slash word).1) × (is_root chroot ≡ true)
 
 -- They are what was given.

@@ -27,7 +27,7 @@ use Rattle.zk_commands.specs.declared.line_fault.LineFault.TheVariants.{Help, Re
 use Rattle.zk_commands.specs.declared.kind.Kind.TheVariants as kind
 use Rattle.zk_commands.specs.Kinds.{kind_word}
 use Rattle.zk_commands.specs.declared.verb.Verb.{Verb}
-use Rattle.zk_commands.specs.Asks.{AreServers, absolute, call_for, form_for, verb_word, with_reads, with_writes, flag, flag_rule}
+use Rattle.zk_commands.specs.Asks.{AreServers, absolute, call_for, form_for, verb_word, with_reads, with_writes, flag, flag_rule, servers_rule}
 
 -- the kinds that `show` knows, in the order in which help lists them
 abbrev pub kind_words : List Text
@@ -82,7 +82,7 @@ duration_rule = option_rule (codes "for")
 
 abbrev pub watch_app : App
 watch_app =
-    with_rule (with_rule (with_rule (with_rule (with_rule (with_rule (new_app (codes "watch")) address_rule) (path_rule (codes "data"))) (path_rule (codes "children"))) timeout_rule) duration_rule) (flag_rule (codes "text"))
+    with_rule (with_rule (with_rule (with_rule (with_rule (with_rule (new_app (codes "watch")) servers_rule) (path_rule (codes "data"))) (path_rule (codes "children"))) timeout_rule) duration_rule) (flag_rule (codes "text"))
 
 -- the program without its subcommands: one must be given
 abbrev pub shell_top : App
@@ -110,14 +110,18 @@ is_path text = not (is_some (path_fault text))
 abbrev pub given : Text → List Row → List Text
 given id rows = unwrap_or (all_of id rows) []
 
--- a side of the node at each path
-abbrev pub aims_at : Side → List Text → List (Side × Text)
-aims_at side paths = map (λ p. (side, p)) paths
+-- the text of a path, which is one below a chroot too
+abbrev pub is_below : (chroot path : Text) → Bool
+is_below chroot path = is_path path && is_path (absolute chroot path)
 
--- the data of the nodes that were given for them, and then the names below those that were given for these; each is a path
-abbrev pub AreAims : List (Side × Text) → List Row → Type 0
-AreAims aims rows = (aims ≡ aims_at Data (given (codes "data") rows) ++ aims_at Child (given (codes "children") rows))
-    × (list_all is_path (given (codes "data") rows) ≡ true) × (list_all is_path (given (codes "children") rows) ≡ true)
+-- a side of the node at each path below a chroot
+abbrev pub aims_at : (chroot : Text) → Side → List Text → List (Side × Text)
+aims_at chroot side paths = map (λ p. (side, absolute chroot p)) paths
+
+-- Below a chroot, the data of the nodes that were given for them, and then the names below those that were given for these; each is a path.
+abbrev pub AreAims : (chroot : Text) → List (Side × Text) → List Row → Type 0
+AreAims chroot aims rows = (aims ≡ aims_at chroot Data (given (codes "data") rows) ++ aims_at chroot Child (given (codes "children") rows))
+    × (list_all (is_below chroot) (given (codes "data") rows) ≡ true) × (list_all (is_below chroot) (given (codes "children") rows) ≡ true)
 
 -- the number, if it is not 0
 abbrev pub above_zero : Option ℕ → Option ℕ
@@ -149,10 +153,10 @@ IsDuration ms rows = duration_read (first_of (codes "for") rows) ≡ Some ms
 abbrev pub style_in : List Row → Style
 style_in rows = if flag (codes "text") rows then style.Text else style.Hex
 
--- what `watch` was given: addresses, what to watch, a timeout, how long, and how to print
-abbrev pub IsWatch : List Text → List (Side × Text) → ℤ → Option ℕ → Style → List Row → Type 0
-IsWatch addresses aims timeout_ms for_ms how rows =
-    AreAddresses addresses rows × AreAims aims rows × IsTimeout timeout_ms rows × IsDuration for_ms rows × (how ≡ style_in rows)
+-- what `watch` was given: servers with their chroot, what to watch, a timeout, how long, and how to print
+abbrev pub IsWatch : (addresses : List Text) → (chroot : Text) → List (Side × Text) → ℤ → Option ℕ → Style → List Row → Type 0
+IsWatch addresses chroot aims timeout_ms for_ms how rows =
+    AreServers addresses chroot rows × AreAims chroot aims rows × IsTimeout timeout_ms rows × IsDuration for_ms rows × (how ≡ style_in rows)
 
 -- how long to wait, in milliseconds: the words say it in seconds
 abbrev pub wait_at : Text → Option ℕ
@@ -161,8 +165,7 @@ wait_at word = option_map (λ seconds. 1000 * seconds) (count_at 4294967 word)
 -- the words name a node
 pub record IsNode (chroot name : Text) (rows : List Row) : Type 0 where
   pub given : first_of (codes "PATH") rows ≡ Some name
-  pub is : is_path name ≡ true
-  pub below : is_path (absolute chroot name) ≡ true
+  pub is : is_below chroot name ≡ true
 
 -- What a command that asks for a node was given: servers with their chroot, the node, the call by its verb, how to print, and how long to
 -- wait.
@@ -180,7 +183,7 @@ IsFound Replay found = (rows : List Row) × (found ≡ Some (codes "replay", row
 IsFound Rehearse found = (rows : List Row) × (found ≡ Some (codes "rehearse", rows))
 IsFound (Live addresses) found = (rows : List Row) × (found ≡ Some (codes "live", rows)) × AreAddresses (map (λ a. a.now) addresses.items) rows
 IsFound (Watch addresses subjects timeout_ms for_ms how) found = (rows : List Row) × (found ≡ Some (codes "watch", rows))
-    × IsWatch (map (λ a. a.now) addresses.items) (aims_of subjects.items) timeout_ms for_ms how rows
+    × (chroot : Text) × IsWatch (map (λ a. a.now) addresses.items) chroot (aims_of subjects.items) timeout_ms for_ms how rows
 IsFound (Ask addresses chroot name call form wait_ms) found = (verb : Verb) × (rows : List Row) × (found ≡ Some (verb_word verb, rows))
     × IsAsked verb (map (λ a. a.now) addresses.items) (string_bytes chroot) name.now (call_view call) form wait_ms rows
 

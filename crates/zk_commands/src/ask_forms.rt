@@ -9,13 +9,13 @@ use crate::watch_words::option_arg;
 use clap::{Arg, ArgAction};
 use std::alloc::{AllocError, Global};
 
-/// The servers of a command that asks for a node.
-fn servers_arg<'a>(alloc: Global) -> Arg<'a>
+/// The servers of a command that asks or watches.
+pub(crate) fn servers_arg<'a>(alloc: Global) -> Arg<'a>
     ensures rule { rule_of result ≡ servers_rule }
     ensures local { result.global ≡ false }
 {
     Arg::new(alloc, "SERVERS").required(true).help(
-        "Addresses in numbers, as 127.0.0.1:2181,127.0.0.2:2181, and /PATH to go below it",
+        "HOST:PORT, several with commas between them, and /PATH to go below it",
     )
 }
 

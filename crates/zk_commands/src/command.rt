@@ -222,7 +222,7 @@ fn show_of<'a>(matches: &ArgMatches<'a>) -> Option<Command<'a>>
 }
 
 /// The first word that is no address.
-pub(crate) fn stranger<'a>(words: &[&'a str]) -> Option<&'a str>
+fn stranger<'a>(words: &[&'a str]) -> Option<&'a str>
     ensures { result ≡ find (λ w. not (is_address w.now)) words.now }
 {
     let word = words.iter().find(|word| !is_address(word))?;
@@ -258,14 +258,14 @@ fn live_of<'a>(alloc: Global, matches: &ArgMatches<'a>) -> Result<Command<'a>, L
 fn watch_of<'a>(alloc: Global, matches: &ArgMatches<'a>) -> Result<Command<'a>, LineFault>
     ensures ok { IfOk result (λ command. (addresses : Vec (Bor Text)) × (subjects : Vec (Subject Global)) × (timeout_ms : ℤ) × (for_ms : Option ℕ) × (style : Style)
         × (command ≡ Command.Watch addresses subjects timeout_ms for_ms style)
-        × IsWatch (map (λ a. a.now) addresses.items) (aims_of subjects.items) timeout_ms for_ms style (rows_of (found_of matches.now))) }
-    ensures err { IfErr result (TellsIf ((addresses : List Text) (aims : List (Side × Text)) (timeout_ms : ℤ) (for_ms : Option ℕ) (style : Style)
-        → IsWatch addresses aims timeout_ms for_ms style (rows_of (found_of matches.now)) → ⊥)) }
+        × (chroot : Text) × IsWatch (map (λ a. a.now) addresses.items) chroot (aims_of subjects.items) timeout_ms for_ms style (rows_of (found_of matches.now))) }
+    ensures err { IfErr result (TellsIf ((addresses : List Text) (chroot : Text) (aims : List (Side × Text)) (timeout_ms : ℤ) (for_ms : Option ℕ) (style : Style)
+        → IsWatch addresses chroot aims timeout_ms for_ms style (rows_of (found_of matches.now)) → ⊥)) }
 {
     let timeout_ms = timeout_of(alloc, matches)?;
     let for_ms = duration_of(alloc, matches)?;
-    let addresses = addresses_of(alloc, matches)?;
-    let subjects = subjects_of(alloc, matches)?;
+    let (addresses, chroot) = servers_of(alloc, matches)?;
+    let subjects = subjects_of(alloc, chroot.as_str(), matches)?;
     Ok(Command::Watch {
         addresses,
         subjects,

@@ -77,13 +77,15 @@ Example:
 
 /// At the end of the help of `watch`.
 pub const WATCH: &str =
-    r"Connects to one of the addresses, in random order, reads each node with a watch, and goes on to print a
-line whenever something else is kept of it than was printed last. Where the connection is lost, the next
-address is dialled, and where the session expires, a new one begins. --data and --children may be used
-several times, each with a PATH as it is, without escapes. With neither, the session alone is told.
+    r"Connects to one of the hosts of SERVERS, which `zk_shell get --help` tells, in random order, reads each
+node with a watch, and goes on to print a line whenever something else is kept of it than was printed last.
+Where the connection is lost, the next host is dialled, and where the session expires, a new one begins.
+--data and --children may be used several times, each with a PATH as it is, without escapes. With neither,
+the session alone is told. Where a path stands after the hosts, each PATH is below it, and the paths that
+are printed are whole: with 127.0.0.1:2181/app and --data /config, /app/config.
 
 Printed, each line at once, with the seconds since the watch began before it:
-  dial ADDRESS                  This address is tried
+  dial ADDRESS                  This host is tried
   failed ADDRESS REASON         It could not be connected to
   ended ADDRESS REASON          The connection has ended
   drop FAULT ADDRESS WORDS      The connection is given up: what came is wrong, or nothing came
@@ -119,7 +121,7 @@ Exit status: 0 the time is over; 2 a fault of the command line; 3 out of memory;
 failed, or was closed; 9 the time is over, and no server has ever accepted the session.
 
 Example, where nothing listens at port 2180, /config is hi, and is set to bye while it is watched:
-  zk_shell watch 127.0.0.1:2180 127.0.0.1:2181 --data /config --for 60
+  zk_shell watch 127.0.0.1:2180,127.0.0.1:2181 --data /config --for 60
 prints
   0.000 dial 127.0.0.1:2180
   0.000 failed 127.0.0.1:2180 connection refused
@@ -134,9 +136,11 @@ prints
 
 /// At the end of the help of the commands that ask for one node.
 pub const ASK: &str =
-    r"SERVERS is one word: addresses with commas between them, of which one that answers is asked. They are
-in numbers, as 127.0.0.1:2181, since no names are looked up. After them may stand a path, as in
-127.0.0.1:2181/app: then PATH is below it, and so are the paths that are printed.
+    r"SERVERS is one word: hosts with commas between them, of which one that answers is asked. A host is a name
+or an address, with its port where that is not 2181: zk1, zk1:2182, 127.0.0.1:2181, [::1]:2181. A name
+is looked up at each dial, which takes as long as the system lets it, and its addresses are tried in turn.
+After the hosts may stand a path, as in zk1:2181/app: then PATH is below it, and so are the paths that
+are printed.
 
 Printed:
   get           the data: a text in UTF-8 as it is, with a newline after it, and data with other control

@@ -55,6 +55,15 @@ pub(crate) fn no_address(alloc: Global, word: &str) -> LineFault
     ))
 }
 
+/// What is told of a word that is no server.
+pub(crate) fn no_server(alloc: Global, word: &str) -> LineFault
+    ensures { IsNoHelp result }
+{
+    refusal(format!(in alloc;
+        "error: {word:?} is no server: HOST:PORT, as zk1:2181 or [::1]:2181\n"
+    ))
+}
+
 /// What is told of a word that is no path.
 pub(crate) fn no_path(alloc: Global, word: &str, fault: PathFault) -> LineFault
     ensures { IsNoHelp result }

@@ -1,4 +1,4 @@
-use Rattle.std.proofs.Common.{rules, ◌≡◌, ◌⊎◌, inl, inr, ◌∙◌, ℕ, List, [], true, false, ap, ap₂, sym, refl, codes, Some, None, unwrap_or, map}
+use Rattle.std.proofs.Common.{rules, ◌≡◌, ◌∙◌, ℕ, List, [], true, false, ap, ap₂, sym, refl, codes, Some, None, unwrap_or, map}
 use Rattle.std.specs.Prelude.{string_bytes}
 use Rattle.std.proofs.lemmas.Bool.{true≢false}
 use Rattle.clap.specs.Words.{Row, Text, first_of, found_of, rows_of}
@@ -6,7 +6,7 @@ use Rattle.clap.proofs.WalkLemmas.{first_value-rows}
 use Rattle.zk_ask.specs.declared.plan.Form.{Form}
 use Rattle.zk_conversation.specs.Calls.{Call}
 use Rattle.zk_commands.specs.Asks.{AreServers, absolute, call_for, chroot_text, cut_at_slash}
-use Rattle.zk_commands.specs.CommandLine.{IsAsked, is_path}
+use Rattle.zk_commands.specs.CommandLine.{IsAsked, is_below}
 use Rattle.zk_commands.specs.declared.verb.Verb.{Verb}
 use Rattle.zk_commands.proofs.AddressLemmas.{tells, tells_on}
 use Rattle.zk_commands.proofs.command.ask_of.Goals as goal
@@ -19,15 +19,12 @@ one_chroot rows addresses others chroot other one two =
 
 -- The node's path is refused, so nothing is asked.
 no_node : (rows : List Row) (name chroot text : Text) (addresses : List Text) → first_of (codes "PATH") rows ≡ Some name → AreServers addresses chroot rows
-    → text ≡ chroot → (is_path name ≡ false) ⊎ (is_path (absolute text name) ≡ false) → (verb : Verb) (others : List Text) (other called : Text) (call : Call)
-    (form : Form) (wait_ms : ℕ) → IsAsked verb others other called call form wait_ms rows → ⊥
-no_node rows name chroot text addresses some servers at (inl refused) verb others other called call form wait_ms asked =
-    let same : called ≡ name = ap (λ o. unwrap_or o []) (sym asked.1.given ∙ some) in
-    true≢false (sym asked.1.is ∙ ap is_path same ∙ refused)
-no_node rows name chroot text addresses some servers at (inr refused) verb others other called call form wait_ms asked =
+    → text ≡ chroot → is_below text name ≡ false → (verb : Verb) (others : List Text) (other called : Text) (call : Call) (form : Form) (wait_ms : ℕ)
+    → IsAsked verb others other called call form wait_ms rows → ⊥
+no_node rows name chroot text addresses some servers at refused verb others other called call form wait_ms asked =
     let same : called ≡ name = ap (λ o. unwrap_or o []) (sym asked.1.given ∙ some) in
     let below : other ≡ text = one_chroot rows others addresses other chroot asked.0 servers ∙ sym at in
-    true≢false (sym asked.1.below ∙ ap is_path (ap₂ absolute below same) ∙ refused)
+    true≢false (sym asked.1.is ∙ ap₂ is_below below same ∙ refused)
 
 -- The call at the node's path is refused, so nothing is asked.
 no_call : (verb : Verb) (rows : List Row) (name chroot text path : Text) (addresses : List Text) → first_of (codes "PATH") rows ≡ Some name
@@ -89,8 +86,7 @@ returns-clause-ok c =
         c.in_ok-addresses.ensures.ok,
         record {
           given = some;
-          is = c.in_ok-path.ensures.accepted.0;
-          below = ap (λ (t : Text). is_path (absolute t name)) (sym at) ∙ c.in_ok-path.ensures.accepted.1;
+          is = ap (λ (t : Text). is_below t name) (sym at) ∙ c.in_ok-path.ensures.accepted;
         },
         ap (λ (p : Text). call_for c.args.verb p rows) (sym place) ∙ c.in_ok-call.ensures.ok,
         c.form_for.ensures,

@@ -65,7 +65,7 @@ without_addresses found rows is absent (Ask addresses chroot name call form wait
 
 -- where `watch` was found without what it is to be given, the words ask for no command
 without_watch : (found : Option (Text × List Row)) (rows : List Row) → found ≡ Some (codes "watch", rows)
-    → ((addresses : List Text) (aims : List (Side × Text)) (timeout_ms : ℤ) (for_ms : Option ℕ) (style : Style) → IsWatch addresses aims timeout_ms for_ms style rows → ⊥)
+    → ((addresses : List Text) (chroot : Text) (aims : List (Side × Text)) (timeout_ms : ℤ) (for_ms : Option ℕ) (style : Style) → IsWatch addresses chroot aims timeout_ms for_ms style rows → ⊥)
     → AsksForNone found
 without_watch found rows is absent (Show kind hex) f = apart is f.1 refl
 without_watch found rows is absent History f = apart is f.1 refl
@@ -74,7 +74,7 @@ without_watch found rows is absent Rehearse f = apart is f.1 refl
 without_watch found rows is absent (Live addresses) f = apart is f.1 refl
 without_watch found rows is absent (Watch addresses subjects timeout_ms for_ms style) f =
     let same : rows ≡ f.0 = ap rows_in (sym is ∙ f.1) in
-    absent (map (λ a. a.now) addresses.items) (aims_of subjects.items) timeout_ms for_ms style (rw same f.2)
+    absent (map (λ a. a.now) addresses.items) f.2 (aims_of subjects.items) timeout_ms for_ms style (rw same f.3)
 without_watch found rows is absent (Ask addresses chroot name call form wait_ms) f = apart f.2 is (is_new f.0).watches
 
 -- where a verb was found without what it is to be given, the words ask for no command
