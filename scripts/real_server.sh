@@ -387,8 +387,8 @@ asks() {
     echo "= $status" >>"$folder/asks.out"
 }
 
-# The commands that ask for one node: a text, null and no bytes come back as they went, a version is compared, names and fields are told, a path
-# is below another, and each way in which a call is not done has its words and its status.
+# The commands that ask for one node: a text, null, no bytes and those of a file come back as they went, a version is compared, names and fields
+# are told, a path is below another, a server is named, and each way in which a call is not done has its words and its status.
 run_asks() {
     local at=127.0.0.1:$1 nobody
     nobody=127.0.0.1:$(free_ports 1)
@@ -412,6 +412,18 @@ run_asks() {
     asks delete "$at" /asks/bytes --version 1
     asks delete "$at" /asks/bytes --version 0
     asks get "$at/asks" /bytes
+    printf '\0\377\n\n' >"$folder/bytes"
+    asks create "$at" /asks/file --from "$folder/bytes"
+    asks get "localhost:$1" /asks/file --hex
+    asks set "nobody.invalid,localhost:$1/asks" /file --from - --wait 30 <"$folder/bytes"
+    asks get "$at" /asks/file --hex
+    : >"$folder/bytes"
+    asks set "$at" /asks/file --from "$folder/bytes" --version 1
+    asks get "$at" /asks/file --hex
+    truncate -s 1048576 "$folder/bytes"
+    (cd "$folder" && asks set "$at" /asks/file --from bytes)
+    (cd "$folder" && asks set "$at" /asks/file --from none)
+    (cd "$folder" && asks set "$at" /asks/file --from .)
     asks create "$at" /none/node x
     asks set "$at" /none x
     asks ls "$nobody" /asks --wait 1
@@ -462,6 +474,22 @@ refused: /asks/bytes: the node has another version (-103)
 = 0
 no node: /bytes
 = 5
+/asks/file
+= 0
+00ff0a0a
+= 0
+= 0
+00ff0a0a
+= 0
+= 0
+\e
+= 0
+unread: bytes: it has more than 1,048,575 bytes
+= 10
+unread: none: there is no such file
+= 10
+unread: .: a read failed
+= 10
 no node: /none/node
 = 5
 no node: /none

@@ -61,8 +61,12 @@ data_rule = new_rule (codes "DATA")
 abbrev pub version_rule : Rule
 version_rule = record (new_rule (codes "version")) { long = Some (codes "version"); value_names = 1 }
 
+-- the name of a file, where one is given
+abbrev pub from_rule : Rule
+from_rule = record (new_rule (codes "from")) { long = Some (codes "from"); value_names = 1 }
+
 abbrev pub data_app : Text → App
-data_app name = with_rule (with_rule (with_rule (read_app name) data_rule) (flag_rule (codes "hex"))) (flag_rule (codes "null"))
+data_app name = with_rule (with_rule (with_rule (with_rule (read_app name) data_rule) (flag_rule (codes "hex"))) (flag_rule (codes "null"))) from_rule
 
 abbrev pub set_app : App
 set_app = with_rule (data_app (codes "set")) version_rule
@@ -138,8 +142,14 @@ data_given (Some word) true is_hex = None
 data_given (Some word) false false = Some (Some word)
 data_given (Some word) false true = decoded (data_at word)
 
+-- The data that are given, or a file is named alone: then there are none yet.
+abbrev pub data_with : (file word : Option Text) → (is_null is_hex : Bool) → Option (Option (List ℕ))
+data_with None word is_null is_hex = data_given word is_null is_hex
+data_with (Some file) None false false = Some None
+data_with (Some file) _ _ _ = None
+
 abbrev pub data_in : List Row → Option (Option (List ℕ))
-data_in rows = data_given (first_of (codes "DATA") rows) (flag (codes "null") rows) (flag (codes "hex") rows)
+data_in rows = data_with (first_of (codes "from") rows) (first_of (codes "DATA") rows) (flag (codes "null") rows) (flag (codes "hex") rows)
 
 -- the version that a node is to have: any, where none is given
 abbrev pub version_read : Option Text → Option ℤ
@@ -190,12 +200,13 @@ status_of ends.Unanswered = status.Unanswered
 status_of ends.Memory = status.Memory
 status_of ends.Stream = status.Stream
 
--- a call is not done, or may not be
+-- a call is not done, or may not be, or is not asked for want of its data
 abbrev pub IsUndone : Status → Type 0
 IsUndone status.NoNode = ⊤
 IsUndone status.Refused = ⊤
 IsUndone status.Unconnected = ⊤
 IsUndone status.Unanswered = ⊤
+IsUndone status.Unread = ⊤
 IsUndone _ = ⊥
 
 -- A call is done, and this is printed of its answer.

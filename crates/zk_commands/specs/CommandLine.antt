@@ -21,6 +21,7 @@ use Rattle.zk_watch.specs.Watching.{aims_of}
 use Rattle.zk_watch.specs.declared.plan.Style.{Style}
 use Rattle.zk_watch.specs.declared.plan.Style.TheVariants as style
 use Rattle.zk_commands.specs.declared.command.Command.{Command}
+use Rattle.zk_commands.specs.declared.command.Question.{Question}
 use Rattle.zk_commands.specs.declared.command.Command.TheVariants.{Show, History, Replay, Rehearse, Live, Watch, Ask}
 use Rattle.zk_commands.specs.declared.line_fault.LineFault.{LineFault}
 use Rattle.zk_commands.specs.declared.line_fault.LineFault.TheVariants.{Help, Refused, Memory}
@@ -167,12 +168,18 @@ pub record IsNode (chroot name : Text) (rows : List Row) : Type 0 where
   pub given : first_of (codes "PATH") rows ≡ Some name
   pub is : is_below chroot name ≡ true
 
--- What a command that asks for a node was given: servers with their chroot, the node, the call by its verb, how to print, and how long to
--- wait.
-abbrev pub IsAsked : Verb → (addresses : List Text) → (chroot name : Text) → Call → Form → (wait_ms : ℕ) → List Row → Type 0
-IsAsked verb addresses chroot name call form wait_ms rows =
+-- What a command that asks for a node was given: servers with their chroot, the node, the call by its verb, the file whose bytes are its data
+-- where one is named, how to print, and how long to wait.
+abbrev pub IsAsked : Verb → (addresses : List Text) → (chroot name : Text) → Call → (from : Option Text) → Form → (wait_ms : ℕ) → List Row → Type 0
+IsAsked verb addresses chroot name call from form wait_ms rows =
     AreServers addresses chroot rows × IsNode chroot name rows × (call_for verb (absolute chroot name) rows ≡ Some call)
-    × (form ≡ form_for verb rows) × (option_and_then wait_at (first_of (codes "wait") rows) ≡ Some wait_ms)
+    × (from ≡ first_of (codes "from") rows) × (form ≡ form_for verb rows) × (option_and_then wait_at (first_of (codes "wait") rows) ≡ Some wait_ms)
+
+-- that is this question
+abbrev pub AsksQuestion : Verb → Question → List Row → Type 0
+AsksQuestion verb question rows =
+    IsAsked verb (map (λ a. a.now) question.addresses.items) (string_bytes question.chroot) question.name.now (call_view question.call)
+    (option_map (λ f. f.now) question.from) question.form question.wait_ms rows
 
 -- the subcommand that was found, with its values, is this command
 abbrev pub IsFound : Command → Option (Text × List Row) → Type 0
@@ -184,8 +191,7 @@ IsFound Rehearse found = (rows : List Row) × (found ≡ Some (codes "rehearse",
 IsFound (Live addresses) found = (rows : List Row) × (found ≡ Some (codes "live", rows)) × AreAddresses (map (λ a. a.now) addresses.items) rows
 IsFound (Watch addresses subjects timeout_ms for_ms how) found = (rows : List Row) × (found ≡ Some (codes "watch", rows))
     × (chroot : Text) × IsWatch (map (λ a. a.now) addresses.items) chroot (aims_of subjects.items) timeout_ms for_ms how rows
-IsFound (Ask addresses chroot name call form wait_ms) found = (verb : Verb) × (rows : List Row) × (found ≡ Some (verb_word verb, rows))
-    × IsAsked verb (map (λ a. a.now) addresses.items) (string_bytes chroot) name.now (call_view call) form wait_ms rows
+IsFound (Ask question) found = (verb : Verb) × (rows : List Row) × (found ≡ Some (verb_word verb, rows)) × AsksQuestion verb question rows
 
 -- the words are those that ask for the frames of a capture: they have a meaning of their own, and all others are `clap`'s
 abbrev pub asks_stream : List Text → Bool

@@ -1,4 +1,5 @@
 pub mod Asks
+pub mod Files
 pub mod Print
 pub mod Names
 pub mod Fields

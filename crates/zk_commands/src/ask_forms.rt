@@ -2,7 +2,7 @@
 
 ghost use Rattle.std.specs.Prelude.{◌≡◌, false, IfOk};
 ghost use Rattle.clap.specs.Words.{app_of, rule_of};
-ghost use Rattle.zk_commands.specs.Asks.{create_app, data_app, delete_app, flag_rule, get_app, json_app, node_rule, read_app, servers_rule, set_app, version_rule, wait_rule, with_reads, with_writes};
+ghost use Rattle.zk_commands.specs.Asks.{create_app, data_app, delete_app, flag_rule, from_rule, get_app, json_app, node_rule, read_app, servers_rule, set_app, version_rule, wait_rule, with_reads, with_writes};
 
 use crate::help;
 use crate::watch_words::option_arg;
@@ -117,6 +117,15 @@ pub(crate) fn with_reads<'a>(
     form.subcommand(stat)
 }
 
+/// The option of the file whose bytes are the data.
+fn from_arg<'a>(alloc: Global) -> Arg<'a>
+    ensures rule { rule_of result ≡ from_rule }
+    ensures local { result.global ≡ false }
+{
+    let about = "The data are the bytes of this file, as they are; - is standard input";
+    option_arg(alloc, "from", "FILE", about)
+}
+
 /// The form of a command that is given data.
 fn data_form<'a>(
     alloc: Global,
@@ -135,7 +144,8 @@ fn data_form<'a>(
         "hex",
         "DATA is hex, \\e for no bytes, or \\0 for null",
     ))?;
-    form.arg(flag_arg(alloc, "null", "The data are null, with no DATA"))
+    let form = form.arg(flag_arg(alloc, "null", "The data are null, with no DATA"))?;
+    form.arg(from_arg(alloc))
 }
 
 /// The form of `set`.

@@ -1,16 +1,14 @@
 //! What a command line asks for.
 
-ghost use Rattle.std.specs.Prelude.{◌≡◌, ℕ, ℤ, true, List, Option, IfOk, IfErr, IfSome, IfNone, find, map, codes, not, string_bytes, String};
+ghost use Rattle.std.specs.Prelude.{◌≡◌, ℕ, ℤ, true, List, Option, IfOk, IfErr, IfSome, IfNone, find, map, codes, not};
 ghost use Rattle.std.specs.Borrow.{Bor};
 ghost use Rattle.std.specs.Global.{Global, Vec};
 ghost use Rattle.clap.specs.Words.{Text, app_of, found_of, first_value, kind_of, new_app, rows_of, subcommand_rows_of, with_subcommand};
 ghost use Rattle.zk_live.specs.Addresses.{is_address};
 ghost use Rattle.zk_commands.specs.Kinds.{kind_word};
-ghost use Rattle.zk_commands.specs.CommandLine.{AreAddresses, AreKinds, AsksFor, AsksForNone, IsAsked, IsDue, IsFound, IsWatch, Tells, TellsIf, history_app, live_app, rehearse_app, replay_app, show_app, shell_app, shell_top, watch_app};
+ghost use Rattle.zk_commands.specs.CommandLine.{AreAddresses, AreKinds, AsksFor, AsksForNone, AsksQuestion, IsAsked, IsDue, IsFound, IsWatch, Tells, TellsIf, history_app, live_app, rehearse_app, replay_app, show_app, shell_app, shell_top, watch_app};
 ghost use Rattle.zk_ask.specs.declared.plan.Form.{Form};
 ghost use Rattle.zk_conversation.specs.Calls.{Call as Calls};
-ghost use Rattle.zk_conversation.specs.Views.{call_view};
-ghost use Rattle.zk_conversation.specs.declared.call.Call.{Call};
 ghost use Rattle.zk_nodes.specs.declared.side.Side.{Side};
 ghost use Rattle.zk_watch.specs.declared.plan.Style.{Style};
 ghost use Rattle.zk_watch.specs.declared.plan.Subject.{Subject};
@@ -75,15 +73,21 @@ pub enum Command<'a> {
         for_ms: Option<u64>,
         style: Style,
     },
-    /// Asks one call of servers at these addresses, and waits this many milliseconds for its answer. The node has this name below a chroot.
-    Ask {
-        addresses: Vec<&'a str>,
-        chroot: String,
-        name: &'a str,
-        call: Call,
-        form: Form,
-        wait_ms: u64,
-    },
+    /// Asks one call of servers.
+    Ask(Question<'a>),
+}
+
+/// A call of servers at these addresses, whose answer is waited for so many milliseconds. The node has this name below a chroot.
+#[derive(Drop)]
+pub struct Question<'a> {
+    pub addresses: Vec<&'a str>,
+    pub chroot: String,
+    pub name: &'a str,
+    pub call: Call,
+    /// The file whose bytes are to be the data of the call, which has none; where one is named.
+    pub from: Option<&'a str>,
+    pub form: Form,
+    pub wait_ms: u64,
 }
 
 /// The form of `show`.
@@ -277,11 +281,9 @@ fn watch_of<'a>(alloc: Global, matches: &ArgMatches<'a>) -> Result<Command<'a>, 
 
 /// The command that the matches of a command with this verb give.
 fn ask_of<'a>(alloc: Global, verb: Verb, matches: &ArgMatches<'a>) -> Result<Command<'a>, LineFault>
-    ensures ok { IfOk result (λ command. (addresses : Vec (Bor Text)) × (chroot : String Global) × (name : Bor Text) × (call : Call Global) × (form : Form) × (wait_ms : ℕ)
-        × (command ≡ Command.Ask addresses chroot name call form wait_ms)
-        × IsAsked verb (map (λ a. a.now) addresses.items) (string_bytes chroot) name.now (call_view call) form wait_ms (rows_of (found_of matches.now))) }
-    ensures err { IfErr result (TellsIf ((addresses : List Text) (chroot name : Text) (call : Calls) (form : Form) (wait_ms : ℕ)
-        → IsAsked verb addresses chroot name call form wait_ms (rows_of (found_of matches.now)) → ⊥)) }
+    ensures ok { IfOk result (λ command. (question : Question) × (command ≡ Command.Ask question) × AsksQuestion verb question (rows_of (found_of matches.now))) }
+    ensures err { IfErr result (TellsIf ((addresses : List Text) (chroot name : Text) (call : Calls) (from : Option Text) (form : Form) (wait_ms : ℕ)
+        → IsAsked verb addresses chroot name call from form wait_ms (rows_of (found_of matches.now)) → ⊥)) }
 {
     let Some(name) = matches.get_str("PATH") else {
         return Err(no_command(alloc));
@@ -290,14 +292,15 @@ fn ask_of<'a>(alloc: Global, verb: Verb, matches: &ArgMatches<'a>) -> Result<Com
     let (addresses, chroot) = servers_of(alloc, matches)?;
     let path = node_of(alloc, chroot.as_str(), name)?;
     let call = call_of(alloc, verb, path, matches)?;
-    Ok(Command::Ask {
+    Ok(Command::Ask(Question {
         addresses,
         chroot,
         name,
         call,
+        from: matches.get_str("from"),
         form: form_for(verb, matches),
         wait_ms,
-    })
+    }))
 }
 
 /// The command that the matches of a command line give.

@@ -10,7 +10,7 @@ help of each names its lines, and `zk_shell live --help` those that drive a clie
 
 Exit status: 0 done, and for help; 1 a fault in the input, told on standard error; 2 a fault of the
 command line, told there too; 3 out of memory; 4 standard input or output failed. Commands that ask for
-one node end with 5 to 8 too: `zk_shell get --help`. A watch ends with 9 too: `zk_shell watch --help`.";
+one node end with 5 to 8 and 10 too: `zk_shell get --help`. A watch ends with 9 too: `zk_shell watch --help`.";
 
 /// At the end of the help of `live`.
 pub const LIVE: &str =
@@ -155,6 +155,10 @@ Printed:
                 null, or hex where the data are no UTF-8, and then the fields of stat; those of ls have
                 a name each, and that of create has a path
 
+The data that set and create give: DATA as it is; with --hex, what that means; with --null, null; and with
+--from FILE the bytes of the file, as they are, those of standard input where FILE is -. They are read
+before anything is asked. A call takes some 1,048,500 bytes of data, by the length of its path.
+
 No node is ephemeral: it would be gone with the session of the command, at its end.
 
 What is not done is told on standard error, with PATH:
@@ -162,14 +166,16 @@ What is not done is told on standard error, with PATH:
   refused: /a: the node has another version (-103)
   not connected: /a: no server has answered in time
   no answer: /a: its time is over, and it may or may not have happened
+  unread: FILE: there is no such file      Or it may not be read, a read failed, or it is too long
 
 Exit status: 0 done; 2 a fault of the command line; 3 out of memory; 4 standard output failed; 5 no
-node; 6 refused; 7 no server has answered in time; 8 no answer to the call, which may be done or not.
-After 5, 6 and 7 nothing was changed.
+node; 6 refused; 7 no server has answered in time; 8 no answer to the call, which may be done or not; 10
+FILE is not read. After 5, 6, 7 and 10 nothing was changed.
 
 Examples:
   zk_shell create 127.0.0.1:2181 /config 'level = 1'
   zk_shell get 127.0.0.1:2181 /config >config
+  zk_shell set 127.0.0.1:2181 /config --from config
   zk_shell set 127.0.0.1:2181 /config 'level = 2' --version 0 || echo changed meanwhile
   zk_shell stat 127.0.0.1:2181 /config --json | jq .version";
 

@@ -10,6 +10,7 @@ pub mod command;
 mod data_words;
 mod fault;
 mod fields;
+pub mod files;
 mod frame;
 mod help;
 pub mod kind;

@@ -104,15 +104,17 @@ pub(crate) fn no_data(alloc: Global) -> LineFault
 {
     refusal(String::from_str(
         alloc,
-        "error: DATA is missing: give it, or --null for null data\n",
+        "error: DATA is missing: give it, or --from FILE, or --null for null data\n",
     ))
 }
 
-/// What is told of a word that is given beside the flag for null data.
+/// What is told of a word for data that others are given beside.
 pub(crate) fn two_data(alloc: Global, word: &str) -> LineFault
     ensures { IsNoHelp result }
 {
-    refusal(format!(in alloc; "error: {word:?}: give DATA or --null, not both\n"))
+    refusal(format!(in alloc;
+        "error: {word:?}: give DATA, with --hex where it is hex, or --null, or --from FILE\n"
+    ))
 }
 
 /// What is told of a word that is no hex.

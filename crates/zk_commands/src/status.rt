@@ -23,4 +23,6 @@ pub enum Status {
     Unanswered = 8,
     /// The time of a watch is over, and no server has ever accepted its session.
     NeverConnected = 9,
+    /// The file that is named gives no data, which was told.
+    Unread = 10,
 }

@@ -1,7 +1,4 @@
-use Rattle.std.proofs.Common.{ℕ, List, [], ◌∷◌, ◌++◌, refl, subst, inl, inr}
-use Rattle.std.specs.Global.{Global}
-use Rattle.zk_conversation.specs.Views.{call_view}
-use Rattle.zk_commands.specs.Asks.{PrintsAnswer}
+use Rattle.std.proofs.Common.{ℕ, List, [], ◌∷◌, ◌++◌, refl, inl, inr}
 use Rattle.zk_script.specs.Scripts.{refusal_text}
 use Rattle.zk_commands.specs.declared.command.Command.TheVariants.{History, Replay, Rehearse, Live}
 use Rattle.zk_commands.specs.Run.{shows, plays, watches, asks, unshown, stopped, nothing, begins, ceases}
@@ -143,35 +140,17 @@ returns-in-Watch-clause-undone g c = λ is words asked. absurd (c.watch_over.ens
 
 pub returns-in-Ask-clause-done : goal.returns-in-Ask-clause-done
 returns-in-Ask-clause-done g c = λ is words asked.
-    let told = c.ask_over.ensures.done is in
-    let prints = subst (λ (chroot : List ℕ). PrintsAnswer Global (call_view c.in-Ask.call) c.in-Ask.form chroot told.0) c.as_str.ensures.value told.1 in (
-      told.0,
-      asks c.in-Ask.addresses c.in-Ask.chroot c.in-Ask.name c.in-Ask.call c.in-Ask.form c.in-Ask.wait_ms (rw c.in-Ask.is at asked) prints,
-      told.2,
-      told.3,
-    )
+    let told = c.ask_with.ensures.done is in
+    (told.1, asks c.in-Ask.question told.0 (rw c.in-Ask.is at asked) told.2 told.3, told.4, told.5)
 
 pub returns-in-Ask-clause-undone : goal.returns-in-Ask-clause-undone
 returns-in-Ask-clause-undone g c = λ is words asked.
-    let told = c.ask_over.ensures.undone is in (
-      told.0,
-      record {
-        addresses = c.in-Ask.addresses;
-        chroot = c.in-Ask.chroot;
-        name = c.in-Ask.name;
-        call = c.in-Ask.call;
-        form = c.in-Ask.form;
-        wait_ms = c.in-Ask.wait_ms;
-        asks = rw c.in-Ask.is at asked;
-        tells = told.1;
-      },
-      told.2,
-      told.3,
-    )
+    let told = c.ask_with.ensures.undone is in
+    (told.0, record { question = c.in-Ask.question; asks = rw c.in-Ask.is at asked; tells = told.1 }, told.2, told.3)
 
 pub returns-in-Ask-clause-memory : goal.returns-in-Ask-clause-memory
 returns-in-Ask-clause-memory g c = λ is words asked.
-    let same = c.ask_over.ensures.memory is in
+    let same = c.ask_with.ensures.memory is in
     ([], nothing refl, rw same.0 (appends_nothing (g.O.Write.contents c.args.out.now)), same.1)
 
 pub returns-in-Show-clause-never : goal.returns-in-Show-clause-never
@@ -190,7 +169,7 @@ pub returns-in-Live-clause-never : goal.returns-in-Live-clause-never
 returns-in-Live-clause-never g c = λ is words asked. absurd (c.script_over-in-Live.ensures.never is)
 
 pub returns-in-Ask-clause-never : goal.returns-in-Ask-clause-never
-returns-in-Ask-clause-never g c = λ is words asked. absurd (c.ask_over.ensures.never is)
+returns-in-Ask-clause-never g c = λ is words asked. absurd (c.ask_with.ensures.never is)
 
 pub returns-in-Watch-clause-never : goal.returns-in-Watch-clause-never
 returns-in-Watch-clause-never g c = λ is words asked.
