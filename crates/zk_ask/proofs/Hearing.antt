@@ -1,5 +1,5 @@
 -- What is heard of a driver, one thing after the other.
-use Rattle.std.proofs.Common.{◌≡◌, ◌≤◌, ℕ, Bool, true, Option, Some, None, is_some, refl, subst}
+use Rattle.std.proofs.Common.{◌≡◌, ℕ, Bool, Option, Some, None, is_some, refl, subst}
 use Rattle.zk_client.specs.Views.{outcome_view}
 use Rattle.zk_client.specs.declared.output.Outcome.{Outcome}
 use Rattle.zk_agent.specs.Telling.{action_view}

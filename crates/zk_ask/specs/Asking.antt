@@ -1,5 +1,5 @@
 -- What a program asks of a driver, and what it hears of that.
-use Rattle.std.specs.Prelude.{◌≡◌, ◌≤◌, ℕ, ℤ, Bool, true, List, [], ◌∷◌, Option, Some, is_some}
+use Rattle.std.specs.Prelude.{◌≡◌, ◌≤◌, ℕ, Bool, true, [], ◌∷◌, Some, is_some}
 use Rattle.zk_conversation.specs.Calls.{Call}
 use Rattle.zk_conversation.specs.Views.{call_view}
 use Rattle.zk_conversation.specs.declared.call.Call.{Call as Handed}
@@ -35,12 +35,10 @@ pub data Hears {A : Type 0} (ticket until : ℕ) (new : Course A) : Course A →
   goes_on : (old between : Course A) (told : Told) (coming : Coming) → Tells old told between → Hears ticket until new between coming → Hears ticket until new old coming
 
 -- A driver is handed a call that waits to a moment, and this comes of it.
-pub record Heard {A : Type 0} (call : Call) (start : Course A) (coming : Coming) : Type 0 where
+pub record Heard {A : Type 0} (call : Call) (until : ℕ) (start : Course A) (coming : Coming) (last : Course A) : Type 0 where
   pub ticket : ℕ
-  pub until : ℕ
   pub handed : Handed A
   pub asked : Course A
-  pub last : Course A
   pub is : call_view handed ≡ call
   pub hands : Hands (happens.Call ticket handed (Some until)) start asked
   pub hears : Hears ticket until last asked coming
@@ -48,8 +46,10 @@ pub record Heard {A : Type 0} (call : Call) (start : Course A) (coming : Coming)
 -- So does a driver with a new session, which has no connection yet.
 pub record ComesOf (A : Type 0) (call : Call) (coming : Coming) : Type 0 where
   pub timeout : ℕ
+  pub until : ℕ
   pub start : Course A
+  pub last : Course A
   pub begins : view_of start.agent.asker.follower.client ≡ view_at (new_start timeout) []
   pub parted : start.channel ≡ closed
   pub untold : start.told ≡ []
-  pub heard : Heard call start coming
+  pub heard : Heard call until start coming last

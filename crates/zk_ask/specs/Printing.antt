@@ -1,5 +1,5 @@
 -- What is printed and told of what came of a call.
-use Rattle.std.specs.Prelude.{◌≡◌, ◌≢◌, ◌⊎◌, ⊤, ◌||◌, ◌&&◌, not, nat_le, ℕ, ℤ, Bool, true, false, if◌then◌else◌, List, [], ◌∷◌, ◌++◌, map, chars, codes, negsuc, Option, Some, None}
+use Rattle.std.specs.Prelude.{◌≡◌, ◌≢◌, ◌⊎◌, ⊤, ◌||◌, ◌&&◌, not, nat_le, ℕ, ℤ, Bool, true, false, if◌then◌else◌, List, [], ◌∷◌, ◌++◌, chars, codes, Option, Some, None}
 use Rattle.std.specs.Fmt.{signed_decimal}
 use Rattle.std.specs.FinSet as set
 use Rattle.std.specs.List.{flat_map, list_any}
@@ -12,8 +12,8 @@ use Rattle.zk_nodes.specs.declared.stat.Stat.{Stat}
 use Rattle.zk_records.specs.Codes.{code_of}
 use Rattle.zk_records.specs.declared.code.Code.{Code}
 use Rattle.zk_records.specs.declared.code.Code.TheVariants as code
-use Rattle.zk_conversation.specs.Results.{Result, NoNode, Refused, Found, Read, Listing, Made, Done}
-use Rattle.zk_turns.specs.Turns.{Outcome, Replied, ConnectionLoss, SessionExpired, SessionClosed, NotConnected, TooManyWatches, TooLarge, TooManyPending}
+use Rattle.zk_conversation.specs.Results.{Result, NoNode, Refused, Found, Read, Listing, Made}
+use Rattle.zk_turns.specs.Turns.{Outcome, Replied, TooManyWatches, TooLarge, TooManyPending}
 use Rattle.zk_client.specs.FaultText.{outcome_words}
 use Rattle.zk_script.specs.Values.{AreNames}
 use Rattle.zk_script.specs.Lines.{line}

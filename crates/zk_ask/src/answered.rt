@@ -12,19 +12,21 @@ use zk_driver::{Driver, Stop};
 use zk_link::{Clock, Dial};
 
 /// The timeout that a session asks for, in milliseconds.
-const TIMEOUT_MS: i32 = 10_000;
+pub(crate) const TIMEOUT_MS: i32 = 10_000;
 
 /// How long to wait for the end of a session, in milliseconds.
 const CLOSE_MS: u64 = 1_000;
 
-/// The ticket of the call.
-const CALL: u64 = 1;
-
 /// The ticket of the call that ends the session.
-const CLOSE: u64 = 2;
+const CLOSE: u64 = 0;
+
+/// The ticket of the first call.
+pub(crate) const CALL: u64 = 1;
 
 /// Ends the session of a driver, where it is connected, and waits for that a second at most. Whether it ended so is told to nobody.
-fn close<A: Allocator + Copy, D: Dial + Drop, C: Clock + Drop>(driver: &mut Driver<'_, A, D, C>) {
+pub(crate) fn close<A: Allocator + Copy, D: Dial + Drop, C: Clock + Drop>(
+    driver: &mut Driver<'_, A, D, C>,
+) {
     if !matches!(driver.client().state(), State::Connected) {
         return;
     }
@@ -34,17 +36,17 @@ fn close<A: Allocator + Copy, D: Dial + Drop, C: Clock + Drop>(driver: &mut Driv
     }
 }
 
-/// Hands a driver a call, and goes on with it for this many milliseconds at most, until the call is answered.
-fn answered<A: Allocator + Copy, D: Dial + Drop, C: Clock + Drop>(
+/// Hands a driver a call, with a ticket that no other call has or had, and goes on with it to this moment at most, until the call is answered.
+pub(crate) fn answered<A: Allocator + Copy, D: Dial + Drop, C: Clock + Drop>(
     driver: &mut Driver<'_, A, D, C>,
+    ticket: u64,
     call: Call<A>,
-    wait_ms: u64,
+    until: u64,
 ) -> Result<Came<A>, Stop>
-    ensures { IfOk result (λ came. Heard (call_view call) (course_of driver.old.engine None) (came_view came)) }
+    ensures { IfOk result (λ came. Heard (call_view call) until (course_of driver.old.engine None) (came_view came) (course_of driver.new.engine None)) }
 {
-    let until = driver.now().saturating_add(wait_ms);
-    driver.ask(CALL, call, Some(until))?;
-    hear(driver, CALL, until)
+    driver.ask(ticket, call, Some(until))?;
+    hear(driver, ticket, until)
 }
 
 /// What comes of a call of servers at these addresses within this many milliseconds, in a session of its own. An error says that memory ran
@@ -62,7 +64,8 @@ pub(crate) fn come<A: Allocator + Copy, D: Dial + Drop, C: Clock + Drop>(
     let Ok(mut driver) = Driver::begin(alloc, TIMEOUT_MS, dial, clock, addresses) else {
         return None;
     };
-    let came = answered(&mut driver, call, wait_ms);
+    let until = driver.now().saturating_add(wait_ms);
+    let came = answered(&mut driver, CALL, call, until);
     close(&mut driver);
     drop(driver);
     match came {

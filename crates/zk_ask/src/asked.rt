@@ -17,7 +17,7 @@ use std::io::Write;
 use zk_link::{Clock, Dial};
 
 /// Writes bytes, and answers this end unless that fails.
-fn write<W: Write>(to: &mut W, text: &[u8], end: End) -> End
+pub(crate) fn write<W: Write>(to: &mut W, text: &[u8], end: End) -> End
     ensures written { result ≢ End.Stream → (result ≡ end) × Appends (W.contents to.old) (W.contents to.new) text.now }
     ensures only { (result ≡ end) ⊎ (result ≡ End.Stream) }
 {

@@ -1,9 +1,9 @@
-//! How a call ends.
+//! How a call ends, or a walk.
 
-/// How a call ended.
+/// How a call ended, or a walk.
 #[derive(Clone, Copy, Debug, PartialEq, Eq)]
 pub enum End {
-    /// It is done, and its answer is printed.
+    /// It is done, and what was asked for is printed.
     Done,
     /// There is no such node.
     NoNode,
@@ -13,6 +13,8 @@ pub enum End {
     Unconnected,
     /// There is no answer to it: it may or may not be done.
     Unanswered,
+    /// As many nodes of a tree as may be are printed, and there are more.
+    More,
     /// Memory ran out, and nothing is written.
     Memory,
     /// A write failed.

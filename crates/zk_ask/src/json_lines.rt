@@ -103,7 +103,7 @@ fn fields_line<A: Allocator + Copy>(alloc: A, stat: &Stat) -> Result<Vec<u8, A>,
 }
 
 /// Lines, and after them that of an object with one text.
-fn with_text<A: Allocator + Copy>(
+pub(crate) fn with_text<A: Allocator + Copy>(
     lines: Vec<u8, A>,
     key: &str,
     text: &str,

@@ -1,7 +1,7 @@
-//! One call of a server, and its answer in words.
+//! One call of a server, or the calls that list a tree, and the answers in words.
 //!
 //! [`ask`] begins a session by a driver, hands it the call of a [`Plan`], and prints what its answer brings, or tells why there is none. It
-//! waits for a moment at most, and then gives the call up.
+//! waits for a moment at most, and then gives the call up. [`tree`] lists a node so, and then each node below it, and prints their paths.
 #![tactic(auto)]
 
 mod answered;
@@ -14,8 +14,13 @@ mod json_lines;
 mod names;
 mod plan;
 mod result;
+mod spots;
 mod told;
+mod toured;
+mod tree_text;
+mod walk;
 
 pub use asked::ask;
 pub use end::End;
-pub use plan::{Form, Plan};
+pub use plan::{Form, Plan, TreePlan};
+pub use toured::tree;

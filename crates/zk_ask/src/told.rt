@@ -49,7 +49,7 @@ fn refusal_words<A: Allocator + Copy>(alloc: A, number: i32) -> Result<String<A>
 }
 
 /// A line of what a call has met, the name of its node, and why.
-fn fault_line<A: Allocator + Copy>(
+pub(crate) fn fault_line<A: Allocator + Copy>(
     alloc: A,
     what: &str,
     name: &str,

@@ -1,9 +1,8 @@
-use Rattle.std.proofs.Common.{rules, ◌≡◌, ◌∙◌, ap, None, Some, true, is_some, subst, Option}
-use Rattle.zk_agent.specs.declared.action.Action.{Action}
+use Rattle.std.proofs.Common.{rules, ◌≡◌, None, Some, true, is_some}
 use Rattle.zk_agent.specs.declared.action.Action.TheVariants as action
 use Rattle.zk_client.specs.Views.{outcome_view}
 use Rattle.zk_driver.specs.Driving.{course_of}
-use Rattle.zk_ask.specs.Asking.{Answered, Hears, Late, passes}
+use Rattle.zk_ask.specs.Asking.{Answered, Late, passes}
 use Rattle.zk_ask.proofs.Hearing.{answered, late, later}
 use Rattle.zk_ask.proofs.came.hear.Goals as goal
 
