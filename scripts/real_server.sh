@@ -388,7 +388,7 @@ asks() {
 }
 
 # The commands that ask for one node: a text, null, no bytes and those of a file come back as they went, a version is compared, names and fields
-# are told, a path is below another, a server is named, and each way in which a call is not done has its words and its status.
+# and a tree are told, a path is below another, a server is named, and each way in which a call is not done has its words and its status.
 run_asks() {
     local at=127.0.0.1:$1 nobody
     nobody=127.0.0.1:$(free_ports 1)
@@ -424,6 +424,9 @@ run_asks() {
     (cd "$folder" && asks set "$at" /asks/file --from bytes)
     (cd "$folder" && asks set "$at" /asks/file --from none)
     (cd "$folder" && asks set "$at" /asks/file --from .)
+    asks tree "$at" /asks
+    asks tree "$at/asks" / --json --depth 1 --most 2
+    asks tree "$at" /none
     asks create "$at" /none/node x
     asks set "$at" /none x
     asks ls "$nobody" /asks --wait 1
@@ -490,6 +493,17 @@ unread: none: there is no such file
 = 10
 unread: .: a read failed
 = 10
+/asks
+/asks/empty
+/asks/file
+/asks/null
+= 0
+{"path":"/"}
+{"path":"/empty"}
+cut off: /: 2 nodes are printed, and there are more
+= 11
+no node: /none
+= 5
 no node: /none/node
 = 5
 no node: /none

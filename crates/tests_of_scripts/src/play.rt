@@ -79,7 +79,7 @@ fn perform<A: Allocator + Copy, D: Dial, I: Read, O: Write>(
             };
             script_over(alloc, plays, input, out, errors)
         }
-        Command::Watch { .. } | Command::Ask(_) => Status::Usage,
+        Command::Watch { .. } | Command::Ask(_) | Command::Tree(_) => Status::Usage,
     }
 }
 

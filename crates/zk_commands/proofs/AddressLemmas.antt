@@ -1,9 +1,10 @@
 -- Whether each word is admitted, and what is told where the words ask for nothing.
-use Rattle.std.proofs.Common.{◌≡◌, ◌≢◌, Bool, true, false, List, [], ◌∷◌, Option, Some, None, refl, sym, subst, map}
+use Rattle.std.proofs.Common.{◌≡◌, ◌≢◌, ◌∙◌, Bool, true, false, List, [], ◌∷◌, Option, Some, None, ap, refl, sym, subst, map, unwrap_or}
 use Rattle.std.specs.Prelude.{not, find, ◌&&◌, cond, Result, Ok, Err, IfErr, IsErrAnd}
 use Rattle.std.specs.Borrow.{Bor}
 use Rattle.std.specs.List.{list_all}
-use Rattle.clap.specs.Words.{Text}
+use Rattle.clap.specs.Words.{Row, Text}
+use Rattle.zk_commands.specs.Asks.{AreServers, chroot_text, cut_at_slash}
 use Rattle.zk_commands.specs.declared.line_fault.LineFault.{LineFault}
 use Rattle.zk_commands.specs.declared.line_fault.LineFault.TheVariants.{Help, Refused, Memory}
 use Rattle.zk_commands.specs.CommandLine.{IsNoHelp, TellsIf}
@@ -52,3 +53,9 @@ pub tells_on : {T : Type 0} (why other : Type 0) (r : Result T LineFault) (fault
     → (why → other) → IfErr r (TellsIf other)
 tells_on why other (Ok x) fault is told so = tt
 tells_on why other (Err e) fault is told so = subst (λ (f : LineFault). TellsIf other f) (sym is) (tells_more why other fault so told)
+
+-- what was given has one chroot
+pub one_chroot : (rows : List Row) (addresses others : List Text) (chroot other : Text) → AreServers addresses chroot rows → AreServers others other rows → chroot ≡ other
+one_chroot rows addresses others chroot other one two =
+    let same : one.word ≡ two.word = ap (λ o. unwrap_or o []) (sym one.given ∙ two.given) in
+    one.are.2 ∙ ap (λ (w : Text). chroot_text (cut_at_slash w).1) same ∙ sym two.are.2

@@ -10,6 +10,7 @@ use Rattle.zk_ask.specs.declared.end.End.{End}
 use Rattle.zk_ask.specs.declared.end.End.TheVariants as ends
 use Rattle.zk_ask.specs.Asking.{Coming, ComesOf}
 use Rattle.zk_ask.specs.Printing.{end_of, told, Prints}
+use Rattle.zk_limits.specs.declared.limits.TheConstants.{LONGEST_PATH}
 use Rattle.zk_nodes.specs.PathFault.{fault_of as path_fault}
 use Rattle.zk_script.specs.Numbers.{natural_of}
 use Rattle.zk_script.specs.Reads.{data_at}
@@ -80,8 +81,20 @@ delete_app = with_rule (read_app (codes "delete")) version_rule
 abbrev pub with_writes : App → App
 with_writes app = with_subcommand (with_subcommand (with_subcommand app set_app.top) create_app.top) delete_app.top
 
+-- a number of levels, where one is given
+abbrev pub depth_rule : Rule
+depth_rule = record (new_rule (codes "depth")) { long = Some (codes "depth"); value_names = 1 }
+
+-- nodes, 10,000 of them where no number is given
+abbrev pub most_rule : Rule
+most_rule = record (new_rule (codes "most")) { long = Some (codes "most"); value_names = 1; defaults = codes "10000" ∷ [] }
+
+abbrev pub tree_app : App
+tree_app = with_rule (with_rule (json_app (codes "tree")) depth_rule) most_rule
+
 abbrev pub with_reads : App → App
-with_reads app = with_subcommand (with_subcommand (with_subcommand app get_app.top) (json_app (codes "ls")).top) (json_app (codes "stat")).top
+with_reads app =
+    with_subcommand (with_subcommand (with_subcommand (with_subcommand app get_app.top) (json_app (codes "ls")).top) (json_app (codes "stat")).top) tree_app.top
 
 -- what stands before the first slash, and what stands after it
 abbrev pub cut : (word : Text) → Option (Text × Text) → Text × Text
@@ -159,6 +172,11 @@ version_read (Some word) = option_map pos (natural_of 2147483647 word)
 abbrev pub version_in : List Row → Option ℤ
 version_in rows = version_read (first_of (codes "version") rows)
 
+-- how many levels below a node are gone through: where none is given, as many as the longest path has bytes, and so all
+abbrev pub depth_read : Option Text → Option ℕ
+depth_read None = Some LONGEST_PATH
+depth_read (Some word) = natural_of 4294967295 word
+
 -- the number of a mode: whether the name ends with a number
 abbrev pub mode_in : List Row → ℕ
 mode_in rows = if flag (codes "sequential") rows then 2 else 0
@@ -197,6 +215,7 @@ status_of ends.NoNode = status.NoNode
 status_of ends.Refused = status.Refused
 status_of ends.Unconnected = status.Unconnected
 status_of ends.Unanswered = status.Unanswered
+status_of ends.More = status.More
 status_of ends.Memory = status.Memory
 status_of ends.Stream = status.Stream
 

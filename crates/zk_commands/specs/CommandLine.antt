@@ -17,18 +17,20 @@ use Rattle.zk_script.specs.Numbers.{natural_of}
 use Rattle.zk_conversation.specs.Calls.{Call}
 use Rattle.zk_conversation.specs.Views.{call_view}
 use Rattle.zk_ask.specs.declared.plan.Form.{Form}
+use Rattle.zk_ask.specs.declared.plan.Form.TheVariants.{Plain}
 use Rattle.zk_watch.specs.Watching.{aims_of}
 use Rattle.zk_watch.specs.declared.plan.Style.{Style}
 use Rattle.zk_watch.specs.declared.plan.Style.TheVariants as style
 use Rattle.zk_commands.specs.declared.command.Command.{Command}
 use Rattle.zk_commands.specs.declared.command.Question.{Question}
-use Rattle.zk_commands.specs.declared.command.Command.TheVariants.{Show, History, Replay, Rehearse, Live, Watch, Ask}
+use Rattle.zk_commands.specs.declared.command.Tour.{Tour}
+use Rattle.zk_commands.specs.declared.command.Command.TheVariants.{Show, History, Replay, Rehearse, Live, Watch, Ask, Tree}
 use Rattle.zk_commands.specs.declared.line_fault.LineFault.{LineFault}
 use Rattle.zk_commands.specs.declared.line_fault.LineFault.TheVariants.{Help, Refused, Memory}
 use Rattle.zk_commands.specs.declared.kind.Kind.TheVariants as kind
 use Rattle.zk_commands.specs.Kinds.{kind_word}
 use Rattle.zk_commands.specs.declared.verb.Verb.{Verb}
-use Rattle.zk_commands.specs.Asks.{AreServers, absolute, call_for, form_for, verb_word, with_reads, with_writes, flag, flag_rule, servers_rule}
+use Rattle.zk_commands.specs.Asks.{AreServers, absolute, call_for, depth_read, form_for, form_or_json, verb_word, with_reads, with_writes, flag, flag_rule, servers_rule}
 
 -- the kinds that `show` knows, in the order in which help lists them
 abbrev pub kind_words : List Text
@@ -181,6 +183,22 @@ AsksQuestion verb question rows =
     IsAsked verb (map (λ a. a.now) question.addresses.items) (string_bytes question.chroot) question.name.now (call_view question.call)
     (option_map (λ f. f.now) question.from) question.form question.wait_ms rows
 
+-- how many nodes are printed at most
+abbrev pub most_at : Text → Option ℕ
+most_at word = count_at 4294967295 word
+
+-- What `tree` was given: servers with their chroot, the root by its path and by its name below the chroot, how many levels and how many nodes, how to
+-- print, and how long to wait.
+abbrev pub IsTree : (addresses : List Text) → (chroot path name : Text) → (deepest most : ℕ) → Form → (wait_ms : ℕ) → List Row → Type 0
+IsTree addresses chroot path name deepest most form wait_ms rows =
+    AreServers addresses chroot rows × IsNode chroot name rows × (path ≡ absolute chroot name) × (depth_read (first_of (codes "depth") rows) ≡ Some deepest)
+    × (option_and_then most_at (first_of (codes "most") rows) ≡ Some most) × (form ≡ form_or_json Plain rows)
+    × (option_and_then wait_at (first_of (codes "wait") rows) ≡ Some wait_ms)
+
+-- that is this tree
+abbrev pub AsksTour : Tour → List Row → Type 0
+AsksTour tour rows = (chroot : Text) × IsTree (map (λ a. a.now) tour.addresses.items) chroot tour.path tour.name tour.deepest tour.most tour.form tour.wait_ms rows
+
 -- the subcommand that was found, with its values, is this command
 abbrev pub IsFound : Command → Option (Text × List Row) → Type 0
 IsFound (Show kind hex) found = (rows : List Row) × (found ≡ Some (codes "show", rows))
@@ -191,6 +209,7 @@ IsFound Rehearse found = (rows : List Row) × (found ≡ Some (codes "rehearse",
 IsFound (Live addresses) found = (rows : List Row) × (found ≡ Some (codes "live", rows)) × AreAddresses (map (λ a. a.now) addresses.items) rows
 IsFound (Watch addresses subjects timeout_ms for_ms how) found = (rows : List Row) × (found ≡ Some (codes "watch", rows))
     × (chroot : Text) × IsWatch (map (λ a. a.now) addresses.items) chroot (aims_of subjects.items) timeout_ms for_ms how rows
+IsFound (Tree tour) found = (rows : List Row) × (found ≡ Some (codes "tree", rows)) × AsksTour tour rows
 IsFound (Ask question) found = (verb : Verb) × (rows : List Row) × (found ≡ Some (verb_word verb, rows)) × AsksQuestion verb question rows
 
 -- the words are those that ask for the frames of a capture: they have a meaning of their own, and all others are `clap`'s

@@ -9,4 +9,5 @@ pub mod CommandLine
 pub mod Show
 pub mod Scripts
 pub mod Written
+pub mod Tours
 pub mod Run

@@ -35,6 +35,7 @@ pub fn ask_over<A: Allocator + Copy, D: Dial + Drop, C: Clock + Drop, O: Write, 
     ensures fault { result ≢ Status.Fault }
     ensures usage { result ≢ Status.Usage }
     ensures never { result ≢ Status.NeverConnected }
+    ensures more { result ≢ Status.More }
 {
     match ask(alloc, dial, clock, plan, out, errors) {
         End::Done => Status::Done,
@@ -42,6 +43,7 @@ pub fn ask_over<A: Allocator + Copy, D: Dial + Drop, C: Clock + Drop, O: Write, 
         End::Refused => Status::Refused,
         End::Unconnected => Status::Unconnected,
         End::Unanswered => Status::Unanswered,
+        End::More => Status::More,
         End::Memory => Status::Memory,
         End::Stream => Status::Stream,
     }
@@ -109,6 +111,7 @@ pub fn ask_with<F: Files, D: Dial + Drop, C: Clock + Drop, I: Read, O: Write, E:
     ensures fault { result ≢ Status.Fault }
     ensures usage { result ≢ Status.Usage }
     ensures never { result ≢ Status.NeverConnected }
+    ensures more { result ≢ Status.More }
 {
     let Question {
         addresses,

@@ -5,6 +5,7 @@ ghost use Rattle.clap.specs.Words.{app_of, rule_of};
 ghost use Rattle.zk_commands.specs.Asks.{create_app, data_app, delete_app, flag_rule, from_rule, get_app, json_app, node_rule, read_app, servers_rule, set_app, version_rule, wait_rule, with_reads, with_writes};
 
 use crate::help;
+use crate::tree_words::tree_form;
 use crate::watch_words::option_arg;
 use clap::{Arg, ArgAction};
 use std::alloc::{AllocError, Global};
@@ -75,7 +76,7 @@ fn node_form<'a>(
 }
 
 /// The form of a command that may print JSON.
-fn json_form<'a>(
+pub(crate) fn json_form<'a>(
     alloc: Global,
     name: &'a str,
     about: &'a str,
@@ -114,7 +115,9 @@ pub(crate) fn with_reads<'a>(
         "stat",
         "Prints what is known of a node, a line for each field",
     )?;
-    form.subcommand(stat)
+    let form = form.subcommand(stat)?;
+    let tree = tree_form(alloc)?;
+    form.subcommand(tree)
 }
 
 /// The option of the file whose bytes are the data.

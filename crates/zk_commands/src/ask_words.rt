@@ -147,7 +147,7 @@ pub(crate) fn flag(matches: &ArgMatches<'_>, name: &str) -> bool
 }
 
 /// JSON where this is asked for, and else this form.
-fn form_or_json(form: Form, matches: &ArgMatches<'_>) -> Form
+pub(crate) fn form_or_json(form: Form, matches: &ArgMatches<'_>) -> Form
     ensures { result ≡ form_or_json form (rows_of (found_of matches.now)) }
 {
     if flag(matches, "json") {

@@ -20,6 +20,7 @@ use crate::data_words::call_of;
 use crate::help;
 use crate::kind::Kind;
 use crate::line_fault::{LineFault, no_address, no_command};
+use crate::tree_words::tree_of;
 use crate::verb::Verb;
 use crate::watch_words::{
     addresses_arg, duration_of, style_of, subjects_of, timeout_of, watch_form,
@@ -30,6 +31,7 @@ use std::alloc::{AllocError, Global};
 use zk_ask::Form;
 use zk_client::Call;
 use zk_live::address::is_address;
+use zk_nodes::Path;
 use zk_watch::{Style, Subject};
 
 static KINDS: [&str; 11] = [
@@ -75,6 +77,8 @@ pub enum Command<'a> {
     },
     /// Asks one call of servers.
     Ask(Question<'a>),
+    /// Lists a tree.
+    Tree(Tour<'a>),
 }
 
 /// A call of servers at these addresses, whose answer is waited for so many milliseconds. The node has this name below a chroot.
@@ -86,6 +90,22 @@ pub struct Question<'a> {
     pub call: Call,
     /// The file whose bytes are to be the data of the call, which has none; where one is named.
     pub from: Option<&'a str>,
+    pub form: Form,
+    pub wait_ms: u64,
+}
+
+/// A tree of servers at these addresses, whose answers are waited for so many milliseconds together.
+#[derive(Drop)]
+pub struct Tour<'a> {
+    pub addresses: Vec<&'a str>,
+    /// The root's path.
+    pub path: Path,
+    /// The root's path below a chroot.
+    pub name: Path,
+    /// How many levels below the root are gone through.
+    pub deepest: u64,
+    /// How many nodes are printed at most.
+    pub most: u64,
     pub form: Form,
     pub wait_ms: u64,
 }
@@ -318,6 +338,7 @@ fn asked<'a>(alloc: Global, matches: &ArgMatches<'a>) -> Result<Command<'a>, Lin
         Some(("rehearse", _)) => Ok(Command::Rehearse),
         Some(("live", inner)) => live_of(alloc, inner),
         Some(("watch", inner)) => watch_of(alloc, inner),
+        Some(("tree", inner)) => tree_of(alloc, inner),
         Some((word, inner)) => match Verb::named(word) {
             Some(verb) => ask_of(alloc, verb, inner),
             None => Err(no_command(alloc)),

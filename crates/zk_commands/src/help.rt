@@ -10,7 +10,7 @@ help of each names its lines, and `zk_shell live --help` those that drive a clie
 
 Exit status: 0 done, and for help; 1 a fault in the input, told on standard error; 2 a fault of the
 command line, told there too; 3 out of memory; 4 standard input or output failed. Commands that ask for
-one node end with 5 to 8 and 10 too: `zk_shell get --help`. A watch ends with 9 too: `zk_shell watch --help`.";
+one node or a tree end with 5 to 8, 10 and 11 too: `zk_shell get --help`. A watch ends with 9 too: `zk_shell watch --help`.";
 
 /// At the end of the help of `live`.
 pub const LIVE: &str =
@@ -149,11 +149,16 @@ Printed:
   ls            the names below the node, a line each, in the order of their bytes
   stat          a line for each field, by ZooKeeper's name: czxid, mzxid, ctime, mtime, version,
                 cversion, aversion, ephemeralOwner, dataLength, numChildren, pzxid
+  tree          the path of the node and of each one below it, a line each: those below a node come after it,
+                in the order of their bytes
   create        the path of the node that was made
   set, delete   nothing
-  --json        of get, ls, stat and create: an object of JSON a line. That of get has data, a text or
-                null, or hex where the data are no UTF-8, and then the fields of stat; those of ls have
-                a name each, and that of create has a path
+  --json        of get, ls, stat, tree and create: an object of JSON a line. That of get has data, a text
+                or null, or hex where the data are no UTF-8, and then the fields of stat; those of ls have
+                a name each, and those of tree and create a path
+
+A tree is asked for node by node, so it need not be that of one moment; a node that is gone by then is left
+out. --wait is for all answers together.
 
 The data that set and create give: DATA as it is; with --hex, what that means; with --null, null; and with
 --from FILE the bytes of the file, as they are, those of standard input where FILE is -. They are read
@@ -166,11 +171,13 @@ What is not done is told on standard error, with PATH:
   refused: /a: the node has another version (-103)
   not connected: /a: no server has answered in time
   no answer: /a: its time is over, and it may or may not have happened
+  cut off: /a: 10000 nodes are printed, and there are more
+                                      Of tree, where there are more than --most says
   unread: FILE: there is no such file      Or it may not be read, a read failed, or it is too long
 
 Exit status: 0 done; 2 a fault of the command line; 3 out of memory; 4 standard output failed; 5 no
 node; 6 refused; 7 no server has answered in time; 8 no answer to the call, which may be done or not; 10
-FILE is not read. After 5, 6, 7 and 10 nothing was changed.
+FILE is not read; 11 there are more nodes than --most. After 5, 6, 7 and 10 nothing was changed.
 
 Examples:
   zk_shell create 127.0.0.1:2181 /config 'level = 1'

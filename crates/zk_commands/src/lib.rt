@@ -22,6 +22,8 @@ pub mod script;
 pub mod show;
 mod shown;
 pub mod status;
+mod tree;
+mod tree_words;
 pub mod verb;
 mod watch;
 mod watch_words;

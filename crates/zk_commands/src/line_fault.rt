@@ -98,6 +98,22 @@ pub(crate) fn no_wait(alloc: Global, word: &str) -> LineFault
     ))
 }
 
+/// What is told of a word that is no number of levels.
+pub(crate) fn no_depth(alloc: Global, word: &str) -> LineFault
+    ensures { IsNoHelp result }
+{
+    refusal(format!(in alloc; "error: {word:?} is no depth: a number from 0 to 4294967295\n"))
+}
+
+/// What is told of a word that is no number of nodes.
+pub(crate) fn no_most(alloc: Global, word: &str) -> LineFault
+    ensures { IsNoHelp result }
+{
+    refusal(format!(in alloc;
+        "error: {word:?} is no number of nodes: a number from 1 to 4294967295\n"
+    ))
+}
+
 /// What is told where no data are given.
 pub(crate) fn no_data(alloc: Global) -> LineFault
     ensures { IsNoHelp result }

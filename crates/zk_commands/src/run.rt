@@ -5,7 +5,7 @@ ghost use Rattle.std.specs.Io.KnownBytes.{Appends};
 ghost use Rattle.clap.specs.Words.{Text};
 ghost use Rattle.zk_commands.specs.Asks.{IsUndone};
 ghost use Rattle.zk_commands.specs.CommandLine.{AsksFor};
-ghost use Rattle.zk_commands.specs.Run.{IsDone, IsFaulty, IsHelpText, IsNeverConnected, IsRefusal, IsRefusalText, IsUndoneBy, IsWhole};
+ghost use Rattle.zk_commands.specs.Run.{IsCutOff, IsDone, IsFaulty, IsHelpText, IsNeverConnected, IsRefusal, IsRefusalText, IsUndoneBy, IsWhole};
 
 use crate::ask::ask_with;
 use crate::capture::{ToldCapture, asks_stream};
@@ -16,6 +16,7 @@ use crate::plays::{LiveClient, RehearsedClient, ReplayedClient, ToldHistory};
 use crate::script::script_over;
 use crate::show::show;
 use crate::status::Status;
+use crate::tree::tour_over;
 use crate::watch::watch_over;
 use crate::written::write_text;
 use std::alloc::Global;
@@ -60,6 +61,7 @@ fn perform<F: Files, D: Dial + Drop, C: Clock + Drop, I: Read, O: Write, E: Writ
     ensures usage { result ≢ Status.Usage }
     ensures undone { IsUndone result → (words : List Text) → AsksFor words command.entry → (told : List ℕ) × IsUndoneBy words (F.holds files.now) (I.remaining input.old) result told × Appends (E.contents errors.old) (E.contents errors.new) told × (out.new ≡ out.old) }
     ensures never { result ≡ Status.NeverConnected → (words : List Text) → AsksFor words command.entry → (text : List ℕ) × IsNeverConnected words text × Appends (O.contents out.old) (O.contents out.new) text × (errors.new ≡ errors.old) }
+    ensures more { result ≡ Status.More → (words : List Text) → AsksFor words command.entry → (text told : List ℕ) × IsCutOff words text told × Appends (O.contents out.old) (O.contents out.new) text × Appends (E.contents errors.old) (E.contents errors.new) told }
     ensures memory { result ≡ Status.Memory → (words : List Text) → AsksFor words command.entry → (text : List ℕ) × IsWhole words (I.remaining input.old) text × Appends (O.contents out.old) (O.contents out.new) text × (errors.new ≡ errors.old) }
 {
     match command {
@@ -86,6 +88,7 @@ fn perform<F: Files, D: Dial + Drop, C: Clock + Drop, I: Read, O: Write, E: Writ
         Command::Ask(question) => {
             ask_with(alloc, files, dial, clock, question, input, out, errors)
         }
+        Command::Tree(tour) => tour_over(alloc, dial, clock, tour, out, errors),
     }
 }
 
@@ -96,6 +99,7 @@ fn tell_line<O: Write, E: Write>(out: &mut O, errors: &mut E, fault: LineFault) 
     ensures usage { result ≡ Status.Usage → (told : List ℕ) × IsRefusalText fault told × Appends (E.contents errors.old) (E.contents errors.new) told × (out.new ≡ out.old) }
     ensures asks { IsUndone result → ⊥ }
     ensures never { result ≢ Status.NeverConnected }
+    ensures more { result ≢ Status.More }
     ensures memory { result ≡ Status.Memory → (out.new ≡ out.old) × (errors.new ≡ errors.old) }
 {
     match fault {
@@ -132,6 +136,9 @@ pub fn run<F: Files, D: Dial + Drop, C: Clock + Drop, I: Read, O: Write, E: Writ
     // The time of a watch is over, and no server has ever accepted its session.
     ensures never { result ≡ Status.NeverConnected → (text : List ℕ) × IsNeverConnected (map (λ w. w.now) words.entry.now) text
         × Appends (O.contents out.old) (O.contents out.new) text × (errors.new ≡ errors.old) }
+    // As many nodes of a tree as are to be are printed, there are more, and this is told.
+    ensures more { result ≡ Status.More → (text told : List ℕ) × IsCutOff (map (λ w. w.now) words.entry.now) text told
+        × Appends (O.contents out.old) (O.contents out.new) text × Appends (E.contents errors.old) (E.contents errors.new) told }
     // Nothing is written, or whole answers of a history, or what whole lines of a replay, a rehearsal or a session print, or what a
     // watch prints.
     ensures memory { result ≡ Status.Memory → (text : List ℕ) × IsWhole (map (λ w. w.now) words.entry.now) (I.remaining input.old) text

@@ -25,4 +25,6 @@ pub enum Status {
     NeverConnected = 9,
     /// The file that is named gives no data, which was told.
     Unread = 10,
+    /// As many nodes of a tree as are to be are printed, and there are more, which was told.
+    More = 11,
 }

@@ -75,6 +75,7 @@ pub(crate) fn write_transcript<A: Allocator, O: Write, E: Write>(
     ensures usage { result ≢ Status.Usage }
     ensures asks { IsUndone result → ⊥ }
     ensures never { result ≢ Status.NeverConnected }
+    ensures more { result ≢ Status.More }
 {
     if out.write_all(transcript.text.as_bytes()).is_err() {
         return Status::Stream;

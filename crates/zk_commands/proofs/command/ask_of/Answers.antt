@@ -5,17 +5,11 @@ use Rattle.clap.specs.Words.{Row, Text, first_of, found_of, rows_of}
 use Rattle.clap.proofs.WalkLemmas.{first_value-rows}
 use Rattle.zk_ask.specs.declared.plan.Form.{Form}
 use Rattle.zk_conversation.specs.Calls.{Call}
-use Rattle.zk_commands.specs.Asks.{AreServers, absolute, call_for, chroot_text, cut_at_slash}
+use Rattle.zk_commands.specs.Asks.{AreServers, absolute, call_for}
 use Rattle.zk_commands.specs.CommandLine.{IsAsked, is_below}
 use Rattle.zk_commands.specs.declared.verb.Verb.{Verb}
-use Rattle.zk_commands.proofs.AddressLemmas.{tells, tells_on}
+use Rattle.zk_commands.proofs.AddressLemmas.{one_chroot, tells, tells_on}
 use Rattle.zk_commands.proofs.command.ask_of.Goals as goal
-
--- what was given has one chroot
-one_chroot : (rows : List Row) (addresses others : List Text) (chroot other : Text) → AreServers addresses chroot rows → AreServers others other rows → chroot ≡ other
-one_chroot rows addresses others chroot other one two =
-    let same : one.word ≡ two.word = ap (λ o. unwrap_or o []) (sym one.given ∙ two.given) in
-    one.are.2 ∙ ap (λ (w : Text). chroot_text (cut_at_slash w).1) same ∙ sym two.are.2
 
 -- The node's path is refused, so nothing is asked.
 no_node : (rows : List Row) (name chroot text : Text) (addresses : List Text) → first_of (codes "PATH") rows ≡ Some name → AreServers addresses chroot rows

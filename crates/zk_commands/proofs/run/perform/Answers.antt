@@ -1,7 +1,7 @@
 use Rattle.std.proofs.Common.{ℕ, List, [], ◌∷◌, ◌++◌, refl, inl, inr}
 use Rattle.zk_script.specs.Scripts.{refusal_text}
 use Rattle.zk_commands.specs.declared.command.Command.TheVariants.{History, Replay, Rehearse, Live}
-use Rattle.zk_commands.specs.Run.{shows, plays, watches, asks, unshown, stopped, nothing, begins, ceases}
+use Rattle.zk_commands.specs.Run.{shows, plays, watches, asks, tours, call, tree, unshown, stopped, nothing, begins, ceases}
 use Rattle.zk_commands.specs.Show.{fault_text}
 use Rattle.zk_commands.proofs.ScriptLemmas.{appends_nothing}
 use Rattle.zk_commands.proofs.run.perform.Goals as goal
@@ -146,7 +146,7 @@ returns-in-Ask-clause-done g c = λ is words asked.
 pub returns-in-Ask-clause-undone : goal.returns-in-Ask-clause-undone
 returns-in-Ask-clause-undone g c = λ is words asked.
     let told = c.ask_with.ensures.undone is in
-    (told.0, record { question = c.in-Ask.question; asks = rw c.in-Ask.is at asked; tells = told.1 }, told.2, told.3)
+    (told.0, call c.in-Ask.question (rw c.in-Ask.is at asked) told.1, told.2, told.3)
 
 pub returns-in-Ask-clause-memory : goal.returns-in-Ask-clause-memory
 returns-in-Ask-clause-memory g c = λ is words asked.
@@ -187,3 +187,52 @@ returns-in-Watch-clause-never g c = λ is words asked.
       told.2,
       refl,
     )
+
+pub returns-in-Show-clause-more : goal.returns-in-Show-clause-more
+returns-in-Show-clause-more g c = λ is words asked. absurd (c.show.ensures.more is)
+
+pub returns-in-History-clause-more : goal.returns-in-History-clause-more
+returns-in-History-clause-more g c = λ is words asked. absurd (c.script_over.ensures.more is)
+
+pub returns-in-Replay-clause-more : goal.returns-in-Replay-clause-more
+returns-in-Replay-clause-more g c = λ is words asked. absurd (c.script_over-in-Replay.ensures.more is)
+
+pub returns-in-Rehearse-clause-more : goal.returns-in-Rehearse-clause-more
+returns-in-Rehearse-clause-more g c = λ is words asked. absurd (c.script_over-in-Rehearse.ensures.more is)
+
+pub returns-in-Live-clause-more : goal.returns-in-Live-clause-more
+returns-in-Live-clause-more g c = λ is words asked. absurd (c.script_over-in-Live.ensures.more is)
+
+pub returns-in-Watch-clause-more : goal.returns-in-Watch-clause-more
+returns-in-Watch-clause-more g c = λ is words asked. absurd (c.watch_over.ensures.more is)
+
+pub returns-in-Ask-clause-more : goal.returns-in-Ask-clause-more
+returns-in-Ask-clause-more g c = λ is words asked. absurd (c.ask_with.ensures.more is)
+
+pub returns-in-Tree-clause-done : goal.returns-in-Tree-clause-done
+returns-in-Tree-clause-done g c = λ is words asked.
+    let told = c.tour_over.ensures.done is in
+    (told.0, tours c.in-Tree.tour (rw c.in-Tree.is at asked) told.1, told.2, told.3)
+
+pub returns-in-Tree-clause-undone : goal.returns-in-Tree-clause-undone
+returns-in-Tree-clause-undone g c = λ is words asked.
+    let told = c.tour_over.ensures.undone is in
+    (told.0, tree c.in-Tree.tour (rw c.in-Tree.is at asked) told.1, told.2, told.3)
+
+pub returns-in-Tree-clause-more : goal.returns-in-Tree-clause-more
+returns-in-Tree-clause-more g c = λ is words asked.
+    let told = c.tour_over.ensures.more is in (
+      told.0,
+      _,
+      record { tour = c.in-Tree.tour; asks = rw c.in-Tree.is at asked; prints = told.1; tells = refl },
+      told.2,
+      told.3,
+    )
+
+pub returns-in-Tree-clause-memory : goal.returns-in-Tree-clause-memory
+returns-in-Tree-clause-memory g c = λ is words asked.
+    let same = c.tour_over.ensures.memory is in
+    ([], nothing refl, rw same.0 (appends_nothing (g.O.Write.contents c.args.out.now)), same.1)
+
+pub returns-in-Tree-clause-never : goal.returns-in-Tree-clause-never
+returns-in-Tree-clause-never g c = λ is words asked. absurd (c.tour_over.ensures.never is)
