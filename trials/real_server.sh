@@ -387,8 +387,8 @@ asks() {
     echo "= $status" >>"$folder/asks.out"
 }
 
-# The commands that ask for one node: a text, null and no bytes come back as they went, a version is compared, names and fields are told, a path
-# is below another, and each way in which a call is not done has its words and its status.
+# The commands that ask for one node: a text, null, no bytes and those of a file come back as they went, a version is compared, names and fields
+# and a tree are told, a path is below another, a server is named, and each way in which a call is not done has its words and its status.
 run_asks() {
     local at=127.0.0.1:$1 nobody
     nobody=127.0.0.1:$(free_ports 1)
@@ -412,6 +412,21 @@ run_asks() {
     asks delete "$at" /asks/bytes --version 1
     asks delete "$at" /asks/bytes --version 0
     asks get "$at/asks" /bytes
+    printf '\0\377\n\n' >"$folder/bytes"
+    asks create "$at" /asks/file --from "$folder/bytes"
+    asks get "localhost:$1" /asks/file --hex
+    asks set "nobody.invalid,localhost:$1/asks" /file --from - --wait 30 <"$folder/bytes"
+    asks get "$at" /asks/file --hex
+    : >"$folder/bytes"
+    asks set "$at" /asks/file --from "$folder/bytes" --version 1
+    asks get "$at" /asks/file --hex
+    truncate -s 1048576 "$folder/bytes"
+    (cd "$folder" && asks set "$at" /asks/file --from bytes)
+    (cd "$folder" && asks set "$at" /asks/file --from none)
+    (cd "$folder" && asks set "$at" /asks/file --from .)
+    asks tree "$at" /asks
+    asks tree "$at/asks" / --json --depth 1 --most 2
+    asks tree "$at" /none
     asks create "$at" /none/node x
     asks set "$at" /none x
     asks ls "$nobody" /asks --wait 1
@@ -461,6 +476,33 @@ refused: /asks/bytes: the node has another version (-103)
 = 6
 = 0
 no node: /bytes
+= 5
+/asks/file
+= 0
+00ff0a0a
+= 0
+= 0
+00ff0a0a
+= 0
+= 0
+\e
+= 0
+unread: bytes: it has more than 1,048,575 bytes
+= 10
+unread: none: there is no such file
+= 10
+unread: .: a read failed
+= 10
+/asks
+/asks/empty
+/asks/file
+/asks/null
+= 0
+{"path":"/"}
+{"path":"/empty"}
+cut off: /: 2 nodes are printed, and there are more
+= 11
+no node: /none
 = 5
 no node: /none/node
 = 5
@@ -946,7 +988,7 @@ run_stopped() {
     known=()
     start_three stopped "${ports[@]}"
     outside "${ports[0]}" create /stopped one
-    begin_data stopped "127.0.0.1:${ports[0]}" "127.0.0.1:${ports[1]}" "127.0.0.1:${ports[2]}" --timeout 30000
+    begin_data stopped "127.0.0.1:${ports[0]},127.0.0.1:${ports[1]},127.0.0.1:${ports[2]}" --timeout 30000
     first=$(port_of stopped)
     for port in "${ports[@]:0:3}"; do
         [[ $port == "$first" ]] || other=$port

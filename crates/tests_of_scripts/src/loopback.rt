@@ -46,12 +46,32 @@ fn is_late<R: Net>(net: &R, alloc: Global) -> io::Result<bool> {
     })
 }
 
-/// Whether a name is dialled, which is no number.
-fn is_name_dialled<R: Net>(net: &R) -> bool {
-    Tcp::new(net).dial("localhost:2181", WITHIN).is_ok()
+/// Whether this process is dialled by its host's name.
+fn is_name_dialled<R: Net>(net: &R, alloc: Global) -> io::Result<bool> {
+    let listener = TcpListener::bind(net, "127.0.0.1:0")?;
+    let port = listener.local_addr()?.port();
+    let address = format!(in alloc; "localhost:{port}")?;
+    Ok(Tcp::new(net).dial(address.as_str(), WITHIN).is_ok())
 }
 
-/// A byte that went over a connection, whether a read ends in time, and whether a name is dialled.
+/// Whether this process is dialled over IPv6, where its host has that.
+fn is_six_dialled<R: Net>(net: &R, alloc: Global) -> bool {
+    match TcpListener::bind(net, "[::1]:0") {
+        Ok(listener) => dialled(net, alloc, &listener).is_ok(),
+        Err(_) => true,
+    }
+}
+
+/// Whether it is told apart that no host has a name: no server of names is asked for an empty one.
+fn is_nobody_told<R: Net>(net: &R) -> bool {
+    match Tcp::new(net).dial(":2181", WITHIN) {
+        Ok(_) => false,
+        Err(fault) => matches!(fault.kind(), ErrorKind::NotFound),
+    }
+}
+
+/// A byte that went over a connection, whether a read ends in time, whether a name and IPv6 are dialled, and whether it is told where no
+/// host has a name.
 pub fn loopback<R: Net>(net: &R, alloc: Global) -> Vec<u8> {
     let mut text = Vec::new(alloc);
     let came = sent(net, alloc, b'a').unwrap_or(b'-');
@@ -60,7 +80,13 @@ pub fn loopback<R: Net>(net: &R, alloc: Global) -> Vec<u8> {
     let is_late = is_late(net, alloc).unwrap_or(false);
     add(&mut text, if is_late { b"a" } else { b"no" });
     add(&mut text, b" read ends in time, ");
-    add(&mut text, if is_name_dialled(net) { b"a" } else { b"no" });
-    add(&mut text, b" name is dialled\n");
+    let is_dialled = is_name_dialled(net, alloc).unwrap_or(false);
+    add(&mut text, if is_dialled { b"a" } else { b"no" });
+    add(&mut text, b" name is dialled, ");
+    let is_six = is_six_dialled(net, alloc);
+    add(&mut text, if is_six { b"IPv6" } else { b"no IPv6" });
+    add(&mut text, b" is dialled, ");
+    add(&mut text, if is_nobody_told(net) { b"a" } else { b"no" });
+    add(&mut text, b" missing host is told\n");
     text
 }

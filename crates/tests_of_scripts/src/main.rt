@@ -19,6 +19,7 @@ mod play;
 mod refused;
 mod rows;
 mod served;
+mod shelf;
 mod streams;
 mod texts;
 

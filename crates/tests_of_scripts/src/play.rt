@@ -2,8 +2,9 @@
 
 use crate::case::Case;
 use crate::partner::Partners;
+use crate::shelf::Shelf;
 use crate::streams::FailsOnce;
-use crate::texts::add;
+use crate::texts::{add, add_number};
 use refusing::Refusing;
 use std::alloc::{Allocator, Global};
 use std::io::{Read, Write};
@@ -33,7 +34,7 @@ pub fn joined(printed: Vec<u8>, told: Vec<u8>, status: Status) -> Vec<u8> {
     add(&mut text, b"|");
     add(&mut text, told.as_slice());
     add(&mut text, b"|");
-    add(&mut text, &[b'0'.saturating_add(status as u8)]);
+    add_number(&mut text, status as usize);
     text
 }
 
@@ -43,7 +44,17 @@ pub fn outcome<I: Read>(alloc: Global, case: &Case, left: usize, input: &mut I) 
     let mut errors = Vec::new(alloc);
     let dial = Partners::new(alloc, case.dialled.as_slice(), left);
     let words = case.words.as_slice();
-    let status = run(alloc, dial, Still, input, &mut out, &mut errors, words);
+    let files = Shelf::new(&[]);
+    let status = run(
+        alloc,
+        &files,
+        dial,
+        Still,
+        input,
+        &mut out,
+        &mut errors,
+        words,
+    );
     joined(out, errors, status)
 }
 
@@ -68,7 +79,7 @@ fn perform<A: Allocator + Copy, D: Dial, I: Read, O: Write>(
             };
             script_over(alloc, plays, input, out, errors)
         }
-        Command::Watch { .. } | Command::Ask { .. } => Status::Usage,
+        Command::Watch { .. } | Command::Ask(_) | Command::Tree(_) => Status::Usage,
     }
 }
 

@@ -1,38 +1,38 @@
--- Whether each word is an address, and what is told where the words ask for nothing.
-use Rattle.std.proofs.Common.{◌≡◌, ◌≢◌, Bool, true, false, List, [], ◌∷◌, Option, Some, None, refl, sym, subst, map}
+-- Whether each word is admitted, and what is told where the words ask for nothing.
+use Rattle.std.proofs.Common.{◌≡◌, ◌≢◌, ◌∙◌, Bool, true, false, List, [], ◌∷◌, Option, Some, None, ap, refl, sym, subst, map, unwrap_or}
 use Rattle.std.specs.Prelude.{not, find, ◌&&◌, cond, Result, Ok, Err, IfErr, IsErrAnd}
 use Rattle.std.specs.Borrow.{Bor}
 use Rattle.std.specs.List.{list_all}
-use Rattle.clap.specs.Words.{Text}
-use Rattle.zk_live.specs.Addresses.{is_address}
+use Rattle.clap.specs.Words.{Row, Text}
+use Rattle.zk_commands.specs.Asks.{AreServers, chroot_text, cut_at_slash}
 use Rattle.zk_commands.specs.declared.line_fault.LineFault.{LineFault}
 use Rattle.zk_commands.specs.declared.line_fault.LineFault.TheVariants.{Help, Refused, Memory}
 use Rattle.zk_commands.specs.CommandLine.{IsNoHelp, TellsIf}
 
--- the first word that is no address
-abbrev pub stranger : List (Bor Text) → Option (Bor Text)
-stranger words = find (λ w. not (is_address w.now)) words
+-- the first word that is none of those that this admits
+abbrev pub stranger : (Text → Bool) → List (Bor Text) → Option (Bor Text)
+stranger admits words = find (λ w. not (admits w.now)) words
 
-abbrev pub are_addresses : List (Bor Text) → Bool
-are_addresses words = list_all is_address (map (λ w. w.now) words)
+abbrev pub are_all : (Text → Bool) → List (Bor Text) → Bool
+are_all admits words = list_all admits (map (λ w. w.now) words)
 
--- where there is none, each is an address
-pub each_is : (words : List (Bor Text)) → stranger words ≡ None → are_addresses words ≡ true
-each_is [] none = refl
-each_is (word ∷ words) none = go (is_address word.now) (each_is words) none
+-- where there is none, each is admitted
+pub each_is : (admits : Text → Bool) (words : List (Bor Text)) → stranger admits words ≡ None → are_all admits words ≡ true
+each_is admits [] none = refl
+each_is admits (word ∷ words) none = go (admits word.now) (each_is admits words) none
   where
-    go : (b : Bool) → (stranger words ≡ None → are_addresses words ≡ true) → cond (not b) (Some word) (stranger words) ≡ None
-        → (b && are_addresses words) ≡ true
+    go : (b : Bool) → (stranger admits words ≡ None → are_all admits words ≡ true) → cond (not b) (Some word) (stranger admits words) ≡ None
+        → (b && are_all admits words) ≡ true
     go true rest e = rest e
     go false rest e = cc
 
 -- where there is one, they are not
-pub one_is_not : (words : List (Bor Text)) (other : Bor Text) → stranger words ≡ Some other → are_addresses words ≢ true
-one_is_not [] other some = λ _. cc
-one_is_not (word ∷ words) other some = go (is_address word.now) (one_is_not words other) some
+pub one_is_not : (admits : Text → Bool) (words : List (Bor Text)) (other : Bor Text) → stranger admits words ≡ Some other → are_all admits words ≢ true
+one_is_not admits [] other some = λ _. cc
+one_is_not admits (word ∷ words) other some = go (admits word.now) (one_is_not admits words other) some
   where
-    go : (b : Bool) → (stranger words ≡ Some other → are_addresses words ≢ true) → cond (not b) (Some word) (stranger words) ≡ Some other
-        → (b && are_addresses words) ≢ true
+    go : (b : Bool) → (stranger admits words ≡ Some other → are_all admits words ≢ true)
+        → cond (not b) (Some word) (stranger admits words) ≡ Some other → (b && are_all admits words) ≢ true
     go true rest e = rest e
     go false rest e = λ same. cc
 
@@ -53,3 +53,9 @@ pub tells_on : {T : Type 0} (why other : Type 0) (r : Result T LineFault) (fault
     → (why → other) → IfErr r (TellsIf other)
 tells_on why other (Ok x) fault is told so = tt
 tells_on why other (Err e) fault is told so = subst (λ (f : LineFault). TellsIf other f) (sym is) (tells_more why other fault so told)
+
+-- what was given has one chroot
+pub one_chroot : (rows : List Row) (addresses others : List Text) (chroot other : Text) → AreServers addresses chroot rows → AreServers others other rows → chroot ≡ other
+one_chroot rows addresses others chroot other one two =
+    let same : one.word ≡ two.word = ap (λ o. unwrap_or o []) (sym one.given ∙ two.given) in
+    one.are.2 ∙ ap (λ (w : Text). chroot_text (cut_at_slash w).1) same ∙ sym two.are.2

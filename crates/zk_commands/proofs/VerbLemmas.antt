@@ -14,14 +14,15 @@ pub record IsNew (word : Text) : Type 0 where
   pub rehearses : bytes_eq word (codes "rehearse") ≡ false
   pub lives : bytes_eq word (codes "live") ≡ false
   pub watches : bytes_eq word (codes "watch") ≡ false
+  pub tours : bytes_eq word (codes "tree") ≡ false
 
 pub is_new : (v : Verb) → IsNew (verb_word v)
-is_new verb.Get = record { shows = refl; tells = refl; replays = refl; rehearses = refl; lives = refl; watches = refl }
-is_new verb.List = record { shows = refl; tells = refl; replays = refl; rehearses = refl; lives = refl; watches = refl }
-is_new verb.Stat = record { shows = refl; tells = refl; replays = refl; rehearses = refl; lives = refl; watches = refl }
-is_new verb.Set = record { shows = refl; tells = refl; replays = refl; rehearses = refl; lives = refl; watches = refl }
-is_new verb.Create = record { shows = refl; tells = refl; replays = refl; rehearses = refl; lives = refl; watches = refl }
-is_new verb.Delete = record { shows = refl; tells = refl; replays = refl; rehearses = refl; lives = refl; watches = refl }
+is_new verb.Get = record { shows = refl; tells = refl; replays = refl; rehearses = refl; lives = refl; watches = refl; tours = refl }
+is_new verb.List = record { shows = refl; tells = refl; replays = refl; rehearses = refl; lives = refl; watches = refl; tours = refl }
+is_new verb.Stat = record { shows = refl; tells = refl; replays = refl; rehearses = refl; lives = refl; watches = refl; tours = refl }
+is_new verb.Set = record { shows = refl; tells = refl; replays = refl; rehearses = refl; lives = refl; watches = refl; tours = refl }
+is_new verb.Create = record { shows = refl; tells = refl; replays = refl; rehearses = refl; lives = refl; watches = refl; tours = refl }
+is_new verb.Delete = record { shows = refl; tells = refl; replays = refl; rehearses = refl; lives = refl; watches = refl; tours = refl }
 
 -- the verb of a word
 abbrev verb_at : Text → Option Verb

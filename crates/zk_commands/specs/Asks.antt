@@ -10,11 +10,13 @@ use Rattle.zk_ask.specs.declared.end.End.{End}
 use Rattle.zk_ask.specs.declared.end.End.TheVariants as ends
 use Rattle.zk_ask.specs.Asking.{Coming, ComesOf}
 use Rattle.zk_ask.specs.Printing.{end_of, told, Prints}
+use Rattle.zk_limits.specs.declared.limits.TheConstants.{LONGEST_PATH}
 use Rattle.zk_nodes.specs.PathFault.{fault_of as path_fault}
 use Rattle.zk_script.specs.Numbers.{natural_of}
 use Rattle.zk_script.specs.Reads.{data_at}
 use Rattle.zk_script.specs.declared.script_fault.ScriptFault.{ScriptFault}
-use Rattle.zk_live.specs.Addresses.{is_address, parted}
+use Rattle.zk_link.specs.Hosts.{parted}
+use Rattle.zk_live.specs.Addresses.{is_server}
 use Rattle.zk_commands.specs.declared.status.Status.{Status}
 use Rattle.zk_commands.specs.declared.status.Status.TheVariants as status
 use Rattle.zk_commands.specs.declared.verb.Verb.{Verb}
@@ -60,8 +62,12 @@ data_rule = new_rule (codes "DATA")
 abbrev pub version_rule : Rule
 version_rule = record (new_rule (codes "version")) { long = Some (codes "version"); value_names = 1 }
 
+-- the name of a file, where one is given
+abbrev pub from_rule : Rule
+from_rule = record (new_rule (codes "from")) { long = Some (codes "from"); value_names = 1 }
+
 abbrev pub data_app : Text → App
-data_app name = with_rule (with_rule (with_rule (read_app name) data_rule) (flag_rule (codes "hex"))) (flag_rule (codes "null"))
+data_app name = with_rule (with_rule (with_rule (with_rule (read_app name) data_rule) (flag_rule (codes "hex"))) (flag_rule (codes "null"))) from_rule
 
 abbrev pub set_app : App
 set_app = with_rule (data_app (codes "set")) version_rule
@@ -75,8 +81,20 @@ delete_app = with_rule (read_app (codes "delete")) version_rule
 abbrev pub with_writes : App → App
 with_writes app = with_subcommand (with_subcommand (with_subcommand app set_app.top) create_app.top) delete_app.top
 
+-- a number of levels, where one is given
+abbrev pub depth_rule : Rule
+depth_rule = record (new_rule (codes "depth")) { long = Some (codes "depth"); value_names = 1 }
+
+-- nodes, 10,000 of them where no number is given
+abbrev pub most_rule : Rule
+most_rule = record (new_rule (codes "most")) { long = Some (codes "most"); value_names = 1; defaults = codes "10000" ∷ [] }
+
+abbrev pub tree_app : App
+tree_app = with_rule (with_rule (json_app (codes "tree")) depth_rule) most_rule
+
 abbrev pub with_reads : App → App
-with_reads app = with_subcommand (with_subcommand (with_subcommand app get_app.top) (json_app (codes "ls")).top) (json_app (codes "stat")).top
+with_reads app =
+    with_subcommand (with_subcommand (with_subcommand (with_subcommand app get_app.top) (json_app (codes "ls")).top) (json_app (codes "stat")).top) tree_app.top
 
 -- what stands before the first slash, and what stands after it
 abbrev pub cut : (word : Text) → Option (Text × Text) → Text × Text
@@ -99,7 +117,7 @@ is_root (b ∷ bytes) = not (is_some (path_fault (b ∷ bytes)))
 -- The word has addresses with commas between them, and a chroot after them where there is one.
 abbrev pub IsServers : (addresses : List Text) → (chroot : Text) → (word : Text) → Type 0
 IsServers addresses chroot word =
-    (addresses ≡ slice_split (λ b. b == 44) (cut_at_slash word).0) × (list_all is_address addresses ≡ true)
+    (addresses ≡ slice_split (λ b. b == 44) (cut_at_slash word).0) × (list_all is_server addresses ≡ true)
     × (chroot ≡ chroot_text (cut_at_slash word).1) × (is_root chroot ≡ true)
 
 -- They are what was given.
@@ -137,8 +155,14 @@ data_given (Some word) true is_hex = None
 data_given (Some word) false false = Some (Some word)
 data_given (Some word) false true = decoded (data_at word)
 
+-- The data that are given, or a file is named alone: then there are none yet.
+abbrev pub data_with : (file word : Option Text) → (is_null is_hex : Bool) → Option (Option (List ℕ))
+data_with None word is_null is_hex = data_given word is_null is_hex
+data_with (Some file) None false false = Some None
+data_with (Some file) _ _ _ = None
+
 abbrev pub data_in : List Row → Option (Option (List ℕ))
-data_in rows = data_given (first_of (codes "DATA") rows) (flag (codes "null") rows) (flag (codes "hex") rows)
+data_in rows = data_with (first_of (codes "from") rows) (first_of (codes "DATA") rows) (flag (codes "null") rows) (flag (codes "hex") rows)
 
 -- the version that a node is to have: any, where none is given
 abbrev pub version_read : Option Text → Option ℤ
@@ -147,6 +171,11 @@ version_read (Some word) = option_map pos (natural_of 2147483647 word)
 
 abbrev pub version_in : List Row → Option ℤ
 version_in rows = version_read (first_of (codes "version") rows)
+
+-- how many levels below a node are gone through: where none is given, as many as the longest path has bytes, and so all
+abbrev pub depth_read : Option Text → Option ℕ
+depth_read None = Some LONGEST_PATH
+depth_read (Some word) = natural_of 4294967295 word
 
 -- the number of a mode: whether the name ends with a number
 abbrev pub mode_in : List Row → ℕ
@@ -186,15 +215,17 @@ status_of ends.NoNode = status.NoNode
 status_of ends.Refused = status.Refused
 status_of ends.Unconnected = status.Unconnected
 status_of ends.Unanswered = status.Unanswered
+status_of ends.More = status.More
 status_of ends.Memory = status.Memory
 status_of ends.Stream = status.Stream
 
--- a call is not done, or may not be
+-- a call is not done, or may not be, or is not asked for want of its data
 abbrev pub IsUndone : Status → Type 0
 IsUndone status.NoNode = ⊤
 IsUndone status.Refused = ⊤
 IsUndone status.Unconnected = ⊤
 IsUndone status.Unanswered = ⊤
+IsUndone status.Unread = ⊤
 IsUndone _ = ⊥
 
 -- A call is done, and this is printed of its answer.

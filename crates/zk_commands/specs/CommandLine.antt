@@ -17,17 +17,20 @@ use Rattle.zk_script.specs.Numbers.{natural_of}
 use Rattle.zk_conversation.specs.Calls.{Call}
 use Rattle.zk_conversation.specs.Views.{call_view}
 use Rattle.zk_ask.specs.declared.plan.Form.{Form}
+use Rattle.zk_ask.specs.declared.plan.Form.TheVariants.{Plain}
 use Rattle.zk_watch.specs.Watching.{aims_of}
 use Rattle.zk_watch.specs.declared.plan.Style.{Style}
 use Rattle.zk_watch.specs.declared.plan.Style.TheVariants as style
 use Rattle.zk_commands.specs.declared.command.Command.{Command}
-use Rattle.zk_commands.specs.declared.command.Command.TheVariants.{Show, History, Replay, Rehearse, Live, Watch, Ask}
+use Rattle.zk_commands.specs.declared.command.Question.{Question}
+use Rattle.zk_commands.specs.declared.command.Tour.{Tour}
+use Rattle.zk_commands.specs.declared.command.Command.TheVariants.{Show, History, Replay, Rehearse, Live, Watch, Ask, Tree}
 use Rattle.zk_commands.specs.declared.line_fault.LineFault.{LineFault}
 use Rattle.zk_commands.specs.declared.line_fault.LineFault.TheVariants.{Help, Refused, Memory}
 use Rattle.zk_commands.specs.declared.kind.Kind.TheVariants as kind
 use Rattle.zk_commands.specs.Kinds.{kind_word}
 use Rattle.zk_commands.specs.declared.verb.Verb.{Verb}
-use Rattle.zk_commands.specs.Asks.{AreServers, absolute, call_for, form_for, verb_word, with_reads, with_writes, flag, flag_rule}
+use Rattle.zk_commands.specs.Asks.{AreServers, absolute, call_for, depth_read, form_for, form_or_json, verb_word, with_reads, with_writes, flag, flag_rule, servers_rule}
 
 -- the kinds that `show` knows, in the order in which help lists them
 abbrev pub kind_words : List Text
@@ -82,7 +85,7 @@ duration_rule = option_rule (codes "for")
 
 abbrev pub watch_app : App
 watch_app =
-    with_rule (with_rule (with_rule (with_rule (with_rule (with_rule (new_app (codes "watch")) address_rule) (path_rule (codes "data"))) (path_rule (codes "children"))) timeout_rule) duration_rule) (flag_rule (codes "text"))
+    with_rule (with_rule (with_rule (with_rule (with_rule (with_rule (new_app (codes "watch")) servers_rule) (path_rule (codes "data"))) (path_rule (codes "children"))) timeout_rule) duration_rule) (flag_rule (codes "text"))
 
 -- the program without its subcommands: one must be given
 abbrev pub shell_top : App
@@ -110,14 +113,18 @@ is_path text = not (is_some (path_fault text))
 abbrev pub given : Text → List Row → List Text
 given id rows = unwrap_or (all_of id rows) []
 
--- a side of the node at each path
-abbrev pub aims_at : Side → List Text → List (Side × Text)
-aims_at side paths = map (λ p. (side, p)) paths
+-- the text of a path, which is one below a chroot too
+abbrev pub is_below : (chroot path : Text) → Bool
+is_below chroot path = is_path path && is_path (absolute chroot path)
 
--- the data of the nodes that were given for them, and then the names below those that were given for these; each is a path
-abbrev pub AreAims : List (Side × Text) → List Row → Type 0
-AreAims aims rows = (aims ≡ aims_at Data (given (codes "data") rows) ++ aims_at Child (given (codes "children") rows))
-    × (list_all is_path (given (codes "data") rows) ≡ true) × (list_all is_path (given (codes "children") rows) ≡ true)
+-- a side of the node at each path below a chroot
+abbrev pub aims_at : (chroot : Text) → Side → List Text → List (Side × Text)
+aims_at chroot side paths = map (λ p. (side, absolute chroot p)) paths
+
+-- Below a chroot, the data of the nodes that were given for them, and then the names below those that were given for these; each is a path.
+abbrev pub AreAims : (chroot : Text) → List (Side × Text) → List Row → Type 0
+AreAims chroot aims rows = (aims ≡ aims_at chroot Data (given (codes "data") rows) ++ aims_at chroot Child (given (codes "children") rows))
+    × (list_all (is_below chroot) (given (codes "data") rows) ≡ true) × (list_all (is_below chroot) (given (codes "children") rows) ≡ true)
 
 -- the number, if it is not 0
 abbrev pub above_zero : Option ℕ → Option ℕ
@@ -149,10 +156,10 @@ IsDuration ms rows = duration_read (first_of (codes "for") rows) ≡ Some ms
 abbrev pub style_in : List Row → Style
 style_in rows = if flag (codes "text") rows then style.Text else style.Hex
 
--- what `watch` was given: addresses, what to watch, a timeout, how long, and how to print
-abbrev pub IsWatch : List Text → List (Side × Text) → ℤ → Option ℕ → Style → List Row → Type 0
-IsWatch addresses aims timeout_ms for_ms how rows =
-    AreAddresses addresses rows × AreAims aims rows × IsTimeout timeout_ms rows × IsDuration for_ms rows × (how ≡ style_in rows)
+-- what `watch` was given: servers with their chroot, what to watch, a timeout, how long, and how to print
+abbrev pub IsWatch : (addresses : List Text) → (chroot : Text) → List (Side × Text) → ℤ → Option ℕ → Style → List Row → Type 0
+IsWatch addresses chroot aims timeout_ms for_ms how rows =
+    AreServers addresses chroot rows × AreAims chroot aims rows × IsTimeout timeout_ms rows × IsDuration for_ms rows × (how ≡ style_in rows)
 
 -- how long to wait, in milliseconds: the words say it in seconds
 abbrev pub wait_at : Text → Option ℕ
@@ -161,15 +168,36 @@ wait_at word = option_map (λ seconds. 1000 * seconds) (count_at 4294967 word)
 -- the words name a node
 pub record IsNode (chroot name : Text) (rows : List Row) : Type 0 where
   pub given : first_of (codes "PATH") rows ≡ Some name
-  pub is : is_path name ≡ true
-  pub below : is_path (absolute chroot name) ≡ true
+  pub is : is_below chroot name ≡ true
 
--- What a command that asks for a node was given: servers with their chroot, the node, the call by its verb, how to print, and how long to
--- wait.
-abbrev pub IsAsked : Verb → (addresses : List Text) → (chroot name : Text) → Call → Form → (wait_ms : ℕ) → List Row → Type 0
-IsAsked verb addresses chroot name call form wait_ms rows =
+-- What a command that asks for a node was given: servers with their chroot, the node, the call by its verb, the file whose bytes are its data
+-- where one is named, how to print, and how long to wait.
+abbrev pub IsAsked : Verb → (addresses : List Text) → (chroot name : Text) → Call → (from : Option Text) → Form → (wait_ms : ℕ) → List Row → Type 0
+IsAsked verb addresses chroot name call from form wait_ms rows =
     AreServers addresses chroot rows × IsNode chroot name rows × (call_for verb (absolute chroot name) rows ≡ Some call)
-    × (form ≡ form_for verb rows) × (option_and_then wait_at (first_of (codes "wait") rows) ≡ Some wait_ms)
+    × (from ≡ first_of (codes "from") rows) × (form ≡ form_for verb rows) × (option_and_then wait_at (first_of (codes "wait") rows) ≡ Some wait_ms)
+
+-- that is this question
+abbrev pub AsksQuestion : Verb → Question → List Row → Type 0
+AsksQuestion verb question rows =
+    IsAsked verb (map (λ a. a.now) question.addresses.items) (string_bytes question.chroot) question.name.now (call_view question.call)
+    (option_map (λ f. f.now) question.from) question.form question.wait_ms rows
+
+-- how many nodes are printed at most
+abbrev pub most_at : Text → Option ℕ
+most_at word = count_at 4294967295 word
+
+-- What `tree` was given: servers with their chroot, the root by its path and by its name below the chroot, how many levels and how many nodes, how to
+-- print, and how long to wait.
+abbrev pub IsTree : (addresses : List Text) → (chroot path name : Text) → (deepest most : ℕ) → Form → (wait_ms : ℕ) → List Row → Type 0
+IsTree addresses chroot path name deepest most form wait_ms rows =
+    AreServers addresses chroot rows × IsNode chroot name rows × (path ≡ absolute chroot name) × (depth_read (first_of (codes "depth") rows) ≡ Some deepest)
+    × (option_and_then most_at (first_of (codes "most") rows) ≡ Some most) × (form ≡ form_or_json Plain rows)
+    × (option_and_then wait_at (first_of (codes "wait") rows) ≡ Some wait_ms)
+
+-- that is this tree
+abbrev pub AsksTour : Tour → List Row → Type 0
+AsksTour tour rows = (chroot : Text) × IsTree (map (λ a. a.now) tour.addresses.items) chroot tour.path tour.name tour.deepest tour.most tour.form tour.wait_ms rows
 
 -- the subcommand that was found, with its values, is this command
 abbrev pub IsFound : Command → Option (Text × List Row) → Type 0
@@ -180,9 +208,9 @@ IsFound Replay found = (rows : List Row) × (found ≡ Some (codes "replay", row
 IsFound Rehearse found = (rows : List Row) × (found ≡ Some (codes "rehearse", rows))
 IsFound (Live addresses) found = (rows : List Row) × (found ≡ Some (codes "live", rows)) × AreAddresses (map (λ a. a.now) addresses.items) rows
 IsFound (Watch addresses subjects timeout_ms for_ms how) found = (rows : List Row) × (found ≡ Some (codes "watch", rows))
-    × IsWatch (map (λ a. a.now) addresses.items) (aims_of subjects.items) timeout_ms for_ms how rows
-IsFound (Ask addresses chroot name call form wait_ms) found = (verb : Verb) × (rows : List Row) × (found ≡ Some (verb_word verb, rows))
-    × IsAsked verb (map (λ a. a.now) addresses.items) (string_bytes chroot) name.now (call_view call) form wait_ms rows
+    × (chroot : Text) × IsWatch (map (λ a. a.now) addresses.items) chroot (aims_of subjects.items) timeout_ms for_ms how rows
+IsFound (Tree tour) found = (rows : List Row) × (found ≡ Some (codes "tree", rows)) × AsksTour tour rows
+IsFound (Ask question) found = (verb : Verb) × (rows : List Row) × (found ≡ Some (verb_word verb, rows)) × AsksQuestion verb question rows
 
 -- the words are those that ask for the frames of a capture: they have a meaning of their own, and all others are `clap`'s
 abbrev pub asks_stream : List Text → Bool

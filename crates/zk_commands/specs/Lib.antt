@@ -1,4 +1,5 @@
 pub mod Asks
+pub mod Files
 pub mod Print
 pub mod Names
 pub mod Fields
@@ -8,4 +9,5 @@ pub mod CommandLine
 pub mod Show
 pub mod Scripts
 pub mod Written
+pub mod Tours
 pub mod Run

@@ -1,5 +1,5 @@
 -- What a command line writes, by how it ends.
-use Rattle.std.specs.Prelude.{◌≡◌, true, false, ℕ, ℤ, List, [], ◌∷◌, ◌++◌, Option, String, string_bytes}
+use Rattle.std.specs.Prelude.{◌≡◌, true, false, ℕ, ℤ, List, [], ◌∷◌, ◌++◌, Option, option_map, string_bytes}
 use Rattle.std.specs.Borrow.{Bor}
 use Rattle.std.specs.Global.{Global, Vec}
 use Rattle.clap.specs.Words.{Text}
@@ -8,7 +8,11 @@ use Rattle.zk_script.specs.declared.script.End.{End}
 use Rattle.zk_script.specs.declared.script.End.TheVariants as ends
 use Rattle.zk_script.specs.declared.script_fault.ScriptFault.{ScriptFault}
 use Rattle.zk_commands.specs.declared.command.Command.{Command}
-use Rattle.zk_commands.specs.declared.command.Command.TheVariants.{Show, Watch, Ask}
+use Rattle.zk_commands.specs.declared.command.Question.{Question}
+use Rattle.zk_commands.specs.declared.command.Tour.{Tour}
+use Rattle.zk_commands.specs.Tours.{PrintsTree, TellsTree}
+use Rattle.zk_ask.specs.Trees.{Full, Whole, ending_told}
+use Rattle.zk_commands.specs.declared.command.Command.TheVariants.{Show, Watch, Ask, Tree}
 use Rattle.zk_commands.specs.declared.line_fault.LineFault.{LineFault}
 use Rattle.zk_commands.specs.declared.line_fault.LineFault.TheVariants.{Help, Refused}
 use Rattle.zk_commands.specs.declared.fault.ShowFault.{ShowFault}
@@ -16,9 +20,9 @@ use Rattle.zk_commands.specs.declared.kind.Kind.{Kind}
 use Rattle.zk_commands.specs.CommandLine.{AsksFor, IsDue, asks_stream}
 use Rattle.zk_stream.specs.Lines.{IsShown}
 use Rattle.zk_conversation.specs.Views.{call_view}
-use Rattle.zk_conversation.specs.declared.call.Call.{Call}
-use Rattle.zk_ask.specs.declared.plan.Form.{Form}
-use Rattle.zk_commands.specs.Asks.{PrintsAnswer, TellsWhy}
+use Rattle.zk_commands.specs.Asks.{PrintsAnswer}
+use Rattle.zk_commands.specs.Files.{IsAskedBy, TellsUndone}
+use Rattle.zk_conversation.specs.Calls.{Call as Calls}
 use Rattle.zk_commands.specs.declared.status.Status.{Status}
 use Rattle.zk_watch.specs.Watching.{aims_of, IsPrinted, IsWatched}
 use Rattle.zk_watch.specs.declared.plan.Style.{Style}
@@ -38,17 +42,20 @@ IsRefusalText (Refused text) told = told ≡ string_bytes text
 IsRefusalText fault told = ⊥
 
 -- The words ask for a frame, and the text is what is shown of it; or for the frames of a capture, and it is what is told of all of them; or for a command that takes a script, and it is what all lines of
--- the input print; or for a watch, and it is what that prints; or for a call, and it is what its answer brings; or for help.
-pub data IsDone (words : List Text) (input : Option (List ℕ)) (text : List ℕ) : Type 0 where
-  shows : (kind : Kind) (hex : Bor Text) → AsksFor words (Show kind hex) → ShowsFrame kind hex.now text → IsDone words input text
-  tells : (script : List ℕ) → asks_stream words ≡ true → IsInput input script → IsShown (lines_of script) text ends.Taken → IsDone words input text
+-- the input print; or for a watch, and it is what that prints; or for a call, and it is what its answer brings; or
+-- for a tree, and it has a line for each node; or for help.
+pub data IsDone (words : List Text) (files : Text → Option (List ℕ)) (input : Option (List ℕ)) (text : List ℕ) : Type 0 where
+  shows : (kind : Kind) (hex : Bor Text) → AsksFor words (Show kind hex) → ShowsFrame kind hex.now text → IsDone words files input text
+  tells : (script : List ℕ) → asks_stream words ≡ true → IsInput input script → IsShown (lines_of script) text ends.Taken → IsDone words files input text
   plays : (command : Command) (script : List ℕ) → AsksFor words command → IsInput input script → IsTranscriptOf command (lines_of script) text ends.Taken
-      → IsDone words input text
+      → IsDone words files input text
   watches : (addresses : Vec (Bor Text)) (subjects : Vec (Subject Global)) (timeout_ms : ℤ) (for_ms : Option ℕ) (style : Style)
-      → AsksFor words (Watch addresses subjects timeout_ms for_ms style) → IsWatched Global style (aims_of subjects.items) for_ms text true → IsDone words input text
-  asks : (addresses : Vec (Bor Text)) (chroot : String Global) (name : Bor Text) (call : Call Global) (form : Form) (wait_ms : ℕ)
-      → AsksFor words (Ask addresses chroot name call form wait_ms) → PrintsAnswer Global (call_view call) form (string_bytes chroot) text → IsDone words input text
-  helps : (fault : LineFault) → IsDue words fault → IsHelpText fault text → IsDone words input text
+      → AsksFor words (Watch addresses subjects timeout_ms for_ms style) → IsWatched Global style (aims_of subjects.items) for_ms text true → IsDone words files input text
+  asks : (question : Question) (asked : Calls) → AsksFor words (Ask question)
+      → IsAskedBy files input (option_map (λ f. f.now) question.from) (call_view question.call) asked
+      → PrintsAnswer Global asked question.form (string_bytes question.chroot) text → IsDone words files input text
+  tours : (tour : Tour) → AsksFor words (Tree tour) → PrintsTree tour Whole text → IsDone words files input text
+  helps : (fault : LineFault) → IsDue words fault → IsHelpText fault text → IsDone words files input text
 
 -- The words ask for a frame that is refused, and nothing is written; or for a command that takes a script or a capture, with a line that is refused, and
 -- the text is what stands before what that line would print. What is told is the first fault.
@@ -60,16 +67,19 @@ pub data IsFaulty (words : List Text) (input : Option (List ℕ)) (text told : L
   stopped : (command : Command) (script : List ℕ) (number : ℕ) (why : ScriptFault) → AsksFor words command → IsInput input script
       → IsTranscriptOf command (lines_of script) text (ends.Refused number why) → told ≡ refusal_text number why → IsFaulty words input text told
 
--- The words ask for a call that is not done, or may not be, and ends so; this is told.
-pub record IsUndoneBy (words : List Text) (status : Status) (told : List ℕ) : Type 0 where
-  pub addresses : Vec (Bor Text)
-  pub chroot : String Global
-  pub name : Bor Text
-  pub call : Call Global
-  pub form : Form
-  pub wait_ms : ℕ
-  pub asks : AsksFor words (Ask addresses chroot name call form wait_ms)
-  pub tells : TellsWhy Global (call_view call) name.now status told
+-- The words ask for a call or a tree that is not done, or may not be, or is not asked for, and ends so; this is told.
+pub data IsUndoneBy (words : List Text) (files : Text → Option (List ℕ)) (input : Option (List ℕ)) (status : Status) (told : List ℕ) : Type 0 where
+  call : (question : Question) → AsksFor words (Ask question)
+      → TellsUndone Global files input (option_map (λ f. f.now) question.from) (call_view question.call) question.name.now status told
+      → IsUndoneBy words files input status told
+  tree : (tour : Tour) → AsksFor words (Tree tour) → TellsTree tour status told → IsUndoneBy words files input status told
+
+-- The words ask for a tree, the text is what is printed of as many nodes as are to be, there are more, and this is told.
+pub record IsCutOff (words : List Text) (text told : List ℕ) : Type 0 where
+  pub tour : Tour
+  pub asks : AsksFor words (Tree tour)
+  pub prints : PrintsTree tour Full text
+  pub tells : told ≡ ending_told tour.name tour.most Full
 
 -- The words ask for a watch, no server has ever accepted its session, and the text is what it prints.
 pub record IsNeverConnected (words : List Text) (text : List ℕ) : Type 0 where

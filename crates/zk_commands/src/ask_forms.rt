@@ -2,20 +2,21 @@
 
 ghost use Rattle.std.specs.Prelude.{◌≡◌, false, IfOk};
 ghost use Rattle.clap.specs.Words.{app_of, rule_of};
-ghost use Rattle.zk_commands.specs.Asks.{create_app, data_app, delete_app, flag_rule, get_app, json_app, node_rule, read_app, servers_rule, set_app, version_rule, wait_rule, with_reads, with_writes};
+ghost use Rattle.zk_commands.specs.Asks.{create_app, data_app, delete_app, flag_rule, from_rule, get_app, json_app, node_rule, read_app, servers_rule, set_app, version_rule, wait_rule, with_reads, with_writes};
 
 use crate::help;
+use crate::tree_words::tree_form;
 use crate::watch_words::option_arg;
 use clap::{Arg, ArgAction};
 use std::alloc::{AllocError, Global};
 
-/// The servers of a command that asks for a node.
-fn servers_arg<'a>(alloc: Global) -> Arg<'a>
+/// The servers of a command that asks or watches.
+pub(crate) fn servers_arg<'a>(alloc: Global) -> Arg<'a>
     ensures rule { rule_of result ≡ servers_rule }
     ensures local { result.global ≡ false }
 {
     Arg::new(alloc, "SERVERS").required(true).help(
-        "Addresses in numbers, as 127.0.0.1:2181,127.0.0.2:2181, and /PATH to go below it",
+        "HOST:PORT, several with commas between them, and /PATH to go below it",
     )
 }
 
@@ -75,7 +76,7 @@ fn node_form<'a>(
 }
 
 /// The form of a command that may print JSON.
-fn json_form<'a>(
+pub(crate) fn json_form<'a>(
     alloc: Global,
     name: &'a str,
     about: &'a str,
@@ -114,7 +115,18 @@ pub(crate) fn with_reads<'a>(
         "stat",
         "Prints what is known of a node, a line for each field",
     )?;
-    form.subcommand(stat)
+    let form = form.subcommand(stat)?;
+    let tree = tree_form(alloc)?;
+    form.subcommand(tree)
+}
+
+/// The option of the file whose bytes are the data.
+fn from_arg<'a>(alloc: Global) -> Arg<'a>
+    ensures rule { rule_of result ≡ from_rule }
+    ensures local { result.global ≡ false }
+{
+    let about = "The data are the bytes of this file, as they are; - is standard input";
+    option_arg(alloc, "from", "FILE", about)
 }
 
 /// The form of a command that is given data.
@@ -135,7 +147,8 @@ fn data_form<'a>(
         "hex",
         "DATA is hex, \\e for no bytes, or \\0 for null",
     ))?;
-    form.arg(flag_arg(alloc, "null", "The data are null, with no DATA"))
+    let form = form.arg(flag_arg(alloc, "null", "The data are null, with no DATA"))?;
+    form.arg(from_arg(alloc))
 }
 
 /// The form of `set`.

@@ -1,20 +1,20 @@
 //! The words of the commands that ask for one node.
 
-ghost use Rattle.std.specs.Prelude.{◌≡◌, ◌⊎◌, ◌==◌, true, false, List, None, Some, IfOk, IfErr, OnOk, codes, map, string_bytes};
+ghost use Rattle.std.specs.Prelude.{◌≡◌, ◌==◌, true, false, List, None, Some, IfOk, IfErr, OnOk, codes, find, map, not, string_bytes};
 ghost use Rattle.std.specs.List.{list_all, slice_split};
 ghost use Rattle.std.specs.Option.{option_and_then};
 ghost use Rattle.clap.specs.Words.{Text, first_of, found_of, rows_of};
-ghost use Rattle.zk_live.specs.Addresses.{is_address};
+ghost use Rattle.zk_live.specs.Addresses.{is_server};
 ghost use Rattle.zk_commands.specs.Asks.{AreServers, absolute, chroot_text, cut_at_slash, data_form, flag, form_for, form_or_json, is_root};
-ghost use Rattle.zk_commands.specs.CommandLine.{TellsIf, is_path, wait_at};
+ghost use Rattle.zk_commands.specs.CommandLine.{TellsIf, is_below, wait_at};
 
-use crate::command::stranger;
-use crate::line_fault::{LineFault, no_address, no_command, no_wait};
+use crate::line_fault::{LineFault, no_command, no_server, no_wait};
 use crate::verb::Verb;
 use crate::watch_words::{count_of, path_of};
 use clap::ArgMatches;
 use std::alloc::{AllocError, Global};
 use zk_ask::Form;
+use zk_live::address::is_server;
 use zk_nodes::Path;
 
 /// The most seconds of a wait.
@@ -62,15 +62,23 @@ fn between_commas<'a>(alloc: Global, text: &'a str) -> Result<Vec<&'a str>, Allo
     text.split(',').collect(alloc)
 }
 
-/// The addresses of a list of hosts.
+/// The first word that is no server.
+fn stranger<'a>(words: &[&'a str]) -> Option<&'a str>
+    ensures { result ≡ find (λ w. not (is_server w.now)) words.now }
+{
+    let word = words.iter().find(|word| !is_server(word))?;
+    Some(*word)
+}
+
+/// The servers of a list.
 fn hosts_of<'a>(alloc: Global, hosts: &'a str) -> Result<Vec<&'a str>, LineFault>
     ensures ok { IfOk result (λ addresses. map (λ a. a.now) addresses.items ≡ slice_split (λ b. b == 44) hosts.now) }
-    ensures accepted { OnOk result (list_all is_address (slice_split (λ b. b == 44) hosts.now) ≡ true) }
-    ensures err { IfErr result (TellsIf (list_all is_address (slice_split (λ b. b == 44) hosts.now) ≡ false)) }
+    ensures accepted { OnOk result (list_all is_server (slice_split (λ b. b == 44) hosts.now) ≡ true) }
+    ensures err { IfErr result (TellsIf (list_all is_server (slice_split (λ b. b == 44) hosts.now) ≡ false)) }
 {
     let addresses = between_commas(alloc, hosts)?;
     match stranger(addresses.as_slice()) {
-        Some(word) => Err(no_address(alloc, word)),
+        Some(word) => Err(no_server(alloc, word)),
         None => Ok(addresses),
     }
 }
@@ -106,8 +114,8 @@ fn absolute(alloc: Global, chroot: &str, path: &str) -> Result<String, AllocErro
 /// The path of the node that is asked for, below a chroot.
 pub(crate) fn node_of(alloc: Global, chroot: &str, name: &str) -> Result<Path, LineFault>
     ensures ok { IfOk result (λ path. path ≡ absolute chroot.now name.now) }
-    ensures accepted { OnOk result ((is_path name.now ≡ true) × (is_path (absolute chroot.now name.now) ≡ true)) }
-    ensures err { IfErr result (TellsIf ((is_path name.now ≡ false) ⊎ (is_path (absolute chroot.now name.now) ≡ false))) }
+    ensures accepted { OnOk result (is_below chroot.now name.now ≡ true) }
+    ensures err { IfErr result (TellsIf (is_below chroot.now name.now ≡ false)) }
 {
     path_of(alloc, name)?;
     let text = absolute(alloc, chroot, name)?;
@@ -139,7 +147,7 @@ pub(crate) fn flag(matches: &ArgMatches<'_>, name: &str) -> bool
 }
 
 /// JSON where this is asked for, and else this form.
-fn form_or_json(form: Form, matches: &ArgMatches<'_>) -> Form
+pub(crate) fn form_or_json(form: Form, matches: &ArgMatches<'_>) -> Form
     ensures { result ≡ form_or_json form (rows_of (found_of matches.now)) }
 {
     if flag(matches, "json") {

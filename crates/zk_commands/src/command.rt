@@ -1,16 +1,14 @@
 //! What a command line asks for.
 
-ghost use Rattle.std.specs.Prelude.{◌≡◌, ℕ, ℤ, true, List, Option, IfOk, IfErr, IfSome, IfNone, find, map, codes, not, string_bytes, String};
+ghost use Rattle.std.specs.Prelude.{◌≡◌, ℕ, ℤ, true, List, Option, IfOk, IfErr, IfSome, IfNone, find, map, codes, not};
 ghost use Rattle.std.specs.Borrow.{Bor};
 ghost use Rattle.std.specs.Global.{Global, Vec};
 ghost use Rattle.clap.specs.Words.{Text, app_of, found_of, first_value, kind_of, new_app, rows_of, subcommand_rows_of, with_subcommand};
 ghost use Rattle.zk_live.specs.Addresses.{is_address};
 ghost use Rattle.zk_commands.specs.Kinds.{kind_word};
-ghost use Rattle.zk_commands.specs.CommandLine.{AreAddresses, AreKinds, AsksFor, AsksForNone, IsAsked, IsDue, IsFound, IsWatch, Tells, TellsIf, history_app, live_app, rehearse_app, replay_app, show_app, shell_app, shell_top, watch_app};
+ghost use Rattle.zk_commands.specs.CommandLine.{AreAddresses, AreKinds, AsksFor, AsksForNone, AsksQuestion, IsAsked, IsDue, IsFound, IsWatch, Tells, TellsIf, history_app, live_app, rehearse_app, replay_app, show_app, shell_app, shell_top, watch_app};
 ghost use Rattle.zk_ask.specs.declared.plan.Form.{Form};
 ghost use Rattle.zk_conversation.specs.Calls.{Call as Calls};
-ghost use Rattle.zk_conversation.specs.Views.{call_view};
-ghost use Rattle.zk_conversation.specs.declared.call.Call.{Call};
 ghost use Rattle.zk_nodes.specs.declared.side.Side.{Side};
 ghost use Rattle.zk_watch.specs.declared.plan.Style.{Style};
 ghost use Rattle.zk_watch.specs.declared.plan.Subject.{Subject};
@@ -22,6 +20,7 @@ use crate::data_words::call_of;
 use crate::help;
 use crate::kind::Kind;
 use crate::line_fault::{LineFault, no_address, no_command};
+use crate::tree_words::tree_of;
 use crate::verb::Verb;
 use crate::watch_words::{
     addresses_arg, duration_of, style_of, subjects_of, timeout_of, watch_form,
@@ -32,6 +31,7 @@ use std::alloc::{AllocError, Global};
 use zk_ask::Form;
 use zk_client::Call;
 use zk_live::address::is_address;
+use zk_nodes::Path;
 use zk_watch::{Style, Subject};
 
 static KINDS: [&str; 11] = [
@@ -75,15 +75,39 @@ pub enum Command<'a> {
         for_ms: Option<u64>,
         style: Style,
     },
-    /// Asks one call of servers at these addresses, and waits this many milliseconds for its answer. The node has this name below a chroot.
-    Ask {
-        addresses: Vec<&'a str>,
-        chroot: String,
-        name: &'a str,
-        call: Call,
-        form: Form,
-        wait_ms: u64,
-    },
+    /// Asks one call of servers.
+    Ask(Question<'a>),
+    /// Lists a tree.
+    Tree(Tour<'a>),
+}
+
+/// A call of servers at these addresses, whose answer is waited for so many milliseconds. The node has this name below a chroot.
+#[derive(Drop)]
+pub struct Question<'a> {
+    pub addresses: Vec<&'a str>,
+    pub chroot: String,
+    pub name: &'a str,
+    pub call: Call,
+    /// The file whose bytes are to be the data of the call, which has none; where one is named.
+    pub from: Option<&'a str>,
+    pub form: Form,
+    pub wait_ms: u64,
+}
+
+/// A tree of servers at these addresses, whose answers are waited for so many milliseconds together.
+#[derive(Drop)]
+pub struct Tour<'a> {
+    pub addresses: Vec<&'a str>,
+    /// The root's path.
+    pub path: Path,
+    /// The root's path below a chroot.
+    pub name: Path,
+    /// How many levels below the root are gone through.
+    pub deepest: u64,
+    /// How many nodes are printed at most.
+    pub most: u64,
+    pub form: Form,
+    pub wait_ms: u64,
 }
 
 /// The form of `show`.
@@ -222,7 +246,7 @@ fn show_of<'a>(matches: &ArgMatches<'a>) -> Option<Command<'a>>
 }
 
 /// The first word that is no address.
-pub(crate) fn stranger<'a>(words: &[&'a str]) -> Option<&'a str>
+fn stranger<'a>(words: &[&'a str]) -> Option<&'a str>
     ensures { result ≡ find (λ w. not (is_address w.now)) words.now }
 {
     let word = words.iter().find(|word| !is_address(word))?;
@@ -258,14 +282,14 @@ fn live_of<'a>(alloc: Global, matches: &ArgMatches<'a>) -> Result<Command<'a>, L
 fn watch_of<'a>(alloc: Global, matches: &ArgMatches<'a>) -> Result<Command<'a>, LineFault>
     ensures ok { IfOk result (λ command. (addresses : Vec (Bor Text)) × (subjects : Vec (Subject Global)) × (timeout_ms : ℤ) × (for_ms : Option ℕ) × (style : Style)
         × (command ≡ Command.Watch addresses subjects timeout_ms for_ms style)
-        × IsWatch (map (λ a. a.now) addresses.items) (aims_of subjects.items) timeout_ms for_ms style (rows_of (found_of matches.now))) }
-    ensures err { IfErr result (TellsIf ((addresses : List Text) (aims : List (Side × Text)) (timeout_ms : ℤ) (for_ms : Option ℕ) (style : Style)
-        → IsWatch addresses aims timeout_ms for_ms style (rows_of (found_of matches.now)) → ⊥)) }
+        × (chroot : Text) × IsWatch (map (λ a. a.now) addresses.items) chroot (aims_of subjects.items) timeout_ms for_ms style (rows_of (found_of matches.now))) }
+    ensures err { IfErr result (TellsIf ((addresses : List Text) (chroot : Text) (aims : List (Side × Text)) (timeout_ms : ℤ) (for_ms : Option ℕ) (style : Style)
+        → IsWatch addresses chroot aims timeout_ms for_ms style (rows_of (found_of matches.now)) → ⊥)) }
 {
     let timeout_ms = timeout_of(alloc, matches)?;
     let for_ms = duration_of(alloc, matches)?;
-    let addresses = addresses_of(alloc, matches)?;
-    let subjects = subjects_of(alloc, matches)?;
+    let (addresses, chroot) = servers_of(alloc, matches)?;
+    let subjects = subjects_of(alloc, chroot.as_str(), matches)?;
     Ok(Command::Watch {
         addresses,
         subjects,
@@ -277,11 +301,9 @@ fn watch_of<'a>(alloc: Global, matches: &ArgMatches<'a>) -> Result<Command<'a>, 
 
 /// The command that the matches of a command with this verb give.
 fn ask_of<'a>(alloc: Global, verb: Verb, matches: &ArgMatches<'a>) -> Result<Command<'a>, LineFault>
-    ensures ok { IfOk result (λ command. (addresses : Vec (Bor Text)) × (chroot : String Global) × (name : Bor Text) × (call : Call Global) × (form : Form) × (wait_ms : ℕ)
-        × (command ≡ Command.Ask addresses chroot name call form wait_ms)
-        × IsAsked verb (map (λ a. a.now) addresses.items) (string_bytes chroot) name.now (call_view call) form wait_ms (rows_of (found_of matches.now))) }
-    ensures err { IfErr result (TellsIf ((addresses : List Text) (chroot name : Text) (call : Calls) (form : Form) (wait_ms : ℕ)
-        → IsAsked verb addresses chroot name call form wait_ms (rows_of (found_of matches.now)) → ⊥)) }
+    ensures ok { IfOk result (λ command. (question : Question) × (command ≡ Command.Ask question) × AsksQuestion verb question (rows_of (found_of matches.now))) }
+    ensures err { IfErr result (TellsIf ((addresses : List Text) (chroot name : Text) (call : Calls) (from : Option Text) (form : Form) (wait_ms : ℕ)
+        → IsAsked verb addresses chroot name call from form wait_ms (rows_of (found_of matches.now)) → ⊥)) }
 {
     let Some(name) = matches.get_str("PATH") else {
         return Err(no_command(alloc));
@@ -290,14 +312,15 @@ fn ask_of<'a>(alloc: Global, verb: Verb, matches: &ArgMatches<'a>) -> Result<Com
     let (addresses, chroot) = servers_of(alloc, matches)?;
     let path = node_of(alloc, chroot.as_str(), name)?;
     let call = call_of(alloc, verb, path, matches)?;
-    Ok(Command::Ask {
+    Ok(Command::Ask(Question {
         addresses,
         chroot,
         name,
         call,
+        from: matches.get_str("from"),
         form: form_for(verb, matches),
         wait_ms,
-    })
+    }))
 }
 
 /// The command that the matches of a command line give.
@@ -315,6 +338,7 @@ fn asked<'a>(alloc: Global, matches: &ArgMatches<'a>) -> Result<Command<'a>, Lin
         Some(("rehearse", _)) => Ok(Command::Rehearse),
         Some(("live", inner)) => live_of(alloc, inner),
         Some(("watch", inner)) => watch_of(alloc, inner),
+        Some(("tree", inner)) => tree_of(alloc, inner),
         Some((word, inner)) => match Verb::named(word) {
             Some(verb) => ask_of(alloc, verb, inner),
             None => Err(no_command(alloc)),

@@ -4,7 +4,7 @@ ghost use Rattle.std.specs.Prelude.{◌≡◌, false, None, Some, IfOk, IfErr};
 ghost use Rattle.std.specs.Option.{option_map};
 ghost use Rattle.clap.specs.Words.{found_of, rows_of};
 ghost use Rattle.zk_conversation.specs.Views.{call_view, mode_number};
-ghost use Rattle.zk_commands.specs.Asks.{call_for, data_given, data_in, mode_in, version_in};
+ghost use Rattle.zk_commands.specs.Asks.{call_for, data_given, data_in, data_with, mode_in, version_in};
 ghost use Rattle.zk_commands.specs.CommandLine.{TellsIf};
 
 use crate::ask_words::flag;
@@ -54,14 +54,37 @@ fn data_from(
     }
 }
 
-/// The data that are given.
+/// The data that a word gives, or that no word gives; or none, where a file is named.
+fn data_with(
+    alloc: Global,
+    file: Option<&str>,
+    word: Option<&str>,
+    is_null: bool,
+    is_hex: bool,
+) -> Result<Option<Vec<u8>>, LineFault>
+    ensures ok { IfOk result (λ bytes. data_with (option_map (λ f. f.now) file.entry) (option_map (λ w. w.now) word.entry) is_null is_hex ≡ Some (option_map (λ v. v.items) bytes)) }
+    ensures err { IfErr result (TellsIf (data_with (option_map (λ f. f.now) file.entry) (option_map (λ w. w.now) word.entry) is_null is_hex ≡ None)) }
+{
+    let Some(file) = file else {
+        return data_from(alloc, word, is_null, is_hex);
+    };
+    match (word, is_null, is_hex) {
+        (None, false, false) => Ok(None),
+        (Some(word), _, _) => Err(two_data(alloc, word)),
+        (None, _, _) => Err(two_data(alloc, file)),
+    }
+}
+
+/// The data that are given: none where a file is named.
 fn data_of(alloc: Global, matches: &ArgMatches<'_>) -> Result<Option<Vec<u8>>, LineFault>
     ensures ok { IfOk result (λ bytes. data_in (rows_of (found_of matches.now)) ≡ Some (option_map (λ v. v.items) bytes)) }
     ensures err { IfErr result (TellsIf (data_in (rows_of (found_of matches.now)) ≡ None)) }
 {
     let is_null = flag(matches, "null");
     let is_hex = flag(matches, "hex");
-    data_from(alloc, matches.get_str("DATA"), is_null, is_hex)
+    let word = matches.get_str("DATA");
+    let file = matches.get_str("from");
+    data_with(alloc, file, word, is_null, is_hex)
 }
 
 /// The version that a node is to have, and -1 for any.

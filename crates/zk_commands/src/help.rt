@@ -10,7 +10,7 @@ help of each names its lines, and `zk_shell live --help` those that drive a clie
 
 Exit status: 0 done, and for help; 1 a fault in the input, told on standard error; 2 a fault of the
 command line, told there too; 3 out of memory; 4 standard input or output failed. Commands that ask for
-one node end with 5 to 8 too: `zk_shell get --help`. A watch ends with 9 too: `zk_shell watch --help`.";
+one node or a tree end with 5 to 8, 10 and 11 too: `zk_shell get --help`. A watch ends with 9 too: `zk_shell watch --help`.";
 
 /// At the end of the help of `live`.
 pub const LIVE: &str =
@@ -77,13 +77,15 @@ Example:
 
 /// At the end of the help of `watch`.
 pub const WATCH: &str =
-    r"Connects to one of the addresses, in random order, reads each node with a watch, and goes on to print a
-line whenever something else is kept of it than was printed last. Where the connection is lost, the next
-address is dialled, and where the session expires, a new one begins. --data and --children may be used
-several times, each with a PATH as it is, without escapes. With neither, the session alone is told.
+    r"Connects to one of the hosts of SERVERS, which `zk_shell get --help` tells, in random order, reads each
+node with a watch, and goes on to print a line whenever something else is kept of it than was printed last.
+Where the connection is lost, the next host is dialled, and where the session expires, a new one begins.
+--data and --children may be used several times, each with a PATH as it is, without escapes. With neither,
+the session alone is told. Where a path stands after the hosts, each PATH is below it, and the paths that
+are printed are whole: with 127.0.0.1:2181/app and --data /config, /app/config.
 
 Printed, each line at once, with the seconds since the watch began before it:
-  dial ADDRESS                  This address is tried
+  dial ADDRESS                  This host is tried
   failed ADDRESS REASON         It could not be connected to
   ended ADDRESS REASON          The connection has ended
   drop FAULT ADDRESS WORDS      The connection is given up: what came is wrong, or nothing came
@@ -119,7 +121,7 @@ Exit status: 0 the time is over; 2 a fault of the command line; 3 out of memory;
 failed, or was closed; 9 the time is over, and no server has ever accepted the session.
 
 Example, where nothing listens at port 2180, /config is hi, and is set to bye while it is watched:
-  zk_shell watch 127.0.0.1:2180 127.0.0.1:2181 --data /config --for 60
+  zk_shell watch 127.0.0.1:2180,127.0.0.1:2181 --data /config --for 60
 prints
   0.000 dial 127.0.0.1:2180
   0.000 failed 127.0.0.1:2180 connection refused
@@ -134,9 +136,11 @@ prints
 
 /// At the end of the help of the commands that ask for one node.
 pub const ASK: &str =
-    r"SERVERS is one word: addresses with commas between them, of which one that answers is asked. They are
-in numbers, as 127.0.0.1:2181, since no names are looked up. After them may stand a path, as in
-127.0.0.1:2181/app: then PATH is below it, and so are the paths that are printed.
+    r"SERVERS is one word: hosts with commas between them, of which one that answers is asked. A host is a name
+or an address, with its port where that is not 2181: zk1, zk1:2182, 127.0.0.1:2181, [::1]:2181. A name
+is looked up at each dial, which takes as long as the system lets it, and its addresses are tried in turn.
+After the hosts may stand a path, as in zk1:2181/app: then PATH is below it, and so are the paths that
+are printed.
 
 Printed:
   get           the data: a text in UTF-8 as it is, with a newline after it, and data with other control
@@ -145,11 +149,20 @@ Printed:
   ls            the names below the node, a line each, in the order of their bytes
   stat          a line for each field, by ZooKeeper's name: czxid, mzxid, ctime, mtime, version,
                 cversion, aversion, ephemeralOwner, dataLength, numChildren, pzxid
+  tree          the path of the node and of each one below it, a line each: those below a node come after it,
+                in the order of their bytes
   create        the path of the node that was made
   set, delete   nothing
-  --json        of get, ls, stat and create: an object of JSON a line. That of get has data, a text or
-                null, or hex where the data are no UTF-8, and then the fields of stat; those of ls have
-                a name each, and that of create has a path
+  --json        of get, ls, stat, tree and create: an object of JSON a line. That of get has data, a text
+                or null, or hex where the data are no UTF-8, and then the fields of stat; those of ls have
+                a name each, and those of tree and create a path
+
+A tree is asked for node by node, so it need not be that of one moment; a node that is gone by then is left
+out. --wait is for all answers together.
+
+The data that set and create give: DATA as it is; with --hex, what that means; with --null, null; and with
+--from FILE the bytes of the file, as they are, those of standard input where FILE is -. They are read
+before anything is asked. A call takes some 1,048,500 bytes of data, by the length of its path.
 
 No node is ephemeral: it would be gone with the session of the command, at its end.
 
@@ -158,14 +171,18 @@ What is not done is told on standard error, with PATH:
   refused: /a: the node has another version (-103)
   not connected: /a: no server has answered in time
   no answer: /a: its time is over, and it may or may not have happened
+  cut off: /a: 10000 nodes are printed, and there are more
+                                      Of tree, where there are more than --most says
+  unread: FILE: there is no such file      Or it may not be read, a read failed, or it is too long
 
 Exit status: 0 done; 2 a fault of the command line; 3 out of memory; 4 standard output failed; 5 no
-node; 6 refused; 7 no server has answered in time; 8 no answer to the call, which may be done or not.
-After 5, 6 and 7 nothing was changed.
+node; 6 refused; 7 no server has answered in time; 8 no answer to the call, which may be done or not; 10
+FILE is not read; 11 there are more nodes than --most. After 5, 6, 7 and 10 nothing was changed.
 
 Examples:
   zk_shell create 127.0.0.1:2181 /config 'level = 1'
   zk_shell get 127.0.0.1:2181 /config >config
+  zk_shell set 127.0.0.1:2181 /config --from config
   zk_shell set 127.0.0.1:2181 /config 'level = 2' --version 0 || echo changed meanwhile
   zk_shell stat 127.0.0.1:2181 /config --json | jq .version";
 

@@ -55,6 +55,15 @@ pub(crate) fn no_address(alloc: Global, word: &str) -> LineFault
     ))
 }
 
+/// What is told of a word that is no server.
+pub(crate) fn no_server(alloc: Global, word: &str) -> LineFault
+    ensures { IsNoHelp result }
+{
+    refusal(format!(in alloc;
+        "error: {word:?} is no server: HOST:PORT, as zk1:2181 or [::1]:2181\n"
+    ))
+}
+
 /// What is told of a word that is no path.
 pub(crate) fn no_path(alloc: Global, word: &str, fault: PathFault) -> LineFault
     ensures { IsNoHelp result }
@@ -89,21 +98,39 @@ pub(crate) fn no_wait(alloc: Global, word: &str) -> LineFault
     ))
 }
 
+/// What is told of a word that is no number of levels.
+pub(crate) fn no_depth(alloc: Global, word: &str) -> LineFault
+    ensures { IsNoHelp result }
+{
+    refusal(format!(in alloc; "error: {word:?} is no depth: a number from 0 to 4294967295\n"))
+}
+
+/// What is told of a word that is no number of nodes.
+pub(crate) fn no_most(alloc: Global, word: &str) -> LineFault
+    ensures { IsNoHelp result }
+{
+    refusal(format!(in alloc;
+        "error: {word:?} is no number of nodes: a number from 1 to 4294967295\n"
+    ))
+}
+
 /// What is told where no data are given.
 pub(crate) fn no_data(alloc: Global) -> LineFault
     ensures { IsNoHelp result }
 {
     refusal(String::from_str(
         alloc,
-        "error: DATA is missing: give it, or --null for null data\n",
+        "error: DATA is missing: give it, or --from FILE, or --null for null data\n",
     ))
 }
 
-/// What is told of a word that is given beside the flag for null data.
+/// What is told of a word for data that others are given beside.
 pub(crate) fn two_data(alloc: Global, word: &str) -> LineFault
     ensures { IsNoHelp result }
 {
-    refusal(format!(in alloc; "error: {word:?}: give DATA or --null, not both\n"))
+    refusal(format!(in alloc;
+        "error: {word:?}: give DATA, with --hex where it is hex, or --null, or --from FILE\n"
+    ))
 }
 
 /// What is told of a word that is no hex.

@@ -5,32 +5,24 @@ ghost use Rattle.std.specs.Io.KnownBytes.{Appends};
 ghost use Rattle.clap.specs.Words.{Text};
 ghost use Rattle.zk_commands.specs.Asks.{IsUndone};
 ghost use Rattle.zk_commands.specs.CommandLine.{AsksFor};
-ghost use Rattle.zk_commands.specs.Run.{IsDone, IsFaulty, IsHelpText, IsNeverConnected, IsRefusal, IsRefusalText, IsUndoneBy, IsWhole};
+ghost use Rattle.zk_commands.specs.Run.{IsCutOff, IsDone, IsFaulty, IsHelpText, IsNeverConnected, IsRefusal, IsRefusalText, IsUndoneBy, IsWhole};
 
-use crate::ask::ask_over;
+use crate::ask::ask_with;
 use crate::capture::{ToldCapture, asks_stream};
 use crate::command::{Command, command_of};
+use crate::files::Files;
 use crate::line_fault::LineFault;
 use crate::plays::{LiveClient, RehearsedClient, ReplayedClient, ToldHistory};
 use crate::script::script_over;
 use crate::show::show;
 use crate::status::Status;
+use crate::tree::tour_over;
 use crate::watch::watch_over;
+use crate::written::write_text;
 use std::alloc::Global;
 use std::io::{Read, Write};
-use zk_ask::Plan as Question;
 use zk_link::{Clock, Dial};
 use zk_watch::{Plan, Style, Subject};
-
-/// Writes a text, and answers this status unless that fails.
-fn write_text<W: Write>(to: &mut W, text: &str, status: Status) -> Status
-    ensures { result ≢ Status.Stream → (result ≡ status) × Appends (W.contents to.old) (W.contents to.new) text.now }
-{
-    match to.write_all(text.as_bytes()) {
-        Ok(()) => status,
-        Err(_) => Status::Stream,
-    }
-}
 
 /// The plan of a watch.
 fn plan_of<'a>(
@@ -54,8 +46,9 @@ fn plan_of<'a>(
 }
 
 /// Runs a command.
-fn perform<D: Dial + Drop, C: Clock + Drop, I: Read, O: Write, E: Write>(
+fn perform<F: Files, D: Dial + Drop, C: Clock + Drop, I: Read, O: Write, E: Write>(
     alloc: Global,
+    files: &F,
     mut dial: D,
     clock: C,
     input: &mut I,
@@ -63,11 +56,12 @@ fn perform<D: Dial + Drop, C: Clock + Drop, I: Read, O: Write, E: Write>(
     errors: &mut E,
     command: Command<'_>,
 ) -> Status
-    ensures done { result ≡ Status.Done → (words : List Text) → AsksFor words command.entry → (text : List ℕ) × IsDone words (I.remaining input.old) text × Appends (O.contents out.old) (O.contents out.new) text × (errors.new ≡ errors.old) }
+    ensures done { result ≡ Status.Done → (words : List Text) → AsksFor words command.entry → (text : List ℕ) × IsDone words (F.holds files.now) (I.remaining input.old) text × Appends (O.contents out.old) (O.contents out.new) text × (errors.new ≡ errors.old) }
     ensures fault { result ≡ Status.Fault → (words : List Text) → AsksFor words command.entry → (text told : List ℕ) × IsFaulty words (I.remaining input.old) text told × Appends (O.contents out.old) (O.contents out.new) text × Appends (E.contents errors.old) (E.contents errors.new) told }
     ensures usage { result ≢ Status.Usage }
-    ensures undone { IsUndone result → (words : List Text) → AsksFor words command.entry → (told : List ℕ) × IsUndoneBy words result told × Appends (E.contents errors.old) (E.contents errors.new) told × (out.new ≡ out.old) }
+    ensures undone { IsUndone result → (words : List Text) → AsksFor words command.entry → (told : List ℕ) × IsUndoneBy words (F.holds files.now) (I.remaining input.old) result told × Appends (E.contents errors.old) (E.contents errors.new) told × (out.new ≡ out.old) }
     ensures never { result ≡ Status.NeverConnected → (words : List Text) → AsksFor words command.entry → (text : List ℕ) × IsNeverConnected words text × Appends (O.contents out.old) (O.contents out.new) text × (errors.new ≡ errors.old) }
+    ensures more { result ≡ Status.More → (words : List Text) → AsksFor words command.entry → (text told : List ℕ) × IsCutOff words text told × Appends (O.contents out.old) (O.contents out.new) text × Appends (E.contents errors.old) (E.contents errors.new) told }
     ensures memory { result ≡ Status.Memory → (words : List Text) → AsksFor words command.entry → (text : List ℕ) × IsWhole words (I.remaining input.old) text × Appends (O.contents out.old) (O.contents out.new) text × (errors.new ≡ errors.old) }
 {
     match command {
@@ -91,24 +85,10 @@ fn perform<D: Dial + Drop, C: Clock + Drop, I: Read, O: Write, E: Write>(
             let plan = plan_of(addresses, subjects, timeout_ms, for_ms, style);
             watch_over(alloc, dial, clock, plan, out)
         }
-        Command::Ask {
-            addresses,
-            chroot,
-            name,
-            call,
-            form,
-            wait_ms,
-        } => {
-            let question = Question {
-                addresses: addresses.as_slice(),
-                call,
-                name,
-                chroot: chroot.as_str(),
-                form,
-                wait_ms,
-            };
-            ask_over(alloc, dial, clock, question, out, errors)
+        Command::Ask(question) => {
+            ask_with(alloc, files, dial, clock, question, input, out, errors)
         }
+        Command::Tree(tour) => tour_over(alloc, dial, clock, tour, out, errors),
     }
 }
 
@@ -119,6 +99,7 @@ fn tell_line<O: Write, E: Write>(out: &mut O, errors: &mut E, fault: LineFault) 
     ensures usage { result ≡ Status.Usage → (told : List ℕ) × IsRefusalText fault told × Appends (E.contents errors.old) (E.contents errors.new) told × (out.new ≡ out.old) }
     ensures asks { IsUndone result → ⊥ }
     ensures never { result ≢ Status.NeverConnected }
+    ensures more { result ≢ Status.More }
     ensures memory { result ≡ Status.Memory → (out.new ≡ out.old) × (errors.new ≡ errors.old) }
 {
     match fault {
@@ -129,9 +110,10 @@ fn tell_line<O: Write, E: Write>(out: &mut O, errors: &mut E, fault: LineFault) 
 }
 
 /// Runs the command that the words ask for. The first word is the program's name. `dial` connects to addresses, for what runs over
-/// connections, and `clock` tells moments to a watch and to a call.
-pub fn run<D: Dial + Drop, C: Clock + Drop, I: Read, O: Write, E: Write>(
+/// connections, `clock` tells moments to a watch and to a call, and `files` opens the file that a command names.
+pub fn run<F: Files, D: Dial + Drop, C: Clock + Drop, I: Read, O: Write, E: Write>(
     alloc: Global,
+    files: &F,
     dial: D,
     clock: C,
     input: &mut I,
@@ -140,7 +122,7 @@ pub fn run<D: Dial + Drop, C: Clock + Drop, I: Read, O: Write, E: Write>(
     words: &[&str],
 ) -> Status
     // A frame is shown, the frames of a capture are told, a history is answered, a replay, a rehearsal, a session, a watch or the answer to a call is printed, or help is told.
-    ensures done { result ≡ Status.Done → (text : List ℕ) × IsDone (map (λ w. w.now) words.entry.now) (I.remaining input.old) text
+    ensures done { result ≡ Status.Done → (text : List ℕ) × IsDone (map (λ w. w.now) words.entry.now) (F.holds files.now) (I.remaining input.old) text
         × Appends (O.contents out.old) (O.contents out.new) text × (errors.new ≡ errors.old) }
     // The frame or a line of the script is refused, and this is told.
     ensures fault { result ≡ Status.Fault → (text told : List ℕ) × IsFaulty (map (λ w. w.now) words.entry.now) (I.remaining input.old) text told
@@ -148,12 +130,15 @@ pub fn run<D: Dial + Drop, C: Clock + Drop, I: Read, O: Write, E: Write>(
     // The words are refused, and this is told.
     ensures usage { result ≡ Status.Usage → (told : List ℕ) × IsRefusal (map (λ w. w.now) words.entry.now) told
         × Appends (E.contents errors.old) (E.contents errors.new) told × (out.new ≡ out.old) }
-    // A call is not done, or may not be, and this is told.
-    ensures undone { IsUndone result → (told : List ℕ) × IsUndoneBy (map (λ w. w.now) words.entry.now) result told
+    // A call is not done, or may not be, or the file with its data is not read, and this is told.
+    ensures undone { IsUndone result → (told : List ℕ) × IsUndoneBy (map (λ w. w.now) words.entry.now) (F.holds files.now) (I.remaining input.old) result told
         × Appends (E.contents errors.old) (E.contents errors.new) told × (out.new ≡ out.old) }
     // The time of a watch is over, and no server has ever accepted its session.
     ensures never { result ≡ Status.NeverConnected → (text : List ℕ) × IsNeverConnected (map (λ w. w.now) words.entry.now) text
         × Appends (O.contents out.old) (O.contents out.new) text × (errors.new ≡ errors.old) }
+    // As many nodes of a tree as are to be are printed, there are more, and this is told.
+    ensures more { result ≡ Status.More → (text told : List ℕ) × IsCutOff (map (λ w. w.now) words.entry.now) text told
+        × Appends (O.contents out.old) (O.contents out.new) text × Appends (E.contents errors.old) (E.contents errors.new) told }
     // Nothing is written, or whole answers of a history, or what whole lines of a replay, a rehearsal or a session print, or what a
     // watch prints.
     ensures memory { result ≡ Status.Memory → (text : List ℕ) × IsWhole (map (λ w. w.now) words.entry.now) (I.remaining input.old) text
@@ -163,7 +148,7 @@ pub fn run<D: Dial + Drop, C: Clock + Drop, I: Read, O: Write, E: Write>(
         return script_over(alloc, ToldCapture, input, out, errors);
     }
     match command_of(alloc, words) {
-        Ok(command) => perform(alloc, dial, clock, input, out, errors, command),
+        Ok(command) => perform(alloc, files, dial, clock, input, out, errors, command),
         Err(fault) => tell_line(out, errors, fault),
     }
 }

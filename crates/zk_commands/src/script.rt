@@ -56,6 +56,7 @@ pub fn script_over<P: Plays<A>, A: Allocator + Copy, I: Read, O: Write, E: Write
     ensures usage { result ≢ Status.Usage }
     ensures asks { IsUndone result → ⊥ }
     ensures never { result ≢ Status.NeverConnected }
+    ensures more { result ≢ Status.More }
 {
     let script = match read_whole(alloc, input) {
         Ok(script) => script,

@@ -89,6 +89,7 @@ pub fn show<A: Allocator + Copy, O: Write, E: Write>(
     ensures usage { result ≢ Status.Usage }
     ensures asks { IsUndone result → ⊥ }
     ensures never { result ≢ Status.NeverConnected }
+    ensures more { result ≢ Status.More }
 {
     match print_frame(alloc, kind, hex) {
         Ok(text) => match out.write_all(text.as_bytes()) {

@@ -23,4 +23,8 @@ pub enum Status {
     Unanswered = 8,
     /// The time of a watch is over, and no server has ever accepted its session.
     NeverConnected = 9,
+    /// The file that is named gives no data, which was told.
+    Unread = 10,
+    /// As many nodes of a tree as are to be are printed, and there are more, which was told.
+    More = 11,
 }

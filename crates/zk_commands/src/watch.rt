@@ -31,6 +31,7 @@ pub fn watch_over<A: Allocator + Copy, D: Dial + Drop, C: Clock + Drop, O: Write
     ensures fault { result ≢ Status.Fault }
     ensures usage { result ≢ Status.Usage }
     ensures asks { IsUndone result → ⊥ }
+    ensures more { result ≢ Status.More }
 {
     match watch(alloc, dial, clock, plan, out) {
         End::Over => Status::Done,

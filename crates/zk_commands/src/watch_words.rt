@@ -6,10 +6,10 @@ ghost use Rattle.std.specs.List.{list_all};
 ghost use Rattle.clap.specs.Words.{Text, app_of, first_of, found_of, rows_of, rule_of};
 ghost use Rattle.zk_nodes.specs.declared.side.Side.{Side as Sides};
 ghost use Rattle.zk_watch.specs.Watching.{aims_of};
-ghost use Rattle.zk_commands.specs.CommandLine.{AreAims, IsDuration, IsTimeout, TellsIf, address_rule, aims_at, count_at, duration_rule, duration_read, given, is_path, option_rule, path_rule, style_in, timeout_at, timeout_rule, watch_app};
+ghost use Rattle.zk_commands.specs.CommandLine.{AreAims, IsDuration, IsTimeout, TellsIf, address_rule, aims_at, count_at, duration_rule, duration_read, given, is_below, is_path, option_rule, path_rule, style_in, timeout_at, timeout_rule, watch_app};
 
-use crate::ask_forms::flag_arg;
-use crate::ask_words::flag;
+use crate::ask_forms::{flag_arg, servers_arg};
+use crate::ask_words::{flag, node_of};
 use crate::help;
 use crate::line_fault::{LineFault, no_command, no_duration, no_path, no_timeout};
 use clap::{Arg, ArgAction, ArgMatches};
@@ -24,7 +24,7 @@ const MOST_MS: u64 = 2_147_483_647;
 /// The most seconds of a watch.
 const MOST_SECONDS: u64 = 4_294_967;
 
-/// The addresses of a command that connects.
+/// The addresses of `live`.
 pub(crate) fn addresses_arg<'a>(alloc: Global) -> Arg<'a>
     ensures rule { rule_of result ≡ address_rule }
     ensures local { result.global ≡ false }
@@ -84,7 +84,7 @@ pub(crate) fn watch_form<'a>(alloc: Global) -> Result<clap::Command<'a>, AllocEr
     let watch = clap::Command::new(alloc, "watch")
         .about("Connects over TCP, and prints a line at each change of the nodes that it watches")
         .after_help(help::WATCH)
-        .arg(addresses_arg(alloc))?;
+        .arg(servers_arg(alloc))?;
     let watch = watch.arg(paths_arg(alloc, "data", "A node whose data to watch"))?;
     let watch = watch.arg(paths_arg(alloc, "children", "A node below which to watch the names"))?;
     let watch = watch.arg(timeout_arg(alloc))?;
@@ -156,19 +156,20 @@ pub(crate) fn path_of(alloc: Global, word: &str) -> Result<Path, LineFault>
     }
 }
 
-/// Adds what is watched of the nodes at these paths.
+/// Adds what is watched of the nodes at these paths below a chroot.
 fn add_subjects(
     alloc: Global,
     subjects: &mut Vec<Subject<Global>>,
+    chroot: &str,
     side: Side,
     words: &[&str],
 ) -> Result<(), LineFault>
-    ensures ok { OnOk result (aims_of subjects.new.items ≡ aims_of subjects.old.items ++ aims_at side (map (λ w. w.now) words.now)) }
-    ensures accepted { OnOk result (list_all is_path (map (λ w. w.now) words.now) ≡ true) }
-    ensures err { IfErr result (TellsIf (list_all is_path (map (λ w. w.now) words.now) ≡ false)) }
+    ensures ok { OnOk result (aims_of subjects.new.items ≡ aims_of subjects.old.items ++ aims_at chroot.now side (map (λ w. w.now) words.now)) }
+    ensures accepted { OnOk result (list_all (is_below chroot.now) (map (λ w. w.now) words.now) ≡ true) }
+    ensures err { IfErr result (TellsIf (list_all (is_below chroot.now) (map (λ w. w.now) words.now) ≡ false)) }
 {
     for word in words {
-        let path = path_of(alloc, word)?;
+        let path = node_of(alloc, chroot, word)?;
         if subjects.push(Subject { side, path }).is_err() {
             return Err(LineFault::Memory);
         }
@@ -176,34 +177,43 @@ fn add_subjects(
     Ok(())
 }
 
-/// Adds what is watched of the nodes at the paths that an option was given.
+/// Adds what is watched of the nodes at the paths below a chroot that an option was given.
 fn add_given(
     alloc: Global,
     subjects: &mut Vec<Subject<Global>>,
+    chroot: &str,
     side: Side,
     matches: &ArgMatches<'_>,
     id: &str,
 ) -> Result<(), LineFault>
-    ensures ok { OnOk result (aims_of subjects.new.items ≡ aims_of subjects.old.items ++ aims_at side (given id.now (rows_of (found_of matches.now)))) }
-    ensures accepted { OnOk result (list_all is_path (given id.now (rows_of (found_of matches.now))) ≡ true) }
-    ensures err { IfErr result (TellsIf (list_all is_path (given id.now (rows_of (found_of matches.now))) ≡ false)) }
+    ensures ok { OnOk result (aims_of subjects.new.items ≡ aims_of subjects.old.items ++ aims_at chroot.now side (given id.now (rows_of (found_of matches.now)))) }
+    ensures accepted { OnOk result (list_all (is_below chroot.now) (given id.now (rows_of (found_of matches.now))) ≡ true) }
+    ensures err { IfErr result (TellsIf (list_all (is_below chroot.now) (given id.now (rows_of (found_of matches.now))) ≡ false)) }
 {
     match matches.get_strs(id) {
-        Some(words) => add_subjects(alloc, subjects, side, words),
+        Some(words) => add_subjects(alloc, subjects, chroot, side, words),
         None => Ok(()),
     }
 }
 
-/// What is to be watched.
+/// What is to be watched below a chroot.
 pub(crate) fn subjects_of(
     alloc: Global,
+    chroot: &str,
     matches: &ArgMatches<'_>,
 ) -> Result<Vec<Subject<Global>>, LineFault>
-    ensures ok { IfOk result (λ subjects. AreAims (aims_of subjects.items) (rows_of (found_of matches.now))) }
-    ensures err { IfErr result (TellsIf ((aims : List (Sides × Text)) → AreAims aims (rows_of (found_of matches.now)) → ⊥)) }
+    ensures ok { IfOk result (λ subjects. AreAims chroot.now (aims_of subjects.items) (rows_of (found_of matches.now))) }
+    ensures err { IfErr result (TellsIf ((aims : List (Sides × Text)) → AreAims chroot.now aims (rows_of (found_of matches.now)) → ⊥)) }
 {
     let mut subjects = Vec::new(alloc);
-    add_given(alloc, &mut subjects, Side::Data, matches, "data")?;
-    add_given(alloc, &mut subjects, Side::Child, matches, "children")?;
+    add_given(alloc, &mut subjects, chroot, Side::Data, matches, "data")?;
+    add_given(
+        alloc,
+        &mut subjects,
+        chroot,
+        Side::Child,
+        matches,
+        "children",
+    )?;
     Ok(subjects)
 }

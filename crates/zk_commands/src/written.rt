@@ -36,6 +36,17 @@ fn tell<E: Write>(errors: &mut E, number: usize, why: ScriptFault) -> Status
     }
 }
 
+/// Writes a text, and answers this status unless that fails.
+pub(crate) fn write_text<W: Write>(to: &mut W, text: &str, status: Status) -> Status
+    ensures written { result ≢ Status.Stream → (result ≡ status) × Appends (W.contents to.old) (W.contents to.new) text.now }
+    ensures only { (result ≡ status) ⊎ (result ≡ Status.Stream) }
+{
+    match to.write_all(text.as_bytes()) {
+        Ok(()) => status,
+        Err(_) => Status::Stream,
+    }
+}
+
 /// Says that a step of the client ran out of memory.
 pub(crate) fn halt<O: Write>(out: &mut O) -> Status
     ensures written { result ≡ Status.Memory → Appends (O.contents out.old) (O.contents out.new) (codes "halt\n") }
@@ -64,6 +75,7 @@ pub(crate) fn write_transcript<A: Allocator, O: Write, E: Write>(
     ensures usage { result ≢ Status.Usage }
     ensures asks { IsUndone result → ⊥ }
     ensures never { result ≢ Status.NeverConnected }
+    ensures more { result ≢ Status.More }
 {
     if out.write_all(transcript.text.as_bytes()).is_err() {
         return Status::Stream;

@@ -1,14 +1,8 @@
--- Addresses: four numbers, joined by dots, and a port.
-use Rattle.std.specs.Prelude.{ℕ, ◌==◌, ◌&&◌, not, nat_lt, is_some, Bool, false, if◌then◌else◌, length, Option, Some, None}
-use Rattle.std.specs.List.{position_or_len, before_first, after_first}
+-- Addresses: four numbers, joined by dots, and a port. And servers: a host and a port.
+use Rattle.std.specs.Prelude.{ℕ, ◌==◌, ◌&&◌, not, is_some, Bool, false, [], ◌∷◌, Option, Some, None}
+use Rattle.zk_link.specs.Hosts.{host_of, parted}
 use Rattle.zk_nodes.specs.Path.{Text}
 use Rattle.zk_script.specs.Numbers.{natural_of}
-
--- what stands before the first byte of this value, and what stands after it
-abbrev pub parted : ℕ → Text → Option (Text × Text)
-parted separator text =
-    if nat_lt (position_or_len (λ b. b == separator) text) (length text)
-    then Some (before_first (λ b. b == separator) text, after_first (λ b. b == separator) text) else None
 
 -- a number from 0 to 255
 abbrev pub is_part : Text → Bool
@@ -40,3 +34,16 @@ are_four text = both is_part are_three (parted 46 text)
 -- four numbers, a colon and a port
 abbrev pub is_address : Text → Bool
 is_address text = both are_four is_port (parted 58 text)
+
+-- whether a byte of this value is not in a text
+abbrev pub lacks : ℕ → Text → Bool
+lacks byte text = not (is_some (parted byte text))
+
+-- The name of a host, which may be an address in numbers: not empty, without a space, a comma, a slash and an opening bracket.
+abbrev pub is_name : Text → Bool
+is_name [] = false
+is_name (b ∷ bytes) = lacks 32 (b ∷ bytes) && (lacks 44 (b ∷ bytes) && (lacks 47 (b ∷ bytes) && lacks 91 (b ∷ bytes)))
+
+-- NAME, NAME:PORT, [NAME] or [NAME]:PORT
+abbrev pub is_server : Text → Bool
+is_server text = both is_name is_port (host_of text)

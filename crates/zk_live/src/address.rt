@@ -1,8 +1,9 @@
-//! Addresses: four numbers from 0 to 255, joined by dots, a colon and a port.
+//! Addresses: four numbers from 0 to 255, joined by dots, a colon and a port. And servers: a host and a port.
 
 ghost use Rattle.std.specs.Prelude.{◌≡◌};
-ghost use Rattle.zk_live.specs.Addresses.{are_four, are_three, are_two, is_address, is_part, is_port};
+ghost use Rattle.zk_live.specs.Addresses.{are_four, are_three, are_two, is_address, is_name, is_part, is_port, is_server};
 
+use zk_link::host_of;
 use zk_script::numbers::natural_of;
 
 /// Whether a word is a number from 0 to 255, in decimal without leading zeros.
@@ -57,6 +58,29 @@ pub fn is_address(text: &str) -> bool
 {
     match text.split_once(':') {
         Some((host, port)) => are_four(host) && is_port(port),
+        None => false,
+    }
+}
+
+/// Whether a word may be the name of a host, or its address in numbers: it is not empty, and has no space, comma, slash or opening
+/// bracket. Whether there is such a host is not asked.
+fn is_name(word: &str) -> bool
+    ensures { result ≡ is_name word.now }
+{
+    !word.is_empty()
+        && word.split_once(' ').is_none()
+        && word.split_once(',').is_none()
+        && word.split_once('/').is_none()
+        && word.split_once('[').is_none()
+}
+
+/// Whether a text is a server: a name, an IPv4 address, or an IPv6 address in brackets; and behind it a colon and a port from 1 to 65,535
+/// in decimal without leading zeros, or nothing, which means the port 2181.
+pub fn is_server(text: &str) -> bool
+    ensures { result ≡ is_server text.now }
+{
+    match host_of(text) {
+        Some(host) => is_name(host.name) && is_port(host.port),
         None => false,
     }
 }

@@ -1,6 +1,9 @@
 //! Reads, changes and watches nodes, shows frames of the protocol, answers histories of a data tree, and drives a client by scripts.
 #![tactic(auto)]
 
+mod disk;
+
+use disk::Disk;
 use std::io;
 use std::process::ExitCode;
 use zk_commands::run::run;
@@ -20,6 +23,7 @@ fn run_arguments(rt: &HostRuntime) -> io::Result<Status> {
     let mut input = rt.stdin();
     let status = run(
         alloc,
+        &Disk::new(rt),
         Tcp::new(rt),
         SystemClock::new(rt),
         &mut input,

@@ -1,7 +1,7 @@
 use Rattle.std.proofs.Common.{◌∙◌, ap, codes, refl}
 use Rattle.std.proofs.lemmas.Result.{IfOk-weaker}
 use Rattle.clap.specs.Words.{App, with_subcommand}
-use Rattle.zk_commands.specs.Asks.{get_app, json_app}
+use Rattle.zk_commands.specs.Asks.{get_app, json_app, tree_app}
 use Rattle.zk_commands.proofs.FormLemmas.{added}
 use Rattle.zk_commands.proofs.ask_forms.with_reads.Goals as goal
 
@@ -9,6 +9,7 @@ pub returns : goal.returns
 returns c =
     let one = added c.args.form c.in_ok-get.get c.in_ok-form.form get_app c.in_ok-get.ensures refl c.in_ok-form.ensures in
     let two = added c.in_ok-form.form c.in_ok-list.list c.in_ok-form-2.form (json_app (codes "ls")) c.in_ok-list.ensures refl c.in_ok-form-2.ensures ∙ ap (λ (a : App). with_subcommand a (json_app (codes "ls")).top) one in
-    IfOk-weaker c.subcommand-3.result _ _
-    (λ form adds. added c.in_ok-form-2.form c.in_ok-stat.stat form (json_app (codes "stat")) c.in_ok-stat.ensures refl adds ∙ ap (λ (a : App). with_subcommand a (json_app (codes "stat")).top) two)
-    c.subcommand-3.ensures
+    let three = added c.in_ok-form-2.form c.in_ok-stat.stat c.in_ok-form-3.form (json_app (codes "stat")) c.in_ok-stat.ensures refl c.in_ok-form-3.ensures ∙ ap (λ (a : App). with_subcommand a (json_app (codes "stat")).top) two in
+    IfOk-weaker c.subcommand-4.result _ _
+    (λ form adds. added c.in_ok-form-3.form c.in_ok-tree.tree form tree_app c.in_ok-tree.ensures refl adds ∙ ap (λ (a : App). with_subcommand a tree_app.top) three)
+    c.subcommand-4.ensures

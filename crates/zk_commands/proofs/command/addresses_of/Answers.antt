@@ -3,6 +3,7 @@ use Rattle.std.specs.Prelude.{option_map, codes}
 use Rattle.std.specs.Borrow.{Bor}
 use Rattle.clap.specs.Words.{Text, all_of, found_of, rows_of}
 use Rattle.clap.proofs.WalkLemmas.{raw_values-rows}
+use Rattle.zk_live.specs.Addresses.{is_address}
 use Rattle.zk_commands.proofs.AddressLemmas.{each_is, one_is_not, tells}
 use Rattle.zk_commands.proofs.command.addresses_of.Goals as goal
 
@@ -22,7 +23,7 @@ returns-in-Some-stranger-clause-err c =
     let is = raw_values-rows found (codes "ADDRESS") in
     let words = c.in-Some.words.now in
     let some : Some (map (λ v. v.now) words) ≡ all_of (codes "ADDRESS") (rows_of found) = search rules in
-    let other = one_is_not words c.in-Some-stranger.word (search rules) in
+    let other = one_is_not is_address words c.in-Some-stranger.word (search rules) in
     tells _ c.no_address.result c.no_address.ensures (λ given are.
     let same : map (λ v. v.now) words ≡ given = search rules in other (rw same are.1))
 
@@ -32,5 +33,5 @@ returns-clause-ok c =
     let is = raw_values-rows found (codes "ADDRESS") in
     let words = c.in-Some.words.now in
     let some : all_of (codes "ADDRESS") (rows_of found) ≡ Some (map (λ v. v.now) words) = search rules in
-    let each = each_is words (search rules) in
+    let each = each_is is_address words (search rules) in
     (rw c.in_ok-addresses.ensures.items some, rw c.in_ok-addresses.ensures.items each)

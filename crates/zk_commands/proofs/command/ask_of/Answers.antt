@@ -1,39 +1,30 @@
-use Rattle.std.proofs.Common.{rules, ◌≡◌, ◌⊎◌, inl, inr, ◌∙◌, ℕ, List, [], true, false, ap, ap₂, sym, refl, codes, Some, None, unwrap_or, map}
-use Rattle.std.specs.Prelude.{string_bytes}
+use Rattle.std.proofs.Common.{rules, ◌≡◌, ◌∙◌, ℕ, List, [], true, false, ap, ap₂, sym, refl, codes, Some, None, unwrap_or, map}
+use Rattle.std.specs.Prelude.{Option, option_map, string_bytes}
 use Rattle.std.proofs.lemmas.Bool.{true≢false}
 use Rattle.clap.specs.Words.{Row, Text, first_of, found_of, rows_of}
 use Rattle.clap.proofs.WalkLemmas.{first_value-rows}
 use Rattle.zk_ask.specs.declared.plan.Form.{Form}
 use Rattle.zk_conversation.specs.Calls.{Call}
-use Rattle.zk_commands.specs.Asks.{AreServers, absolute, call_for, chroot_text, cut_at_slash}
-use Rattle.zk_commands.specs.CommandLine.{IsAsked, is_path}
+use Rattle.zk_commands.specs.Asks.{AreServers, absolute, call_for}
+use Rattle.zk_commands.specs.CommandLine.{IsAsked, is_below}
 use Rattle.zk_commands.specs.declared.verb.Verb.{Verb}
-use Rattle.zk_commands.proofs.AddressLemmas.{tells, tells_on}
+use Rattle.zk_commands.proofs.AddressLemmas.{one_chroot, tells, tells_on}
 use Rattle.zk_commands.proofs.command.ask_of.Goals as goal
-
--- what was given has one chroot
-one_chroot : (rows : List Row) (addresses others : List Text) (chroot other : Text) → AreServers addresses chroot rows → AreServers others other rows → chroot ≡ other
-one_chroot rows addresses others chroot other one two =
-    let same : one.word ≡ two.word = ap (λ o. unwrap_or o []) (sym one.given ∙ two.given) in
-    one.are.2 ∙ ap (λ (w : Text). chroot_text (cut_at_slash w).1) same ∙ sym two.are.2
 
 -- The node's path is refused, so nothing is asked.
 no_node : (rows : List Row) (name chroot text : Text) (addresses : List Text) → first_of (codes "PATH") rows ≡ Some name → AreServers addresses chroot rows
-    → text ≡ chroot → (is_path name ≡ false) ⊎ (is_path (absolute text name) ≡ false) → (verb : Verb) (others : List Text) (other called : Text) (call : Call)
-    (form : Form) (wait_ms : ℕ) → IsAsked verb others other called call form wait_ms rows → ⊥
-no_node rows name chroot text addresses some servers at (inl refused) verb others other called call form wait_ms asked =
-    let same : called ≡ name = ap (λ o. unwrap_or o []) (sym asked.1.given ∙ some) in
-    true≢false (sym asked.1.is ∙ ap is_path same ∙ refused)
-no_node rows name chroot text addresses some servers at (inr refused) verb others other called call form wait_ms asked =
+    → text ≡ chroot → is_below text name ≡ false → (verb : Verb) (others : List Text) (other called : Text) (call : Call) (from : Option Text) (form : Form)
+    (wait_ms : ℕ) → IsAsked verb others other called call from form wait_ms rows → ⊥
+no_node rows name chroot text addresses some servers at refused verb others other called call from form wait_ms asked =
     let same : called ≡ name = ap (λ o. unwrap_or o []) (sym asked.1.given ∙ some) in
     let below : other ≡ text = one_chroot rows others addresses other chroot asked.0 servers ∙ sym at in
-    true≢false (sym asked.1.below ∙ ap is_path (ap₂ absolute below same) ∙ refused)
+    true≢false (sym asked.1.is ∙ ap₂ is_below below same ∙ refused)
 
 -- The call at the node's path is refused, so nothing is asked.
 no_call : (verb : Verb) (rows : List Row) (name chroot text path : Text) (addresses : List Text) → first_of (codes "PATH") rows ≡ Some name
     → AreServers addresses chroot rows → text ≡ chroot → path ≡ absolute text name → call_for verb path rows ≡ None → (others : List Text) (other called : Text)
-    (call : Call) (form : Form) (wait_ms : ℕ) → IsAsked verb others other called call form wait_ms rows → ⊥
-no_call verb rows name chroot text path addresses some servers at is none others other called call form wait_ms asked =
+    (call : Call) (from : Option Text) (form : Form) (wait_ms : ℕ) → IsAsked verb others other called call from form wait_ms rows → ⊥
+no_call verb rows name chroot text path addresses some servers at is none others other called call from form wait_ms asked =
     let same : called ≡ name = ap (λ o. unwrap_or o []) (sym asked.1.given ∙ some) in
     let below : other ≡ text = one_chroot rows others addresses other chroot asked.0 servers ∙ sym at in
     let place : absolute other called ≡ path = ap₂ absolute below same ∙ sym is in
@@ -45,12 +36,12 @@ returns-in_default-clause-err c =
     let found = found_of c.args.matches.now in
     let is = first_value-rows found (codes "PATH") in
     let none : None ≡ first_of (codes "PATH") (rows_of found) = search rules in
-    tells _ c.no_command.result c.no_command.ensures (λ addresses chroot name call form wait_ms asked. let bad = none ∙ asked.1.given in cc)
+    tells _ c.no_command.result c.no_command.ensures (λ addresses chroot name call from form wait_ms asked. let bad = none ∙ asked.1.given in cc)
 
 pub returns-in_err-addresses-clause-err : goal.returns-in_err-addresses-clause-err
 returns-in_err-addresses-clause-err c =
     tells_on _ _ c.from_residual-in_err-addresses.result c.in_err-addresses.field-0.0 c.from_residual-in_err-addresses.ensures.1 c.in_err-addresses.ensures.err
-    (λ none addresses chroot name call form wait_ms asked. none addresses chroot asked.0)
+    (λ none addresses chroot name call from form wait_ms asked. none addresses chroot asked.0)
 
 pub returns-in_err-path-clause-err : goal.returns-in_err-path-clause-err
 returns-in_err-path-clause-err c =
@@ -77,22 +68,23 @@ returns-clause-ok c =
     let some : first_of (codes "PATH") (rows_of found) ≡ Some c.in-Some.name.now = search rules in
     let name = c.in-Some.name.now in
     let at = c.as_str.ensures.value in
+    let from : option_map (λ f. f.now) c.get_str-2.result ≡ first_of (codes "from") rows = c.get_str-2.ensures ∙ first_value-rows found (codes "from") in
     let place = c.in_ok-path.ensures.ok ∙ ap (λ (t : Text). absolute t name) at in (
-      c.in_ok-addresses.addresses,
-      c.in_ok-addresses.chroot,
-      c.in-Some.name,
-      c.in_ok-call.call,
-      c.form_for.result,
-      c.in_ok-wait_ms.wait_ms,
+      record {
+        addresses = c.in_ok-addresses.addresses;
+        chroot = c.in_ok-addresses.chroot;
+        name = c.in-Some.name;
+        call = c.in_ok-call.call;
+        from = c.get_str-2.result;
+        form = c.form_for.result;
+        wait_ms = c.in_ok-wait_ms.wait_ms;
+      },
       refl,
       (
         c.in_ok-addresses.ensures.ok,
-        record {
-          given = some;
-          is = c.in_ok-path.ensures.accepted.0;
-          below = ap (λ (t : Text). is_path (absolute t name)) (sym at) ∙ c.in_ok-path.ensures.accepted.1;
-        },
+        record { given = some; is = ap (λ (t : Text). is_below t name) (sym at) ∙ c.in_ok-path.ensures.accepted },
         ap (λ (p : Text). call_for c.args.verb p rows) (sym place) ∙ c.in_ok-call.ensures.ok,
+        from,
         c.form_for.ensures,
         c.in_ok-wait_ms.ensures.ok,
       ),

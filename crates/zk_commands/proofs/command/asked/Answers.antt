@@ -1,15 +1,15 @@
 use Rattle.std.proofs.Common.{rules, ◌≡◌, ◌∙◌, ℕ, ℤ, List, [], false, map, refl, sym, subst, ap, codes, Some, None, Option}
-use Rattle.std.specs.Prelude.{bytes_eq, string_bytes}
+use Rattle.std.specs.Prelude.{bytes_eq, option_map, string_bytes}
 use Rattle.std.proofs.lemmas.Bool.{true≢false}
 use Rattle.std.proofs.lemmas.Slice.Eq.{bytes_eq-Decides}
 use Rattle.std.proofs.lemmas.Result.{IfErr-weaker}
 use Rattle.clap.specs.Words.{found_of, first_of, rows_of, subcommand_rows_of, Text, Row}
 use Rattle.clap.proofs.WalkLemmas.{first_value-rows}
 use Rattle.zk_commands.specs.declared.command.Command.{Command}
-use Rattle.zk_commands.specs.declared.command.Command.TheVariants.{Show, History, Replay, Rehearse, Live, Watch, Ask}
+use Rattle.zk_commands.specs.declared.command.Command.TheVariants.{Show, History, Replay, Rehearse, Live, Watch, Ask, Tree}
 use Rattle.zk_commands.specs.declared.kind.Kind.{Kind}
 use Rattle.zk_commands.specs.Kinds.{kind_word}
-use Rattle.zk_commands.specs.CommandLine.{AreAddresses, AsksForNone, IsAsked, IsFound, IsWatch}
+use Rattle.zk_commands.specs.CommandLine.{AreAddresses, AsksForNone, AsksQuestion, AsksTour, IsAsked, IsTree, IsFound, IsWatch}
 use Rattle.zk_ask.specs.declared.plan.Form.{Form}
 use Rattle.zk_conversation.specs.Calls.{Call}
 use Rattle.zk_conversation.specs.Views.{call_view}
@@ -48,7 +48,8 @@ without_values found rows is absent Replay f = apart is f.1 refl
 without_values found rows is absent Rehearse f = apart is f.1 refl
 without_values found rows is absent (Live addresses) f = apart is f.1 refl
 without_values found rows is absent (Watch addresses subjects timeout_ms for_ms style) f = apart is f.1 refl
-without_values found rows is absent (Ask addresses chroot name call form wait_ms) f = apart f.2 is (is_new f.0).shows
+without_values found rows is absent (Tree tour) f = apart is f.1 refl
+without_values found rows is absent (Ask question) f = apart f.2 is (is_new f.0).shows
 
 -- where `live` was found without words that are addresses, the words ask for no command
 without_addresses : (found : Option (Text × List Row)) (rows : List Row) → found ≡ Some (codes "live", rows)
@@ -61,11 +62,12 @@ without_addresses found rows is absent (Live addresses) f =
     let same : rows ≡ f.0 = ap rows_in (sym is ∙ f.1) in
     absent (map (λ a. a.now) addresses.items) (rw same f.2)
 without_addresses found rows is absent (Watch addresses subjects timeout_ms for_ms style) f = apart is f.1 refl
-without_addresses found rows is absent (Ask addresses chroot name call form wait_ms) f = apart f.2 is (is_new f.0).lives
+without_addresses found rows is absent (Tree tour) f = apart is f.1 refl
+without_addresses found rows is absent (Ask question) f = apart f.2 is (is_new f.0).lives
 
 -- where `watch` was found without what it is to be given, the words ask for no command
 without_watch : (found : Option (Text × List Row)) (rows : List Row) → found ≡ Some (codes "watch", rows)
-    → ((addresses : List Text) (aims : List (Side × Text)) (timeout_ms : ℤ) (for_ms : Option ℕ) (style : Style) → IsWatch addresses aims timeout_ms for_ms style rows → ⊥)
+    → ((addresses : List Text) (chroot : Text) (aims : List (Side × Text)) (timeout_ms : ℤ) (for_ms : Option ℕ) (style : Style) → IsWatch addresses chroot aims timeout_ms for_ms style rows → ⊥)
     → AsksForNone found
 without_watch found rows is absent (Show kind hex) f = apart is f.1 refl
 without_watch found rows is absent History f = apart is f.1 refl
@@ -74,12 +76,29 @@ without_watch found rows is absent Rehearse f = apart is f.1 refl
 without_watch found rows is absent (Live addresses) f = apart is f.1 refl
 without_watch found rows is absent (Watch addresses subjects timeout_ms for_ms style) f =
     let same : rows ≡ f.0 = ap rows_in (sym is ∙ f.1) in
-    absent (map (λ a. a.now) addresses.items) (aims_of subjects.items) timeout_ms for_ms style (rw same f.2)
-without_watch found rows is absent (Ask addresses chroot name call form wait_ms) f = apart f.2 is (is_new f.0).watches
+    absent (map (λ a. a.now) addresses.items) f.2 (aims_of subjects.items) timeout_ms for_ms style (rw same f.3)
+without_watch found rows is absent (Tree tour) f = apart is f.1 refl
+without_watch found rows is absent (Ask question) f = apart f.2 is (is_new f.0).watches
+
+-- where `tree` was found without what it is to be given, the words ask for no command
+without_tree : (found : Option (Text × List Row)) (rows : List Row) → found ≡ Some (codes "tree", rows)
+    → ((addresses : List Text) (chroot path name : Text) (deepest most : ℕ) (form : Form) (wait_ms : ℕ)
+    → IsTree addresses chroot path name deepest most form wait_ms rows → ⊥) → AsksForNone found
+without_tree found rows is absent (Show kind hex) f = apart is f.1 refl
+without_tree found rows is absent History f = apart is f.1 refl
+without_tree found rows is absent Replay f = apart is f.1 refl
+without_tree found rows is absent Rehearse f = apart is f.1 refl
+without_tree found rows is absent (Live addresses) f = apart is f.1 refl
+without_tree found rows is absent (Watch addresses subjects timeout_ms for_ms style) f = apart is f.1 refl
+without_tree found rows is absent (Tree tour) f =
+    let same : f.0 ≡ rows = ap rows_in (sym f.1 ∙ is) in
+    let its = subst (λ (r : List Row). AsksTour tour r) same f.2 in
+    absent (map (λ a. a.now) tour.addresses.items) its.0 tour.path tour.name tour.deepest tour.most tour.form tour.wait_ms its.1
+without_tree found rows is absent (Ask question) f = apart f.2 is (is_new f.0).tours
 
 -- where a verb was found without what it is to be given, the words ask for no command
 without_ask : (verb : Verb) (found : Option (Text × List Row)) (rows : List Row) → found ≡ Some (verb_word verb, rows)
-    → ((addresses : List Text) (chroot name : Text) (call : Call) (form : Form) (wait_ms : ℕ) → IsAsked verb addresses chroot name call form wait_ms rows → ⊥)
+    → ((addresses : List Text) (chroot name : Text) (call : Call) (from : Option Text) (form : Form) (wait_ms : ℕ) → IsAsked verb addresses chroot name call from form wait_ms rows → ⊥)
     → AsksForNone found
 without_ask verb found rows is absent (Show kind hex) f = apart is f.1 (is_new verb).shows
 without_ask verb found rows is absent History f = apart is f.1 (is_new verb).tells
@@ -87,12 +106,13 @@ without_ask verb found rows is absent Replay f = apart is f.1 (is_new verb).repl
 without_ask verb found rows is absent Rehearse f = apart is f.1 (is_new verb).rehearses
 without_ask verb found rows is absent (Live addresses) f = apart is f.1 (is_new verb).lives
 without_ask verb found rows is absent (Watch addresses subjects timeout_ms for_ms style) f = apart is f.1 (is_new verb).watches
-without_ask verb found rows is absent (Ask addresses chroot name call form wait_ms) f =
+without_ask verb found rows is absent (Tree tour) f = apart is f.1 (is_new verb).tours
+without_ask verb found rows is absent (Ask question) f =
     let its : f.0 ≡ verb = same_verb f.0 verb (ap name_in (sym f.2 ∙ is)) in
     let same : f.1 ≡ rows = ap rows_in (sym f.2 ∙ is) in
-    absent (map (λ a. a.now) addresses.items) (string_bytes chroot) name.now (call_view call) form wait_ms
-    (subst (λ (v : Verb). IsAsked v (map (λ a. a.now) addresses.items) (string_bytes chroot) name.now (call_view call) form wait_ms rows) its
-    (subst (λ (r : List Row). IsAsked f.0 (map (λ a. a.now) addresses.items) (string_bytes chroot) name.now (call_view call) form wait_ms r) same f.3))
+    absent (map (λ a. a.now) question.addresses.items) (string_bytes question.chroot) question.name.now (call_view question.call)
+    (option_map (λ f. f.now) question.from) question.form question.wait_ms
+    (subst (λ (v : Verb). AsksQuestion v question rows) its (subst (λ (r : List Row). AsksQuestion f.0 question r) same f.3))
 
 pub returns-in-Some-show_of-clause-ok : goal.returns-in-Some-show_of-clause-ok
 returns-in-Some-show_of-clause-ok c =
@@ -123,3 +143,9 @@ returns-in-Some-named-clause-err c =
     let named : subcommand_rows_of c.args.matches.now ≡ Some (c.in-Some.word.now, rows_of found) = search rules in
     let is = named ∙ ap (λ (w : Text). Some (w, rows_of found)) c.in-Some-named.ensures.some in
     IfErr-weaker c.ask_of.result _ _ (λ fault told. tells_more _ _ fault (without_ask c.in-Some-named.verb _ (rows_of found) is) told) c.ask_of.ensures.err
+
+pub returns-in-Some-tree-default-clause-err : goal.returns-in-Some-tree-default-clause-err
+returns-in-Some-tree-default-clause-err c =
+    let found = found_of c.in-Some-tree-default.inner.now in
+    let is : subcommand_rows_of c.args.matches.now ≡ Some (codes "tree", rows_of found) = search rules in
+    IfErr-weaker c.tree_of.result _ _ (λ fault told. tells_more _ _ fault (without_tree _ (rows_of found) is) told) c.tree_of.ensures.err

@@ -1,4 +1,5 @@
 use Rattle.std.proofs.Common.{rules, ◌≡◌, refl, to_z, of_z, w32}
+use Rattle.std.specs.Prelude.{string_bytes}
 use Rattle.zk_commands.proofs.command.watch_of.Goals as goal
 
 pub returns-clause-ok : goal.returns-clause-ok
@@ -11,5 +12,6 @@ returns-clause-ok c =
       c.in_ok-for_ms.for_ms,
       c.style_of.result,
       refl,
-      (c.in_ok-addresses.ensures.ok, c.in_ok-subjects.ensures.ok, rw same c.in_ok-timeout_ms.ensures.ok, c.in_ok-for_ms.ensures.ok, c.style_of.ensures),
+      string_bytes c.in_ok-addresses.chroot,
+      (c.in_ok-addresses.ensures.ok, rw c.as_str.ensures.value at c.in_ok-subjects.ensures.ok, rw same c.in_ok-timeout_ms.ensures.ok, c.in_ok-for_ms.ensures.ok, c.style_of.ensures),
     )

@@ -1,10 +1,7 @@
-use Rattle.std.proofs.Common.{ℕ, List, [], ◌∷◌, ◌++◌, refl, subst, inl, inr}
-use Rattle.std.specs.Global.{Global}
-use Rattle.zk_conversation.specs.Views.{call_view}
-use Rattle.zk_commands.specs.Asks.{PrintsAnswer}
+use Rattle.std.proofs.Common.{ℕ, List, [], ◌∷◌, ◌++◌, refl, inl, inr}
 use Rattle.zk_script.specs.Scripts.{refusal_text}
 use Rattle.zk_commands.specs.declared.command.Command.TheVariants.{History, Replay, Rehearse, Live}
-use Rattle.zk_commands.specs.Run.{shows, plays, watches, asks, unshown, stopped, nothing, begins, ceases}
+use Rattle.zk_commands.specs.Run.{shows, plays, watches, asks, tours, call, tree, unshown, stopped, nothing, begins, ceases}
 use Rattle.zk_commands.specs.Show.{fault_text}
 use Rattle.zk_commands.proofs.ScriptLemmas.{appends_nothing}
 use Rattle.zk_commands.proofs.run.perform.Goals as goal
@@ -143,35 +140,17 @@ returns-in-Watch-clause-undone g c = λ is words asked. absurd (c.watch_over.ens
 
 pub returns-in-Ask-clause-done : goal.returns-in-Ask-clause-done
 returns-in-Ask-clause-done g c = λ is words asked.
-    let told = c.ask_over.ensures.done is in
-    let prints = subst (λ (chroot : List ℕ). PrintsAnswer Global (call_view c.in-Ask.call) c.in-Ask.form chroot told.0) c.as_str.ensures.value told.1 in (
-      told.0,
-      asks c.in-Ask.addresses c.in-Ask.chroot c.in-Ask.name c.in-Ask.call c.in-Ask.form c.in-Ask.wait_ms (rw c.in-Ask.is at asked) prints,
-      told.2,
-      told.3,
-    )
+    let told = c.ask_with.ensures.done is in
+    (told.1, asks c.in-Ask.question told.0 (rw c.in-Ask.is at asked) told.2 told.3, told.4, told.5)
 
 pub returns-in-Ask-clause-undone : goal.returns-in-Ask-clause-undone
 returns-in-Ask-clause-undone g c = λ is words asked.
-    let told = c.ask_over.ensures.undone is in (
-      told.0,
-      record {
-        addresses = c.in-Ask.addresses;
-        chroot = c.in-Ask.chroot;
-        name = c.in-Ask.name;
-        call = c.in-Ask.call;
-        form = c.in-Ask.form;
-        wait_ms = c.in-Ask.wait_ms;
-        asks = rw c.in-Ask.is at asked;
-        tells = told.1;
-      },
-      told.2,
-      told.3,
-    )
+    let told = c.ask_with.ensures.undone is in
+    (told.0, call c.in-Ask.question (rw c.in-Ask.is at asked) told.1, told.2, told.3)
 
 pub returns-in-Ask-clause-memory : goal.returns-in-Ask-clause-memory
 returns-in-Ask-clause-memory g c = λ is words asked.
-    let same = c.ask_over.ensures.memory is in
+    let same = c.ask_with.ensures.memory is in
     ([], nothing refl, rw same.0 (appends_nothing (g.O.Write.contents c.args.out.now)), same.1)
 
 pub returns-in-Show-clause-never : goal.returns-in-Show-clause-never
@@ -190,7 +169,7 @@ pub returns-in-Live-clause-never : goal.returns-in-Live-clause-never
 returns-in-Live-clause-never g c = λ is words asked. absurd (c.script_over-in-Live.ensures.never is)
 
 pub returns-in-Ask-clause-never : goal.returns-in-Ask-clause-never
-returns-in-Ask-clause-never g c = λ is words asked. absurd (c.ask_over.ensures.never is)
+returns-in-Ask-clause-never g c = λ is words asked. absurd (c.ask_with.ensures.never is)
 
 pub returns-in-Watch-clause-never : goal.returns-in-Watch-clause-never
 returns-in-Watch-clause-never g c = λ is words asked.
@@ -208,3 +187,52 @@ returns-in-Watch-clause-never g c = λ is words asked.
       told.2,
       refl,
     )
+
+pub returns-in-Show-clause-more : goal.returns-in-Show-clause-more
+returns-in-Show-clause-more g c = λ is words asked. absurd (c.show.ensures.more is)
+
+pub returns-in-History-clause-more : goal.returns-in-History-clause-more
+returns-in-History-clause-more g c = λ is words asked. absurd (c.script_over.ensures.more is)
+
+pub returns-in-Replay-clause-more : goal.returns-in-Replay-clause-more
+returns-in-Replay-clause-more g c = λ is words asked. absurd (c.script_over-in-Replay.ensures.more is)
+
+pub returns-in-Rehearse-clause-more : goal.returns-in-Rehearse-clause-more
+returns-in-Rehearse-clause-more g c = λ is words asked. absurd (c.script_over-in-Rehearse.ensures.more is)
+
+pub returns-in-Live-clause-more : goal.returns-in-Live-clause-more
+returns-in-Live-clause-more g c = λ is words asked. absurd (c.script_over-in-Live.ensures.more is)
+
+pub returns-in-Watch-clause-more : goal.returns-in-Watch-clause-more
+returns-in-Watch-clause-more g c = λ is words asked. absurd (c.watch_over.ensures.more is)
+
+pub returns-in-Ask-clause-more : goal.returns-in-Ask-clause-more
+returns-in-Ask-clause-more g c = λ is words asked. absurd (c.ask_with.ensures.more is)
+
+pub returns-in-Tree-clause-done : goal.returns-in-Tree-clause-done
+returns-in-Tree-clause-done g c = λ is words asked.
+    let told = c.tour_over.ensures.done is in
+    (told.0, tours c.in-Tree.tour (rw c.in-Tree.is at asked) told.1, told.2, told.3)
+
+pub returns-in-Tree-clause-undone : goal.returns-in-Tree-clause-undone
+returns-in-Tree-clause-undone g c = λ is words asked.
+    let told = c.tour_over.ensures.undone is in
+    (told.0, tree c.in-Tree.tour (rw c.in-Tree.is at asked) told.1, told.2, told.3)
+
+pub returns-in-Tree-clause-more : goal.returns-in-Tree-clause-more
+returns-in-Tree-clause-more g c = λ is words asked.
+    let told = c.tour_over.ensures.more is in (
+      told.0,
+      _,
+      record { tour = c.in-Tree.tour; asks = rw c.in-Tree.is at asked; prints = told.1; tells = refl },
+      told.2,
+      told.3,
+    )
+
+pub returns-in-Tree-clause-memory : goal.returns-in-Tree-clause-memory
+returns-in-Tree-clause-memory g c = λ is words asked.
+    let same = c.tour_over.ensures.memory is in
+    ([], nothing refl, rw same.0 (appends_nothing (g.O.Write.contents c.args.out.now)), same.1)
+
+pub returns-in-Tree-clause-never : goal.returns-in-Tree-clause-never
+returns-in-Tree-clause-never g c = λ is words asked. absurd (c.tour_over.ensures.never is)

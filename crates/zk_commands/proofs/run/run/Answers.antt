@@ -63,3 +63,12 @@ returns-then-asks_stream-clause-memory g c = λ is.
       told.7,
       c.script_over.ensures.silent (inr is),
     )
+
+pub returns-in-Ok-clause-more : goal.returns-in-Ok-clause-more
+returns-in-Ok-clause-more g c = λ is. c.perform.ensures.more is _ c.in-Ok.ensures.ok
+
+pub returns-in-Err-clause-more : goal.returns-in-Err-clause-more
+returns-in-Err-clause-more g c = λ is. absurd (c.tell_line.ensures.more is)
+
+pub returns-then-asks_stream-clause-more : goal.returns-then-asks_stream-clause-more
+returns-then-asks_stream-clause-more g c = λ is. absurd (c.script_over.ensures.more is)
