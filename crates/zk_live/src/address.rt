@@ -74,7 +74,7 @@ fn is_name(word: &str) -> bool
         && word.split_once('[').is_none()
 }
 
-/// Whether a text is a server: a name, an IPv4 address, or an IPv6 address in brackets; and behind it a colon and a port from 1 to 65,535
+/// Whether a text is a server: a name, an IPv4 address, or an IPv6 address in brackets; then a colon and a port from 1 to 65,535
 /// in decimal without leading zeros, or nothing, which means the port 2181.
 pub fn is_server(text: &str) -> bool
     ensures { result ≡ is_server text.now }
