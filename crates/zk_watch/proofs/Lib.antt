@@ -1,4 +1,5 @@
 mod Ending
+mod Objects
 mod Pieces
 mod Printing
 mod Showing

@@ -1,5 +1,5 @@
 -- What a watch does, and what it prints.
-use Rattle.std.specs.Prelude.{◌≡◌, ◌≢◌, ◌≤◌, ◌+◌, ◌||◌, min, ◌^◌, ◌-◌, ◌⊎◌, ⊤, ℕ, Bool, true, false, if◌then◌else◌, bytes_eq, List, [], ◌∷◌, ◌++◌, length, map, Option, Some, None, string_bytes}
+use Rattle.std.specs.Prelude.{◌≡◌, ◌≢◌, ◌≤◌, ◌+◌, ◌||◌, min, ◌^◌, ◌-◌, ◌⊎◌, ⊤, ℕ, Bool, true, false, bytes_eq, List, [], ◌∷◌, ◌++◌, length, map, Option, Some, None, string_bytes}
 use Rattle.std.specs.List.{flat_map, FoldsTo}
 use Rattle.std.specs.Io.KnownBytes.{Appends}
 use Rattle.zk_nodes.specs.Path.{Text}
@@ -17,7 +17,7 @@ use Rattle.zk_driver.specs.Driving.{closed, course_of, passed_by, AreFollowed, C
 use Rattle.zk_driver.specs.Noting.{notes_of, passed_in, GoesBy}
 use Rattle.zk_driver.specs.declared.turn.Turn.{Turn}
 use Rattle.zk_driver.specs.declared.turn.Turn.TheVariants as turn
-use Rattle.zk_watch.specs.Lines.{none_words, subject_line, turn_line, Looks}
+use Rattle.zk_watch.specs.Lines.{none_words, turn_line, IsSubjectLine, Looks}
 use Rattle.zk_watch.specs.declared.plan.Style.{Style}
 use Rattle.zk_watch.specs.declared.plan.Subject.{Subject}
 use Rattle.zk_watch.specs.declared.shown.Watched.{Watched}
@@ -31,15 +31,16 @@ aims_of subjects = map aim_of subjects
 
 -- ---- what is shown of subjects
 
--- the line of a subject, where the words are not those that were printed last
-abbrev pub changed_line : Style → (ms : ℕ) → Side → Text → View → (old new : List ℕ) → List ℕ
-changed_line style ms side path view old new = if bytes_eq new old then [] else subject_line style ms side path view new
+-- The line of a subject is printed where the words are not those that were printed last.
+abbrev pub PrintsChange : (is_same : Bool) → Style → (ms : ℕ) → Side → Text → View → (words text : List ℕ) → Type 0
+PrintsChange true style ms side path view words text = text ≡ []
+PrintsChange false style ms side path view words text = IsSubjectLine style ms side path view words text
 
 -- A subject is shown: what was printed of it last is the look-up then, and it is printed where it was not.
 pub record ShowsSo {A : Type 0} (style : Style) (ms : ℕ) (view : View) (old new : Watched A) (text : List ℕ) : Type 0 where
   pub aim : aim_of new.subject ≡ aim_of old.subject
   pub looks : Looks new.subject.side new.subject.path view (string_bytes new.words)
-  pub line : text ≡ changed_line style ms new.subject.side new.subject.path view (string_bytes old.words) (string_bytes new.words)
+  pub line : PrintsChange (bytes_eq (string_bytes new.words) (string_bytes old.words)) style ms new.subject.side new.subject.path view (string_bytes new.words) text
 
 -- Each is, in order.
 abbrev pub ShowsAll : {A : Type 0} → Style → (ms : ℕ) → View → (old new : List (Watched A)) → (text : List ℕ) → Type 0

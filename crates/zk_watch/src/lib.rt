@@ -6,12 +6,15 @@
 #![tactic(auto)]
 
 mod end;
+mod kept_object;
 mod looks;
+mod object;
 mod plan;
 mod planned;
 mod shown;
 mod stamp;
 mod texts;
+mod turn_object;
 mod watcher;
 mod words;
 

@@ -29,7 +29,7 @@ pub(crate) fn none_words(side: Side) -> &'static str
 }
 
 /// Whether it is kept and good that there is no node.
-fn is_missing<A: Allocator + Copy>(client: &Client<A>, path: &Path<A>) -> bool
+pub(crate) fn is_missing<A: Allocator + Copy>(client: &Client<A>, path: &Path<A>) -> bool
     ensures { result ≡ is_kept says_none ((view_of client.now).cache.nodes path.now) }
 {
     matches!(
@@ -79,7 +79,7 @@ pub(crate) fn look<A: Allocator + Copy>(
 }
 
 /// The word for a mark.
-fn mark_word(mark: Mark) -> &'static str
+pub(crate) fn mark_word(mark: Mark) -> &'static str
     ensures { result.now ≡ mark_word mark }
 {
     match mark {

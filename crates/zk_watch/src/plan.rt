@@ -10,13 +10,16 @@ pub struct Subject<A: Allocator> {
     pub path: Path<A>,
 }
 
-/// How data are printed.
+/// How lines are printed.
 #[derive(Clone, Copy, Debug, PartialEq, Eq)]
 pub enum Style {
-    /// In hex.
+    /// In words, and data in hex.
     Hex,
-    /// In quotes, with the escapes of JSON, where they are text: UTF-8 with no control character other than tab and newline. Else in hex.
+    /// In words, and data in quotes, with the escapes of JSON, where they are text: UTF-8 with no control character other than tab and
+    /// newline. Else in hex.
     Text,
+    /// An object of JSON a line.
+    Json,
 }
 
 /// What to watch, for how long, by which timeout, and how it is printed.

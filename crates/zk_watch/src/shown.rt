@@ -2,9 +2,10 @@
 
 ghost use Rattle.std.specs.Prelude.{◌≡◌, ◌++◌, ℕ, List, IfOk, OnOk, string_bytes};
 ghost use Rattle.zk_client.specs.Clients.{view_of};
-ghost use Rattle.zk_watch.specs.Lines.{none_words, subject_line, subject_words};
+ghost use Rattle.zk_watch.specs.Lines.{none_words, subject_line, subject_words, IsSubjectLine};
 ghost use Rattle.zk_watch.specs.Watching.{aim_of, ShowsAll, ShowsSo};
 
+use crate::kept_object::subject_object;
 use crate::looks::{look, none_words, words_in};
 use crate::plan::{Style, Subject};
 use crate::stamp::line_at;
@@ -47,8 +48,8 @@ fn subject_words<A: Allocator + Copy>(
     Ok(text)
 }
 
-/// The line of a subject of which a look-up has these words.
-fn subject_line<A: Allocator + Copy>(
+/// The line of words of a subject of which a look-up has these words.
+fn line_of_words<A: Allocator + Copy>(
     alloc: A,
     style: Style,
     ms: u64,
@@ -62,6 +63,23 @@ fn subject_line<A: Allocator + Copy>(
     let path = subject.path.as_str();
     let line = subject_words(alloc, path, shown.as_str(), client.last_zxid())?;
     line_at(alloc, ms, line.as_str())
+}
+
+/// The line of a subject of which a look-up has these words.
+fn subject_line<A: Allocator + Copy>(
+    alloc: A,
+    style: Style,
+    ms: u64,
+    client: &Client<A>,
+    subject: &Subject<A>,
+    words: &str,
+) -> Result<String<A>, AllocError>
+    ensures { IfOk result (λ text. IsSubjectLine style ms subject.now.side subject.now.path (view_of client.now) words.now (string_bytes text)) }
+{
+    match style {
+        Style::Json => subject_object(alloc, ms, client, subject),
+        Style::Hex | Style::Text => line_of_words(alloc, style, ms, client, subject, words),
+    }
 }
 
 impl<A: Allocator + Copy> Watched<A> {

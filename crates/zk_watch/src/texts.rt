@@ -25,7 +25,7 @@ fn has_hidden(text: &str) -> bool
 }
 
 /// The bytes as text, where they are UTF-8.
-fn as_utf8(bytes: &[u8]) -> Option<&str>
+pub(crate) fn as_utf8(bytes: &[u8]) -> Option<&str>
     ensures { MatchOption result (is_utf8 bytes.now ≡ false) (λ text. (text.now ≡ bytes.now) × (is_utf8 bytes.now ≡ true)) }
 {
     match str::from_utf8(bytes) {

@@ -10,6 +10,7 @@ ghost use Rattle.zk_script.specs.Values.{spaced};
 use crate::plan::Style;
 use crate::shown::Watched;
 use crate::stamp::line_at;
+use crate::turn_object::turn_object;
 use std::alloc::{AllocError, Allocator};
 use zk_client::{Client, Fault, State};
 use zk_driver::{Action, Reason, Refusal, Turn};
@@ -20,7 +21,7 @@ use zk_script::values::push_word;
 use zk_script::words::text_to_word;
 
 /// A reason in words.
-fn reason_words(why: Reason) -> &'static str
+pub(crate) fn reason_words(why: Reason) -> &'static str
     ensures { result.now ≡ reason_words why }
 {
     match why {
@@ -35,7 +36,7 @@ fn reason_words(why: Reason) -> &'static str
 }
 
 /// What a server says with a code.
-fn code_words(code: i32) -> &'static str
+pub(crate) fn code_words(code: i32) -> &'static str
     ensures { result.now ≡ code_words code }
 {
     match code {
@@ -49,7 +50,7 @@ fn code_words(code: i32) -> &'static str
 }
 
 /// The path of the subject that has a ticket, and nothing where none has.
-fn path_of<A: Allocator>(watched: &[Watched<A>], ticket: u64) -> &str
+pub(crate) fn path_of<A: Allocator>(watched: &[Watched<A>], ticket: u64) -> &str
     ensures { result.now ≡ path_of watched.now ticket }
 {
     match watched.get((ticket as usize).saturating_sub(1)) {
@@ -201,15 +202,20 @@ fn turn_words<A: Allocator + Copy>(
 /// The line of a turn, and none where it is not printed.
 pub(crate) fn turn_line<A: Allocator + Copy>(
     alloc: A,
-    _style: Style,
+    style: Style,
     ms: u64,
     client: &Client<A>,
     watched: &[Watched<A>],
     at: &str,
     turn: &Turn<A>,
 ) -> Result<String<A>, AllocError>
-    ensures { IfOk result (λ text. string_bytes text ≡ turn_line _style ms watched.now at.now (view_of client.now) turn.now) }
+    ensures { IfOk result (λ text. string_bytes text ≡ turn_line style ms watched.now at.now (view_of client.now) turn.now) }
 {
-    let words = turn_words(alloc, client, watched, at, turn)?;
-    line_at(alloc, ms, words.as_str())
+    match style {
+        Style::Json => turn_object(alloc, ms, client, watched, at, turn),
+        Style::Hex | Style::Text => {
+            let words = turn_words(alloc, client, watched, at, turn)?;
+            line_at(alloc, ms, words.as_str())
+        }
+    }
 }
