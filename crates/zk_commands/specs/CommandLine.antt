@@ -85,7 +85,7 @@ duration_rule = option_rule (codes "for")
 
 abbrev pub watch_app : App
 watch_app =
-    with_rule (with_rule (with_rule (with_rule (with_rule (with_rule (new_app (codes "watch")) servers_rule) (path_rule (codes "data"))) (path_rule (codes "children"))) timeout_rule) duration_rule) (flag_rule (codes "text"))
+    with_rule (with_rule (with_rule (with_rule (with_rule (with_rule (with_rule (new_app (codes "watch")) servers_rule) (path_rule (codes "data"))) (path_rule (codes "children"))) timeout_rule) duration_rule) (flag_rule (codes "text"))) (flag_rule (codes "json"))
 
 -- the program without its subcommands: one must be given
 abbrev pub shell_top : App
@@ -152,9 +152,9 @@ IsTimeout ms rows = option_and_then timeout_at (first_of (codes "timeout") rows)
 abbrev pub IsDuration : Option ℕ → List Row → Type 0
 IsDuration ms rows = duration_read (first_of (codes "for") rows) ≡ Some ms
 
--- how a watch prints
+-- how a watch prints: as JSON where this is asked for
 abbrev pub style_in : List Row → Style
-style_in rows = if flag (codes "text") rows then style.Text else style.Hex
+style_in rows = if flag (codes "json") rows then style.Json else (if flag (codes "text") rows then style.Text else style.Hex)
 
 -- what `watch` was given: servers with their chroot, what to watch, a timeout, how long, and how to print
 abbrev pub IsWatch : (addresses : List Text) → (chroot : Text) → List (Side × Text) → ℤ → Option ℕ → Style → List Row → Type 0

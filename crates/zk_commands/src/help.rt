@@ -108,10 +108,15 @@ Printed, each line at once, with the seconds since the watch began before it:
 DATA, SEVEN, NAME, PZXID, MARK, FAULT and SESSION are as in `zk_shell live --help`; in a PATH a space is
 printed as \x20. Where MARK is good, this is what the servers' history says at ZXID, and no change is
 known; where it is stale, a change was told, and the node is being read again. REASON is connection
-refused, timed out, connection reset, unreachable, end of stream, a write failed, or another fault.
+refused, timed out, connection reset, unreachable, host not found, end of stream, a write failed, or another fault.
 
 With --text the DATA of data full stand in quotes, with the escapes of JSON, where they are text: UTF-8 with
 no control characters other than tab and newline. Others stand in hex, and null as \0.
+
+With --json each line is an object of JSON. Its kind is dial, failed, ended, drop, state, renewed (for session
+new) or refused; and of what is kept data, names, absent (there is no such node), known or none. ms are the
+milliseconds since the watch began; side is data or names, whichever is watched; data are a text or null, or
+hex where they are no UTF-8; the other keys are named as the words above, and the fields as by ZooKeeper.
 
 The session is closed when the time of --for is over, and when a line can't be written. That standard
 output is closed is seen at the next line alone. An interrupt is not seen at all: it ends the program, and
@@ -132,7 +137,9 @@ prints
   9.018 /config data full 6869 3 3 1700000000000 1700000000000 0 0 2 stale last 3
   9.020 /config data full 627965 3 5 1700000000000 1700000009000 1 0 3 good last 5
   60.004 state Closed
-  60.004 /config data none last 5";
+  60.004 /config data none last 5
+With --json, the data alone:
+  zk_shell watch 127.0.0.1:2181 --data /config --json | jq --unbuffered .data";
 
 /// At the end of the help of the commands that ask for one node.
 pub const ASK: &str =

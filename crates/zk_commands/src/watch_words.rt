@@ -89,14 +89,18 @@ pub(crate) fn watch_form<'a>(alloc: Global) -> Result<clap::Command<'a>, AllocEr
     let watch = watch.arg(paths_arg(alloc, "children", "A node below which to watch the names"))?;
     let watch = watch.arg(timeout_arg(alloc))?;
     let watch = watch.arg(duration_arg(alloc))?;
-    watch.arg(flag_arg(alloc, "text", "Prints data in quotes where they are text"))
+    let text = flag_arg(alloc, "text", "Prints data in quotes where they are text");
+    let watch = watch.arg(text)?;
+    watch.arg(flag_arg(alloc, "json", "Prints JSON, an object a line"))
 }
 
 /// How a watch prints.
 pub(crate) fn style_of(matches: &ArgMatches<'_>) -> Style
     ensures { result ≡ style_in (rows_of (found_of matches.now)) }
 {
-    if flag(matches, "text") {
+    if flag(matches, "json") {
+        Style::Json
+    } else if flag(matches, "text") {
         Style::Text
     } else {
         Style::Hex

@@ -11,5 +11,6 @@ returns c =
     let three = c.in_ok-watch-3.ensures.shape c.paths_arg-2.ensures.local ∙ ap₂ with_rule two c.paths_arg-2.ensures.rule in
     let four = c.in_ok-watch-4.ensures.shape c.timeout_arg.ensures.local ∙ ap₂ with_rule three c.timeout_arg.ensures.rule in
     let five = c.in_ok-watch-5.ensures.shape c.duration_arg.ensures.local ∙ ap₂ with_rule four c.duration_arg.ensures.rule in
-    IfOk-weaker c.arg-6.result _ _
-    (λ watch adds. adds.shape c.flag_arg.ensures.local ∙ ap₂ with_rule five c.flag_arg.ensures.rule) c.arg-6.ensures
+    let six = c.in_ok-watch-6.ensures.shape c.flag_arg-text.ensures.local ∙ ap₂ with_rule five c.flag_arg-text.ensures.rule in
+    IfOk-weaker c.arg-7.result _ _
+    (λ watch adds. adds.shape c.flag_arg.ensures.local ∙ ap₂ with_rule six c.flag_arg.ensures.rule) c.arg-7.ensures
