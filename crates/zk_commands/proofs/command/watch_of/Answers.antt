@@ -1,6 +1,12 @@
 use Rattle.std.proofs.Common.{rules, ◌≡◌, refl, to_z, of_z, w32}
 use Rattle.std.specs.Prelude.{string_bytes}
+use Rattle.zk_commands.proofs.AddressLemmas.{tells_on}
 use Rattle.zk_commands.proofs.command.watch_of.Goals as goal
+
+pub returns-in_err-addresses-clause-err : goal.returns-in_err-addresses-clause-err
+returns-in_err-addresses-clause-err c =
+    tells_on _ _ c.from_residual-in_err-addresses.result c.in_err-addresses.field-0.0 c.from_residual-in_err-addresses.ensures.1 c.in_err-addresses.ensures.err
+    (λ none addresses chroot aims timeout_ms for_ms style watched. none addresses chroot watched.0)
 
 pub returns-clause-ok : goal.returns-clause-ok
 returns-clause-ok c =

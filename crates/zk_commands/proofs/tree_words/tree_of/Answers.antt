@@ -55,14 +55,16 @@ returns-clause-ok c =
         wait_ms = c.in_ok-wait_ms.wait_ms;
       },
       refl,
-      string_bytes c.in_ok-addresses.chroot,
       (
-        c.in_ok-addresses.ensures.ok,
-        record { given = some ∙ ap Some (sym name); is = ap₂ is_below (sym at) name ∙ c.in_ok-path.ensures.accepted },
-        c.in_ok-path.ensures.ok.0 ∙ ap₂ absolute at (sym name),
-        c.in_ok-deepest.ensures.ok,
-        c.in_ok-most.ensures.ok,
-        c.form_or_json.ensures,
-        c.in_ok-wait_ms.ensures.ok,
+        string_bytes c.in_ok-addresses.chroot,
+        (
+          c.in_ok-addresses.ensures.ok,
+          record { given = some ∙ ap Some (sym name); is = ap₂ is_below (sym at) name ∙ c.in_ok-path.ensures.accepted },
+          c.in_ok-path.ensures.ok.0 ∙ ap₂ absolute at (sym name),
+          c.in_ok-deepest.ensures.ok,
+          c.in_ok-most.ensures.ok,
+          c.form_or_json.ensures,
+          c.in_ok-wait_ms.ensures.ok,
+        ),
       ),
     )
