@@ -3,7 +3,7 @@
 ghost use Rattle.std.specs.Prelude.{◌≡◌, ◌≤◌, ◌++◌, true, false, List, None, Option, Some, OnOk, IfOk, IfErr, IfSome, codes, map};
 ghost use Rattle.std.specs.Option.{option_and_then, option_map};
 ghost use Rattle.std.specs.List.{list_all};
-ghost use Rattle.clap.specs.Words.{Text, app_of, first_of, found_of, rows_of, rule_of};
+ghost use Rattle.clap.specs.Words.{Text, app_of, new_app, first_of, found_of, rows_of, rule_of};
 ghost use Rattle.zk_nodes.specs.declared.side.Side.{Side as Sides};
 ghost use Rattle.zk_watch.specs.Watching.{aims_of};
 ghost use Rattle.zk_commands.specs.CommandLine.{AreAims, IsDuration, IsTimeout, TellsIf, address_rule, aims_at, count_at, duration_rule, duration_read, given, is_below, is_path, option_rule, path_rule, style_in, timeout_at, timeout_rule, watch_app};
@@ -77,14 +77,20 @@ fn duration_arg<'a>(alloc: Global) -> Arg<'a>
     option_arg(alloc, "for", "SECONDS", about)
 }
 
+/// `watch`, and what its help says of it.
+fn watch_named<'a>(alloc: Global) -> clap::Command<'a>
+    ensures { app_of result ≡ new_app (codes "watch") }
+{
+    clap::Command::new(alloc, "watch")
+        .about("Connects over TCP, and prints a line at each change of the nodes that it watches")
+        .after_help(help::WATCH)
+}
+
 /// The form of `watch`.
 pub(crate) fn watch_form<'a>(alloc: Global) -> Result<clap::Command<'a>, AllocError>
     ensures { IfOk result (λ r. app_of r ≡ watch_app) }
 {
-    let watch = clap::Command::new(alloc, "watch")
-        .about("Connects over TCP, and prints a line at each change of the nodes that it watches")
-        .after_help(help::WATCH)
-        .arg(servers_arg(alloc))?;
+    let watch = watch_named(alloc).arg(servers_arg(alloc))?;
     let watch = watch.arg(paths_arg(alloc, "data", "A node whose data to watch"))?;
     let watch = watch.arg(paths_arg(alloc, "children", "A node below which to watch the names"))?;
     let watch = watch.arg(timeout_arg(alloc))?;

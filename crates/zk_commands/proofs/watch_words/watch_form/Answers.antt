@@ -1,12 +1,11 @@
-use Rattle.std.proofs.Common.{rules, ◌≡◌, ◌∙◌, ap₂, codes}
+use Rattle.std.proofs.Common.{◌∙◌, ap₂}
 use Rattle.std.proofs.lemmas.Result.{IfOk-weaker}
-use Rattle.clap.specs.Words.{app_of, new_app, with_rule}
+use Rattle.clap.specs.Words.{with_rule}
 use Rattle.zk_commands.proofs.watch_words.watch_form.Goals as goal
 
 pub returns : goal.returns
 returns c =
-    let new : app_of c.after_help.result ≡ new_app (codes "watch") = search rules in
-    let one = c.in_ok-watch.ensures.shape c.servers_arg.ensures.local ∙ ap₂ with_rule new c.servers_arg.ensures.rule in
+    let one = c.in_ok-watch.ensures.shape c.servers_arg.ensures.local ∙ ap₂ with_rule c.watch_named.ensures c.servers_arg.ensures.rule in
     let two = c.in_ok-watch-2.ensures.shape c.paths_arg.ensures.local ∙ ap₂ with_rule one c.paths_arg.ensures.rule in
     let three = c.in_ok-watch-3.ensures.shape c.paths_arg-2.ensures.local ∙ ap₂ with_rule two c.paths_arg-2.ensures.rule in
     let four = c.in_ok-watch-4.ensures.shape c.timeout_arg.ensures.local ∙ ap₂ with_rule three c.timeout_arg.ensures.rule in
