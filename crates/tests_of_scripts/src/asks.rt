@@ -12,11 +12,11 @@ use std::io;
 use zk_commands::run::run;
 
 /// What a command line prints, tells and answers over a server. Standard input is what a file named `-` has.
-fn asked(
+fn asked<'a>(
     alloc: Global,
-    world: &RefCell<World>,
-    moments: &Moments,
-    files: &[Kept<'_>],
+    world: &'a RefCell<World>,
+    moments: &'a Moments,
+    files: &'a [Kept<'a>],
     line: &str,
 ) -> Vec<u8> {
     let mut out = Vec::new(alloc);
