@@ -219,7 +219,7 @@ status_of ends.More = status.More
 status_of ends.Memory = status.Memory
 status_of ends.Stream = status.Stream
 
--- a call is not done, or may not be, or is not asked for want of its data
+-- a call is not done, or may not be, or is not asked since its data were not read
 abbrev pub IsUndone : Status → Type 0
 IsUndone status.NoNode = ⊤
 IsUndone status.Refused = ⊤

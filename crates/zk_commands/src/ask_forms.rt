@@ -1,8 +1,8 @@
 //! The forms of the commands that ask for one node.
 
-ghost use Rattle.std.specs.Prelude.{◌≡◌, false, IfOk};
-ghost use Rattle.clap.specs.Words.{app_of, rule_of};
-ghost use Rattle.zk_commands.specs.Asks.{create_app, data_app, delete_app, flag_rule, from_rule, get_app, json_app, node_rule, read_app, servers_rule, set_app, version_rule, wait_rule, with_reads, with_writes};
+ghost use Rattle.std.specs.Prelude.{◌≡◌, codes, false, IfOk};
+ghost use Rattle.clap.specs.Words.{app_of, rule_of, with_subcommand};
+ghost use Rattle.zk_commands.specs.Asks.{create_app, data_app, delete_app, flag_rule, from_rule, get_app, json_app, node_rule, read_app, servers_rule, set_app, tree_app, version_rule, wait_rule, with_reads, with_writes};
 
 use crate::help;
 use crate::tree_words::tree_form;
@@ -99,6 +99,20 @@ fn get_form<'a>(alloc: Global) -> Result<clap::Command<'a>, AllocError>
     ))
 }
 
+/// A form with `stat` and `tree`.
+fn with_stat_and_tree<'a>(
+    alloc: Global,
+    form: clap::Command<'a>,
+) -> Result<clap::Command<'a>, AllocError>
+    ensures { IfOk result (λ r. app_of r ≡ with_subcommand (with_subcommand (app_of form.entry) (json_app (codes "stat")).top) tree_app.top) }
+{
+    let about = "Prints what is known of a node, a line for each field";
+    let stat = json_form(alloc, "stat", about)?;
+    let form = form.subcommand(stat)?;
+    let tree = tree_form(alloc)?;
+    form.subcommand(tree)
+}
+
 /// A form with the commands that read a node.
 pub(crate) fn with_reads<'a>(
     alloc: Global,
@@ -110,14 +124,7 @@ pub(crate) fn with_reads<'a>(
     let form = form.subcommand(get)?;
     let list = json_form(alloc, "ls", "Prints the names below a node, a line each")?;
     let form = form.subcommand(list)?;
-    let stat = json_form(
-        alloc,
-        "stat",
-        "Prints what is known of a node, a line for each field",
-    )?;
-    let form = form.subcommand(stat)?;
-    let tree = tree_form(alloc)?;
-    form.subcommand(tree)
+    with_stat_and_tree(alloc, form)
 }
 
 /// The option of the file whose bytes are the data.

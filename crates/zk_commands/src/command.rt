@@ -81,7 +81,7 @@ pub enum Command<'a> {
     Tree(Tour<'a>),
 }
 
-/// A call of servers at these addresses, whose answer is waited for so many milliseconds. The node has this name below a chroot.
+/// A call of servers at these addresses, whose answer is waited for this many milliseconds. The node has this name below a chroot.
 #[derive(Drop)]
 pub struct Question<'a> {
     pub addresses: Vec<&'a str>,
@@ -94,7 +94,7 @@ pub struct Question<'a> {
     pub wait_ms: u64,
 }
 
-/// A tree of servers at these addresses, whose answers are waited for so many milliseconds together.
+/// A tree of servers at these addresses, whose answers are waited for this many milliseconds together.
 #[derive(Drop)]
 pub struct Tour<'a> {
     pub addresses: Vec<&'a str>,

@@ -9,7 +9,5 @@ pub returns : goal.returns
 returns c =
     let one = added c.args.form c.in_ok-get.get c.in_ok-form.form get_app c.in_ok-get.ensures refl c.in_ok-form.ensures in
     let two = added c.in_ok-form.form c.in_ok-list.list c.in_ok-form-2.form (json_app (codes "ls")) c.in_ok-list.ensures refl c.in_ok-form-2.ensures ∙ ap (λ (a : App). with_subcommand a (json_app (codes "ls")).top) one in
-    let three = added c.in_ok-form-2.form c.in_ok-stat.stat c.in_ok-form-3.form (json_app (codes "stat")) c.in_ok-stat.ensures refl c.in_ok-form-3.ensures ∙ ap (λ (a : App). with_subcommand a (json_app (codes "stat")).top) two in
-    IfOk-weaker c.subcommand-4.result _ _
-    (λ form adds. added c.in_ok-form-3.form c.in_ok-tree.tree form tree_app c.in_ok-tree.ensures refl adds ∙ ap (λ (a : App). with_subcommand a tree_app.top) three)
-    c.subcommand-4.ensures
+    IfOk-weaker c.with_stat_and_tree.result _ _
+    (λ form adds. adds ∙ ap (λ (a : App). with_subcommand (with_subcommand a (json_app (codes "stat")).top) tree_app.top) two) c.with_stat_and_tree.ensures
