@@ -335,6 +335,8 @@ run_alone() {
     run_asks "$port"
     run_operator "$port"
     run_changes "$port"
+    run_objects "$port"
+    run_unknown
     run_idle "$port"
     run_expired "$port"
     run_closed "$port"
@@ -522,7 +524,7 @@ without_numbers() {
 # The session of an operator that the cookbook shows: each command after a `$` prints the lines that follow it there.
 run_operator() {
     local at=127.0.0.1:$1 line status=0
-    sed -n '/^## An operator/,/^- /p' "$top/docs/COOKBOOK.md" | sed -n '/^```sh$/,/^```$/p' | sed "1d;\$d;s/127\.0\.0\.1:2181/$at/g" >"$folder/page"
+    sed -n '/^## An operator/,/^- /p' "$top/docs/COOKBOOK.md" | sed -n '/^```sh$/,/^```$/p' | sed "1d;\$d;s/127\.0\.0\.1:2181/$at/g;s/localhost:2181/localhost:$1/g" >"$folder/page"
     zk_shell() { timeout 60 "$program" "$@"; }
     while IFS= read -r line; do
         [[ $line == '$ '* ]] || continue
@@ -574,6 +576,58 @@ EOF
 EOF
     end_by_force changes
     rises @come @changed @child @gone
+}
+
+has_word() {
+    grep -q "$2" "$folder/$1.out"
+}
+
+# A watch in objects of JSON, below a chroot of a server that is named, of a node that is not there at first, that comes, has a child and
+# changes.
+run_objects() {
+    local at=localhost:$1/objects
+    outside "$1" create /objects ''
+    begin objects "$program" watch "$at" --data /a --children /a --json --timeout 10000
+    within 40 has_word objects '"kind":"absent".*"side":"names"' || fail "objects does not tell that there is no node"
+    outside "$1" create /objects/a one
+    within 40 has_word objects '"kind":"names".*"names":\[\]' || fail "objects does not tell of a new node"
+    outside "$1" create /objects/a/b ''
+    within 40 has_word objects '"names":\["b"\]' || fail "objects does not tell of a child"
+    outside "$1" set /objects/a two
+    within 40 has_word objects '"data":"two"' || fail "objects does not tell of other data"
+    seen[objects]=$(wc -l <"$folder/objects.out")
+    end_by_force objects
+    are_objects "$folder/objects.out" || fail "a line of objects is another one: $(cat "$folder/objects.out")"
+}
+
+# Whether these are the lines of such a watch.
+are_objects() {
+    python3 - "$1" <<'EOF'
+import json, sys
+
+lines = [json.loads(line) for line in open(sys.argv[1])]
+assert [line["kind"] for line in lines[:3]] == ["dial", "state", "state"], lines[:3]
+assert lines[2]["state"] == "Connected" and lines[2]["timeout"] == 10000, lines[2]
+assert all(line["path"] == "/objects/a" for line in lines[3:]), lines
+kept = [(line["side"], line["kind"], line.get("mark")) for line in lines[3:]]
+assert {("data", "absent", "good"), ("names", "absent", "good"), ("data", "data", "good"), ("names", "names", "stale")} <= set(kept), kept
+data = [line["data"] for line in lines if line["kind"] == "data" and line["mark"] == "good"]
+assert data[0] == "one" and data[-1] == "two" and set(data) == {"one", "two"}, data
+zxids = [line["last"] for line in lines[3:]]
+assert zxids == sorted(zxids), zxids
+EOF
+}
+
+# A watch of a host that no name server knows: this is told, and at its end that no server was ever connected.
+run_unknown() {
+    local status=0
+    timeout 60 "$program" watch nobody.invalid --for 1 >"$folder/unknown.out" 2>"$folder/unknown.err" || status=$?
+    [[ $status == 9 && ! -s $folder/unknown.err ]] || fail "a watch of an unknown host ends with $status"
+    head -n 2 "$folder/unknown.out" >"$folder/nobody.out"
+    expect nobody <<'EOF'
+~ dial nobody.invalid
+~ failed nobody.invalid host not found
+EOF
 }
 
 # A watch whose session is idle for three of its timeouts: it stays, and then a change is told. Its time is over, and it is closed.
