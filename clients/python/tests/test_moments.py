@@ -206,7 +206,7 @@ class AwayTest(UntimedCase):
                 self.run_in_loop(run())
 
     def test_one_that_stays_away_is_dialled_with_pauses(self) -> None:
-        """While the session may live, each second at the latest; later with pauses that grow. It comes back, and nothing was lost."""
+        """Each second at the latest, however long it stays away. It comes back, and nothing was lost."""
         for shape in ("refuses", "is away"):
             with self.subTest(shape):
                 self.setUp()
@@ -231,14 +231,14 @@ class AwayTest(UntimedCase):
                         dials = [moment - began for moment, _ in self.loop.dials[1:]]
                         apart = [later - moment for moment, later in zip(dials, dials[1:])]
                         attempt = 4.0 if shape == "is away" else 0.0  # a third of the timeout
-                        for moment, pause in zip(dials, apart):
+                        for pause in apart:
                             self.assertGreaterEqual(pause, 0.334 - WITHIN)
-                            self.assertLessEqual(pause, attempt + (1.0 if moment + attempt < 11.0 else 10.0) + WITHIN)
-                        self.check(apart[-1], attempt + 10.0, 10.0)
+                            self.assertLessEqual(pause, attempt + 1.0 + WITHIN)
+                        self.check(apart[-1], attempt + 1.0, 1.0)
                         self.loop.away.clear()
                         await made.obey("up")
                         back = await self.until(lambda: client.connected, 15.0)
-                        self.assertLessEqual(back - began, 120.0 + attempt + 10.0 + WITHIN)
+                        self.assertLessEqual(back - began, 120.0 + attempt + 1.0 + WITHIN)
                         self.assertEqual((client.session_id, states), (session, [State.SUSPENDED, State.CONNECTED]))
                         self.assertEqual((await client.get("/a"))[0], b"one")
 
