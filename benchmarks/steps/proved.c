@@ -52,7 +52,7 @@ static void take_outputs(enum dw_result result)
         case DW_KIND_ANSWER: take_answer(&output); break;
         case DW_KIND_REPORT: take_report(); break;
         case DW_KIND_STATE: break;
-        case DW_KIND_DROP: exit(1);
+        default: exit(1); /* a fault, or what a session alone says */
         }
     }
 }

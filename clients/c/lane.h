@@ -506,6 +506,7 @@ static inline const uint8_t *dws_pass_frame(dws_session *s, const uint8_t *from,
     *at += count;
     lane->left -= count;
     if (is_ours && lane->left == 0) {
+        dws_note_answer(&s->waiting);
         dws_take_frame(s);
     }
     return is_ours ? *at : from;
@@ -563,7 +564,7 @@ static inline bool dws_write_beside(dws_session *s, int32_t xid, int32_t type, c
     s->unsent.room = frame.room;
     if (is_put) {
         s->unsent.length = frame.length;
-        dws_expect_answer(s, &s->waiting);
+        dws_expect_answer(s);
     }
     return is_put;
 }

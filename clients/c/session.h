@@ -331,15 +331,10 @@ struct dws_frames {
     size_t held, left;
 };
 
-/* Requests on this connection that are not answered: since when each waits, from a place on. */
+/* Requests of lane.h on this connection that are not answered: since when each waits, from a place on. */
 struct dws_waiting {
     uint64_t *since_ms;
     size_t first, count, room;
-};
-
-/* Frames that came and are no notices. */
-struct dws_answers {
-    size_t to_requests, to_pings;
 };
 
 struct dws_host {
@@ -377,10 +372,11 @@ struct dws_session {
     bool is_dial_due, is_connecting, is_expired, is_closing, is_over, is_resumed;
     bool has_more, has_news;           /* bytes that poll does not tell of, and something that a program may wait for */
     bool must_look, must_follow;       /* marks may be others; subjects are new or gone */
+    bool is_moment;                    /* what the library says is due, and no word of the server's */
     bool is_due_known;                 /* no step was made since the library was asked when something is due */
     uint64_t due_ms;
-    struct dws_waiting waiting, pings; /* requests, and pings */
-    struct dws_frames came;
+    struct dws_waiting waiting;
+    struct dws_frames came;            /* where lane.h is to begin */
     uint64_t now_ms, last_ticket;
     struct dws_buffer unsent;
     struct dws_line queue, sent;       /* calls that are to be asked, and those that were, in the order of their tickets */
@@ -751,14 +747,13 @@ static inline void dws_hang_up(dws_session *s)
     s->read_wants = s->write_wants = 0;
     s->unsent.length = 0;
     s->waiting.first = s->waiting.count = 0;
-    s->pings.first = s->pings.count = 0;
     memset(&s->came, 0, sizeof s->came);
 }
 
-/* A request goes out that the server answers by one frame. Without memory it is not counted. Pings wait apart: they are answered at once, also
- * where a request before them is not. */
-static inline void dws_expect_answer(dws_session *s, struct dws_waiting *waiting)
+/* A request of lane.h goes out. Without memory it is not counted. */
+static inline void dws_expect_answer(dws_session *s)
 {
+    struct dws_waiting *waiting = &s->waiting;
     size_t entry = sizeof *waiting->since_ms;
     if (waiting->first > 0 && (waiting->first + waiting->count + 1) * entry > waiting->room) {
         memmove(waiting->since_ms, waiting->since_ms + waiting->first, waiting->count * entry);
@@ -772,57 +767,40 @@ static inline void dws_expect_answer(dws_session *s, struct dws_waiting *waiting
     }
 }
 
-/* This many frames came that answer what waits. */
-static inline void dws_note_answers(struct dws_waiting *waiting, size_t count)
+/* One of them is answered: by the server in their order, except for credentials. */
+static inline void dws_note_answer(struct dws_waiting *waiting)
 {
-    size_t answered = (size_t)dws_least(count, waiting->count);
-    waiting->count -= answered;
-    waiting->first = waiting->count > 0 ? waiting->first + answered : 0;
+    if (waiting->count > 0) {
+        waiting->count--;
+        waiting->first = waiting->count > 0 ? waiting->first + 1 : 0;
+    }
 }
 
-static inline uint64_t dws_oldest_ms(const struct dws_waiting *waiting)
-{
-    return waiting->count > 0 ? waiting->since_ms[waiting->first] : UINT64_MAX;
-}
-
-/* When the connection is to be given up, unless answers come: so that a server that sends other things is not waited for. */
+/* When the connection is to be given up, unless a request of lane.h is answered: as the library does for what it sends itself. */
 static inline uint64_t dws_end_of_waiting(dws_session *s)
 {
-    uint64_t oldest_ms = dws_least(dws_oldest_ms(&s->waiting), dws_oldest_ms(&s->pings));
-    return oldest_ms < UINT64_MAX ? oldest_ms + dws_timeout_ms(s) * 2 / 3 : UINT64_MAX;
+    const struct dws_waiting *waiting = &s->waiting;
+    return waiting->count > 0 ? waiting->since_ms[waiting->first] + dws_most((dws_timeout_ms(s) * 2 + 2) / 3, 1000) : UINT64_MAX;
 }
 
-/* Whether the xid of a frame, which stands after its length, is that of pings. */
-static inline bool dws_is_ping(const uint8_t *frame)
+/* These bytes come next in a stream. */
+static inline void dws_pass_bytes(struct dws_frames *frames, const uint8_t *bytes, size_t length)
 {
-    static const uint8_t ping[] = {0xff, 0xff, 0xff, 0xfe};
-    return memcmp(frame + 4, ping, sizeof ping) == 0;
-}
-
-/* How many frames that are no notices end in these bytes, which come next in the stream: answers to pings, and others. */
-static inline struct dws_answers dws_count_answers(struct dws_frames *frames, const uint8_t *bytes, size_t length)
-{
-    static const uint8_t notice[] = {0xff, 0xff, 0xff, 0xff};
     const uint8_t *head = frames->head;
-    struct dws_answers came = {0, 0};
     for (size_t taken, i = 0; i < length; i += taken) {
         if (frames->held < sizeof frames->head) {
             taken = 1;
             frames->head[frames->held++] = bytes[i];
             frames->left = (size_t)head[0] << 24 | (size_t)head[1] << 16 | (size_t)head[2] << 8 | head[3];
-            frames->left -= frames->left < sizeof notice ? frames->left : sizeof notice;
+            frames->left -= frames->left < 4 ? frames->left : 4;
         } else {
             taken = (size_t)dws_least(frames->left, length - i);
             frames->left -= taken;
         }
         if (frames->held == sizeof frames->head && frames->left == 0) {
-            bool is_ping = dws_is_ping(head);
-            came.to_pings += is_ping;
-            came.to_requests += !is_ping && memcmp(head + 4, notice, sizeof notice) != 0;
             frames->held = 0;
         }
     }
-    return came;
 }
 
 /* Keeps the frame of the action that was told last until it is written. One of a connection that is over is forgotten. */
@@ -838,9 +816,7 @@ static inline void dws_send_later(dws_session *s, size_t length)
         dws_fail(s, DW_NO_MEMORY);
         return;
     }
-    const uint8_t *frame = s->unsent.bytes + s->unsent.length;
     s->unsent.length += dw_session_copy(&s->machine, 0, s->unsent.bytes + s->unsent.length, length);
-    dws_expect_answer(s, length >= 8 && dws_is_ping(frame) ? &s->pings : &s->waiting);
 }
 
 /* The path that the program knows, of one that the servers know. */
@@ -1011,7 +987,7 @@ static inline void dws_take_hang_up(dws_session *s)
         dws_tell_missed(s, strerror(ETIMEDOUT));
     } else if (s->wire.socket >= 0) {
         dws_hang_up(s);
-        dws_tell(s, DWS_CUT, "the session is not of this connection any more");
+        dws_tell(s, DWS_CUT, s->is_moment ? "an answer does not come" : "the session is not of this connection any more");
     }
 }
 
@@ -1411,12 +1387,10 @@ static inline void dws_hear(dws_session *s, uint64_t came_ms, const uint8_t *byt
 /* Takes bytes from the server. */
 static inline void dws_hear_all(dws_session *s, uint64_t came_ms, const uint8_t *bytes, size_t length)
 {
-    struct dws_answers came = dws_count_answers(&s->came, bytes, length);
-    dws_note_answers(&s->waiting, came.to_requests);
-    dws_note_answers(&s->pings, came.to_pings);
     if (s->beside != NULL) {
         s->beside->hear(s, came_ms, bytes, length);
     } else {
+        dws_pass_bytes(&s->came, bytes, length);
         dws_hear(s, came_ms, bytes, length);
     }
 }
@@ -1431,7 +1405,7 @@ static inline void dws_receive(dws_session *s)
         ssize_t count = dws_read(s, piece, sizeof piece);
         if (count > 0) {
             dws_hear_all(s, came_ms, piece, (size_t)count);
-            s->has_more = s->options.read != NULL || count == (ssize_t)sizeof piece || s->waiting.count + s->pings.count > 0; /* else poll tells of more */
+            s->has_more = s->options.read != NULL || count == (ssize_t)sizeof piece || s->sent.count > 0; /* else poll tells of more */
         } else if (count == 0) {
             dws_cut(s, "the server has ended the connection");
         } else if (dws_is_passing(errno)) {
@@ -2124,7 +2098,9 @@ static inline void dws_unfollow_tree(dws_session *s, dws_tree *tree)
 static inline void dws_keep_time(dws_session *s)
 {
     if (dws_deadline(s) <= s->now_ms) {
+        s->is_moment = true;
         dws_act(s, dw_session_moment(&s->machine, s->now_ms));
+        s->is_moment = false;
     }
     if (!s->is_over && dws_end_of_waiting(s) <= s->now_ms) {
         dws_cut(s, "an answer does not come");
@@ -2502,7 +2478,6 @@ static inline void dws_free(dws_session *s)
     dws_release(&s->close);
     free(s->unsent.bytes);
     free(s->waiting.since_ms);
-    free(s->pings.since_ms);
     free(s->gone);
     free(s->hosts);
     free(s->hosts_text);

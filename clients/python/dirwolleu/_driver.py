@@ -102,7 +102,7 @@ class Driver:
         self._dialing: Optional[asyncio.Future[Any]] = None
         self._ended: Optional[asyncio.Future[None]] = None
         self._timer: Optional[asyncio.TimerHandle] = None
-        self._wakes_at = self._awake_at = self._looked_at = 0
+        self._wakes_at = self._awake_at = 0
         self._has_brought = False
         self._is_to_act = self._is_started = self._is_stopped = False
 
@@ -158,7 +158,7 @@ class Driver:
         engine.take_handed(self._noticed())
         if self._is_stopped:
             return
-        hangs_up, dial, frames = engine.take_orders(self._looked_at)
+        hangs_up, dial, frames = engine.take_orders()
         if hangs_up:
             self._hang_up()
         if frames and self._link is not None and self._link.transport is not None:
@@ -234,14 +234,14 @@ class Driver:
         return f"{self._place}: " if self._place is not None else ""
 
     def _noticed(self) -> int:
-        """The moment of what came: now, or where this process was held up, the last one before that.
+        """The moment of what came: now, or where this process was held up, the last one before that, and before something was due.
 
         What came may have come at any time since then.
         """
-        now = self._looked_at = moment()
+        now = moment()
         if self._timer is None or now <= self._wakes_at or now <= self._wakes_at + self._longest_wait():
             self._awake_at = now
-        return self._awake_at
+        return self._engine.in_time(self._awake_at)
 
     def _longest_wait(self) -> int:
         """A tenth of the timeout, in milliseconds: so a driver that was held up knows how long, and no deadline that frames bring

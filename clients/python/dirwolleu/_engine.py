@@ -1,8 +1,8 @@
 """What both clients share: a session, and who waits for what it tells. It has no socket, no thread and no clock.
 
 The session decides which server is dialled and when, when a connection is left, which calls wait and what becomes of them at a
-cut, what is read again, and when another session begins. What is decided here is of the host alone: the lane, trees, whose
-function is called, and that an answer has taken too long, where the server says other things meanwhile.
+cut, what is read again, and when another session begins. What is decided here is of the host alone: the lane, and when an
+answer to it has taken too long, trees, and whose function is called.
 """
 
 from __future__ import annotations
@@ -19,7 +19,6 @@ from typing import Any, Callable, NamedTuple, Optional, Protocol, Union
 from dirwolleu import _lane as lane
 from dirwolleu import _library as library
 from dirwolleu._asked import Asked, Waiter
-from dirwolleu._awaited import Awaited
 from dirwolleu._contact import Contact
 from dirwolleu._followed import Followed
 from dirwolleu._frames import Frames, Kind, is_ping
@@ -60,7 +59,9 @@ _EVENTS = {
     library.CHILDREN_CHANGED: EventType.CHILD,
 }
 # end of what is made
-_ANSWER, _LANE, _PONG = Kind.ANSWER, Kind.LANE, Kind.PONG  # a class of an enum takes its time
+_LANE, _PONG = Kind.LANE, Kind.PONG  # a class of an enum takes its time
+_LATE = "an answer has taken more than two thirds of the timeout"
+_ELSEWHERE = "the server has said that the session is over or elsewhere"
 _ENDING = (SessionExpiredError.code, SessionMovedError.code)
 _REFUSALS: dict[int, type[ZookeeperError]] = {
     library.READ_TOO_MANY_WATCHES: TooManyWatchesError,
@@ -160,7 +161,7 @@ class Engine(Keeping):
 
     def _hold_connection(self) -> None:
         """Makes what holds what is to be done about the connection, and what came over it."""
-        self._came, self._frames, self._awaited = Frames(), list[bytes](), Awaited()
+        self._came, self._frames, self._pings = Frames(), list[bytes](), collections.deque[int]()
         self._dial: Optional[Dial] = None
         self._hangs_up, self._why = False, ""
         self._is_admitted, self._is_recast = False, True
@@ -222,7 +223,8 @@ class Engine(Keeping):
 
     def opened(self, now: int) -> None:
         """The connection that was asked for is there."""
-        self._came, self._awaited, self._is_recast = Frames(), Awaited(), True
+        self._came, self._is_recast = Frames(), True
+        self._pings.clear()
         self._step(now, Session.opened)
         self._frames = [self._with_zxid_of_lane(frame) for frame in self._frames]
 
@@ -244,10 +246,12 @@ class Engine(Keeping):
         self.cut(now)
 
     def tick(self, now: int) -> None:
+        self._why = _LATE  # where the session leaves a connection, and says no more
         self._step(now, Session.moment)
+        self._why = ""
         ends = self._end_of_waiting()
         if ends is not None and ends <= now:
-            self.drop(now, "an answer has taken more than two thirds of the timeout")
+            self.drop(now, _LATE)
         for asked in self._line.late(now, self.state is State.CONNECTED):
             self.contact.losses += 1
             asked.give_up(self.no_server(self._timeout_ms / 1000))
@@ -259,8 +263,6 @@ class Engine(Keeping):
         """
         came = self._came
         for piece, kind in came.cut(data):
-            if kind is _ANSWER or kind is _LANE:
-                self._awaited.answered()
             if kind is not _LANE or not self._reply(now, piece):
                 try:
                     self._step(now, Session.received, piece)
@@ -277,13 +279,10 @@ class Engine(Keeping):
         if self._line.waiting:
             self._send_line(now)
 
-    def take_orders(self, now: int) -> Orders:
-        """What is to be done about the connection. The frames count as written at this moment."""
-        frames = self._frames
-        if frames:
-            self._awaited.written(len(frames), now)
-            self._frames = []
-        orders = Orders(self._hangs_up, self._dial, b"".join(frames))
+    def take_orders(self) -> Orders:
+        """What is to be done about the connection."""
+        orders = Orders(self._hangs_up, self._dial, b"".join(self._frames))
+        self._frames.clear()
         self._hangs_up, self._dial = False, None
         return orders
 
@@ -298,6 +297,16 @@ class Engine(Keeping):
             moments += [tree.deadline() for tree in list(self._trees)]
         self._due = min((moment for moment in moments if moment is not None), default=None)
         return self._due
+
+    def in_time(self, now: int) -> int:
+        """The moment of what came: now, or where something is due already, the last one before that.
+
+        What came may have come before it was due, and be the answer without which the session would leave the server.
+        """
+        if self._due is None or now < self._due or self._saved_at_close is not None:
+            return now
+        due = self._session.deadline()
+        return now if due is None or now < due else max(due - 1, 0)
 
     def is_idle(self) -> bool:
         """Whether nothing that was sent waits for its answer."""
@@ -477,12 +486,11 @@ class Engine(Keeping):
     def _take_frame(self, send: Send) -> None:
         self._frames.append(send.frame)
         if is_ping(send.frame):
-            self._awaited.ping(self._now)
+            self._pings.append(self._now)
 
     def _pong(self, now: int) -> None:
-        asked_at = self._awaited.pong()
-        if asked_at is not None:
-            self.contact.answered(asked_at, now)
+        if self._pings:
+            self.contact.answered(self._pings.popleft(), now)
 
     def _take_reason(self, drop: Drop) -> None:
         self._why = f"{drop.fault} {drop.words}"
@@ -494,6 +502,7 @@ class Engine(Keeping):
 
     def _take_sign(self, sign: Sign) -> None:
         if sign is Sign.HANG_UP:
+            self._why = self._why or _ELSEWHERE
             self._hangs_up, self._dial = True, None
             self._leave_connection()
 
@@ -519,13 +528,18 @@ class Engine(Keeping):
         self._lose_lane("the connection ended before the reply")
         self._why = ""
         self._frames.clear()
-        self._came, self._awaited = Frames(), Awaited()
+        self._came = Frames()
+        self._pings.clear()
         self._is_admitted, self._late = False, 0
         self._is_recast = True
 
     def _end_of_waiting(self) -> Optional[int]:
-        """When the server has had its time to accept the session, or to answer the oldest request, whatever else it sends."""
-        return self._awaited.end(self._granted_ms if self._is_admitted else self._timeout_ms)
+        """When the server has had its time to answer the oldest request of the lane: two thirds of the timeout, and a second at least.
+
+        So the session does with what it sends itself.
+        """
+        asked_at = [asked.sent_at for asked in self._lane.oldest()]
+        return min(asked_at) + max((2 * self._granted_ms + 2) // 3, 1000) if asked_at else None
 
     def _is_next(self, asked: Asked) -> bool:
         """Whether a request is handed over now: of the core where that has few, of the lane where what was asked before is sent."""
@@ -631,7 +645,10 @@ class Engine(Keeping):
         if asked is None:
             return
         if answer.lack == 0:
-            self.contact.answers += answer.code not in _ENDING
+            if answer.code in _ENDING:
+                self._why = f"the server answered {answer.code}"
+            else:
+                self.contact.answers += 1
             self.contact.answered(asked.sent_at, self._now)
         else:
             self.contact.losses += 1

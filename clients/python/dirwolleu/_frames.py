@@ -4,7 +4,6 @@ from __future__ import annotations
 
 import enum
 import struct
-from collections.abc import Iterator
 from typing import NamedTuple
 
 LONGEST_FRAME = 4_194_304
@@ -13,7 +12,6 @@ LANE_XID = -1001
 """The first xid of the lane, which counts down from here. The core has -8, -4, -2, -1, and those from 1 on."""
 AUTH_XID = -4
 PING_XID = -2
-NOTICE_XID = -1
 _HEADER = 16
 _PING = PING_XID.to_bytes(4, "big", signed=True)
 _head_in = struct.Struct(">ii").unpack_from
@@ -28,10 +26,7 @@ class Kind(enum.Enum):
     """What a piece of a connection is."""
 
     CORE = enum.auto()
-    """Bytes for the core, with which no answer is whole: a part of a frame, or a notice."""
-
-    ANSWER = enum.auto()
-    """Bytes for the core, with which an answer is whole."""
+    """Bytes for the core, with which no answer to a ping is whole."""
 
     PONG = enum.auto()
     """Bytes for the core, with which the answer to a ping is whole."""
@@ -40,8 +35,8 @@ class Kind(enum.Enum):
     """A whole frame whose xid is one of the lane, or that of credentials."""
 
 
-_CORE, _ANSWER, _LANE = Kind.CORE, Kind.ANSWER, Kind.LANE  # a class of an enum takes its time
-_KINDS = {PING_XID: Kind.PONG, NOTICE_XID: _CORE}
+_CORE, _PONG, _LANE = Kind.CORE, Kind.PONG, Kind.LANE  # a class of an enum takes its time
+_made = tuple.__new__  # it is quicker than the name of a record
 
 
 class Piece(NamedTuple):
@@ -63,22 +58,24 @@ class Frames:
         self._left, self._kind = 0, _CORE
         self._is_first = True
 
-    def cut(self, data: bytes) -> Iterator[Piece]:
+    def cut(self, data: bytes) -> list[Piece]:
         """The pieces of the data, with what was held back before."""
         data, begin = self._held + data if self._held else data, 0
-        end = len(data)
+        end, pieces = len(data), list[Piece]()
         while begin < end and (self._left or self._knows(data, begin)):
             left = self._left
-            if left > end - begin:
-                if self._kind is _LANE:
-                    break
-                piece = Piece(data[begin:], _CORE)
+            if left <= end - begin:
+                pieces.append(_made(Piece, (data if left == end else data[begin : begin + left], self._kind)))
+                self._left = 0
+                begin += left
+            elif self._kind is _LANE:
+                break
             else:
-                piece = Piece(data if left == end else data[begin : begin + left], self._kind)
-            begin += len(piece.data)
-            self._left -= len(piece.data)
-            yield piece
+                pieces.append(_made(Piece, (data[begin:], _CORE)))
+                self._left -= end - begin
+                begin = end
         self._held = data[begin:]
+        return pieces
 
     def _knows(self, data: bytes, begin: int) -> bool:
         """Whether the first bytes of a frame, at this place, say how long it is and whose; if so, that is kept."""
@@ -98,7 +95,7 @@ class Frames:
 
     def _whose(self, length: int, xid: int) -> Kind:
         if self._is_first or not _HEADER <= length <= LONGEST_FRAME:
-            return Kind.PONG if 4 <= length < _HEADER and xid == PING_XID else _ANSWER
+            return _PONG if 4 <= length < _HEADER and xid == PING_XID else _CORE
         if xid <= LANE_XID or xid == AUTH_XID:
             return _LANE
-        return _KINDS.get(xid, _ANSWER)
+        return _PONG if xid == PING_XID else _CORE

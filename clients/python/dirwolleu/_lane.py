@@ -129,6 +129,10 @@ class Lane(Generic[Asker]):
         """Those that wait for an answer: those with credentials first, and else in the order in which they asked."""
         return [asker for _, asker in [*self._introduced, *self._waiting]]
 
+    def oldest(self) -> list[Asker]:
+        """Those that have waited longest: one with credentials, and one without."""
+        return [waiting[0][1] for waiting in (self._introduced, self._waiting) if waiting]
+
     def introduces(self) -> bool:
         """Whether credentials wait for their answer."""
         return bool(self._introduced)

@@ -529,13 +529,17 @@ def checked(code: int) -> None:
     }.get(code, ValueError)(words)
 
 
-def _texts_in(spelled: bytes) -> Iterator[str]:
+_length_at = struct.Struct(">I").unpack_from
+
+
+def _texts_in(spelled: bytes) -> list[str]:
     """The texts that follow one another, each after its length in four bytes."""
-    end = 0
-    while end < len(spelled):
-        begin = end + 4
-        end = begin + int.from_bytes(spelled[end:begin], "big")
-        yield spelled[begin:end].decode()
+    texts, begin, end = list[str](), 4, len(spelled)
+    while begin <= end:
+        (length,) = _length_at(spelled, begin - 4)
+        texts.append(spelled[begin : begin + length].decode())
+        begin += length + 4
+    return texts
 
 
 def _buffer_at(spelled: bytes, at: int) -> tuple[Optional[bytes], int]:
@@ -674,7 +678,16 @@ Record = TypeVar("Record", Stat, DataStat)
 _fields_of_output, _fields_of_kept_data = _fields_of(_Output), _fields_of(_KeptData)
 _HEAD_OF_OUTPUT, _HEAD_OF_KEPT_DATA = len(_Output._fields_) - 1, len(_KeptData._fields_) - 1  # the last field is the Stat
 _LENGTH_OF_OUTPUT = [name for name, _ in _Output._fields_].index("length")
-_stat_in, _data_stat_in = _record_of(_Stat, Stat, _HEAD_OF_OUTPUT), _record_of(_DataStat, DataStat, _HEAD_OF_KEPT_DATA)
+_made = tuple.__new__  # it makes a record of its fields, and is quicker than the record's own name
+_data_stat_in = _record_of(_DataStat, DataStat, _HEAD_OF_KEPT_DATA)
+
+
+def _stat_in(fields: tuple[Any, ...]) -> Stat:
+    """The Stat of an output, of which it is the last field."""
+    czxid, mzxid, ctime, mtime, owner, pzxid, version, cversion, aversion, length, children = fields[_HEAD_OF_OUTPUT:]
+    return _made(Stat, (czxid, mzxid, ctime, mtime, version, cversion, aversion, owner, length, children, pzxid))
+
+
 _KINDS_OF_KEPT, _MARKS, _EVENTS, _SIDES = (
     frozenset((NOTHING, ABSENT, KNOWN, FULL)),
     frozenset((0, GOOD, STALE)),
@@ -691,7 +704,9 @@ _STATES, _OUTCOMES, _RESULTS = (
 def functions(prefix: str) -> types.SimpleNamespace:
     """The functions of the library whose names begin so, without that."""
     names = [name for name in _FUNCTIONS if name.startswith(prefix)]
-    return types.SimpleNamespace(**{name[len(prefix) :]: getattr(_library, name) for name in names})
+    found = types.SimpleNamespace(**{name[len(prefix) :]: getattr(_library, name) for name in names})
+    found.next = _library[f"{prefix}next"]  # another object, which does not look at its arguments: it is called most, by pointers
+    return found
 
 
 Said = TypeVar("Said")
@@ -707,6 +722,7 @@ class LookUps(Generic[Said]):
 
     def __init__(self, root: Root) -> None:
         self._handle, self._output, self._room = _Handle(), _Output(), _Room()
+        self._handle_at, self._output_at = byref(self._handle), byref(self._output)
         self._process = this_process()
         self._root = root
 
@@ -889,12 +905,12 @@ class LookUps(Generic[Said]):
         if code < OK:
             self._check(code, path)
         outputs: list[Any] = []
-        handle, output, take = self._handle, self._output, self._calls.next
+        handle, output, take = self._handle_at, self._output_at, self._calls.next
         while take(handle, output) == OK:
-            fields = _fields_of_output(output)
+            fields = _fields_of_output(self._output)
             kind = fields[0]
             if kind == SEND:
-                outputs.append(Send(self._text(fields[_LENGTH_OF_OUTPUT])))
+                outputs.append(_made(Send, (self._text(fields[_LENGTH_OF_OUTPUT]),)))
             elif kind == ANSWER:
                 outputs.append(self._answer(fields))
             else:
@@ -918,16 +934,20 @@ class LookUps(Generic[Said]):
 
     def _answer(self, fields: tuple[Any, ...]) -> Answer:
         _, lack, result, code, ticket, zxid, length, names, is_null, has_stat = fields[:_HEAD_OF_OUTPUT]
-        known("outcome", lack, _OUTCOMES)
+        if lack not in _OUTCOMES:
+            known("outcome", lack, _OUTCOMES)
         if lack == REPLIED:
-            known("result of a reply", result, _RESULTS)
+            if result not in _RESULTS:
+                known("result of a reply", result, _RESULTS)
         else:
             zxid = 0
-        text = self._text(length) if result == DATA and not is_null or result == CREATED else None
-        if result == CREATED and text is not None:
-            text = self._root.read(text).encode()
-        listed = list(_texts_in(self._names())) if names else []
-        return Answer(ticket, lack, result, code, _stat_in(fields) if has_stat else None, text, listed, zxid)
+        text: Optional[bytes] = None
+        if result == DATA:
+            text = None if is_null else self._text(length)
+        elif result == CREATED:
+            text = self._root.read(self._text(length)).encode()
+        listed = _texts_in(self._names()) if names else []
+        return _made(Answer, (ticket, lack, result, code, _stat_in(fields) if has_stat else None, text, listed, zxid))
 
     def _text(self, length: int) -> bytes:
         room = self._room

@@ -22,7 +22,6 @@ use crate::saved::SavedSession;
 use crate::stream::Outgoing;
 use crate::ticket::{Ending, Slot};
 use crate::told::{Event, Outcome, Told};
-use crate::waiting::Waiting;
 use std::net::SocketAddr;
 use std::sync::Arc;
 use std::time::Duration;
@@ -105,7 +104,6 @@ pub(crate) struct Engine {
     line: Option<Box<dyn Outgoing>>,
     /// The server that the connection was made to last.
     address: Option<SocketAddr>,
-    waiting: Waiting,
     inbox: Vec<u8>,
     lane: Lane,
     answers: Vec<(u64, Outcome)>,
@@ -142,7 +140,6 @@ impl Engine {
             dialling: None,
             line: None,
             address: None,
-            waiting: Waiting::default(),
             inbox: Vec::new(),
             lane: Lane::default(),
             answers: Vec::new(),
@@ -330,17 +327,13 @@ impl Engine {
         due.min(self.calls.patience()).min(self.end_of_waiting())
     }
 
-    /// When the connection is to be given up, unless an answer comes: after two thirds of the timeout, whatever else the server sends. The
-    /// machine gives one up where nothing at all is heard for so long.
+    /// When the connection is to be given up, unless an answer to the lane comes: after two thirds of the timeout, rounded up, and a second at
+    /// least, whatever else the server sends. So does the machine with what it sends itself.
     fn end_of_waiting(&self) -> Moment {
-        let Some(since) = self.waiting.since() else {
-            return NEVER;
-        };
-        let timeout = match self.machine.state() {
-            State::Connected => self.machine.timeout(),
-            _ => self.asked_timeout,
-        };
-        since.saturating_add(timeout * 2 / 3)
+        let share = (self.machine.timeout() * 2 + Duration::from_millis(2)) / 3;
+        let patience = share.max(Duration::from_secs(1));
+        let since = self.lane.since();
+        since.map_or(NEVER, |since| since.saturating_add(patience))
     }
 
     /// Whether something is due on the connection already.
@@ -407,14 +400,14 @@ impl Engine {
         Ok(())
     }
 
-    /// The limit of a call has come. It is told, unless the server could count as silent by then: that is for whoever reads the connection.
+    /// The limit of a call has come. It is told, unless something was due on the connection before: that is for whoever reads it.
     pub(crate) fn pass(&mut self, limit: Moment) {
         let now = self.clock.now();
         if self.is_over() || now < limit {
             return;
         }
         let now = if self.line.is_none() { now } else { limit };
-        if limit <= self.due() || !self.may_be_silent(now) {
+        if self.line.is_none() || limit <= self.due() {
             // A machine that halts answers each call.
             let _ = self.step(now, Machine::tick);
             self.end_late(now);
@@ -535,18 +528,13 @@ mod tests {
     }
 
     #[test]
-    fn a_connection_ends_two_thirds_of_the_timeout_after_what_waits() {
-        let mut engine = engine();
-        connect(&mut engine);
-        let after = |engine: &Engine| {
-            let since = engine.waiting.since()?;
-            Some(engine.end_of_waiting().saturating_duration_since(since))
-        };
-        assert_eq!(after(&engine), Some(Duration::from_millis(6_666)));
-        engine.hand_in(&accepted()).unwrap();
+    fn a_connection_ends_two_thirds_of_the_timeout_after_what_waits_in_the_lane() {
+        let mut engine = connected();
         assert_eq!(engine.end_of_waiting(), NEVER);
-        engine.ask(Request::get("/a").asked, Slot::new(Some("/a")));
-        assert_eq!(after(&engine), Some(Duration::from_secs(2)));
+        engine.ask(Request::sync("/").asked, Slot::new(Some("/")));
+        let since = engine.lane.since().unwrap();
+        let waits = engine.end_of_waiting().saturating_duration_since(since);
+        assert_eq!(waits, Duration::from_secs(2));
     }
 
     #[test]

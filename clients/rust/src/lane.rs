@@ -293,6 +293,7 @@ fn read_changes(
 struct Pending {
     xid: i32,
     ticket: u64,
+    since: Moment,
     /// To which moment its caller waits: never, once that was told.
     until: Moment,
     call: LaneCall,
@@ -393,6 +394,7 @@ impl Lane {
     /// The frame of a request, which waits for its answer from now on.
     pub(crate) fn frame(
         &mut self,
+        now: Moment,
         ticket: u64,
         until: Moment,
         path: &str,
@@ -415,6 +417,7 @@ impl Lane {
         self.pending.push_back(Pending {
             xid,
             ticket,
+            since: now,
             until,
             call,
         });
@@ -455,6 +458,11 @@ impl Lane {
         Some(answer)
     }
 
+    /// Since when the request waits that has waited longest.
+    pub(crate) fn since(&self) -> Option<Moment> {
+        self.pending.front().map(|pending| pending.since)
+    }
+
     /// The first moment at which the limit of a request comes.
     pub(crate) fn deadline(&self) -> Moment {
         let limits = self.pending.iter().map(|pending| pending.until);
@@ -487,8 +495,11 @@ mod tests {
     use crate::chroot::Chroot;
     use crate::error::ErrorKind;
     use crate::fault::{Code, Fault, NoReply};
+    use crate::moment::Moment;
     use crate::told::Outcome;
     use crate::transaction::Change;
+
+    const NOW: Moment = Moment::from_millis(1);
 
     /// A frame of this payload.
     fn framed(payload: &[u8]) -> Vec<u8> {
@@ -572,7 +583,7 @@ mod tests {
         let mut lane = Lane::default();
         lane.filter.is_begun = true;
         let call = LaneCall::Transaction(operations);
-        lane.frame(9, FOREVER, "/", &call, &Chroot::default())
+        lane.frame(NOW, 9, FOREVER, "/", &call, &Chroot::default())
             .unwrap();
         lane
     }
@@ -635,11 +646,11 @@ mod tests {
     #[test]
     fn what_cannot_be_sent_is_refused() {
         let (mut lane, root) = (Lane::default(), Chroot::default());
-        let no_path = lane.frame(1, FOREVER, "a", &LaneCall::Sync, &root);
+        let no_path = lane.frame(NOW, 1, FOREVER, "a", &LaneCall::Sync, &root);
         assert_eq!(no_path, Err(Fault::not_path("a").into()));
         let nowhere = LaneCall::Transaction(vec![check("/a/")]);
         assert_eq!(
-            lane.frame(1, FOREVER, "/", &nowhere, &root),
+            lane.frame(NOW, 1, FOREVER, "/", &nowhere, &root),
             Err(Fault::not_path("/a/").into())
         );
         let large = Operation::Set {
@@ -647,13 +658,20 @@ mod tests {
             data: vec![0; 1_048_576],
             version: 0,
         };
-        let large = lane.frame(1, FOREVER, "/", &LaneCall::Transaction(vec![large]), &root);
+        let large = lane.frame(
+            NOW,
+            1,
+            FOREVER,
+            "/",
+            &LaneCall::Transaction(vec![large]),
+            &root,
+        );
         assert_eq!(large, Err(ErrorKind::NoReply(NoReply::TooLarge)));
         for ticket in 0..1_024 {
-            lane.frame(ticket, FOREVER, "/a", &LaneCall::Sync, &root)
+            lane.frame(NOW, ticket, FOREVER, "/a", &LaneCall::Sync, &root)
                 .unwrap();
         }
-        let many = lane.frame(1_024, FOREVER, "/a", &LaneCall::Sync, &root);
+        let many = lane.frame(NOW, 1_024, FOREVER, "/a", &LaneCall::Sync, &root);
         assert_eq!(many, Err(ErrorKind::NoReply(NoReply::TooManyPending)));
         assert_eq!(lane.end(), (0..1_024).collect::<Vec<u64>>());
     }

@@ -75,7 +75,6 @@ mod transaction;
 mod tree;
 mod tree_snapshot;
 mod view;
-mod waiting;
 
 pub use acl::{Acl, Permissions};
 pub use action::{Action, Actions, Refusal};

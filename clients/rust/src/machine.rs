@@ -24,8 +24,8 @@ use std::time::Duration;
 /// addresses, and decides nothing: it hands in what happened, does what the [`Actions`] say, and wakes at the latest at the
 /// [`deadline`](Machine::deadline). [`Session`](crate::Session) is such a program.
 ///
-/// It gives a connection up on which nothing at all is heard for two thirds of the timeout. A server that sends other things, and no
-/// answer, is for the program to leave: it closes the connection and hands in a [`cut`](Machine::cut), as [`Session`](crate::Session) does.
+/// It gives a connection up on which nothing at all is heard for two thirds of the timeout, and where a call or a ping has no answer for as
+/// long, and for a second at least, whatever else the server sends.
 ///
 /// Each step forgets the actions of the step before. It fails with [`Fault::Halted`] where memory ran out within it: then
 /// [`resume`](Machine::resume) what it has [`saved`](Machine::saved). It fails with [`Fault::UnknownNumber`] where the library is of

@@ -34,7 +34,8 @@ const LATENESS: u32 = 6;
 
 /// A session, which lives while its program works: a thread of its own pings, reads and reconnects. Which host is dialled and when, which
 /// calls wait and how long, and what becomes of them where the connection ends, the proved core decides: it is a [`Machine`](crate::Machine)
-/// with sockets, a lock and a clock. One thing the session decides by itself: that a connection is left on which an answer does not come.
+/// with sockets, a lock and a clock. One thing the session decides by itself: how long a request of which the core
+/// does not know, such as a transaction, waits for its answer before the connection is left.
 ///
 /// It dials at once: one of its [`Hosts`] after the other, in an order that is random in each session, and goes on to the next one where
 /// a server is silent or the connection ends. Watches and what is kept go on over reconnects. An attempt may take a third of the timeout,
@@ -49,8 +50,8 @@ const LATENESS: u32 = 6;
 /// that takes as long as the limit of the call at most: the one that its [`Request`] has, else that of
 /// [`SessionOptions::limit`], else the timeout of the session, and a second at least.
 ///
-/// Where a call or a ping has no answer after two thirds of the timeout, whatever else the server sends, the connection is over. So it is
-/// where the session is not accepted after two thirds of the timeout that was asked for.
+/// Where a call, a ping or the request for the session has no answer after two thirds of the timeout, and a second at least, whatever else
+/// the server sends, the connection is over.
 ///
 /// All functions take `&self`, and threads may call them at once: [`shared`](Session::shared) gives handles to hand to them. To let a
 /// session go ends its thread and leaves the session to its timeout at the servers: [`close`](Session::close) ends it.

@@ -120,6 +120,8 @@ pub(crate) struct News {
     pub(crate) is_expired: bool,
     /// Whether the connection is to be closed, or the attempt given up.
     pub(crate) hangs_up: bool,
+    /// Whether that is of an accepted session, without a word why: an answer does not come, or a server says that the session is elsewhere.
+    pub(crate) is_left: bool,
     /// The place of the host that is to be dialled, and within which time.
     pub(crate) dial: Option<(usize, Duration)>,
     /// What is told of subjects, by their tickets.
@@ -211,6 +213,7 @@ impl Told {
 
     /// The connection is to be closed. What of it was not yet written is forgotten.
     fn hang_up(&mut self) {
+        self.news.is_left = self.state == Some(State::Connected);
         self.frames.clear();
         self.news.dial = None;
         self.news.hangs_up = true;

@@ -157,6 +157,20 @@ fn a_lost_read_is_asked_again_and_a_lost_write_is_told() {
 }
 
 #[test]
+fn a_server_that_sends_notices_and_no_answer_is_left() {
+    let mut machine = connected();
+    let actions = machine.delete(START, 1, None, "/a", -1).unwrap();
+    assert_eq!(said(actions), ["send 2"]);
+    assert_eq!(said(machine.tick(after(4_000)).unwrap()), ["send 11"]);
+    let notice = Record::notice(3, "/b");
+    assert_eq!(said(machine.bytes(after(5_999), &notice).unwrap()), [""; 0]);
+    assert_eq!(machine.deadline(), Some(after(6_000))); // two thirds of the timeout
+    let actions = machine.bytes(after(6_000), &notice).unwrap();
+    let left = ["hang up", "1: ConnectionLoss", "Idle", "dial 0 within 3s"];
+    assert_eq!(said(actions), left);
+}
+
+#[test]
 fn a_call_waits_to_its_limit() {
     let mut machine = connected();
     let until = Some(after(100));

@@ -20,7 +20,7 @@ static RIVALS: [&str; 2] = ["-lock-", "__lock__"];
 const LEAVE_MS: u64 = 2_000;
 
 /// What is told of a session.
-#[derive(Clone, Copy, PartialEq, Eq)]
+#[derive(Clone, Copy)]
 enum Told {
     Nothing,
     Removes,
@@ -73,7 +73,8 @@ pub struct Contender<'a> {
     is_changed: bool,
     is_leaving: bool,
     is_over: bool,
-    told: (Told, i64),
+    // The words that were told last, and their token.
+    told: (&'static str, i64),
 }
 
 fn words_of(told: Told) -> &'static str {
@@ -168,7 +169,7 @@ impl<'a> Contender<'a> {
             is_changed: false,
             is_leaving: false,
             is_over: false,
-            told: (Told::Nothing, 0),
+            told: ("", 0),
         }
     }
 
@@ -224,26 +225,22 @@ impl<'a> Contender<'a> {
 
     /// The call that asks for it.
     fn call(&self, client: &Client) -> Result<Option<Call>> {
-        let alloc = self.alloc;
-        Ok(Some(match self.due(client) {
+        let (alloc, due) = (self.alloc, self.due(client));
+        let path = match due {
             Due::Nothing => return Ok(None),
+            Due::Make => self.directory.join(alloc, self.tag.as_str()),
+            Due::List => Path::new(alloc, self.directory.as_str()),
+            Due::Read(node) | Due::Delete(node) => Path::new(alloc, node.as_str()),
+        }?;
+        Ok(Some(match due {
             Due::Make => Call::Create {
-                path: self.directory.join(alloc, self.tag.as_str())?,
+                path,
                 bytes: None,
                 mode: CreateMode::EphemeralSequential,
             },
-            Due::List => Call::GetChildren {
-                path: Path::new(alloc, self.directory.as_str())?,
-                watch: false,
-            },
-            Due::Read(node) => Call::GetData {
-                path: Path::new(alloc, node.as_str())?,
-                watch: true,
-            },
-            Due::Delete(node) => Call::Delete {
-                path: Path::new(alloc, node.as_str())?,
-                version: -1,
-            },
+            Due::List => Call::GetChildren { path, watch: false },
+            Due::Read(_) => Call::GetData { path, watch: true },
+            _ => Call::Delete { path, version: -1 },
         }))
     }
 
@@ -313,7 +310,11 @@ impl<'a> Contender<'a> {
         match result {
             CallResult::Created(_path) => self.made = Some(zxid),
             CallResult::Names { names, stat: _stat } => return self.settle(zxid, names),
-            CallResult::Done => self.finish(),
+            CallResult::Done => {
+                // A node is deleted: one too much, or the session's own, with which it is over.
+                self.is_over = matches!(&self.place, Some(place) if !place.is_surplus);
+                self.place = None;
+            }
             CallResult::Code(code) => return self.refuse(code),
             _ => {}
         }
@@ -343,12 +344,6 @@ impl<'a> Contender<'a> {
         Ok(())
     }
 
-    /// A node is deleted: one too much, or the session's own, with which it is over.
-    fn finish(&mut self) {
-        self.is_over = matches!(&self.place, Some(place) if !place.is_surplus);
-        self.place = None;
-    }
-
     /// The session has expired, and with it the lock is lost.
     fn lose<W: Write>(&mut self, out: &mut W) -> Result<()> {
         self.tag.clear();
@@ -374,13 +369,14 @@ impl<'a> Contender<'a> {
             return self.tell(Told::Leaves, 0, out);
         }
         let (told, token) = self.stand(client, store);
-        if told == Told::Holds {
+        if let Told::Holds = told {
             self.leave_at = self.leave_at.min(now.saturating_add(self.hold_ms));
         }
-        if told == Told::Nothing || (told, token) == self.told {
-            return Ok(());
+        match told {
+            Told::Nothing => Ok(()),
+            told if (words_of(told), token) == self.told => Ok(()),
+            told => self.tell(told, token, out),
         }
-        self.tell(told, token, out)
     }
 
     /// How the session stands, and its token where it has one.
@@ -403,13 +399,13 @@ impl<'a> Contender<'a> {
 
     /// Says something of the session, in one write.
     fn tell<W: Write>(&mut self, told: Told, token: i64, out: &mut W) -> Result<()> {
-        self.told = (told, token);
         let (name, words) = (self.name, words_of(told));
-        let mut line = format!(in self.alloc; "{name} {words}")?;
-        if token != 0 {
-            line.push_str(format!(in self.alloc; " {token}")?.as_str())?;
-        }
-        line.push('\n')?;
+        self.told = (words, token);
+        let line = if token == 0 {
+            format!(in self.alloc; "{name} {words}\n")
+        } else {
+            format!(in self.alloc; "{name} {words} {token}\n")
+        }?;
         out.write_all(line.as_str().as_bytes()).map_err(From::from)
     }
 }

@@ -52,8 +52,8 @@ fn serve<P: Program + Drop, W: Write>(
     served
 }
 
-/// Does what the words ask for, of which the first is the program's name. Whether they ask for something.
-fn run<W: Write>(rt: &HostRuntime, words: &[&str], out: &mut W) -> Result<bool> {
+/// Does what the words ask for, of which the first is the program's name.
+fn run<W: Write>(rt: &HostRuntime, words: &[&str], out: &mut W) -> Result<ExitCode> {
     match words {
         [] | [_] => memory::run_in_memory(rt.alloc(), out)?,
         [_, "tree", seconds, root, addresses @ ..] => {
@@ -65,21 +65,19 @@ fn run<W: Write>(rt: &HostRuntime, words: &[&str], out: &mut W) -> Result<bool> 
             let one = Contender::new(rt.alloc(), name, marker, directory, ms);
             serve(rt, one, u64::MAX, addresses, out)?;
         }
-        _ => return Ok(false),
+        _ => {
+            out.write_all(USAGE.as_bytes())?;
+            return Ok(ExitCode::from(2));
+        }
     }
-    Ok(true)
+    Ok(ExitCode::SUCCESS)
 }
 
 fn main(rt: HostRuntime) -> Result<ExitCode> {
     let words: Vec<String> = std::env::args(&rt)?.collect(rt.alloc())?;
     let texts: Vec<&str> = words.iter().map(|word| word.as_str()).collect(rt.alloc())?;
-    let mut out = rt.stdout();
-    let done = run(&rt, texts.as_slice(), &mut out);
+    let done = run(&rt, texts.as_slice(), &mut rt.stdout());
     drop(texts);
     drop(words);
-    if done? {
-        return Ok(ExitCode::SUCCESS);
-    }
-    out.write_all(USAGE.as_bytes())?;
-    Ok(ExitCode::from(2))
+    done
 }

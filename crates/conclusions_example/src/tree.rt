@@ -76,7 +76,8 @@ impl Tree {
         Ok(Some(line))
     }
 
-    /// Looks at what is known, unless all of it was known at this zxid already: then it is the same.
+    /// Looks at what is known, unless all of it was known at this zxid already: then it is the same. One node that is known to be gone is
+    /// followed no more: it went before it was read, or between two sessions.
     fn look<D: Dial + Drop, C: Clock + Drop, W: Write>(
         &mut self,
         driver: &mut Driver<'_, Global, D, C>,
@@ -92,7 +93,10 @@ impl Tree {
         };
         self.zxid = Some(zxid);
         self.tell(line, zxid, store, out)?;
-        self.let_go_one(driver)
+        match self.gone(driver.client())? {
+            Some(node) => self.let_go(driver, node.as_str()),
+            None => Ok(()),
+        }
     }
 
     /// Prints the nodes, if they are others than before.
@@ -154,17 +158,6 @@ impl Tree {
         Ok(None)
     }
 
-    /// Follows no more one that is known to be gone: it went before it was read, or between two sessions.
-    fn let_go_one<D: Dial + Drop, C: Clock + Drop>(
-        &mut self,
-        driver: &mut Driver<'_, Global, D, C>,
-    ) -> Result<()> {
-        match self.gone(driver.client())? {
-            Some(node) => self.let_go(driver, node.as_str()),
-            None => Ok(()),
-        }
-    }
-
     /// Follows a node no more, unless it is the root.
     fn let_go<D: Dial + Drop, C: Clock + Drop>(
         &mut self,
@@ -192,23 +185,24 @@ impl Program for Tree {
     ) -> Result<()> {
         self.take_on_all(driver)?;
         for _ in 0..u64::MAX {
-            match driver.next(until)? {
-                Some(Action::Shown { .. }) => self.look(driver, store, out)?,
+            let acted = match driver.next(until)? {
+                Some(Action::Shown { .. }) => self.look(driver, store, out),
                 Some(
                     Action::Report {
                         path,
                         event: Event::Deleted,
                         ..
                     },
-                ) => self.let_go(driver, path.as_str())?,
+                ) => self.let_go(driver, path.as_str()),
                 Some(Action::Renewed) => {
                     self.zxid = None;
                     self.line.clear();
-                    out.write_all(b"another session\n")?;
+                    out.write_all(b"another session\n").map_err(From::from)
                 }
-                Some(_) => {}
+                Some(_) => Ok(()),
                 None => break,
-            }
+            };
+            acted?;
         }
         Ok(())
     }

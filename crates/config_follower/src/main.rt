@@ -40,17 +40,17 @@ fn serve<W: Write>(rt: &HostRuntime, node: &str, addresses: &[&str], out: &mut W
     followed
 }
 
-/// Does what the words ask for, of which the first is the program's name. Whether they ask for something.
-fn run<W: Write>(rt: &HostRuntime, words: &[&str], out: &mut W) -> Result<bool> {
+/// Does what the words ask for, of which the first is the program's name.
+fn run<W: Write>(rt: &HostRuntime, words: &[&str], out: &mut W) -> Result<ExitCode> {
     match words {
         [] | [_] => memory::run(rt.alloc(), out)?,
         [_, _] => {
             out.write_all(b"usage: config_follower [PATH IP:PORT..]\n")?;
-            return Ok(false);
+            return Ok(ExitCode::from(2));
         }
         [_, node, addresses @ ..] => serve(rt, node, addresses, out)?,
     }
-    Ok(true)
+    Ok(ExitCode::SUCCESS)
 }
 
 fn main(rt: HostRuntime) -> Result<ExitCode> {
@@ -59,9 +59,5 @@ fn main(rt: HostRuntime) -> Result<ExitCode> {
     let done = run(&rt, texts.as_slice(), &mut rt.stdout());
     drop(texts);
     drop(words);
-    Ok(if done? {
-        ExitCode::SUCCESS
-    } else {
-        ExitCode::from(2)
-    })
+    done
 }

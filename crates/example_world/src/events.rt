@@ -32,20 +32,18 @@ pub enum Event {
     Loses,
 }
 
-/// The data of a node.
-fn data(alloc: Global, text: &str) -> Result<Option<Vec<u8>>> {
-    Ok(Some(Vec::from_slice(alloc, text.as_bytes())?))
-}
-
 impl Edit {
     /// The change as a server takes it.
     fn change(self, alloc: Global) -> Result<Change<Global>> {
+        let (path, text) = match self {
+            Edit::Makes(path, text, _) | Edit::Sets(path, text) => (path, text),
+            Edit::Deletes(path) => return Ok(Change::Delete(Path::new(alloc, path)?)),
+        };
+        let data = Some(Vec::from_slice(alloc, text.as_bytes())?);
+        let path = Path::new(alloc, path)?;
         Ok(match self {
-            Edit::Makes(path, text, owner) => {
-                Change::Create(Path::new(alloc, path)?, data(alloc, text)?, owner)
-            }
-            Edit::Sets(path, text) => Change::Set(Path::new(alloc, path)?, data(alloc, text)?),
-            Edit::Deletes(path) => Change::Delete(Path::new(alloc, path)?),
+            Edit::Makes(_, _, owner) => Change::Create(path, data, owner),
+            _ => Change::Set(path, data),
         })
     }
 }
@@ -59,14 +57,6 @@ pub fn add_transaction(alloc: Global, edits: &[Edit], history: &mut History<Glob
     Ok(())
 }
 
-/// Another session makes these edits.
-fn edit_all(alloc: Global, edits: &[Edit], world: &mut World) -> Result<()> {
-    for edit in edits {
-        world.change(edit.change(alloc)?)?;
-    }
-    Ok(())
-}
-
 impl Event {
     /// It happens to the world.
     pub fn happen(self, alloc: Global, world: &RefCell<World>) -> Result<()> {
@@ -74,7 +64,11 @@ impl Event {
             return Ok(());
         };
         match self {
-            Event::Edits(edits) => edit_all(alloc, edits, &mut world)?,
+            Event::Edits(edits) => {
+                for edit in edits {
+                    world.change(edit.change(alloc)?)?;
+                }
+            }
             Event::Parts => world.part(),
             Event::Joins => world.join(),
             Event::Expires => world.expire(),

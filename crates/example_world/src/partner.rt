@@ -77,6 +77,14 @@ impl<'a, S: Server> Stream for Partner<'a, S> {
         self.ms = ms;
         Ok(())
     }
+
+    fn take(&mut self, buf: &mut [u8]) -> io::Result<usize> {
+        self.read(buf)
+    }
+
+    fn give(&mut self, buf: &[u8]) -> io::Result<usize> {
+        self.write(buf)
+    }
 }
 
 /// What dials a server in memory, whatever the address, and the clock. A link has one of each.

@@ -3,11 +3,11 @@
 use crate::moments::Moments;
 use crate::partner::Server;
 use anyhow::Result;
-use std::alloc::{AllocError, Global};
+use std::alloc::Global;
 use std::io::{self, ErrorKind};
 use zk_bench::{Bench, Change, History};
 
-/// The most requests that are processed after one write.
+/// The most requests that the server processes after one write.
 const REQUESTS: usize = 16;
 
 /// A server that answers each request as it comes, and the connection to it.
@@ -51,8 +51,7 @@ impl World {
     /// Another session changes something, and the server takes it.
     pub fn change(&mut self, change: Change<Global>) -> Result<()> {
         self.bench.append(change)?;
-        self.bench.take(1)?;
-        Ok(())
+        self.bench.take(1).map_err(From::from)
     }
 
     /// The connection is cut, and none can be made.
@@ -84,14 +83,6 @@ impl World {
             self.is_closed = true;
             self.bench.disconnect();
         }
-    }
-
-    /// The server processes what has come.
-    fn process(&mut self) -> Result<(), AllocError> {
-        for _ in 0..REQUESTS {
-            self.bench.process()?;
-        }
-        Ok(())
     }
 }
 
@@ -131,7 +122,9 @@ impl Server for World {
         }
         let before = self.bench.history().last_zxid();
         self.bench.receive(bytes)?;
-        self.process()?;
+        for _ in 0..REQUESTS {
+            self.bench.process()?;
+        }
         if self.is_busy {
             self.bench.take(1)?;
         }

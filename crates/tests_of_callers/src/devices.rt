@@ -2,7 +2,7 @@
 
 mod events;
 mod session;
-mod told;
+pub(crate) mod told;
 
 use anyhow::Result;
 use events::{CLOSES, COLLECTS, EXPIRES, Event, HOLDS, SHOWS, STANDS};
@@ -25,15 +25,15 @@ fn play_cut<W: Write>(alloc: Global, events: &[Event], out: &mut W) -> Result<()
             writeln!(out, "pieces of {piece}: something else is told")?;
         }
     }
-    Ok(writeln!(out, "the same in pieces")?)
+    out.write_all(b"the same in pieces\n").map_err(From::from)
 }
 
 /// Plays the sessions.
 pub fn play_devices<W: Write>(alloc: Global, out: &mut W) -> Result<()> {
-    play_cut(alloc, &EXPIRES, out)?;
-    play_cut(alloc, &CLOSES, out)?;
-    play_cut(alloc, &COLLECTS, out)?;
-    play_cut(alloc, &STANDS, out)?;
-    play_cut(alloc, &SHOWS, out)?;
-    play_cut(alloc, &HOLDS, out)
+    out.write_all(b"# devices\n")?;
+    let sessions: [&[Event]; 6] = [&EXPIRES, &CLOSES, &COLLECTS, &STANDS, &SHOWS, &HOLDS];
+    for events in sessions {
+        play_cut(alloc, events, out)?;
+    }
+    Ok(())
 }

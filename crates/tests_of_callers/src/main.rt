@@ -11,17 +11,13 @@ use agents::play_agents;
 use anyhow::Result;
 use devices::play_devices;
 use sizes::try_sizes;
-use std::io::{self, Write};
+use std::io;
 use values::tell_values;
 
 fn main(rt: HostRuntime) -> Result<()> {
     let mut out = io::writer(&rt);
-    writeln!(out, "# devices")?;
     play_devices(rt.alloc(), &mut out)?;
-    writeln!(out, "# agents")?;
     play_agents(rt.alloc(), &mut out)?;
-    writeln!(out, "# values")?;
     tell_values(rt.alloc(), &mut out)?;
-    writeln!(out, "# sizes")?;
     try_sizes(rt.alloc(), &mut out)
 }

@@ -55,7 +55,9 @@ static SIZES: [Size; 5] = [
 /// The path of a number.
 fn path<A: Allocator + Copy>(alloc: A, number: usize) -> Result<Path<A>> {
     let text = format!(in alloc; "/{number}")?;
-    Ok(Path::new(alloc, text.as_str())?)
+    let path = Path::new(alloc, text.as_str());
+    drop(text);
+    path.map_err(From::from)
 }
 
 /// A read of a path with a watch: of its names, or of its data, every other one where there is no node.
@@ -95,25 +97,23 @@ fn watch<A: Allocator + Copy>(peer: &mut Peer<A>, number: usize, is_names: bool)
     Ok(())
 }
 
-/// How many of the paths have good data, or good names.
-fn count_good<A: Allocator + Copy>(peer: &Peer<A>, is_names: bool) -> Result<usize> {
-    let mut count = 0usize;
+/// How many of the paths have good data, and how many good names.
+fn count_good<A: Allocator + Copy>(peer: &Peer<A>) -> Result<(usize, usize)> {
+    let (mut with_data, mut with_names) = (0usize, 0usize);
     for number in 0..WATCHES {
         let path = path(peer.alloc, number)?;
-        let is_good = if is_names {
-            matches!(peer.client.peek_children(&path), Some((_, Mark::Good)))
-        } else {
-            matches!(peer.client.peek_data(&path), Some((_, Mark::Good)))
-        };
-        count = count.saturating_add(usize::from(is_good));
+        let has_data = matches!(peer.client.peek_data(&path), Some((_, Mark::Good)));
+        let has_names = matches!(peer.client.peek_children(&path), Some((_, Mark::Good)));
+        drop(path);
+        with_data = with_data.saturating_add(usize::from(has_data));
+        with_names = with_names.saturating_add(usize::from(has_names));
     }
-    Ok(count)
+    Ok((with_data, with_names))
 }
 
 /// Comes back, and has the watches set again. In how many parts.
 fn restore<A: Allocator + Copy>(peer: &mut Peer<A>) -> Result<usize> {
-    peer.cut()?;
-    let parts = peer.connect(PASSWORD)?;
+    let parts = peer.again(PASSWORD)?;
     for _ in 0..parts {
         peer.hear(done(peer.alloc, PART_XID))?;
     }
@@ -131,11 +131,12 @@ fn watches<A: Allocator + Copy, W: Write>(peer: &mut Peer<A>, out: &mut W) -> Re
     } else {
         "one part"
     };
-    let (with_data, with_names) = (count_good(peer, false)?, count_good(peer, true)?);
-    Ok(writeln!(
+    let (with_data, with_names) = count_good(peer)?;
+    writeln!(
         out,
         "watches: {refused} more refused; restored in {many}: {with_data} and {with_names} good"
-    )?)
+    )
+    .map_err(From::from)
 }
 
 /// How many bytes of good data are kept of the first path, and how many good names.
@@ -156,14 +157,14 @@ fn long_reply<A: Allocator + Copy, W: Write>(peer: &mut Peer<A>, out: &mut W) ->
     ask(peer, 0, false, true)?;
     let (length, _) = peer.hear(data(peer.alloc, peer.xid(), DATA))?;
     let (kept, _) = count_kept(peer)?;
-    Ok(writeln!(out, "a reply of {length} bytes: {kept} of data kept")?)
+    writeln!(out, "a reply of {length} bytes: {kept} of data kept").map_err(From::from)
 }
 
 fn many_names<A: Allocator + Copy, W: Write>(peer: &mut Peer<A>, out: &mut W) -> Result<()> {
     ask(peer, 0, true, true)?;
     peer.hear(names(peer.alloc, peer.xid(), NAMES))?;
     let (_, kept) = count_kept(peer)?;
-    Ok(writeln!(out, "names: {kept} kept")?)
+    writeln!(out, "names: {kept} kept").map_err(From::from)
 }
 
 fn many_calls<A: Allocator + Copy, W: Write>(peer: &mut Peer<A>, out: &mut W) -> Result<()> {
@@ -172,16 +173,14 @@ fn many_calls<A: Allocator + Copy, W: Write>(peer: &mut Peer<A>, out: &mut W) ->
         refused = refused.saturating_add(ask(peer, 0, false, true)?);
     }
     let lost = peer.cut()?.losses;
-    Ok(writeln!(out, "calls: {refused} more refused; {lost} lost at a cut")?)
+    writeln!(out, "calls: {refused} more refused; {lost} lost at a cut").map_err(From::from)
 }
 
 fn long_password<A: Allocator + Copy, W: Write>(peer: &mut Peer<A>, out: &mut W) -> Result<()> {
-    peer.cut()?;
-    peer.connect(LONGEST_PASSWORD)?;
-    peer.cut()?;
-    peer.connect(LONGEST_PASSWORD)?;
+    peer.again(LONGEST_PASSWORD)?;
+    peer.again(LONGEST_PASSWORD)?;
     let kept = peer.client.saved().password.len();
-    Ok(writeln!(out, "a password: {kept} bytes kept")?)
+    writeln!(out, "a password: {kept} bytes kept").map_err(From::from)
 }
 
 /// One of the sizes, at a client that is connected.
@@ -213,10 +212,11 @@ fn try_all<A: Allocator + Copy, W: Write>(alloc: A, piece: usize, out: &mut W) -
 
 /// All of it, whole and in pieces, and whether memory was refused.
 pub fn try_sizes<W: Write>(alloc: Global, out: &mut W) -> Result<()> {
+    out.write_all(b"# sizes\n")?;
     let heap = Refusing::after(u32::MAX, alloc);
     for piece in &PIECES {
         try_all(&heap, *piece, out)?;
     }
     let word = if heap.has_refused() { "was" } else { "was not" };
-    Ok(writeln!(out, "memory {word} refused")?)
+    writeln!(out, "memory {word} refused").map_err(From::from)
 }

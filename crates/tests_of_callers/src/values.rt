@@ -3,6 +3,7 @@
 //! protocol, the codes those of `docs/CODES.md`.
 
 mod numbers;
+mod one;
 mod reasons;
 mod words;
 
@@ -15,6 +16,7 @@ use words::{tell_marks, tell_sides, tell_states};
 
 /// Tells all of them.
 pub fn tell_values<W: Write>(alloc: Global, out: &mut W) -> Result<()> {
+    out.write_all(b"# values\n")?;
     tell_modes(out)?;
     tell_events(out)?;
     tell_codes(out)?;

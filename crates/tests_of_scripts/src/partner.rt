@@ -169,6 +169,14 @@ impl<'a> Stream for Partner<'a> {
         self.wait_ms = ms;
         Ok(())
     }
+
+    fn take(&mut self, buf: &mut [u8]) -> io::Result<usize> {
+        self.read(buf)
+    }
+
+    fn give(&mut self, buf: &[u8]) -> io::Result<usize> {
+        self.write(buf)
+    }
 }
 
 /// What dials these addresses, in order; `done` of them were dialled. The first connection passes `left` bytes, read and written

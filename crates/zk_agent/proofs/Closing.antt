@@ -103,6 +103,13 @@ module _ (state : State) (final : is_final state ≡ true) where
       turn_so view _ steps.chain.0 steps.chain.1 (tt, tt)
       (turn_so steps.chain.0 _ steps.chain.2.0 steps.chain.2.1 (tt, tt) (reads_so old steps.calls steps.chain.2.0 after steps.reads steps.chain.2.2 is))
 
+  -- nor does the end of a connection
+  pub cut_so : {A : Type 0} (now : ℕ) (view : View) (old : List (Subject A)) (after : View) (given : List Output) (new : List (Subject A))
+      → Steps now view Cut old after given new → after.standing.state ≡ state → view.standing.state ≡ state
+  cut_so now view old after given new steps is =
+      turn_so view _ steps.chain.0 steps.chain.1 (tt, tt)
+      (turn_so steps.chain.0 _ steps.chain.2.0 steps.chain.2.1 (tt, tt) (reads_so old steps.calls steps.chain.2.0 after steps.reads steps.chain.2.2 is))
+
 -- ---- a close is told
 
 either : (a b : Bool) → b ≡ true → (a || b) ≡ true

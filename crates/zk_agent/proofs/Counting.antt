@@ -22,7 +22,7 @@ use Rattle.zk_dialler.specs.declared.dialler.Phase.TheVariants.{Waiting, Diallin
 use Rattle.zk_dialler.specs.Dialling.{is_open}
 use Rattle.zk_agent.specs.declared.input.Input.{Input as Happens}
 use Rattle.zk_agent.specs.declared.input.Input.TheVariants as happens
-use Rattle.zk_agent.specs.Agents.{Comes, Move, Hears, Hands, Renews, Follows, Unfollows, Asks, GivesUp, Opened, Ended as Over, HungUp, Closes, Addressed, Decides, Does, HearsSo, LeavesWhere, LetsGoWhere, Trail, asks_for, bytes_at, given_of, how_many_asked, how_many_ended, is_given, opened_at}
+use Rattle.zk_agent.specs.Agents.{Comes, Move, Hears, Hands, Renews, Follows, Unfollows, Asks, GivesUp, Tires, Opened, Ended as Over, HungUp, Closes, Addressed, Decides, Does, HearsSo, LeavesWhere, LetsGoWhere, Trail, asks_for, bytes_at, given_of, how_many_asked, how_many_ended, is_given, opened_at}
 use Rattle.zk_agent.specs.Calls.{answers, closings, endings, handed, hears, hears_all, how_many, tells, tells_all}
 use Rattle.zk_agent.specs.Telling.{Told, Says, HangsUp, Begins, closed_told, due_told, ended_told, is_end_of, news_told}
 
@@ -68,6 +68,7 @@ asks_alone ticket [] = refl
 asks_alone ticket (Hands now its asked ∷ moves) = asks_alone ticket moves
 asks_alone ticket (Renews ∷ moves) = asks_alone ticket moves
 asks_alone ticket (GivesUp now ∷ moves) = asks_alone ticket moves
+asks_alone ticket (Tires now ∷ moves) = asks_alone ticket moves
 asks_alone ticket (Decides now due ∷ moves) = asks_alone ticket moves
 asks_alone ticket (Closes ∷ moves) = asks_alone ticket moves
 asks_alone ticket (Hears now input ∷ moves) = both_more (asks_for ticket) (Hears now input) (filter is_given moves) moves (asks_alone ticket moves)
@@ -261,6 +262,12 @@ module _ {A : Type 0} (ticket : ℕ) where
       let same : total new ≡ total (record old { line = left (Late now) old.line; told = old.told ++ endings (Late now) old.line }) = ap total does in
       let more = count_append (is_end_of ticket) old.told (endings (Late now) old.line) in
       let all = ended_or_left (Late now) old.line in omega (arith, same, more, all)
+  moved (Tires now) old new does =
+      let same : total new ≡ total does.after = ap total does.last in
+      let heard = heard_same now turns.Cut does.between does.after does.hears in
+      let hung : total does.between ≡ total (record old { dialler = does.between.dialler; told = old.told ++ HangsUp ∷ [] }) = ap total does.hangs in
+      let more = count_append (is_end_of ticket) old.told (HangsUp ∷ []) in
+      let none : how_many_ended ticket (HangsUp ∷ []) ≡ 0 = refl in omega (arith, same, heard, hung, more, none)
   moved (Opened now) old new does = let same : total new ≡ total old = ap total does.1 in omega (arith, same)
   moved (Over now) old new does = let same : total new ≡ total old = ap total does.1 in omega (arith, same)
   moved HungUp old new does =

@@ -34,23 +34,31 @@ not_yet now first before = grind (arith, nat_tests)
 at_itself : (moment : ℕ) → nat_le moment moment ≡ true
 at_itself moment = grind (arith, nat_tests)
 
--- of four moments
-module _ (first : ℕ) (due attempt again limit : Option ℕ) (is : Some first ≡ first_of (first_of (first_of due attempt) again) limit) where
+-- of five moments
+module _ (first : ℕ) (due attempt again limit answer : Option ℕ) (is : Some first ≡ first_of (first_of (first_of (first_of due attempt) again) limit) answer) where
   abbrev two : Option ℕ
   two = first_of due attempt
 
   abbrev three : Option ℕ
   three = first_of two again
 
-  pub none_came : (now : ℕ) → now < first → (has_come now due ≡ false) × ((has_come now attempt ≡ false) × ((has_come now again ≡ false) × (has_come now limit ≡ false)))
+  abbrev four : Option ℕ
+  four = first_of three limit
+
+  pub none_came : (now : ℕ) → now < first
+      → (has_come now due ≡ false) × ((has_come now attempt ≡ false) × ((has_come now again ≡ false) × ((has_come now limit ≡ false) × (has_come now answer ≡ false))))
   none_came now before =
-      let all : (has_come now three || has_come now limit) ≡ false = sym (one_came now three limit) ∙ ap (has_come now) (sym is) ∙ not_yet now first before in
+      let of_five : (has_come now four || has_come now answer) ≡ false = sym (one_came now four answer) ∙ ap (has_come now) (sym is) ∙ not_yet now first before in
+      let all : (has_come now three || has_come now limit) ≡ false = sym (one_came now three limit) ∙ first_false (has_come now four) (has_come now answer) of_five in
       let of_three : (has_come now two || has_come now again) ≡ false = sym (one_came now two again) ∙ first_false (has_come now three) (has_come now limit) all in
       let of_two : (has_come now due || has_come now attempt) ≡ false = sym (one_came now due attempt) ∙ first_false (has_come now two) (has_come now again) of_three in (
         first_false (has_come now due) (has_come now attempt) of_two,
         (
           second_false (has_come now due) (has_come now attempt) of_two,
-          (second_false (has_come now two) (has_come now again) of_three, second_false (has_come now three) (has_come now limit) all),
+          (
+            second_false (has_come now two) (has_come now again) of_three,
+            (second_false (has_come now three) (has_come now limit) all, second_false (has_come now four) (has_come now answer) of_five),
+          ),
         ),
       )
 
@@ -58,11 +66,11 @@ module _ (first : ℕ) (due attempt again limit : Option ℕ) (is : Some first �
   came moment other not_other = or_false (has_come first moment) ∙ ap (λ b. has_come first moment || b) (sym not_other) ∙ sym (one_came first moment other)
 
   -- where the others have not come, the first is the one that is due
-  pub is_first : (has_come first attempt ≡ false) → (has_come first again ≡ false) → (has_come first limit ≡ false) → due ≡ Some first
-  is_first attempt_not again_not limit_not = by due refl
+  pub is_first : (has_come first attempt ≡ false) → (has_come first again ≡ false) → (has_come first limit ≡ false) → (has_come first answer ≡ false) → due ≡ Some first
+  is_first attempt_not again_not limit_not answer_not = by due refl
     where
       due_came : has_come first due ≡ true
-      due_came = came due attempt attempt_not ∙ came two again again_not ∙ came three limit limit_not ∙ ap (has_come first) (sym is) ∙ at_itself first
+      due_came = came due attempt attempt_not ∙ came two again again_not ∙ came three limit limit_not ∙ came four answer answer_not ∙ ap (has_come first) (sym is) ∙ at_itself first
 
       by : (d : Option ℕ) → due ≡ d → due ≡ Some first
       by None e = absurd (let f : false ≡ true = ap (has_come first) (sym e) ∙ due_came in cc)
@@ -92,11 +100,13 @@ neither None (Some b) is = absurd cc
 neither (Some a) None is = absurd cc
 neither (Some a) (Some b) is = absurd cc
 
-pub none_left : (due attempt again limit : Option ℕ) → None ≡ first_of (first_of (first_of due attempt) again) limit → (due ≡ None) × ((attempt ≡ None) × ((again ≡ None) × (limit ≡ None)))
-none_left due attempt again limit is =
-    let last = neither (first_of (first_of due attempt) again) limit is in
+pub none_left : (due attempt again limit answer : Option ℕ) → None ≡ first_of (first_of (first_of (first_of due attempt) again) limit) answer
+    → (due ≡ None) × ((attempt ≡ None) × ((again ≡ None) × ((limit ≡ None) × (answer ≡ None))))
+none_left due attempt again limit answer is =
+    let fourth = neither (first_of (first_of (first_of due attempt) again) limit) answer is in
+    let last = neither (first_of (first_of due attempt) again) limit (sym fourth.0) in
     let third = neither (first_of due attempt) again (sym last.0) in
-    let two = neither due attempt (sym third.0) in (two.0, (two.1, (third.1, last.1)))
+    let two = neither due attempt (sym third.0) in (two.0, (two.1, (third.1, (last.1, fourth.1))))
 
 pub if_some : (moment : Option ℕ) (P : ℕ → Type 0) → ((first : ℕ) → moment ≡ Some first → P first) → IfSome moment P
 if_some None P to = tt

@@ -14,6 +14,7 @@ use Rattle.zk_agent.specs.Agents.{Comes, Hands, HandsOver, LetsGo, Sends, Trail,
 use Rattle.zk_agent.specs.Calls.{IsAsked, IsDone, IsInTime}
 use Rattle.zk_agent.specs.Replies.{is_back}
 use Rattle.zk_agent.specs.Telling.{Told}
+use Rattle.zk_agent.specs.Waits.{waited_after}
 use Rattle.zk_agent.proofs.Closing.{call_so}
 use Rattle.zk_agent.proofs.Lines.{fewer_wait, handed_asked, still_in_time}
 use Rattle.zk_agent.proofs.Moves.{nothing, one, taken_by, trail_eq}
@@ -43,10 +44,10 @@ pub hands_as : {A : Type 0} (now : ℕ) (old new : Trail A) (heard it : Option H
     → HandsOver now old.view old.subjects old.line old.told new.view new.subjects new.line new.told it
 hands_as now old new heard it is hands = subst (HandsOver now old.view old.subjects old.line old.told new.view new.subjects new.line new.told) is hands
 
-pub sends_none : {A : Type 0} (now : ℕ) (old new : Trail A) → HandsOver now old.view old.subjects old.line old.told new.view new.subjects new.line new.told None → new.dialler ≡ old.dialler → new.timeout ≡ old.timeout
+pub sends_none : {A : Type 0} (now : ℕ) (old new : Trail A) → HandsOver now old.view old.subjects old.line old.told new.view new.subjects new.line new.told None → new.dialler ≡ old.dialler → new.timeout ≡ old.timeout → new.waits ≡ old.waits
     → Sends now old new false
-sends_none {A} now old new hands same same_timeout =
-    sends_nothing now old new (trail_eq old new hands.1 hands.2 hands.3 same same_timeout hands.4) (inl (ap next_call hands.3 ∙ hands.0))
+sends_none {A} now old new hands same same_timeout same_waits =
+    sends_nothing now old new (trail_eq old new hands.1 hands.2 hands.3 same same_timeout same_waits hands.4) (inl (ap next_call hands.3 ∙ hands.0))
 
 is_not_back : (b : Bool) → not b ≡ true → b ≡ false
 is_not_back false e = refl
@@ -61,15 +62,16 @@ pub sends_one : {A : Type 0} (now : ℕ) (old between new : Trail A) (heard : He
     → new.view ≡ between.view → new.subjects ≡ between.subjects → new.line ≡ between.line → new.timeout ≡ old.timeout
     → LetsGo heard.is_over between.view.saved.session.timeout now (noted between.view.saved.session.timeout now between.view.standing.state (row_after heard.ends_row old.dialler)) new.dialler
     between.told new.told
+    → new.waits ≡ waited_after now heard.sent old.waits
     → Sends now old new (not heard.goes_back)
-sends_one {A} now old between new heard connected hands same_view same_subjects same_line same_timeout goes =
+sends_one {A} now old between new heard connected hands same_view same_subjects same_line same_timeout goes waits =
     let takes = hands.3 in
     let input = Call hands.0 hands.1 in
     let says : heard.goes_back ≡ list_any is_back takes.given = ap (λ (h : Heard). h.goes_back) takes.heard in
     let line = same_line ∙ takes.line in
     record {
       comes = one now (Hands now hands.0 hands.1) old new refl refl
-          (taken_by now input old new between (first_handed old.line) heard (connected, hands.2) refl takes same_view same_subjects same_line same_timeout goes);
+          (taken_by now input old new between (first_handed old.line) heard (connected, hands.2) refl takes same_view same_subjects same_line same_timeout goes waits);
       limits = still_in_time now old.line new.line takes.given line;
       ends = λ state final is.
           call_so state final now old.view hands.0 hands.1 old.subjects between.view takes.given takes.stepped takes.steps (sym (ap (λ (v : View). v.standing.state) same_view) ∙ is);

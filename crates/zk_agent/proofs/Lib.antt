@@ -3,7 +3,9 @@ pub mod Counting
 pub mod Deadlines
 pub mod Handing
 pub mod Keeping
+pub mod Leaving
 pub mod Lines
 pub mod Moves
+pub mod Passing
 pub mod Saying
 pub mod Turning

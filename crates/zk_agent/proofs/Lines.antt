@@ -235,7 +235,27 @@ module _ {A : Type 0} where
         subst (All (IsInTime now)) (sym is)
         (of_all (IsInTime now) (hears_all (first_handed entries) given) (all_heard_in_time given (first_handed entries) (handed_in_time entries (all_of (IsInTime now) entries all))))
 
+    -- the same without a call that is handed over
+    pub heard_still : (entries new : List (Entry A)) (given : List Output) → new ≡ hears_all entries given → All (IsInTime now) entries → All (IsInTime now) new
+    heard_still entries new given is all =
+        subst (All (IsInTime now)) (sym is) (of_all (IsInTime now) (hears_all entries given) (all_heard_in_time given entries (all_of (IsInTime now) entries all)))
+
     -- those are left whose limit has not come
     pub late_left : (entries : List (Entry A)) → All (IsInTime now) (left (Late now) entries)
     late_left entries k d below =
         is_not (is_ended (Late now) (get_or (left (Late now) entries) k d)) (filter_passes (λ (entry : Entry A). not (is_ended (Late now) entry)) entries k d below)
+
+-- of no calls none is left
+pub none_heard : {A : Type 0} (entries : List (Entry A)) (given : List Output) → entries ≡ [] → hears_all entries given ≡ []
+none_heard {A} entries given none = ap (λ es. hears_all es given) none ∙ by given
+  where
+    one : (output : Output) → hears {A = A} [] output ≡ []
+    one (Answer ticket outcome) = refl
+    one (Enters state) = refl
+    one (Send bytes) = refl
+    one (Report path side event) = refl
+    one (Drop fault) = refl
+
+    by : (outputs : List Output) → hears_all {A = A} [] outputs ≡ []
+    by [] = refl
+    by (output ∷ outputs) = ap (λ es. hears_all es outputs) (one output) ∙ by outputs

@@ -23,10 +23,11 @@ use Rattle.zk_follow.specs.Following.{due_again, told_of, IsFollowed}
 use Rattle.zk_line.specs.declared.entry.Entry.{Entry}
 use Rattle.zk_line.specs.declared.entry.Ending.TheVariants as ending
 use Rattle.zk_agent.specs.declared.replies.Heard.{Heard}
-use Rattle.zk_agent.specs.Agents.{Trail, Move, Hears, Hands, Renews, Follows, Unfollows, Asks, GivesUp, Opened, Ended, HungUp, Closes, Addressed, Decides, Does, IsAt, IsLed, IsShut, Comes, HearsSo, LeavesWhere, MayHear, MayTake, LetsGo, LetsGoWhere, TakesSo, is_connected, is_given, noted, opened_at, over_at, row_after}
+use Rattle.zk_agent.specs.Agents.{Trail, Move, Hears, Hands, Renews, Follows, Unfollows, Asks, GivesUp, Tires, Opened, Ended, HungUp, Closes, Addressed, Decides, Does, IsAt, IsLed, IsShut, Comes, HearsSo, LeavesWhere, MayHear, MayTake, LetsGo, LetsGoWhere, TakesSo, is_connected, is_given, noted, opened_at, over_at, row_after}
 use Rattle.zk_agent.specs.Calls.{closings, endings, handed}
 use Rattle.zk_agent.specs.Replies.{is_over}
 use Rattle.zk_agent.specs.Telling.{Told, Begins, due_told}
+use Rattle.zk_agent.specs.Waits.{Waited, heard_input, waited_after}
 use Rattle.zk_agent.proofs.Closing.{is_bytes, steps_closed}
 
 -- ---- the client stands where it was led
@@ -55,6 +56,9 @@ led_by {A} (Follows ticket side path) old new does led = subst IsLed (sym (ap (�
 led_by {A} (Unfollows ticket) old new does led = subst IsLed (sym (ap (λ (t : Trail A). t.view) does)) led
 led_by {A} (Asks ticket asked until) old new does led = subst IsLed (sym (ap (λ (t : Trail A). t.view) does.last)) led
 led_by {A} (GivesUp now) old new does led = subst IsLed (sym (ap (λ (t : Trail A). t.view) does)) led
+led_by {A} (Tires now) old new does led =
+    subst IsLed (sym (ap (λ (t : Trail A). t.view) does.last))
+    (led_hears now turns.Cut does.between does.after does.hears (subst IsLed (sym (ap (λ (t : Trail A). t.view) does.hangs)) led))
 led_by {A} (Opened now) old new does led = subst IsLed (sym (ap (λ (t : Trail A). t.view) does.1)) led
 led_by {A} (Ended now) old new does led = subst IsLed (sym (ap (λ (t : Trail A). t.view) does.1)) led
 led_by {A} HungUp old new does led = subst IsLed (sym (ap (λ (t : Trail A). t.view) does)) led
@@ -144,6 +148,9 @@ shut_by (Follows ticket side path) old new does shut = subst IsShut (sym does) s
 shut_by (Unfollows ticket) old new does shut = subst IsShut (sym does) shut
 shut_by (Asks ticket asked until) old new does shut = subst IsShut (sym does.last) shut
 shut_by (GivesUp now) old new does shut = subst IsShut (sym does) shut
+shut_by (Tires now) old new does shut =
+    subst IsShut (sym does.last)
+    (shut_hears now turns.Cut does.between does.after does.hears (λ closed. ends_waiting old.dialler.phase old.view.saved.session.timeout now old.dialler does.between.dialler refl does.ends))
 shut_by {A} (Opened now) old new does shut =
     λ closed. absurd (opens_never old.view.saved.session.timeout now old.dialler new.dialler (shut (sym (ap (λ (t : Trail A). t.view.standing.state) does.1) ∙ closed)) does.0)
 shut_by (Ended now) old new does shut = λ closed. ends_waiting old.dialler.phase old.view.saved.session.timeout now old.dialler new.dialler refl does.0
@@ -170,6 +177,7 @@ stays_by {A} (Follows ticket side path) old new does = ap (λ (t : Trail A). t.t
 stays_by {A} (Unfollows ticket) old new does = ap (λ (t : Trail A). t.timeout) does
 stays_by {A} (Asks ticket asked until) old new does = ap (λ (t : Trail A). t.timeout) does.last
 stays_by {A} (GivesUp now) old new does = ap (λ (t : Trail A). t.timeout) does
+stays_by {A} (Tires now) old new does = ap (λ (t : Trail A). t.timeout) does.last ∙ does.hears.timeout ∙ ap (λ (t : Trail A). t.timeout) does.hangs
 stays_by {A} (Opened now) old new does = ap (λ (t : Trail A). t.timeout) does.1
 stays_by {A} (Ended now) old new does = ap (λ (t : Trail A). t.timeout) does.1
 stays_by {A} HungUp old new does = ap (λ (t : Trail A). t.timeout) does
@@ -222,23 +230,25 @@ pub ok_after : {A X E : Type 0} (result : Result X E) (now : ℕ) (given more : 
 ok_after (Ok x) now given more old between new first rest = after now given more old between new first rest
 ok_after (Err e) now given more old between new first rest = tt
 
--- five parts, of which the first alone comes from outside
-pub in_turn : {A : Type 0} (now : ℕ) (given : List Move) (first second third fourth fifth last : Trail A) → Comes now given first second → Comes now [] second third → Comes now [] third fourth
-    → Comes now [] fourth fifth → Comes now [] fifth last → Comes now given first last
-in_turn now given first second third fourth fifth last a b c d e =
-    then_none now given first fifth last (then_none now given first fourth fifth (then_none now given first third fourth (then_none now given first second third a b) c) d) e
+-- six parts, of which the first alone comes from outside
+pub in_turn : {A : Type 0} (now : ℕ) (given : List Move) (first second third fourth fifth sixth last : Trail A) → Comes now given first second → Comes now [] second third
+    → Comes now [] third fourth → Comes now [] fourth fifth → Comes now [] fifth sixth → Comes now [] sixth last → Comes now given first last
+in_turn now given first second third fourth fifth sixth last a b c d e f =
+    then_none now given first sixth last
+    (then_none now given first fifth sixth (then_none now given first fourth fifth (then_none now given first third fourth (then_none now given first second third a b) c) d) e) f
 
 -- ---- single moves
 
-abbrev trail : {A : Type 0} → View → List (Subject A) → List (Entry A) → Dialler A → ℤ → List Told → Trail A
-trail view subjects line dialler timeout told = record { view = view; subjects = subjects; line = line; dialler = dialler; timeout = timeout; told = told }
+abbrev trail : {A : Type 0} → View → List (Subject A) → List (Entry A) → Dialler A → ℤ → Waited → List Told → Trail A
+trail view subjects line dialler timeout waits told = record { view = view; subjects = subjects; line = line; dialler = dialler; timeout = timeout; waits = waits; told = told }
 
-pub trail_eq : {A : Type 0} (old new : Trail A) → new.view ≡ old.view → new.subjects ≡ old.subjects → new.line ≡ old.line → new.dialler ≡ old.dialler → new.timeout ≡ old.timeout → new.told ≡ old.told
-    → new ≡ old
-trail_eq old new v s l d m t =
-    ap (λ x. trail x new.subjects new.line new.dialler new.timeout new.told) v ∙ ap (λ x. trail old.view x new.line new.dialler new.timeout new.told) s
-    ∙ ap (λ x. trail old.view old.subjects x new.dialler new.timeout new.told) l ∙ ap (λ x. trail old.view old.subjects old.line x new.timeout new.told) d
-    ∙ ap (λ x. trail old.view old.subjects old.line old.dialler x new.told) m ∙ ap (λ x. trail old.view old.subjects old.line old.dialler old.timeout x) t
+pub trail_eq : {A : Type 0} (old new : Trail A) → new.view ≡ old.view → new.subjects ≡ old.subjects → new.line ≡ old.line → new.dialler ≡ old.dialler → new.timeout ≡ old.timeout
+    → new.waits ≡ old.waits → new.told ≡ old.told → new ≡ old
+trail_eq old new v s l d m w t =
+    ap (λ x. trail x new.subjects new.line new.dialler new.timeout new.waits new.told) v ∙ ap (λ x. trail old.view x new.line new.dialler new.timeout new.waits new.told) s
+    ∙ ap (λ x. trail old.view old.subjects x new.dialler new.timeout new.waits new.told) l ∙ ap (λ x. trail old.view old.subjects old.line x new.timeout new.waits new.told) d
+    ∙ ap (λ x. trail old.view old.subjects old.line old.dialler x new.waits new.told) m ∙ ap (λ x. trail old.view old.subjects old.line old.dialler old.timeout x new.told) w
+    ∙ ap (λ x. trail old.view old.subjects old.line old.dialler old.timeout old.waits x) t
 
 pub opened : {A : Type 0} (old new : Trail A) (timeout now : ℕ) (ours : Bool) → timeout ≡ old.view.saved.session.timeout → ours ≡ true → Opens timeout now old.dialler new.dialler ours
     → new ≡ record old { dialler = new.dialler } → Comes now (Opened now ∷ []) old new
@@ -255,17 +265,18 @@ decided old new timeout now due goes_on is dials all rest =
     one now (Decides now due) old new refl refl (record { goes_on = goes_on; all = all; dials = subst (λ t. DialsWell t now old.dialler new.dialler due) is dials; last = rest })
 
 pub closed : {A X E : Type 0} (result : Result X E) (now : ℕ) (old new : Trail A) → old.view.standing.state ≡ Closed → new.view ≡ old.view → new.subjects ≡ old.subjects
-    → OnOk result (new.line ≡ []) → new.dialler ≡ old.dialler → new.timeout ≡ old.timeout → OnOk result (new.told ≡ old.told ++ closings old.line) → OnOk result (Comes now [] old new)
-closed (Ok x) now old new is v s l d m t =
-    one now Closes old new refl tt (record { closed = is; last = trail_eq (record old { line = []; told = old.told ++ closings old.line }) new v s l d m t })
-closed (Err e) now old new is v s l d m t = tt
+    → OnOk result (new.line ≡ []) → new.dialler ≡ old.dialler → new.timeout ≡ old.timeout → new.waits ≡ old.waits → OnOk result (new.told ≡ old.told ++ closings old.line)
+    → OnOk result (Comes now [] old new)
+closed (Ok x) now old new is v s l d m w t =
+    one now Closes old new refl tt (record { closed = is; last = trail_eq (record old { line = []; told = old.told ++ closings old.line }) new v s l d m w t })
+closed (Err e) now old new is v s l d m w t = tt
 
 pub renewed : {A X E : Type 0} (result : Result X E) (now : ℕ) (old new : Trail A) → old.view.standing.state ≡ Expired → OnOk result (new.view ≡ view_at (renewed_start old.timeout old.view) [])
     → OnOk result (new.subjects ≡ map due_again old.subjects) → OnOk result (new.dialler ≡ record old.dialler { backoff = row_ended old.dialler.backoff }) → new.timeout ≡ old.timeout
-    → OnOk result (new.line ≡ []) → OnOk result (new.told ≡ (old.told ++ endings ending.Expired old.line) ++ Begins ∷ []) → OnOk result (Comes now [] old new)
-renewed (Ok x) now old new expired v s d m l t =
-    one now Renews old new refl tt (record { expired = expired; view = v; timeout = m; subjects = s; dialler = d; line = l; told = t })
-renewed (Err e) now old new expired v s d m l t = tt
+    → new.waits ≡ old.waits → OnOk result (new.line ≡ []) → OnOk result (new.told ≡ (old.told ++ endings ending.Expired old.line) ++ Begins ∷ []) → OnOk result (Comes now [] old new)
+renewed (Ok x) now old new expired v s d m w l t =
+    one now Renews old new refl tt (record { expired = expired; view = v; timeout = m; waits = w; subjects = s; dialler = d; line = l; told = t })
+renewed (Err e) now old new expired v s d m w l t = tt
 
 pub begun : {X E : Type 0} (result : Result X E) (timeout : ℤ) (old new : View) → OnOk result (new ≡ view_at (renewed_start timeout old) []) → OnOk result (new.standing.state ≢ Expired)
 begun (Ok x) timeout old new is = λ expired. let f : Idle ≡ Expired = sym (ap (λ (v : View). v.standing.state) is) ∙ expired in cc
@@ -295,8 +306,9 @@ pub taken_and : {A : Type 0} (now : ℕ) (input : Input) (old new between : Trai
     → new.view ≡ between.view → new.subjects ≡ between.subjects → new.line ≡ between.line → new.timeout ≡ old.timeout
     → LetsGo heard.is_over between.view.saved.session.timeout now (noted between.view.saved.session.timeout now between.view.standing.state (row_after heard.ends_row old.dialler)) new.dialler
     between.told new.told
+    → new.waits ≡ waited_after now heard.sent (heard_input old.waits input)
     → (hears : HearsSo now input old new) × (hears.heard.is_lost ≡ heard.is_lost)
-taken_and {A} now input old new between line heard may is takes same_view same_subjects same_line same_timeout goes = (
+taken_and {A} now input old new between line heard may is takes same_view same_subjects same_line same_timeout goes waits = (
   record {
     may = may;
     timeout = same_timeout;
@@ -308,6 +320,7 @@ taken_and {A} now input old new between line heard may is takes same_view same_s
         (subst (λ es. TakesSo now input old.view old.subjects line old.told between.view between.subjects es between.told heard) (sym same_line) takes)));
     lets_go = subst (λ (v : View). LetsGo heard.is_over v.saved.session.timeout now (noted v.saved.session.timeout now v.standing.state (row_after heard.ends_row old.dialler)) new.dialler between.told new.told)
         (sym same_view) goes;
+    waits = waits;
   },
   refl,
 )
@@ -317,9 +330,10 @@ pub taken_by : {A : Type 0} (now : ℕ) (input : Input) (old new between : Trail
     → new.view ≡ between.view → new.subjects ≡ between.subjects → new.line ≡ between.line → new.timeout ≡ old.timeout
     → LetsGo heard.is_over between.view.saved.session.timeout now (noted between.view.saved.session.timeout now between.view.standing.state (row_after heard.ends_row old.dialler)) new.dialler
     between.told new.told
+    → new.waits ≡ waited_after now heard.sent (heard_input old.waits input)
     → HearsSo now input old new
-taken_by now input old new between line heard may is takes same_view same_subjects same_line same_timeout goes =
-    (taken_and now input old new between line heard may is takes same_view same_subjects same_line same_timeout goes).0
+taken_by now input old new between line heard may is takes same_view same_subjects same_line same_timeout goes waits =
+    (taken_and now input old new between line heard may is takes same_view same_subjects same_line same_timeout goes waits).0
 
 -- it hears, and is told of the end of the connection where that is to be
 pub hears_and : {A : Type 0} (now : ℕ) (input : Input) (old new : Trail A) (is_lost : Bool) (hears : HearsSo now input old new) → hears.heard.is_lost ≡ is_lost → is_lost ≡ false

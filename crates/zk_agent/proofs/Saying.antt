@@ -1,5 +1,5 @@
 -- What outputs say, and what is told of them.
-use Rattle.std.proofs.Common.{◌≡◌, ◌<◌, ◌+◌, ◌++◌, append_assoc, ℕ, Bool, List, [], ◌∷◌, length, get_or, map, take, refl, sym, ap, ◌∙◌}
+use Rattle.std.proofs.Common.{◌≡◌, ◌<◌, ◌+◌, ◌++◌, append_assoc, ℕ, Bool, List, [], ◌∷◌, length, get_or, map, take, fold, refl, sym, ap, ◌∙◌}
 use Rattle.std.specs.Prelude.{Result, Ok, Err, OnOk, ◌||◌}
 use Rattle.std.specs.List.{list_any}
 use Rattle.std.proofs.lemmas.List.{map-append, take_more}
@@ -43,3 +43,8 @@ module _ {A : Type 0} (line new : List (Entry A)) where
 -- two parts of what is told
 pub two_parts : {X : Type 0} (before first second now then_now : List X) → now ≡ before ++ first → then_now ≡ now ++ second → then_now ≡ before ++ (first ++ second)
 two_parts before first second now then_now one two = two ∙ ap (λ l. l ++ second) one ∙ append_assoc before first second
+
+-- outputs that are gone through, and what they say
+pub fold_said : {A S : Type 0} (f : S → Output → S) (from : S) (made : List (Made A)) → fold f from (said made) ≡ fold (λ s output. f s (output_view output)) from made
+fold_said f from [] = refl
+fold_said f from (output ∷ made) = fold_said f (f from (output_view output)) made

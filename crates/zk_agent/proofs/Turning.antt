@@ -1,5 +1,5 @@
 -- Turns of a client: what they leave waiting for replies, and where no call can be handed over.
-use Rattle.std.proofs.Common.{◌≡◌, ◌++◌, append_assoc, ◌⊎◌, inl, inr, ℕ, pos, Bool, true, false, cond, ◌||◌, List, [], ◌∷◌, Option, Some, None, refl, sym, ap, subst, ◌∙◌, eq-eqb, arith}
+use Rattle.std.proofs.Common.{◌≡◌, ◌≢◌, ◌++◌, append_assoc, ◌⊎◌, inl, inr, ℕ, pos, Bool, true, false, cond, ◌||◌, List, [], ◌∷◌, Option, Some, None, refl, sym, ap, subst, ◌∙◌, eq-eqb, arith}
 use Rattle.std.specs.Prelude.{◌==◌, nat_le, nat_lt, length, max}
 use Rattle.std.specs.List.{list_any, FoldsTo}
 use Rattle.std.proofs.lemmas.Bool.Decides.{nat_tests}
@@ -12,8 +12,8 @@ use Rattle.zk_conversation.specs.Calls.{Call as Asked_call, call_payload}
 use Rattle.zk_conversation.specs.Pending.{call_waits, calls_pending, is_close_pending}
 use Rattle.zk_conversation.specs.Questions.{question_of, watched_side}
 use Rattle.zk_conversation.specs.Views.{call_view}
-use Rattle.zk_turns.specs.Turns.{Outcome, SessionClosed, NotConnected, TooManyWatches, TooLarge, TooManyPending, Output, Answer, Send, Input, Now, Call, Calls, Ticks, Turn}
-use Rattle.zk_turns.specs.Past.{Happening, Asked, Ticked}
+use Rattle.zk_turns.specs.Turns.{Outcome, SessionClosed, NotConnected, TooManyWatches, TooLarge, TooManyPending, Output, Answer, Send, Input, Cut, Now, Call, Calls, Cuts, Ticks, Turn}
+use Rattle.zk_turns.specs.Past.{Happening, Asked, Lost, Ticked}
 use Rattle.zk_turns.specs.View.{View}
 use Rattle.zk_turns.specs.Taken.{due, happenings, if_open, is_full_on, refusal, refusal_when_connected}
 use Rattle.zk_turns.specs.Rule.{after_all, next, says_all, Rule}
@@ -235,3 +235,20 @@ steps_away {A} now view ticket asked old after given new steps back =
           | inl first ↦ inl (called (inl (now_away view now steps.first steps.chain.0 steps.chain.1 first)))
           | inr second ↦ inl (called (inr second))
         ]
+
+-- with the end of a connection no call can be handed over
+cut_turn : (view : View) (outputs : List Output) (after : View) → Rule view (record { input = Cut; outputs = outputs }) after → after.standing.state ≢ Connected
+cut_turn view outputs after rule =
+    let happened : happenings view Cuts ≡ if_open view.standing.state (Lost ∷ []) = ap (λ b. cond b [] (if_open view.standing.state (Lost ∷ []))) rule.goes_on in
+    subst (λ (v : View). v.standing.state ≢ Connected) (sym (rule.next ∙ ap (after_all view) happened)) (by view.standing.state refl)
+  where
+    by : (state : State) → view.standing.state ≡ state → (after_all view (if_open state (Lost ∷ []))).standing.state ≢ Connected
+    by Idle is = λ there. let f : Idle ≡ Connected = sym is ∙ there in cc
+    by Connecting is = λ there. let f : Idle ≡ Connected = there in cc
+    by Connected is = λ there. let f : Idle ≡ Connected = there in cc
+    by Expired is = λ there. let f : Expired ≡ Connected = sym is ∙ there in cc
+    by Closed is = λ there. let f : Closed ≡ Connected = sym is ∙ there in cc
+
+pub cut_away : {A : Type 0} (now : ℕ) (view : View) (old : List (Subject A)) (after : View) (given : List Output) (new : List (Subject A)) → Steps now view Cut old after given new → IsAway after
+cut_away now view old after given new steps =
+    reads_away old steps.calls steps.chain.2.0 after steps.reads steps.chain.2.2 (inl (inl (cut_turn steps.chain.0 steps.second steps.chain.2.0 steps.chain.2.1)))

@@ -37,16 +37,19 @@ use Rattle.zk_agent.specs.declared.replies.Heard.{Heard}
 use Rattle.zk_agent.specs.Calls.{closings, endings, handed, hears_all, how_many_wait, tells_all, IsDone, IsInTime}
 use Rattle.zk_agent.specs.Replies.{heard_in}
 use Rattle.zk_agent.specs.Telling.{Told, HangsUp, Begins, due_told, is_end_of, news_told, told_by}
+use Rattle.zk_agent.specs.Waits.{Waited, ends_at, heard_input, nothing_waits, waited_after, waited_of}
 
 -- ---- how far it has come
 
--- A client, the subjects that are followed, the calls that wait, the dialler, the timeout of later sessions, and what the program was told.
+-- A client, the subjects that are followed, the calls that wait, the dialler, the timeout of later sessions, since when what waits for the server,
+-- and what the program was told.
 pub record Trail (A : Type 0) : Type 0 where
   pub view : View
   pub subjects : List (Subject A)
   pub line : List (Entry A)
   pub dialler : Dialler A
   pub timeout : ℤ
+  pub waits : Waited
   pub told : List Told
 
 abbrev pub trail_of : {A : Type 0} → Agent A → List (Action A) → Trail A
@@ -56,6 +59,7 @@ trail_of agent actions = record {
   line = agent.asker.line.entries.items;
   dialler = agent.dialler;
   timeout = agent.timeout_ms;
+  waits = waited_of agent.waits;
   told = told_by actions;
 }
 
@@ -68,6 +72,7 @@ pub data Move : Type 0 where
   Unfollows : (ticket : ℕ) → Move
   Asks : (ticket : ℕ) → Call → (until : Option ℕ) → Move
   GivesUp : (now : ℕ) → Move
+  Tires : (now : ℕ) → Move
   Opened Ended : (now : ℕ) → Move
   HungUp Renews Closes : Move
   Addressed : (count : ℕ) → Move
@@ -142,6 +147,7 @@ pub record HearsSo {A : Type 0} (now : ℕ) (input : Input) (old new : Trail A) 
   pub takes : TakesSo now input old.view old.subjects (handed input old.line) old.told new.view new.subjects new.line told heard
   pub lets_go : LetsGo heard.is_over new.view.saved.session.timeout now
       (noted new.view.saved.session.timeout now new.view.standing.state (row_after heard.ends_row old.dialler)) new.dialler told new.told
+  pub waits : new.waits ≡ waited_after now heard.sent (heard_input old.waits input)
 
 -- Where a server says that the session is not its own, the client hears after it that the connection is over.
 abbrev pub LeavesWhere : {A : Type 0} → (is_lost : Bool) → (now : ℕ) → (old new : Trail A) → Type 0
@@ -159,6 +165,7 @@ pub record RenewsSo {A : Type 0} (old new : Trail A) : Type 0 where
   pub expired : old.view.standing.state ≡ Expired
   pub view : new.view ≡ view_at (renewed_start old.timeout old.view) []
   pub timeout : new.timeout ≡ old.timeout
+  pub waits : new.waits ≡ old.waits
   pub subjects : new.subjects ≡ map due_again old.subjects
   pub dialler : new.dialler ≡ record old.dialler { backoff = row_ended old.dialler.backoff }
   pub line : new.line ≡ []
@@ -193,6 +200,20 @@ pub record DecidesSo {A : Type 0} (now : ℕ) (due : Option Due) (old new : Trai
   pub all : is_some due ≡ is_due now old.dialler
   pub last : new ≡ record old { dialler = new.dialler; told = old.told ++ due_told due }
 
+-- By when a call, a ping or the request that opens the session is to have its answer, whatever else the server sends.
+abbrev pub ends_of : {A : Type 0} → Trail A → Option ℕ
+ends_of trail = ends_at trail.view.saved.session.timeout trail.waits
+
+-- Where one has waited for so long, and not before, the connection is let go, the program is told so, and the client hears that it is over.
+pub record TiresSo {A : Type 0} (now : ℕ) (old new : Trail A) : Type 0 where
+  pub late : has_come now (ends_of old) ≡ true
+  pub between : Trail A
+  pub ends : Ends old.view.saved.session.timeout now old.dialler between.dialler
+  pub hangs : between ≡ record old { dialler = between.dialler; told = old.told ++ HangsUp ∷ [] }
+  pub after : Trail A
+  pub hears : HearsSo now turns.Cut between after
+  pub last : new ≡ record after { waits = nothing_waits }
+
 -- What each move does.
 abbrev pub Does : {A : Type 0} → Trail A → Move → Trail A → Type 0
 Does old (Hears now input) new = HearsOn now input old new
@@ -203,6 +224,7 @@ Does old (Follows ticket side path) new =
 Does old (Unfollows ticket) new = new ≡ record old { subjects = unfollowed ticket old.subjects }
 Does old (Asks ticket asked until) new = AsksSo ticket asked until old new
 Does old (GivesUp now) new = new ≡ record old { line = left (ending.Late now) old.line; told = old.told ++ endings (ending.Late now) old.line }
+Does old (Tires now) new = TiresSo now old new
 Does old (Opened now) new = Opens old.view.saved.session.timeout now old.dialler new.dialler true × (new ≡ record old { dialler = new.dialler })
 Does old (Ended now) new = Ends old.view.saved.session.timeout now old.dialler new.dialler × (new ≡ record old { dialler = new.dialler })
 Does old HungUp new = new ≡ record old { told = old.told ++ HangsUp ∷ [] }
@@ -220,11 +242,13 @@ IsShut trail = trail.view.standing.state ≡ Closed → trail.dialler.phase ≡ 
 
 -- ---- moves that come from outside, and those of its own
 
--- Of its own an agent hands calls over, begins another session, settles calls, and decides about the connection.
+-- Of its own an agent hands calls over, begins another session, settles calls, leaves a server that does not answer, and decides about the
+-- connection.
 abbrev pub is_given : Move → Bool
 is_given (Hands now ticket asked) = false
 is_given Renews = false
 is_given (GivesUp now) = false
+is_given (Tires now) = false
 is_given (Decides now due) = false
 is_given Closes = false
 is_given _ = true
@@ -234,6 +258,7 @@ abbrev pub IsAt : (now : ℕ) → Move → Type 0
 IsAt now (Hears its input) = its ≡ now
 IsAt now (Hands its ticket asked) = its ≡ now
 IsAt now (GivesUp its) = its ≡ now
+IsAt now (Tires its) = its ≡ now
 IsAt now (Opened its) = its ≡ now
 IsAt now (Ended its) = its ≡ now
 IsAt now (Decides its due) = its ≡ now
@@ -294,6 +319,16 @@ pub record Sends {A : Type 0} (now : ℕ) (old new : Trail A) (goes_on : Bool) :
   pub more : goes_on ≡ true → how_many_wait new.line < how_many_wait old.line
   pub none : goes_on ≡ false → IsDone new.view new.line
 
+-- A server that has not answered in time is left, and no other. No limit comes with that, no end of the session, and no call; and nothing
+-- waits for too long after it.
+pub record Tired {A : Type 0} (now : ℕ) (old new : Trail A) : Type 0 where
+  pub comes : Comes now [] old new
+  pub limits : All (IsInTime now) old.line → All (IsInTime now) new.line
+  pub ends : (state : State) → is_final state ≡ true → new.view.standing.state ≡ state → old.view.standing.state ≡ state
+  pub done : IsDone old.view old.line → IsDone new.view new.line
+  pub none : old.line ≡ [] → new.line ≡ []
+  pub answers : has_come now (ends_of new) ≡ false
+
 -- ---- calls
 
 -- how many calls of this ticket an input asks, and how many are settled
@@ -310,11 +345,13 @@ how_many_ended ticket told = count_by (is_end_of ticket) told
 
 -- ---- moments
 
--- Nothing is due at a moment: no ping, no silence, no attempt, no end of one, no read of a subject that was refused, and no limit of a call.
+-- Nothing is due at a moment: no ping, no silence, no attempt, no end of one, no read of a subject that was refused, no limit of a call, and no
+-- end of the wait for an answer.
 abbrev pub NothingOpen : {A : Type 0} → Agent A → (moment : ℕ) → Type 0
 NothingOpen agent moment =
     NothingIsDue (view_of agent.asker.follower.client) moment × (has_come moment (first_moment agent.dialler) ≡ false)
     × (has_come moment (first_again agent.asker.follower.subjects.items) ≡ false) × (has_come moment (first_limit agent.asker.line.entries.items) ≡ false)
+    × (has_come moment (ends_at (view_of agent.asker.follower.client).saved.session.timeout (waited_of agent.waits)) ≡ false)
 
 -- After a close nothing is due any more.
 abbrev pub NothingIn : {A : Type 0} → (is_closed : Bool) → Agent A → (moment : ℕ) → Type 0
@@ -323,6 +360,10 @@ NothingIn false agent moment = NothingOpen agent moment
 
 abbrev pub NothingAt : {A : Type 0} → Agent A → (moment : ℕ) → Type 0
 NothingAt agent moment = NothingIn (is_closed (view_of agent.asker.follower.client).standing.state) agent moment
+
+-- No call, no ping and no request for the session waits for its answer since two thirds of the timeout.
+abbrev pub IsAnswered : {A : Type 0} → Agent A → Type 0
+IsAnswered agent = has_come agent.latest (ends_at (view_of agent.asker.follower.client).saved.session.timeout (waited_of agent.waits)) ≡ false
 
 -- when the server was heard last, once bytes have come on a connection that is there
 abbrev pub heard_after : {A : Type 0} → (is_open : Bool) → (now : ℕ) → Happens A → Option ℕ → Option ℕ

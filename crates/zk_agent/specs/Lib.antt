@@ -3,3 +3,4 @@ pub mod Calls
 pub mod Renewal
 pub mod Replies
 pub mod Telling
+pub mod Waits

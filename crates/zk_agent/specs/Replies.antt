@@ -4,6 +4,7 @@ use Rattle.std.specs.List.{list_any}
 use Rattle.zk_conversation.specs.Results.{Refused}
 use Rattle.zk_turns.specs.Turns.{Output, Answer, Replied, ConnectionLoss, NotConnected, TooManyPending, ends_connection}
 use Rattle.zk_agent.specs.declared.replies.Heard.{Heard}
+use Rattle.zk_agent.specs.Waits.{sent_in}
 
 abbrev pub is_reply : Output → Bool
 is_reply (Answer ticket (Replied zxid result)) = true
@@ -36,4 +37,4 @@ is_back _ = false
 
 -- what outputs say of all that
 abbrev pub heard_in : List Output → Heard
-heard_in given = record { ends_row = ends_row given; is_over = list_any is_over given; is_lost = list_any is_lost given; goes_back = list_any is_back given }
+heard_in given = record { ends_row = ends_row given; is_over = list_any is_over given; is_lost = list_any is_lost given; goes_back = list_any is_back given; sent = sent_in given }

@@ -5,7 +5,8 @@ ghost use Rattle.std.specs.Prelude.{◌≡◌, ◌<ℤ◌, pos};
 use crate::action::{Action, push, push_due};
 use crate::asker::Asker;
 use crate::input::{Input, heard_moment};
-use crate::moments::{first_of_four, is_closed};
+use crate::moments::{first_of_five, is_closed};
+use crate::waits::Waits;
 use std::alloc::{AllocError, Allocator, Global};
 use zk_client::{Call, Client, Path, Side, State};
 use zk_dialler::Dialler;
@@ -29,6 +30,7 @@ pub struct Agent<A: Allocator + Copy = Global> {
     timeout_ms: i32,
     pub(crate) dialler: Dialler<A>,
     pub(crate) asker: Asker<A>,
+    pub(crate) waits: Waits<A>,
     latest: u64,
     heard_at: Option<u64>,
     ghost asks: { pos 0 <ℤ timeout_ms },
@@ -50,9 +52,10 @@ impl<A: Allocator + Copy> Agent<A> {
     ghost use Rattle.zk_follow.specs.Following.{due_again, IsFollowed};
     ghost use Rattle.zk_conversation.specs.Views.{call_view};
     ghost use Rattle.zk_line.specs.declared.entry.Ending.TheVariants as ending;
-    ghost use Rattle.zk_agent.specs.Agents.{bytes_at, given_of, heard_after, how_many_asked, how_many_ended, is_closed, opened_at, over_at, trail_of, Addressed, Asks, Comes, Follows, Hears, IsDecided, IsLed, NothingAt, NothingOpen, Unfollows};
+    ghost use Rattle.zk_agent.specs.Agents.{bytes_at, given_of, heard_after, how_many_asked, how_many_ended, is_closed, opened_at, over_at, trail_of, Addressed, Asks, Comes, Follows, Hears, IsAnswered, IsDecided, IsLed, NothingAt, NothingOpen, Unfollows};
     ghost use Rattle.zk_agent.specs.Calls.{endings, how_many, IsInTime, IsServed};
     ghost use Rattle.zk_agent.specs.Telling.{told_by, Begins};
+    ghost use Rattle.zk_agent.specs.Waits.{nothing_waits, waited_of};
 
     /// Of a client that has no connection: a new one, or one that takes up a saved session. The first step asks for a connection. An error
     /// means that memory ran out.
@@ -64,6 +67,7 @@ impl<A: Allocator + Copy> Agent<A> {
         ensures latest { IfOk result (λ agent. agent.latest ≡ 0) }
         ensures heard { IfOk result (λ agent. agent.heard_at ≡ None) }
         ensures timeout { IfOk result (λ agent. agent.timeout_ms ≡ settings.timeout_ms) }
+        ensures waits { IfOk result (λ agent. waited_of agent.waits ≡ nothing_waits) }
         ensures phase { IfOk result (λ agent. agent.dialler.phase ≡ Waiting) }
         ensures order { IfOk result (λ agent. agent.dialler.ring.order.items ≡ shuffled settings.seed settings.addresses (numbers settings.addresses)) }
         ensures each { IfOk result (λ agent. IsPermutation (numbers settings.addresses) agent.dialler.ring.order.items) }
@@ -75,6 +79,7 @@ impl<A: Allocator + Copy> Agent<A> {
             timeout_ms: settings.timeout_ms,
             dialler: Dialler::new(alloc, settings.addresses, settings.seed)?,
             asker: Asker::new(alloc, client),
+            waits: Waits::new(alloc),
             latest: 0,
             heard_at: None,
         })
@@ -128,6 +133,7 @@ impl<A: Allocator + Copy> Agent<A> {
         ensures timeout { self.new.timeout_ms ≡ self.old.timeout_ms }
         ensures latest { self.new.latest ≡ self.old.latest }
         ensures heard { self.new.heard_at ≡ self.old.heard_at }
+        ensures waits { self.new.waits ≡ self.old.waits }
     {
         self.asker.forget_stale();
     }
@@ -156,7 +162,9 @@ impl<A: Allocator + Copy> Agent<A> {
         let attempt = self.dialler.deadline();
         let again = self.asker.follower.deadline();
         let limit = self.asker.line.deadline();
-        first_of_four(due, attempt, again, limit)
+        let timeout_ms = self.timeout_ms();
+        let answer = self.waits.ends_at(timeout_ms);
+        first_of_five(due, attempt, again, limit, answer)
     }
 
     /// Takes what has happened, noticed at this moment, and gives what is to be done and what there is to tell, in order.
@@ -171,6 +179,7 @@ impl<A: Allocator + Copy> Agent<A> {
         ensures closed { OnOk result ((view_of self.new.asker.follower.client).standing.state ≡ Closed → self.new.asker.line.entries.items ≡ []) }
         ensures renewed { OnOk result ((view_of self.new.asker.follower.client).standing.state ≢ Expired) }
         ensures dials { IfOk result (λ actions. (view_of self.new.asker.follower.client).standing.state ≢ Closed → IsDecided (max self.old.latest now) (trail_of self.new actions.items)) }
+        ensures answers { OnOk result (IsAnswered self.new) }
         ensures latest { OnOk result (self.new.latest ≡ max self.old.latest now) }
         ensures heard { OnOk result (self.new.heard_at ≡ heard_after (is_open self.old.dialler.phase) (max self.old.latest now) input self.old.heard_at) }
     {
@@ -181,6 +190,7 @@ impl<A: Allocator + Copy> Agent<A> {
         self.renew(&mut actions)?;
         self.give_up(now, &mut actions)?;
         self.send(now, &mut actions)?;
+        self.tire(now, &mut actions)?;
         self.dial(now, &mut actions)?;
         self.latest = now;
         self.heard_at = heard_at;
@@ -318,6 +328,7 @@ impl<A: Allocator + Copy> Agent<A> {
         ensures subjects { OnOk result (self.new.asker.follower.subjects.items ≡ map due_again self.old.asker.follower.subjects.items) }
         ensures dialler { OnOk result (self.new.dialler ≡ record self.old.dialler { backoff = row_ended self.old.dialler.backoff }) }
         ensures timeout { self.new.timeout_ms ≡ self.old.timeout_ms }
+        ensures waits { self.new.waits ≡ self.old.waits }
         ensures line { OnOk result (self.new.asker.line.entries.items ≡ []) }
         ensures told { OnOk result (told_by actions.new.items ≡ (told_by actions.old.items ++ endings ending.Expired self.old.asker.line.entries.items) ++ Begins ∷ []) }
         ensures followed { OnOk result ((now : ℕ) → All (IsFollowed now (view_of self.new.asker.follower.client)) self.new.asker.follower.subjects.items) }
@@ -368,6 +379,7 @@ impl<A: Allocator + Copy> Agent<A> {
         ensures comes { OnOk result (Comes now [] (trail_of self.old actions.old.items) (trail_of self.new actions.new.items)) }
         ensures dials { (view_of self.new.asker.follower.client).standing.state ≢ Closed → OnOk result (IsDecided now (trail_of self.new actions.new.items)) }
         ensures asker { self.new.asker ≡ self.old.asker }
+        ensures waits { self.new.waits ≡ self.old.waits }
     {
         if self.is_closed() {
             return Ok(());

@@ -1,12 +1,26 @@
 //! What an agent makes of what its client says.
 
+ghost use Rattle.std.specs.Prelude.{◌≡◌};
+ghost use Rattle.zk_client.specs.Views.{input_view};
+ghost use Rattle.zk_agent.specs.Waits.{heard_input, waited_of};
+
 use crate::action::{Action, push};
 use crate::agent::Agent;
 use crate::moments::is_connected;
 use crate::replies::Heard;
+use crate::waits::Waits;
 use std::alloc::{AllocError, Allocator};
 use zk_client::Input;
 use zk_follow::Stop;
+
+/// Notes the answers that come with what the client is told.
+fn note_answers<A: Allocator + Copy>(waits: &mut Waits<A>, input: &Input<A>)
+    ensures { waited_of waits.new ≡ heard_input (waited_of waits.old) (input_view input.now) }
+{
+    if let Input::Bytes(bytes) = input {
+        waits.hear(bytes.as_slice());
+    }
+}
 
 impl<A: Allocator + Copy> Agent<A> {
     ghost use Rattle.std.specs.Prelude.{◌≡◌, ◌++◌, ◌∷◌, ◌&&◌, ◌<◌, true, false, [], IfOk, OnOk, All};
@@ -19,13 +33,19 @@ impl<A: Allocator + Copy> Agent<A> {
     ghost use Rattle.zk_agent.specs.Agents.{noted, row_after, trail_of, Comes, Hears, HearsSo, LetsGo, MayTake};
     ghost use Rattle.zk_agent.specs.Calls.{how_many_wait, IsDone, IsInTime};
     ghost use Rattle.zk_agent.specs.Telling.{told_by, HangsUp};
+    ghost use Rattle.zk_agent.specs.Waits.{waited_after, waited_of};
 
     /// Lets the connection go.
-    fn hang_up(&mut self, now: u64, actions: &mut Vec<Action<A>, A>) -> Result<(), AllocError>
+    pub(crate) fn hang_up(
+        &mut self,
+        now: u64,
+        actions: &mut Vec<Action<A>, A>,
+    ) -> Result<(), AllocError>
         ensures ends { OnOk result (Ends (view_of self.old.asker.follower.client).saved.session.timeout now self.old.dialler self.new.dialler) }
         ensures told { OnOk result (told_by actions.new.items ≡ told_by actions.old.items ++ HangsUp ∷ []) }
         ensures timeout { self.new.timeout_ms ≡ self.old.timeout_ms }
         ensures asker { self.new.asker ≡ self.old.asker }
+        ensures waits { self.new.waits ≡ self.old.waits }
     {
         let timeout_ms = self.timeout_ms();
         self.dialler.end(timeout_ms, now);
@@ -49,6 +69,7 @@ impl<A: Allocator + Copy> Agent<A> {
         ensures goes { OnOk result (LetsGo is_over (view_of self.old.asker.follower.client).saved.session.timeout now self.old.dialler self.new.dialler (told_by actions.old.items) (told_by actions.new.items)) }
         ensures timeout { self.new.timeout_ms ≡ self.old.timeout_ms }
         ensures asker { self.new.asker ≡ self.old.asker }
+        ensures waits { self.new.waits ≡ self.old.waits }
     {
         if self.is_left(is_over) {
             return self.hang_up(now, actions);
@@ -61,6 +82,7 @@ impl<A: Allocator + Copy> Agent<A> {
         ensures dialler { self.new.dialler ≡ row_after ends_row self.old.dialler }
         ensures timeout { self.new.timeout_ms ≡ self.old.timeout_ms }
         ensures asker { self.new.asker ≡ self.old.asker }
+        ensures waits { self.new.waits ≡ self.old.waits }
     {
         if ends_row {
             self.dialler.answered();
@@ -72,6 +94,7 @@ impl<A: Allocator + Copy> Agent<A> {
         ensures dialler { self.new.dialler ≡ noted (view_of self.old.asker.follower.client).saved.session.timeout now (view_of self.old.asker.follower.client).standing.state self.old.dialler }
         ensures timeout { self.new.timeout_ms ≡ self.old.timeout_ms }
         ensures asker { self.new.asker ≡ self.old.asker }
+        ensures waits { self.new.waits ≡ self.old.waits }
     {
         let timeout_ms = self.timeout_ms();
         if is_connected(self.state()) {
@@ -79,7 +102,8 @@ impl<A: Allocator + Copy> Agent<A> {
         }
     }
 
-    /// Does what the client's outputs ask for: notes what ends a row of failures, and lets a connection go that is over.
+    /// Does what the client's outputs ask for: notes what ends a row of failures, lets a connection go that is over, and notes what waits for its
+    /// answer.
     pub(crate) fn heed(
         &mut self,
         now: u64,
@@ -91,10 +115,13 @@ impl<A: Allocator + Copy> Agent<A> {
             (told_by actions.old.items) (told_by actions.new.items)) }
         ensures timeout { self.new.timeout_ms ≡ self.old.timeout_ms }
         ensures asker { self.new.asker ≡ self.old.asker }
+        ensures waits { OnOk result (waited_of self.new.waits ≡ waited_after now heard.sent (waited_of self.old.waits)) }
     {
         self.note_replies(heard.ends_row);
         self.note_state(now);
-        self.let_go(heard.is_over, now, actions)
+        self.let_go(heard.is_over, now, actions)?;
+        self.waits.send(now, heard.sent)?;
+        Ok(())
     }
 
     /// Hands the client an input, and does what it says. Whether a server says that the session is not its own: the connection is hung up
@@ -109,13 +136,14 @@ impl<A: Allocator + Copy> Agent<A> {
         ensures hears { IfOk result (λ is_lost. (hears : HearsSo now (input_view input) (trail_of self.old actions.old.items) (trail_of self.new actions.new.items)) × (hears.heard.is_lost ≡ is_lost)) }
         ensures followed { OnOk result (All (IsFollowed now (view_of self.new.asker.follower.client)) self.new.asker.follower.subjects.items) }
     {
+        note_answers(&mut self.waits, &input);
         let heard = self.asker.step(now, input, actions)?;
         self.heed(now, heard, actions)?;
         Ok(heard.is_lost)
     }
 
-    /// The connection was hung up since the session is not the server's own: the client is told that it is over.
-    fn hear_cut(&mut self, now: u64, actions: &mut Vec<Action<A>, A>) -> Result<(), Stop>
+    /// The connection was hung up: the client is told that it is over.
+    pub(crate) fn hear_cut(&mut self, now: u64, actions: &mut Vec<Action<A>, A>) -> Result<(), Stop>
         ensures hears { OnOk result (HearsSo now Cut (trail_of self.old actions.old.items) (trail_of self.new actions.new.items)) }
         ensures followed { OnOk result (All (IsFollowed now (view_of self.new.asker.follower.client)) self.new.asker.follower.subjects.items) }
     {

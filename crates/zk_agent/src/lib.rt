@@ -19,12 +19,16 @@ mod advancing;
 mod agent;
 mod asker;
 mod calls;
+mod frames;
 mod hearing;
 mod input;
 mod moments;
 mod renewal;
 mod replies;
 mod sending;
+mod sent;
+mod tiring;
+mod waits;
 
 pub use action::Action;
 pub use agent::{Agent, Settings};

@@ -1,13 +1,15 @@
 //! Moments, and states.
 
 ghost use Rattle.std.specs.Prelude.{◌≡◌};
+ghost use Rattle.zk_dialler.specs.Dialling.{has_come};
 ghost use Rattle.zk_follow.specs.Following.{first_of};
 ghost use Rattle.zk_agent.specs.Agents.{is_closed, is_connected};
+ghost use Rattle.zk_agent.specs.Waits.{is_there};
 
 use zk_client::State;
 
 /// The first of two moments.
-fn first_of(moment: Option<u64>, other: Option<u64>) -> Option<u64>
+pub(crate) fn first_of(moment: Option<u64>, other: Option<u64>) -> Option<u64>
     ensures { result ≡ first_of moment other }
 {
     match (moment, other) {
@@ -17,16 +19,30 @@ fn first_of(moment: Option<u64>, other: Option<u64>) -> Option<u64>
     }
 }
 
-/// The first of four moments.
-pub(crate) fn first_of_four(
+/// The first of five moments.
+pub(crate) fn first_of_five(
     due: Option<u64>,
     attempt: Option<u64>,
     again: Option<u64>,
     limit: Option<u64>,
+    answer: Option<u64>,
 ) -> Option<u64>
-    ensures { result ≡ first_of (first_of (first_of due attempt) again) limit }
+    ensures { result ≡ first_of (first_of (first_of (first_of due attempt) again) limit) answer }
 {
-    first_of(first_of(first_of(due, attempt), again), limit)
+    first_of(
+        first_of(first_of(first_of(due, attempt), again), limit),
+        answer,
+    )
+}
+
+/// Whether a moment has come, if there is one.
+pub(crate) fn has_come(now: u64, moment: Option<u64>) -> bool
+    ensures { result ≡ has_come now moment }
+{
+    match moment {
+        Some(moment) => moment <= now,
+        None => false,
+    }
 }
 
 /// Whether a server has accepted the connection.
@@ -34,6 +50,13 @@ pub(crate) fn is_connected(state: State) -> bool
     ensures { result ≡ is_connected state }
 {
     matches!(state, State::Connected)
+}
+
+/// Whether a connection is there.
+pub(crate) fn is_there(state: State) -> bool
+    ensures { result ≡ is_there state }
+{
+    matches!(state, State::Connecting | State::Connected)
 }
 
 /// Whether the session was closed.

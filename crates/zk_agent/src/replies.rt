@@ -1,11 +1,13 @@
 //! What outputs say of a connection.
 
-ghost use Rattle.std.specs.Prelude.{◌≡◌};
+ghost use Rattle.std.specs.Prelude.{◌≡◌, false, fold};
 ghost use Rattle.std.specs.List.{list_any};
 ghost use Rattle.zk_records.specs.Codes.{code_number};
 ghost use Rattle.zk_client.specs.Views.{output_view, said};
+ghost use Rattle.zk_agent.specs.Waits.{none_sent, sent_by, sent_in};
 ghost use Rattle.zk_agent.specs.Replies.{ends_row, heard_in, is_back, is_lost, is_over, is_reply, loses_session};
 
+use crate::sent::Sent;
 use std::alloc::Allocator;
 use zk_client::{CallResult, Code, Outcome, Output};
 
@@ -20,6 +22,8 @@ pub(crate) struct Heard {
     pub(crate) is_lost: bool,
     /// There is an answer with which a call may wait for its turn again.
     pub(crate) goes_back: bool,
+    /// What is sent with them.
+    pub(crate) sent: Sent,
 }
 
 /// Whether an output is the reply to a call.
@@ -141,6 +145,35 @@ fn has_back<A: Allocator>(outputs: &[Output<A>]) -> bool
     is_any_back(outputs)
 }
 
+/// What is sent with an output too.
+fn note_sent<A: Allocator>(sent: &mut Sent, output: &Output<A>)
+    ensures { sent.new ≡ sent_by sent.old (output_view output.now) }
+{
+    match output {
+        Output::Send(frame) => sent.send(frame.as_slice()),
+        Output::State(state) => sent.enter(*state),
+        _ => {}
+    }
+}
+
+/// What is sent with all of these.
+fn sent_with<A: Allocator>(outputs: &[Output<A>]) -> Sent
+    ensures { result ≡ fold (λ sent output. sent_by sent (output_view output)) (none_sent false) outputs.now }
+{
+    let mut sent = Sent::new(false);
+    for output in outputs {
+        note_sent(&mut sent, output);
+    }
+    sent
+}
+
+/// What is sent, by what the client says.
+fn sent_in<A: Allocator>(outputs: &[Output<A>]) -> Sent
+    ensures { result ≡ sent_in (said outputs.now) }
+{
+    sent_with(outputs)
+}
+
 /// What the client says of its connection and of calls.
 pub(crate) fn heard_in<A: Allocator>(outputs: &[Output<A>]) -> Heard
     ensures { result ≡ heard_in (said outputs.now) }
@@ -150,5 +183,6 @@ pub(crate) fn heard_in<A: Allocator>(outputs: &[Output<A>]) -> Heard
         is_over: has_end(outputs),
         is_lost: has_lost(outputs),
         goes_back: has_back(outputs),
+        sent: sent_in(outputs),
     }
 }

@@ -20,7 +20,7 @@ use Rattle.zk_follow.specs.Following.{IsFollowed}
 use Rattle.zk_agent.specs.declared.agent.Agent.{Agent}
 use Rattle.zk_agent.specs.declared.input.Input.{Input}
 use Rattle.zk_agent.specs.declared.input.Input.TheVariants as input
-use Rattle.zk_agent.specs.Agents.{given_of, heard_after, how_many_asked, how_many_ended, trail_of, Comes, IsDecided, IsLed}
+use Rattle.zk_agent.specs.Agents.{given_of, heard_after, how_many_asked, how_many_ended, trail_of, Comes, IsAnswered, IsDecided, IsLed}
 use Rattle.zk_agent.specs.Calls.{how_many, IsInTime, IsServed}
 use Rattle.zk_agent.specs.Telling.{told_by}
 use Rattle.zk_conclusions.specs.Revisions.{raised}
@@ -77,6 +77,7 @@ pub record Took (now : ℕ) (given : Input Global) (before after : AgentDevice) 
   pub calls : (ticket : ℕ) → how_many ticket after.agent.asker.line.entries.items + how_many_ended ticket (told_by after.said.items) ≡ how_many ticket before.agent.asker.line.entries.items + how_many_asked ticket given
   pub served : All (IsServed (view_of after.agent.asker.follower.client)) after.agent.asker.line.entries.items
   pub limits : All (IsInTime after.agent.latest) after.agent.asker.line.entries.items
+  pub answers : IsAnswered after.agent
   pub closed : (view_of after.agent.asker.follower.client).standing.state ≡ Closed → after.agent.asker.line.entries.items ≡ []
   pub renewed : (view_of after.agent.asker.follower.client).standing.state ≢ Expired
   pub dials : (view_of after.agent.asker.follower.client).standing.state ≢ Closed → IsDecided (max before.agent.latest now) (trail_of after.agent after.said.items)

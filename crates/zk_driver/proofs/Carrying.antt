@@ -1,6 +1,6 @@
 -- What actions ask for, carried out one by one.
 use Rattle.std.proofs.Common.{◌≡◌, ◌++◌, append_assoc, append-nil, ℕ, Bool, true, false, List, [], ◌∷◌, Vec, refl, sym, ap, ◌∙◌}
-use Rattle.std.specs.Prelude.{Result, Ok, Err, OnOk, OnErr, if◌then◌else◌, fold}
+use Rattle.std.specs.Prelude.{Option, Result, Ok, Err, OnOk, OnErr, if◌then◌else◌, fold, is_some}
 use Rattle.zk_agent.specs.Telling.{Told, action_view, told_by}
 use Rattle.zk_agent.specs.declared.action.Action.{Action}
 use Rattle.zk_agent.specs.declared.action.Action.TheVariants as action
@@ -60,3 +60,7 @@ extends_none old new none = (new, ap (λ l. l ++ new) (sym none))
 pub extends_by : {A : Type 0} (is_more : Bool) (old new : List (Action A)) (it : Action A) → new ≡ (if is_more then old ++ it ∷ [] else old) → Extends (told_by old) (told_by new)
 extends_by true old new it is = (action_view it ∷ [], ap told_by is ∙ map-append action_view old (it ∷ []))
 extends_by false old new it is = ([], ap told_by is ∙ sym (append-nil (told_by old)))
+
+-- a stream that is there after more is the one that was there
+pub stays_on : {S : Type 0} (a b c : Option S) → (is_some b ≡ true → b ≡ a) → (is_some c ≡ true → c ≡ b) → is_some c ≡ true → c ≡ a
+stays_on a b c first rest there = rest there ∙ first (sym (ap is_some (rest there)) ∙ there)

@@ -10,7 +10,7 @@ use Rattle.zk_agent.specs.declared.action.Action.{Action}
 use Rattle.zk_agent.specs.declared.agent.Agent.{Agent}
 use Rattle.zk_agent.specs.declared.input.Input.{Input}
 use Rattle.zk_agent.specs.declared.input.Input.TheVariants as happens
-use Rattle.zk_agent.specs.Agents.{given_of, heard_after, how_many_asked, how_many_ended, trail_of, Comes, IsDecided, IsLed, IsShut, NothingAt}
+use Rattle.zk_agent.specs.Agents.{given_of, heard_after, how_many_asked, how_many_ended, trail_of, Comes, IsAnswered, IsDecided, IsLed, IsShut, NothingAt}
 use Rattle.zk_agent.specs.Calls.{how_many, IsInTime, IsServed}
 use Rattle.zk_agent.specs.Telling.{Told, Says, Dials, HangsUp, action_view, told_by}
 use Rattle.zk_link.specs.declared.bring.Brought.{Brought}
@@ -133,7 +133,7 @@ IsPatient now happens.Cut course = ⊤
 IsPatient now _ course = course.channel.is_open ≡ true → 0 < now → NothingAt course.agent now
 
 -- The agent takes an input that was noticed at a moment, and what comes from outside is that: each subject is followed then, each call is settled
--- once or waits, none waits past its limit or after a close, a session that has expired is over, and what was due of the connection is done. What it says is carried out, or put after what
+-- once or waits, none waits past its limit or after a close, no server is kept that leaves a call or a ping without its answer for two thirds of the timeout, a session that has expired is over, and what was due of the connection is done. What it says is carried out, or put after what
 -- the program is told, each in its order.
 pub record Takes {A : Type 0} (now : ℕ) (input : Input A) (old new : Course A) : Type 0 where
   pub patient : IsPatient now input old
@@ -143,6 +143,7 @@ pub record Takes {A : Type 0} (now : ℕ) (input : Input A) (old new : Course A)
   pub calls : (ticket : ℕ) → how_many ticket new.agent.asker.line.entries.items + how_many_ended ticket (told_by actions) ≡ how_many ticket old.agent.asker.line.entries.items + how_many_asked ticket input
   pub served : All (IsServed (view_of new.agent.asker.follower.client)) new.agent.asker.line.entries.items
   pub limits : All (IsInTime new.agent.latest) new.agent.asker.line.entries.items
+  pub answers : IsAnswered new.agent
   pub closed : (view_of new.agent.asker.follower.client).standing.state ≡ Closed → new.agent.asker.line.entries.items ≡ []
   pub renewed : (view_of new.agent.asker.follower.client).standing.state ≢ Expired
   pub dials : (view_of new.agent.asker.follower.client).standing.state ≢ Closed → IsDecided (max old.agent.latest now) (trail_of new.agent actions)

@@ -1,3 +1,4 @@
 pub mod Driving
+pub mod Flowing
 pub mod Noting
 pub mod Reads

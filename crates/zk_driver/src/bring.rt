@@ -1,6 +1,9 @@
 //! What a connection brings.
 
 ghost use Rattle.std.specs.Prelude.{◌≡◌, IfOk};
+ghost use Rattle.std.specs.Io.KnownBytes.{Consumes, Keeps};
+ghost use Rattle.zk_driver.specs.Driving.{input_of};
+ghost use Rattle.zk_driver.specs.Flowing.{bytes_in};
 ghost use Rattle.zk_driver.specs.Reads.{is_late, reading_of, Gives};
 
 use crate::reason::{Reason, reason_of};
@@ -59,9 +62,11 @@ fn read_once<A: Allocator, S: Stream>(
     room: &mut Vec<u8, A>,
     why: &mut Reason,
 ) -> Result<Brought<A>, AllocError>
-    ensures { IfOk result (λ brought. Gives (S.remaining stream.old) (S.remaining stream.new) brought) }
+    ensures brings { IfOk result (λ brought. Gives (S.remaining stream.old) (S.remaining stream.new) brought) }
+    ensures whole { IfOk result (λ brought. Consumes (S.remaining stream.old) (S.remaining stream.new) (bytes_in (input_of brought))) }
+    ensures took { Keeps (S.contents stream.old) (S.contents stream.new) }
 {
-    match reading_of(stream.read(room.as_mut_slice())) {
+    match reading_of(Stream::take(stream, room.as_mut_slice())) {
         Reading::Bytes(count) => {
             let bytes = Vec::from_slice(alloc, &room[..count])?;
             Ok(Brought::Piece(bytes))
@@ -82,7 +87,9 @@ pub(crate) fn bring<A: Allocator, S: Stream>(
     ms: u64,
     why: &mut Reason,
 ) -> Result<Brought<A>, AllocError>
-    ensures { IfOk result (λ brought. (before : S) × Gives (S.remaining before) (S.remaining stream.new) brought) }
+    ensures brings { IfOk result (λ brought. (before : S) × Gives (S.remaining before) (S.remaining stream.new) brought) }
+    ensures whole { IfOk result (λ brought. Consumes (S.remaining stream.old) (S.remaining stream.new) (bytes_in (input_of brought))) }
+    ensures took { Keeps (S.contents stream.old) (S.contents stream.new) }
 {
     if stream.wait_at_most(ms).is_err() {
         *why = Reason::Other;

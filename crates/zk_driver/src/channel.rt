@@ -3,7 +3,9 @@
 ghost use Rattle.std.specs.Prelude.{◌≡◌, ◌++◌, None, Some, IfOk, OnOk, is_some};
 ghost use Rattle.zk_driver.specs.Driving.{channel_view, closed, is_nothing, look_after, opened, Looks, Writes};
 ghost use Rattle.zk_driver.specs.Noting.{notes_of_event, notes_in};
+ghost use Rattle.std.specs.Io.KnownBytes.{Keeps};
 ghost use Rattle.zk_driver.specs.Driving.{input_of};
+ghost use Rattle.zk_driver.specs.Flowing.{bytes_in, known_of, Exchanges, Sends};
 ghost use Rattle.zk_driver.specs.Reads.{IsBrought};
 
 use crate::bring::{bring, make_room};
@@ -60,7 +62,8 @@ impl<A: Allocator + Copy, S: Stream> Channel<A, S> {
 
     /// An address is to be dialled.
     pub(crate) fn ask(&mut self, attempt: Attempt)
-        ensures { channel_view self.new ≡ record (channel_view self.old) { attempt = Some attempt } }
+        ensures view { channel_view self.new ≡ record (channel_view self.old) { attempt = Some attempt } }
+        ensures stream { self.new.stream ≡ self.old.stream }
     {
         self.attempt = Some(attempt);
     }
@@ -75,7 +78,8 @@ impl<A: Allocator + Copy, S: Stream> Channel<A, S> {
 
     /// The connection is over, and what is left to be written is forgotten. Nothing is to be dialled.
     pub(crate) fn close(&mut self)
-        ensures { channel_view self.new ≡ closed }
+        ensures view { channel_view self.new ≡ closed }
+        ensures stream { self.new.stream ≡ None }
     {
         self.attempt = None;
         self.looked = None;
@@ -85,14 +89,18 @@ impl<A: Allocator + Copy, S: Stream> Channel<A, S> {
 
     /// These bytes are to be written, after what is left.
     pub(crate) fn queue(&mut self, bytes: &[u8]) -> Result<(), AllocError>
-        ensures { OnOk result (channel_view self.new ≡ record (channel_view self.old) { unsent = self.old.unsent.items ++ bytes.now }) }
+        ensures view { OnOk result (channel_view self.new ≡ record (channel_view self.old) { unsent = self.old.unsent.items ++ bytes.now }) }
+        ensures stream { self.new.stream ≡ self.old.stream }
     {
         self.unsent.extend_from_slice(bytes)
     }
 
     /// Writes what is left, as much as the connection takes for now. Whether the connection has not failed.
     pub(crate) fn flush(&mut self) -> bool
-        ensures { Writes (channel_view self.old) (channel_view self.new) }
+        ensures writes { Writes (channel_view self.old) (channel_view self.new) }
+        ensures sends { Sends self.old.unsent.items self.new.unsent.items
+            ((known_of S.remaining S.contents self.old.stream).took) ((known_of S.remaining S.contents self.new.stream).took) }
+        ensures gives { Keeps ((known_of S.remaining S.contents self.old.stream).left) ((known_of S.remaining S.contents self.new.stream).left) }
     {
         match &mut self.stream {
             Some(stream) => send(stream, &mut self.unsent),
@@ -111,6 +119,8 @@ impl<A: Allocator + Copy, S: Stream> Channel<A, S> {
     ) -> Result<Brought<A>, AllocError>
         ensures looks { IfOk result (λ brought. Looks (look_after began is_again (is_nothing brought) self.old.looked) (channel_view self.old) (channel_view self.new)) }
         ensures brings { IfOk result (λ brought. IsBrought S.remaining self.new.stream brought) }
+        ensures whole { IfOk result (λ brought. Exchanges self.old.unsent.items self.new.unsent.items
+            (known_of S.remaining S.contents self.old.stream) (known_of S.remaining S.contents self.new.stream) (bytes_in (input_of brought))) }
     {
         let brought = self.read(alloc, ms)?;
         let is_quiet = is_nothing(&brought);
@@ -122,6 +132,8 @@ impl<A: Allocator + Copy, S: Stream> Channel<A, S> {
     fn read(&mut self, alloc: A, ms: u64) -> Result<Brought<A>, AllocError>
         ensures writes { Writes (channel_view self.old) (channel_view self.new) }
         ensures brings { IfOk result (λ brought. IsBrought S.remaining self.new.stream brought) }
+        ensures whole { IfOk result (λ brought. Exchanges self.old.unsent.items self.new.unsent.items
+            (known_of S.remaining S.contents self.old.stream) (known_of S.remaining S.contents self.new.stream) (bytes_in (input_of brought))) }
     {
         make_room(&mut self.room)?;
         let Some(stream) = &mut self.stream else {

@@ -8,6 +8,7 @@ ghost use Rattle.zk_agent.specs.Telling.{told_by};
 ghost use Rattle.zk_agent.specs.declared.input.Input.TheVariants as happens;
 ghost use Rattle.zk_driver.specs.Driving.{channel_view, closed, course_of, AreFollowed, Extends, Goes, Hands, IsAsked, IsShutAgent};
 ghost use Rattle.zk_driver.specs.Noting.{is_come, notes_of, notes_of_event, passed_in, GoesBy};
+ghost use Rattle.zk_driver.specs.Flowing.{flow_of, Flows};
 
 use crate::channel::Attempt;
 use crate::engine::{Engine, MOST_READS};
@@ -111,6 +112,7 @@ impl<'a, A: Allocator + Copy, D: Dial + Drop, C: Clock + Drop> Driver<'a, A, D, 
     /// Follows a subject: the data of the node, or the names of its children. No other subject has or had the ticket.
     pub fn follow(&mut self, ticket: u64, side: Side, path: Path<A>) -> Result<(), Stop>
         ensures hands { OnOk result (Hands (happens.Follow ticket side path) (course_of self.old.engine None) (course_of self.new.engine None)) }
+        ensures flows { OnOk result (Flows (flow_of D.Stream.remaining D.Stream.contents self.old.engine None) (flow_of D.Stream.remaining D.Stream.contents self.new.engine None)) }
         ensures kept { Extends (told_by self.old.engine.waiting.items) (told_by self.new.engine.waiting.items) }
     {
         self.hand(Input::Follow { ticket, side, path })
@@ -119,6 +121,7 @@ impl<'a, A: Allocator + Copy, D: Dial + Drop, C: Clock + Drop> Driver<'a, A, D, 
     /// Follows the subject of this ticket no more.
     pub fn unfollow(&mut self, ticket: u64) -> Result<(), Stop>
         ensures hands { OnOk result (Hands (happens.Unfollow ticket) (course_of self.old.engine None) (course_of self.new.engine None)) }
+        ensures flows { OnOk result (Flows (flow_of D.Stream.remaining D.Stream.contents self.old.engine None) (flow_of D.Stream.remaining D.Stream.contents self.new.engine None)) }
         ensures kept { Extends (told_by self.old.engine.waiting.items) (told_by self.new.engine.waiting.items) }
     {
         self.hand(Input::Unfollow { ticket })
@@ -128,6 +131,7 @@ impl<'a, A: Allocator + Copy, D: Dial + Drop, C: Clock + Drop> Driver<'a, A, D, 
     /// or subject has or had the ticket.
     pub fn ask(&mut self, ticket: u64, call: Call<A>, until: Option<u64>) -> Result<(), Stop>
         ensures hands { OnOk result (Hands (happens.Call ticket call until) (course_of self.old.engine None) (course_of self.new.engine None)) }
+        ensures flows { OnOk result (Flows (flow_of D.Stream.remaining D.Stream.contents self.old.engine None) (flow_of D.Stream.remaining D.Stream.contents self.new.engine None)) }
         ensures kept { Extends (told_by self.old.engine.waiting.items) (told_by self.new.engine.waiting.items) }
     {
         self.hand(Input::Call {
@@ -140,6 +144,7 @@ impl<'a, A: Allocator + Copy, D: Dial + Drop, C: Clock + Drop> Driver<'a, A, D, 
     /// Goes on with another list of addresses. A connection that is there stays.
     pub fn set_addresses(&mut self, addresses: &'a [&'a str]) -> Result<(), Stop>
         ensures hands { OnOk result (Hands (happens.Addresses (length addresses.now)) (course_of self.old.engine None) (course_of self.new.engine None)) }
+        ensures flows { OnOk result (Flows (flow_of D.Stream.remaining D.Stream.contents self.old.engine None) (flow_of D.Stream.remaining D.Stream.contents self.new.engine None)) }
         ensures kept { Extends (told_by self.old.engine.waiting.items) (told_by self.new.engine.waiting.items) }
     {
         self.addresses = addresses;
@@ -151,6 +156,7 @@ impl<'a, A: Allocator + Copy, D: Dial + Drop, C: Clock + Drop> Driver<'a, A, D, 
     fn hand(&mut self, input: Input<A>) -> Result<(), Stop>
         requires { IsAsked input }
         ensures hands { OnOk result (Hands input (course_of self.old.engine None) (course_of self.new.engine None)) }
+        ensures flows { OnOk result (Flows (flow_of D.Stream.remaining D.Stream.contents self.old.engine None) (flow_of D.Stream.remaining D.Stream.contents self.new.engine None)) }
         ensures kept { Extends (told_by self.old.engine.waiting.items) (told_by self.new.engine.waiting.items) }
     {
         let now = self.now();
@@ -172,6 +178,7 @@ impl<'a, A: Allocator + Copy, D: Dial + Drop, C: Clock + Drop> Driver<'a, A, D, 
     /// another driver, from what was saved.
     pub fn next(&mut self, until: u64) -> Result<Option<Action<A>>, Stop>
         ensures goes { IfOk result (λ passed. Goes (course_of self.old.engine None) (course_of self.new.engine passed)) }
+        ensures flows { IfOk result (λ passed. Flows (flow_of D.Stream.remaining D.Stream.contents self.old.engine None) (flow_of D.Stream.remaining D.Stream.contents self.new.engine passed)) }
         ensures come { IfOk result (λ passed. IfNone passed (until ≤ self.new.engine.agent.latest)) }
         ensures none { IfOk result (λ passed. IfNone passed (self.new.engine.waiting.items ≡ [])) }
         ensures kept { OnErr result (Extends (told_by self.old.engine.waiting.items) (told_by self.new.engine.waiting.items)) }
@@ -195,6 +202,7 @@ impl<'a, A: Allocator + Copy, D: Dial + Drop, C: Clock + Drop> Driver<'a, A, D, 
     /// An error is that of [`next`](Driver::next).
     pub fn turn(&mut self, until: u64) -> Result<Turn<A>, Stop>
         ensures goes { IfOk result (λ turn. GoesBy (notes_of turn) (course_of self.old.engine None) (course_of self.new.engine (passed_in turn))) }
+        ensures flows { IfOk result (λ turn. Flows (flow_of D.Stream.remaining D.Stream.contents self.old.engine None) (flow_of D.Stream.remaining D.Stream.contents self.new.engine (passed_in turn))) }
         ensures come { IfOk result (λ turn. is_come turn ≡ true → until ≤ self.new.engine.agent.latest) }
         ensures none { IfOk result (λ turn. is_come turn ≡ true → self.new.engine.waiting.items ≡ []) }
         ensures kept { OnErr result (Extends (told_by self.old.engine.waiting.items) (told_by self.new.engine.waiting.items)) }
@@ -245,6 +253,7 @@ impl<'a, A: Allocator + Copy, D: Dial + Drop, C: Clock + Drop> Driver<'a, A, D, 
     /// has happened.
     fn round(&mut self, until: u64) -> Result<(u64, Event), Stop>
         ensures goes { IfOk result (λ round. GoesBy (notes_of_event round.1) (course_of self.old.engine None) (course_of self.new.engine None)) }
+        ensures flows { OnOk result (Flows (flow_of D.Stream.remaining D.Stream.contents self.old.engine None) (flow_of D.Stream.remaining D.Stream.contents self.new.engine None)) }
         ensures told { IfOk result (λ round. round.0 ≤ self.new.engine.agent.latest) }
         ensures kept { Extends (told_by self.old.engine.waiting.items) (told_by self.new.engine.waiting.items) }
     {
@@ -274,6 +283,7 @@ impl<'a, A: Allocator + Copy, D: Dial + Drop, C: Clock + Drop> Driver<'a, A, D, 
     fn attempt(&mut self, attempt: Attempt) -> Result<(u64, Event), Stop>
         requires { is_some self.old.engine.channel.attempt ≡ true }
         ensures goes { IfOk result (λ round. GoesBy (notes_of_event round.1) (course_of self.old.engine None) (course_of self.new.engine None)) }
+        ensures flows { OnOk result (Flows (flow_of D.Stream.remaining D.Stream.contents self.old.engine None) (flow_of D.Stream.remaining D.Stream.contents self.new.engine None)) }
         ensures told { IfOk result (λ round. round.0 ≤ self.new.engine.agent.latest) }
         ensures kept { Extends (told_by self.old.engine.waiting.items) (told_by self.new.engine.waiting.items) }
     {
@@ -289,6 +299,7 @@ impl<'a, A: Allocator + Copy, D: Dial + Drop, C: Clock + Drop> Driver<'a, A, D, 
     fn wait(&mut self, until: u64) -> Result<(u64, Event), Stop>
         requires { self.old.engine.channel.attempt ≡ None }
         ensures goes { IfOk result (λ round. GoesBy (notes_of_event round.1) (course_of self.old.engine None) (course_of self.new.engine None)) }
+        ensures flows { OnOk result (Flows (flow_of D.Stream.remaining D.Stream.contents self.old.engine None) (flow_of D.Stream.remaining D.Stream.contents self.new.engine None)) }
         ensures told { IfOk result (λ round. round.0 ≤ self.new.engine.agent.latest) }
         ensures kept { Extends (told_by self.old.engine.waiting.items) (told_by self.new.engine.waiting.items) }
     {
@@ -309,6 +320,7 @@ impl<'a, A: Allocator + Copy, D: Dial + Drop, C: Clock + Drop> Driver<'a, A, D, 
         requires none { self.old.engine.channel.attempt ≡ None }
         requires open { is_some self.old.engine.channel.stream ≡ true }
         ensures goes { IfOk result (λ glance. GoesBy (notes_of_event glance.event) (course_of self.old.engine None) (course_of self.new.engine None)) }
+        ensures flows { OnOk result (Flows (flow_of D.Stream.remaining D.Stream.contents self.old.engine None) (flow_of D.Stream.remaining D.Stream.contents self.new.engine None)) }
         ensures told { IfOk result (λ glance. glance.told ≤ self.new.engine.agent.latest) }
         ensures none { IfOk result (λ glance. glance.is_again ≡ true → self.new.engine.channel.attempt ≡ None) }
         ensures open { IfOk result (λ glance. glance.is_again ≡ true → is_some self.new.engine.channel.stream ≡ true) }
@@ -348,6 +360,7 @@ impl<'a, A: Allocator + Copy, D: Dial + Drop, C: Clock + Drop> Driver<'a, A, D, 
         requires none { self.old.engine.channel.attempt ≡ None }
         requires open { is_some self.old.engine.channel.stream ≡ true }
         ensures goes { IfOk result (λ round. GoesBy (notes_of_event round.1) (course_of self.old.engine None) (course_of self.new.engine None)) }
+        ensures flows { OnOk result (Flows (flow_of D.Stream.remaining D.Stream.contents self.old.engine None) (flow_of D.Stream.remaining D.Stream.contents self.new.engine None)) }
         ensures told { IfOk result (λ round. round.0 ≤ self.new.engine.agent.latest) }
         ensures kept { Extends (told_by self.old.engine.waiting.items) (told_by self.new.engine.waiting.items) }
     {

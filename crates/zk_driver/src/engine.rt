@@ -7,6 +7,7 @@ ghost use Rattle.zk_agent.specs.Telling.{action_view, told_by};
 ghost use Rattle.zk_agent.specs.declared.input.Input.TheVariants as happens;
 ghost use Rattle.zk_driver.specs.Driving.{carried, channel_view, closed, course_of, input_of, is_passed, Extends, Goes, Hands, IsOverdue, IsPatient, IsSeen, IsTaken, IsTimely, Notes};
 ghost use Rattle.zk_driver.specs.Noting.{notes_in, notes_of_event, Made, Missed, Lost, GoesBy};
+ghost use Rattle.zk_driver.specs.Flowing.{bytes_in, flow_of, Flows, HandsOver};
 
 use crate::channel::{Attempt, Channel};
 use crate::turn::Event;
@@ -53,6 +54,7 @@ fn carry<A: Allocator + Copy, S: Stream>(
     waiting: &mut VecDeque<Action<A>, A>,
 ) -> Result<(), AllocError>
     ensures channel { OnOk result (channel_view channel.new ≡ carried (channel_view channel.old) (action_view action)) }
+    ensures stays { is_some channel.new.stream ≡ true → channel.new.stream ≡ channel.old.stream }
     ensures waiting { OnOk result (told_by waiting.new.items ≡ told_by waiting.old.items ++ filter is_passed (action_view action ∷ [])) }
     ensures kept { Extends (told_by waiting.old.items) (told_by waiting.new.items) }
 {
@@ -77,6 +79,7 @@ fn carry_all<A: Allocator + Copy, S: Stream>(
     waiting: &mut VecDeque<Action<A>, A>,
 ) -> Result<(), AllocError>
     ensures channel { OnOk result (channel_view channel.new ≡ fold carried (channel_view channel.old) (told_by actions.items)) }
+    ensures stays { is_some channel.new.stream ≡ true → channel.new.stream ≡ channel.old.stream }
     ensures waiting { OnOk result (told_by waiting.new.items ≡ told_by waiting.old.items ++ filter is_passed (told_by actions.items)) }
     ensures kept { Extends (told_by waiting.old.items) (told_by waiting.new.items) }
 {
@@ -106,6 +109,7 @@ impl<A: Allocator + Copy, S: Stream> Engine<A, S> {
     pub(crate) fn hand(&mut self, now: u64, input: Input<A>) -> Result<u64, Stop>
         requires { IsPatient now input (course_of self.old None) }
         ensures hands { OnOk result (Hands input (course_of self.old None) (course_of self.new None)) }
+        ensures flows { OnOk result (HandsOver input (flow_of S.remaining S.contents self.old None) (flow_of S.remaining S.contents self.new None)) }
         ensures told { IfOk result (λ moment. moment ≤ self.new.agent.latest) }
         ensures noted { OnOk result (now ≤ self.new.agent.latest) }
         ensures kept { Extends (told_by self.old.waiting.items) (told_by self.new.waiting.items) }
@@ -126,6 +130,7 @@ impl<A: Allocator + Copy, S: Stream> Engine<A, S> {
         requires { is_some self.old.channel.attempt ≡ true }
         ensures goes { OnOk result (GoesBy (Made ∷ []) (course_of self.old None) (course_of self.new None)) }
         ensures notes { OnOk result (Notes happens.Opened (course_of self.old None) (course_of self.new None)) }
+        ensures flows { OnOk result (Flows (flow_of S.remaining S.contents self.old None) (flow_of S.remaining S.contents self.new None)) }
         ensures told { IfOk result (λ moment. moment ≤ self.new.agent.latest) }
         ensures kept { Extends (told_by self.old.waiting.items) (told_by self.new.waiting.items) }
     {
@@ -138,6 +143,7 @@ impl<A: Allocator + Copy, S: Stream> Engine<A, S> {
         requires { is_some self.old.channel.attempt ≡ true }
         ensures goes { OnOk result (GoesBy (Missed ∷ []) (course_of self.old None) (course_of self.new None)) }
         ensures notes { OnOk result (Notes happens.Failed (course_of self.old None) (course_of self.new None)) }
+        ensures flows { OnOk result (Flows (flow_of S.remaining S.contents self.old None) (flow_of S.remaining S.contents self.new None)) }
         ensures told { IfOk result (λ moment. moment ≤ self.new.agent.latest) }
         ensures noted { OnOk result (now ≤ self.new.agent.latest) }
         ensures kept { Extends (told_by self.old.waiting.items) (told_by self.new.waiting.items) }
@@ -153,6 +159,7 @@ impl<A: Allocator + Copy, S: Stream> Engine<A, S> {
         ensures noted { OnOk result (now ≤ self.new.agent.latest) }
         ensures goes { OnOk result (GoesBy (Lost ∷ []) (course_of self.old None) (course_of self.new None)) }
         ensures notes { OnOk result (Notes happens.Cut (course_of self.old None) (course_of self.new None)) }
+        ensures flows { OnOk result (Flows (flow_of S.remaining S.contents self.old None) (flow_of S.remaining S.contents self.new None)) }
         ensures told { IfOk result (λ moment. moment ≤ self.new.agent.latest) }
         ensures kept { Extends (told_by self.old.waiting.items) (told_by self.new.waiting.items) }
     {
@@ -166,6 +173,7 @@ impl<A: Allocator + Copy, S: Stream> Engine<A, S> {
         requires timely { IsTimely now (course_of self.old None) }
         ensures goes { OnOk result (GoesBy [] (course_of self.old None) (course_of self.new None)) }
         ensures notes { OnOk result (Notes happens.Moment (course_of self.old None) (course_of self.new None)) }
+        ensures flows { OnOk result (Flows (flow_of S.remaining S.contents self.old None) (flow_of S.remaining S.contents self.new None)) }
         ensures told { IfOk result (λ moment. moment ≤ self.new.agent.latest) }
         ensures noted { OnOk result (now ≤ self.new.agent.latest) }
         ensures kept { Extends (told_by self.old.waiting.items) (told_by self.new.waiting.items) }
@@ -223,6 +231,7 @@ impl<A: Allocator + Copy, S: Stream> Engine<A, S> {
     pub(crate) fn puts_off(&self, now: u64, brought: &Brought<A>) -> bool
         ensures yes { result ≡ true → IsOverdue self.now.agent (now - 1) }
         ensures no { result ≡ false → IsTaken now brought.now (course_of self.now None) }
+        ensures none { result ≡ true → bytes_in (input_of brought.now) ≡ [] }
     {
         match brought {
             Brought::Nothing => self.is_to_be_read(now),
@@ -281,6 +290,7 @@ impl<A: Allocator + Copy, S: Stream> Engine<A, S> {
         requires open { is_some self.old.channel.stream ≡ true }
         ensures goes { OnOk result (GoesBy [] (course_of self.old None) (course_of self.new None)) }
         ensures notes { OnOk result (Notes (happens.Bytes bytes) (course_of self.old None) (course_of self.new None)) }
+        ensures flows { OnOk result (Flows (record (flow_of S.remaining S.contents self.old None) { held = bytes.items }) (flow_of S.remaining S.contents self.new None)) }
         ensures told { IfOk result (λ moment. moment ≤ self.new.agent.latest) }
         ensures kept { Extends (told_by self.old.waiting.items) (told_by self.new.waiting.items) }
     {
@@ -296,6 +306,7 @@ impl<A: Allocator + Copy, S: Stream> Engine<A, S> {
     fn catch_up(&mut self, now: u64, told: u64) -> Result<u64, Stop>
         requires { told ≤ self.old.agent.latest }
         ensures goes { OnOk result (GoesBy [] (course_of self.old None) (course_of self.new None)) }
+        ensures flows { OnOk result (Flows (flow_of S.remaining S.contents self.old None) (flow_of S.remaining S.contents self.new None)) }
         ensures told { IfOk result (λ moment. moment ≤ self.new.agent.latest) }
         ensures kept { Extends (told_by self.old.waiting.items) (told_by self.new.waiting.items) }
     {
@@ -312,6 +323,7 @@ impl<A: Allocator + Copy, S: Stream> Engine<A, S> {
         requires taken { IsTaken now brought (course_of self.old None) }
         ensures goes { OnOk result (GoesBy (notes_in (input_of brought)) (course_of self.old None) (course_of self.new None)) }
         ensures notes { OnOk result (Notes (input_of brought) (course_of self.old None) (course_of self.new None)) }
+        ensures flows { OnOk result (Flows (record (flow_of S.remaining S.contents self.old None) { held = bytes_in (input_of brought) }) (flow_of S.remaining S.contents self.new None)) }
         ensures told { IfOk result (λ moment. moment ≤ self.new.agent.latest) }
         ensures kept { Extends (told_by self.old.waiting.items) (told_by self.new.waiting.items) }
     {
@@ -326,6 +338,7 @@ impl<A: Allocator + Copy, S: Stream> Engine<A, S> {
     /// that is there as one that is over.
     pub(crate) fn settle(&mut self, now: u64) -> Result<u64, Stop>
         ensures goes { OnOk result (Goes (course_of self.old None) (course_of self.new None)) }
+        ensures flows { OnOk result (Flows (flow_of S.remaining S.contents self.old None) (flow_of S.remaining S.contents self.new None)) }
         ensures told { OnOk result (now ≤ self.new.agent.latest) }
         ensures kept { Extends (told_by self.old.waiting.items) (told_by self.new.waiting.items) }
     {
@@ -339,6 +352,7 @@ impl<A: Allocator + Copy, S: Stream> Engine<A, S> {
     /// The next action for the program.
     pub(crate) fn pop(&mut self) -> Option<Action<A>>
         ensures same { course_of self.new result ≡ course_of self.old None }
+        ensures flow { flow_of S.remaining S.contents self.new result ≡ flow_of S.remaining S.contents self.old None }
         ensures none { IfNone result (self.new.waiting.items ≡ []) }
     {
         self.waiting.pop_front()

@@ -2,13 +2,14 @@
 //!
 //! A [`Driver`] has an agent of `zk_agent`, and does what that says: it dials, hangs up, writes and reads, waits for bytes or for the agent's
 //! deadline, and tells the agent what has happened, with the clock's moment. What else the agent says, [`Driver::next`] gives to the
-//! program, one action after the other; [`Driver::turn`] tells of each connection too.
+//! program, one action after the other; [`Driver::turn`] tells of each connection too. [`laws`] says what follows of the bytes of a connection.
 #![tactic(auto)]
 
 mod bring;
 mod channel;
 mod driver;
 mod engine;
+pub mod laws;
 mod look;
 mod reason;
 mod send;

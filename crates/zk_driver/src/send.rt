@@ -1,12 +1,15 @@
 //! How what goes to the server is written: what a connection does not take at once is kept.
 
-ghost use Rattle.std.specs.Prelude.{◌≡◌, ◌≤◌, length, drop, vec_len, IfSome};
+ghost use Rattle.std.specs.Prelude.{◌≡◌, ◌≤◌, length, drop, take, unwrap_or, vec_len, IfSome};
+ghost use Rattle.std.specs.Io.KnownBytes.{Appends, Keeps};
 ghost use Rattle.zk_link.specs.Frames.{IsLeftOf};
+ghost use Rattle.zk_driver.specs.Flowing.{Sends};
 ghost use Rattle.zk_driver.specs.Reads.{written_by};
 
 use crate::bring::is_late;
 use std::alloc::Allocator;
-use std::io::{self, Write};
+use std::io;
+use zk_link::Stream;
 
 /// The most bytes that one write is asked to take.
 const PIECE: usize = 262_144;
@@ -27,10 +30,12 @@ fn written_by(write: io::Result<usize>) -> Option<usize>
 }
 
 /// How many bytes a connection takes in one write.
-fn write_some<S: Write>(stream: &mut S, bytes: &[u8]) -> Option<usize>
-    ensures { IfSome result (λ count. count ≤ length bytes.now) }
+fn write_some<S: Stream>(stream: &mut S, bytes: &[u8]) -> Option<usize>
+    ensures most { IfSome result (λ count. count ≤ length bytes.now) }
+    ensures takes { Appends (S.contents stream.old) (S.contents stream.new) (take (unwrap_or result 0) bytes.now) }
+    ensures left { Keeps (S.remaining stream.old) (S.remaining stream.new) }
 {
-    let count = written_by(stream.write(bytes))?;
+    let count = written_by(stream.give(bytes))?;
     Some(count.min(bytes.len()))
 }
 
@@ -45,8 +50,10 @@ fn forget_front<A: Allocator>(unsent: &mut Vec<u8, A>, count: usize)
 }
 
 /// Writes of what is left as much as the connection takes for now, in order. Whether the connection has not failed.
-pub(crate) fn send<A: Allocator, S: Write>(stream: &mut S, unsent: &mut Vec<u8, A>) -> bool
-    ensures { IsLeftOf unsent.old.items unsent.new.items }
+pub(crate) fn send<A: Allocator, S: Stream>(stream: &mut S, unsent: &mut Vec<u8, A>) -> bool
+    ensures left { IsLeftOf unsent.old.items unsent.new.items }
+    ensures sends { Sends unsent.old.items unsent.new.items (S.contents stream.old) (S.contents stream.new) }
+    ensures gives { Keeps (S.remaining stream.old) (S.remaining stream.new) }
 {
     for _ in 0..WRITES {
         let piece = unsent.len().min(PIECE);

@@ -1,5 +1,8 @@
 //! How connections begin.
 
+ghost use Rattle.std.specs.Io.{ReadsAtMost, WritesAtMost};
+ghost use Rattle.std.specs.Io.KnownBytes.{Keeps, ReadConsumes, WriteAppends};
+
 use std::io::{self, Read, Write};
 
 /// A connection, which ends where it is dropped.
@@ -8,8 +11,22 @@ use std::io::{self, Read, Write};
 /// `TimedOut`, and is made again later. What was taken goes by itself: nothing is flushed.
 pub trait Stream: Read + Write + Drop {
     /// No read from now on waits longer than `ms` milliseconds, at least 1: one that would is an error of the kind `WouldBlock` or
-    /// `TimedOut`.
-    fn wait_at_most(&mut self, ms: u64) -> io::Result<()>;
+    /// `TimedOut`. Nothing is read or written by this.
+    fn wait_at_most(&mut self, ms: u64) -> io::Result<()>
+        ensures gives { Keeps (Self.remaining self.old) (Self.remaining self.new) }
+        ensures took { Keeps (Self.contents self.old) (Self.contents self.new) };
+
+    /// Reads, as [`read`](Read::read) does, and writes nothing.
+    fn take(&mut self, buf: &mut [u8]) -> io::Result<usize>
+        ensures bound { ReadsAtMost result buf.new }
+        ensures bytes { ReadConsumes (Self.remaining self.old) (Self.remaining self.new) result buf.new }
+        ensures took { Keeps (Self.contents self.old) (Self.contents self.new) };
+
+    /// Writes, as [`write`](Write::write) does, and reads nothing.
+    fn give(&mut self, buf: &[u8]) -> io::Result<usize>
+        ensures bound { WritesAtMost result buf.now }
+        ensures bytes { WriteAppends (Self.contents self.old) (Self.contents self.new) result buf.now }
+        ensures gives { Keeps (Self.remaining self.old) (Self.remaining self.new) };
 }
 
 /// What connects to addresses.

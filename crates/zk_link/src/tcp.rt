@@ -49,6 +49,14 @@ impl<S: Read + Write + OpenStream + Drop> Stream for Socket<S> {
         self.stream
             .set_read_timeout(Some(Duration::from_millis(ms)))
     }
+
+    fn take(&mut self, buf: &mut [u8]) -> io::Result<usize> {
+        self.read(buf)
+    }
+
+    fn give(&mut self, buf: &[u8]) -> io::Result<usize> {
+        self.write(buf)
+    }
 }
 
 /// The addresses that a host has now, in numbers: one that is written in numbers, or all that its name is looked up to.

@@ -96,7 +96,9 @@ impl Engine {
         if let Some(refusal) = self.refusal_of_lane() {
             return Err(refusal);
         }
-        let frame = self.lane.frame(ticket, until, path, call, &self.chroot)?;
+        let now = self.clock.now();
+        let root = &self.chroot;
+        let frame = self.lane.frame(now, ticket, until, path, call, root)?;
         if let LaneCall::Auth(credentials) = call {
             self.introductions.adds(ticket, credentials.clone());
         }
@@ -136,8 +138,9 @@ impl Engine {
         for credentials in self.introductions.known() {
             let ticket = self.calls.next_ticket();
             let call = LaneCall::Auth(credentials);
+            let (now, root) = (self.clock.now(), &self.chroot);
             // Credentials that are too large were refused when they were given.
-            let Ok(frame) = self.lane.frame(ticket, NEVER, "/", &call, &self.chroot) else {
+            let Ok(frame) = self.lane.frame(now, ticket, NEVER, "/", &call, root) else {
                 continue;
             };
             self.introductions.sends(ticket);

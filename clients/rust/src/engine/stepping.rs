@@ -9,28 +9,20 @@ use crate::machine::Machine;
 use crate::moment::Moment;
 use crate::stream::Outgoing;
 use crate::told::News;
-use crate::waiting::Waiting;
 use std::io;
 use std::mem;
 use std::net::SocketAddr;
 
 /// Steps.
 impl Engine {
-    /// The moment that it is, for a step of who has not read all that the connection has. Where the server could count as silent by then, it
-    /// is the last moment before something is due: it may have been heard meanwhile.
+    /// The moment that it is, for a step of who has not read all that the connection has. Where something is due by then, it is the last
+    /// moment before: what was to come may have come meanwhile.
     pub(super) fn now(&self) -> Moment {
         let now = self.clock.now();
-        if self.may_be_silent(now) {
+        if self.line.is_some() {
             return now.min(self.deadline().before());
         }
         now
-    }
-
-    /// Whether a connection could be given up at this moment since nothing was heard for two thirds of the timeout.
-    pub(super) fn may_be_silent(&self, moment: Moment) -> bool {
-        let heard_at = self.machine.heard_at().filter(|_| self.is_connected());
-        let silent_at = heard_at.map(|heard| heard.saturating_add(self.machine.timeout() * 2 / 3));
-        self.line.is_some() && !silent_at.is_some_and(|silent| moment < silent)
     }
 
     /// Takes a step, and does what the machine says.
@@ -49,6 +41,9 @@ impl Engine {
         let news = mem::take(&mut self.told.news);
         if let Some(fault) = taken.as_ref().err().filter(|fault| fault.is_final()) {
             self.end_course(Course::Halted(fault.clone()));
+        }
+        if news.is_left {
+            self.note_unanswered();
         }
         if news.hangs_up || self.is_over() {
             self.hang_up();
@@ -138,10 +133,7 @@ impl Engine {
     /// Writes whole frames. Whether all was written, or there is nobody to write to.
     pub(super) fn write(&mut self, frames: &[u8]) -> bool {
         match &mut self.line {
-            Some(line) if !frames.is_empty() => {
-                self.waiting.sends(self.clock.now(), frames);
-                line.write_all(frames).is_ok()
-            }
+            Some(line) if !frames.is_empty() => line.write_all(frames).is_ok(),
             _ => true,
         }
     }
@@ -199,12 +191,13 @@ impl Engine {
     /// before them in the stream has been heard.
     pub(crate) fn hand_in(&mut self, bytes: &[u8]) -> Result<(), Fault> {
         let now = self.now();
-        self.waiting.hears(bytes);
         let read = self
             .lane
             .take(bytes, &self.chroot, &mut self.inbox, &mut self.answers);
         let actions = self.machine.bytes(now, &self.inbox);
         let taken = actions.and_then(|actions| self.told.take(actions));
+        // Nothing is due at this moment: what the machine leaves a connection for has come.
+        self.told.news.is_left = false;
         if taken.is_ok() {
             self.inbox.clear();
             self.told.answers.append(&mut self.answers);
@@ -216,12 +209,19 @@ impl Engine {
         Ok(())
     }
 
-    /// The connection is given up, since an answer does not come. That a session is not accepted is noted already.
+    /// The connection is given up, since an answer to the lane does not come. That a session is not accepted is noted already.
     pub(super) fn leave(&mut self) -> Result<(), Fault> {
-        if let Some(address) = self.address.filter(|_| self.is_connected()) {
-            self.note_attempt(format!("{address}: an answer did not come"));
+        if self.is_connected() {
+            self.note_unanswered();
         }
         self.end()
+    }
+
+    /// Notes why a connection is given up whose session was accepted.
+    fn note_unanswered(&mut self) {
+        if let Some(address) = self.address {
+            self.note_attempt(format!("{address}: an answer did not come"));
+        }
     }
 
     /// The connection is over, if there is one.
@@ -240,7 +240,6 @@ impl Engine {
     pub(super) fn hang_up(&mut self) {
         self.wanted = None;
         self.dialling = None;
-        self.waiting = Waiting::default();
         self.inbox.clear();
         self.told.frames.clear();
         self.told.answers.append(&mut self.answers);

@@ -86,7 +86,9 @@ impl Session {
     /// Tells what the device says, and lets the server process what goes to it.
     fn hear(&mut self, told: &mut String) -> Result<()> {
         let frames = tell(self.alloc, &mut self.device, told)?;
-        self.bench.receive(frames.as_slice())?;
+        let received = self.bench.receive(frames.as_slice());
+        drop(frames);
+        received?;
         for _ in 0..REQUESTS {
             self.bench.process()?;
         }
@@ -95,8 +97,8 @@ impl Session {
 
     /// Goes on until the server has nothing to say, whose bytes come in pieces of this length at most.
     fn settle(&mut self, piece: usize, told: &mut String) -> Result<()> {
-        self.hear(told)?;
         for _ in 0..PIECES {
+            self.hear(told)?;
             let bytes = self.bench.output(piece)?;
             if bytes.is_empty() {
                 return Ok(());
@@ -104,7 +106,6 @@ impl Session {
             let heard = self.device.bytes_at(self.alloc, self.now, bytes.as_slice());
             drop(bytes);
             tell_number("bytes", code_of(heard), told)?;
-            self.hear(told)?;
         }
         Ok(())
     }
@@ -143,14 +144,14 @@ impl Session {
 
 /// These events, with the bytes of the server in pieces of this length at most: tells what is told.
 pub fn play(alloc: Global, events: &[Event], piece: usize, told: &mut String) -> Result<()> {
-    let Ok(device) = Device::new(alloc, TIMEOUT_MS) else {
-        return Ok(());
-    };
-    let mut session = Session {
-        alloc,
-        bench: Bench::new(alloc, History::new(alloc)),
-        device,
-        now: 0,
+    let mut session = match Device::new(alloc, TIMEOUT_MS) {
+        Ok(device) => Session {
+            alloc,
+            bench: Bench::new(alloc, History::new(alloc)),
+            device,
+            now: 0,
+        },
+        Err(_) => return Ok(()),
     };
     let played = session.go_on(events, piece, told);
     drop(session);

@@ -14,18 +14,41 @@ const OUTPUTS: usize = 100;
 /// More bytes than a text of the session has, except for frames.
 const ROOM: usize = 192;
 
-/// A number, unless it is 0.
-pub fn tell_number(name: &str, number: i32, told: &mut String) -> Result<()> {
-    if number != 0 {
-        writeln!(told, "{name} {number}")?;
+/// A number that is not below 0.
+pub fn natural(number: u64) -> i64 {
+    i64::try_from(number).unwrap_or(i64::MAX)
+}
+
+/// Numbers, each after its word.
+pub fn tell_numbers(numbers: &[(&str, i64)], told: &mut String) -> Result<()> {
+    for (word, number) in numbers {
+        write!(told, "{word}{number}")?;
     }
     Ok(())
+}
+
+/// A number, unless it is 0.
+pub fn tell_number(name: &str, number: i32, told: &mut String) -> Result<()> {
+    if number == 0 {
+        return Ok(());
+    }
+    writeln!(told, "{name} {number}").map_err(From::from)
 }
 
 /// Bytes as text, in a line.
 fn tell_text(alloc: Global, bytes: &[u8], told: &mut String) -> Result<()> {
     let text = String::from_utf8_lossy(alloc, bytes)?;
-    Ok(writeln!(told, "  {text}")?)
+    writeln!(told, "  {text}").map_err(From::from)
+}
+
+/// Names that were copied, as the bytes that spell them.
+fn tell_spelled<F: Drop>(copied: Result<usize, F>, room: &[u8], told: &mut String) -> Result<()> {
+    match copied {
+        Ok(0) | Err(_) => Ok(()),
+        Ok(count) => {
+            writeln!(told, "  {:?}", &room[..count.min(room.len())]).map_err(From::from)
+        }
+    }
 }
 
 /// The frame that was told last, after the others.
@@ -33,7 +56,7 @@ fn take_frame(alloc: Global, length: usize, device: &Device, frames: &mut Vec<u8
     let mut frame = Vec::new(alloc);
     frame.resize(length, 0u8)?;
     device.copy_text(0, frame.as_mut_slice());
-    Ok(frames.append(&mut frame)?)
+    frames.append(&mut frame).map_err(From::from)
 }
 
 /// The text of an output, and its names.
@@ -47,28 +70,25 @@ fn tell_texts(alloc: Global, flat: Flat, device: &Device, told: &mut String) -> 
         let count = device.copy_name(index, &mut room);
         tell_text(alloc, &room[..count.min(ROOM)], told)?;
     }
-    match device.copy_names(alloc, &mut room) {
-        Ok(0) | Err(_) => Ok(()),
-        Ok(count) => Ok(writeln!(told, "  {:?}", &room[..count.min(ROOM)])?),
-    }
+    let copied = device.copy_names(alloc, &mut room);
+    tell_spelled(copied, &room, told)
 }
 
 /// An output that is no frame.
 fn tell_flat(alloc: Global, flat: Flat, device: &Device, told: &mut String) -> Result<()> {
-    writeln!(
-        told,
-        "{} {} {} {} ticket {} zxid {} null {} stat {} version {} pzxid {}",
-        flat.kind,
-        flat.detail,
-        flat.result,
-        flat.code,
-        flat.ticket,
-        flat.zxid,
-        flat.is_null,
-        flat.has_stat,
-        flat.stat.version,
-        flat.stat.pzxid,
-    )?;
+    let numbers = [
+        ("", i64::from(flat.kind)),
+        (" ", i64::from(flat.detail)),
+        (" ", i64::from(flat.result)),
+        (" ", i64::from(flat.code)),
+        (" ticket ", natural(flat.ticket)),
+        (" zxid ", flat.zxid),
+    ];
+    let (version, pzxid) = (i64::from(flat.stat.version), flat.stat.pzxid);
+    tell_numbers(&numbers, told)?;
+    write!(told, " null {} stat {}", flat.is_null, flat.has_stat)?;
+    tell_numbers(&[(" version ", version), (" pzxid ", pzxid)], told)?;
+    told.push('\n')?;
     tell_texts(alloc, flat, device, told)
 }
 
@@ -88,24 +108,13 @@ pub fn tell(alloc: Global, device: &mut Device, told: &mut String) -> Result<Vec
     Ok(frames)
 }
 
-/// Tells the names that are kept of a path, as the bytes that spell them.
-fn tell_names(alloc: Global, device: &Device, path: &str, told: &mut String) -> Result<()> {
-    let mut room = [0; ROOM];
-    match peek_names(alloc, &device.client, path.as_bytes(), &mut room) {
-        Ok(0) | Err(_) => Ok(()),
-        Ok(count) => Ok(writeln!(told, "  {:?}", &room[..count.min(ROOM)])?),
-    }
-}
-
 /// Tells what is kept of a path: of its data the kind, the mark, and the bytes; of its names the mark, how many, and the bytes.
 pub fn tell_kept(alloc: Global, device: &Device, path: &str, told: &mut String) -> Result<()> {
     let mut room = [0; ROOM];
     if let Ok(kept) = peek_data(alloc, &device.client, path.as_bytes(), &mut room) {
-        writeln!(
-            told,
-            "data {} {} null {}",
-            kept.kind, kept.mark, kept.is_null
-        )?;
+        let (kind, mark) = (i64::from(kept.kind), i64::from(kept.mark));
+        tell_numbers(&[("data ", kind), (" ", mark)], told)?;
+        writeln!(told, " null {}", kept.is_null)?;
         if kept.length != 0 {
             tell_text(alloc, &room[..kept.length.min(ROOM)], told)?;
         }
@@ -117,7 +126,8 @@ pub fn tell_kept(alloc: Global, device: &Device, path: &str, told: &mut String) 
             kept.mark, kept.count, kept.pzxid
         )?;
     }
-    tell_names(alloc, device, path, told)
+    let names = peek_names(alloc, &device.client, path.as_bytes(), &mut room);
+    tell_spelled(names, &room, told)
 }
 
 /// Bytes that were copied, or the number of the refusal.
@@ -128,10 +138,12 @@ fn tell_copied(
     told: &mut String,
 ) -> Result<()> {
     match copied {
-        Ok(count) => writeln!(told, "{name} {count} {:?}", &room[..count.min(room.len())])?,
-        Err(refusal) => writeln!(told, "{name} {}", refusal.code())?,
+        Ok(count) => {
+            let bytes = &room[..count.min(room.len())];
+            writeln!(told, "{name} {count} {bytes:?}").map_err(From::from)
+        }
+        Err(refusal) => tell_number(name, refusal.code(), told),
     }
-    Ok(())
 }
 
 /// Tells all nodes at and below a path, if there are at most this many, and what is lacking, as the bytes that spell them.
@@ -153,7 +165,9 @@ pub fn tell_collected(
 fn add_text(text: &str, spelled: &mut Vec<u8>) -> Result<()> {
     let length = u8::try_from(text.len()).unwrap_or(u8::MAX);
     spelled.extend_from_slice(&[0, 0, 0, length])?;
-    Ok(spelled.extend_from_slice(text.as_bytes())?)
+    spelled
+        .extend_from_slice(text.as_bytes())
+        .map_err(From::from)
 }
 
 /// Tells whether the session comes first in `/l`, where names have the marker `lock-` before their number.
@@ -177,12 +191,11 @@ pub fn tell_standing(
         markers: b"\0\0\0\x05lock-\0\0\0\x05lock-",
     };
     match standing(alloc, &device.client, &contender, &mut room) {
-        Ok(Stands::First(token)) => writeln!(told, "first {token}")?,
-        Ok(Stands::After(count)) => tell_text(alloc, &room[..count.min(ROOM)], told)?,
-        Ok(Stands::Unsure) => writeln!(told, "unsure")?,
-        Err(refusal) => writeln!(told, "standing {}", refusal.code())?,
+        Ok(Stands::First(token)) => writeln!(told, "first {token}").map_err(From::from),
+        Ok(Stands::After(count)) => tell_text(alloc, &room[..count.min(ROOM)], told),
+        Ok(Stands::Unsure) => told.push_str("unsure\n").map_err(From::from),
+        Err(refusal) => tell_number("standing", refusal.code(), told),
     }
-    Ok(())
 }
 
 /// Tells what is kept of several paths, as the bytes that spell it.
@@ -214,9 +227,8 @@ pub fn tell_holder(
         prefix,
         path.as_bytes(),
     ) {
-        Ok(Some(token)) => writeln!(told, "holds {token}")?,
-        Ok(None) => writeln!(told, "holds not")?,
-        Err(refusal) => writeln!(told, "holder {}", refusal.code())?,
+        Ok(Some(token)) => writeln!(told, "holds {token}").map_err(From::from),
+        Ok(None) => told.push_str("holds not\n").map_err(From::from),
+        Err(refusal) => tell_number("holder", refusal.code(), told),
     }
-    Ok(())
 }

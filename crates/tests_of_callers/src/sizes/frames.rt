@@ -1,4 +1,4 @@
-//! What a server sends, spelled by zookeeper.jute.
+//! What a server sends, spelled by zookeeper.jute. A long is two ints.
 
 use std::alloc::{AllocError, Allocator};
 
@@ -12,89 +12,72 @@ pub const STAT: usize = 68;
 /// The error of a reply where there is no node.
 const NO_NODE: i32 = -101;
 
-/// A frame that is being spelled.
-#[derive(Drop)]
-pub struct Spelled<A: Allocator> {
-    bytes: Vec<u8, A>,
+/// A length, or a count.
+fn int(count: usize) -> i32 {
+    i32::try_from(count).unwrap_or(i32::MAX)
 }
 
-impl<A: Allocator> Spelled<A> {
-    /// Nothing yet.
-    pub fn new(alloc: A) -> Result<Spelled<A>, AllocError> {
-        Spelled {
-            bytes: Vec::new(alloc),
-        }
-        .int(0)
+/// Adds ints.
+fn add<A: Allocator>(ints: &[i32], bytes: &mut Vec<u8, A>) -> Result<(), AllocError> {
+    for number in ints {
+        bytes.extend_from_slice(&number.to_be_bytes())?;
     }
+    Ok(())
+}
 
-    /// An int.
-    pub fn int(mut self, number: i32) -> Result<Spelled<A>, AllocError> {
-        self.bytes.extend_from_slice(&number.to_be_bytes())?;
-        Ok(self)
+/// Adds this many bytes 0, and writes the length of the frame into its place.
+fn end<A: Allocator>(zeros: usize, bytes: &mut Vec<u8, A>) -> Result<(), AllocError> {
+    let length = bytes.len().saturating_add(zeros);
+    bytes.resize(length, 0)?;
+    if let Some(head) = bytes.as_mut_slice().get_mut(..LENGTH) {
+        head.copy_from_slice(&int(length.saturating_sub(LENGTH)).to_be_bytes());
     }
+    Ok(())
+}
 
-    /// A long.
-    pub fn long(mut self, number: i64) -> Result<Spelled<A>, AllocError> {
-        self.bytes.extend_from_slice(&number.to_be_bytes())?;
-        Ok(self)
-    }
-
-    /// A buffer, or a text.
-    pub fn buffer(self, bytes: &[u8]) -> Result<Spelled<A>, AllocError> {
-        let mut spelled = self.int(i32::try_from(bytes.len()).unwrap_or(i32::MAX))?;
-        spelled.bytes.extend_from_slice(bytes)?;
-        Ok(spelled)
-    }
-
-    /// A buffer of this many bytes 0.
-    pub fn zeros(self, count: usize) -> Result<Spelled<A>, AllocError> {
-        let mut spelled = self.int(i32::try_from(count).unwrap_or(i32::MAX))?;
-        let length = spelled.bytes.len().saturating_add(count);
-        spelled.bytes.resize(length, 0)?;
-        Ok(spelled)
-    }
-
-    /// A Stat of nothing but 0.
-    pub fn stat(mut self) -> Result<Spelled<A>, AllocError> {
-        let length = self.bytes.len().saturating_add(STAT);
-        self.bytes.resize(length, 0)?;
-        Ok(self)
-    }
-
-    /// The frame: the bytes after their length.
-    pub fn frame(mut self) -> Vec<u8, A> {
-        let length = i32::try_from(self.bytes.len().saturating_sub(LENGTH)).unwrap_or(i32::MAX);
-        if let Some(head) = self.bytes.as_mut_slice().get_mut(..LENGTH) {
-            head.copy_from_slice(&length.to_be_bytes());
-        }
-        self.bytes
-    }
+/// A frame: ints, the first of which becomes its length, and this many bytes 0.
+fn frame<A: Allocator>(alloc: A, ints: &[i32], zeros: usize) -> Result<Vec<u8, A>, AllocError> {
+    let mut bytes = Vec::new(alloc);
+    let added = add(ints, &mut bytes).is_ok() && end(zeros, &mut bytes).is_ok();
+    if added { Ok(bytes) } else { Err(AllocError) }
 }
 
 /// A session that is accepted, with a password of this many bytes.
 pub fn accepted<A: Allocator>(alloc: A, password: usize) -> Result<Vec<u8, A>, AllocError> {
-    let fields = Spelled::new(alloc)?.int(0)?.int(30_000)?.long(1)?;
-    Ok(fields.zeros(password)?.frame())
-}
-
-/// The header of a reply, with zxid 1.
-fn header<A: Allocator>(alloc: A, xid: i32, error: i32) -> Result<Spelled<A>, AllocError> {
-    Spelled::new(alloc)?.int(xid)?.long(1)?.int(error)
+    frame(alloc, &[0, 0, 30_000, 0, 1, int(password)], password)
 }
 
 /// A reply that there is no node.
 pub fn no_node<A: Allocator>(alloc: A, xid: i32) -> Result<Vec<u8, A>, AllocError> {
-    Ok(header(alloc, xid, NO_NODE)?.frame())
+    frame(alloc, &[0, xid, 0, 1, NO_NODE], 0)
 }
 
 /// A reply that says nothing more.
 pub fn done<A: Allocator>(alloc: A, xid: i32) -> Result<Vec<u8, A>, AllocError> {
-    Ok(header(alloc, xid, 0)?.frame())
+    frame(alloc, &[0, xid, 0, 1, 0], 0)
 }
 
 /// A reply of data, of this many bytes.
 pub fn data<A: Allocator>(alloc: A, xid: i32, count: usize) -> Result<Vec<u8, A>, AllocError> {
-    Ok(header(alloc, xid, 0)?.zeros(count)?.stat()?.frame())
+    frame(
+        alloc,
+        &[0, xid, 0, 1, 0, int(count)],
+        count.saturating_add(STAT),
+    )
+}
+
+/// Adds this many names.
+fn add_names<A: Allocator + Copy>(
+    alloc: A,
+    count: usize,
+    bytes: &mut Vec<u8, A>,
+) -> Result<(), AllocError> {
+    for number in 0..count {
+        let name = format!(in alloc; "{number}")?;
+        add(&[int(name.len())], bytes)?;
+        bytes.extend_from_slice(name.as_bytes())?;
+    }
+    Ok(())
 }
 
 /// A reply of this many names.
@@ -103,10 +86,8 @@ pub fn names<A: Allocator + Copy>(
     xid: i32,
     count: usize,
 ) -> Result<Vec<u8, A>, AllocError> {
-    let mut spelled = header(alloc, xid, 0)?.int(i32::try_from(count).unwrap_or(i32::MAX))?;
-    for number in 0..count {
-        let name = format!(in alloc; "{number}")?;
-        spelled = spelled.buffer(name.as_bytes())?;
-    }
-    Ok(spelled.stat()?.frame())
+    let mut bytes = frame(alloc, &[0, xid, 0, 1, 0, int(count)], 0)?;
+    add_names(alloc, count, &mut bytes)?;
+    end(STAT, &mut bytes)?;
+    Ok(bytes)
 }

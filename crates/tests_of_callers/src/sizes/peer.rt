@@ -104,6 +104,12 @@ impl<A: Allocator + Copy> Peer<A> {
         Ok(count)
     }
 
+    /// The connection is over, and another one begins, as by `connect`.
+    pub fn again(&mut self, password: usize) -> Result<usize> {
+        self.cut()?;
+        self.connect(password)
+    }
+
     /// A call.
     pub fn ask(&mut self, call: Call<A>) -> Result<Count> {
         let mut count = NOTHING;

@@ -1,5 +1,6 @@
 //! What is a number in a request, a reply or a notice.
 
+use crate::values::one::tell_one;
 use anyhow::Result;
 use std::io::Write;
 use zk_client::{Code, CreateMode, Event};
@@ -37,7 +38,7 @@ static CODES: [Code; 13] = [
 /// The flags of each kind of node in a request that makes it.
 pub fn tell_modes<W: Write>(out: &mut W) -> Result<()> {
     for mode in &MODES {
-        writeln!(out, "CreateMode {mode:?} {}", mode.flags())?;
+        tell_one("CreateMode", mode, mode.flags(), out)?;
     }
     Ok(())
 }
@@ -45,7 +46,7 @@ pub fn tell_modes<W: Write>(out: &mut W) -> Result<()> {
 /// The type of each event in a notice.
 pub fn tell_events<W: Write>(out: &mut W) -> Result<()> {
     for event in &EVENTS {
-        writeln!(out, "Event {event:?} {}", event.number())?;
+        tell_one("Event", event, event.number(), out)?;
     }
     Ok(())
 }
@@ -53,7 +54,7 @@ pub fn tell_events<W: Write>(out: &mut W) -> Result<()> {
 /// The error of each code in the header of a reply.
 pub fn tell_codes<W: Write>(out: &mut W) -> Result<()> {
     for code in &CODES {
-        writeln!(out, "Code {code:?} {}", code.number())?;
+        tell_one("Code", code, code.number(), out)?;
     }
     Ok(())
 }

@@ -1,5 +1,6 @@
 //! What is a code in a print: why there is no reply, and why a connection is given up.
 
+use crate::values::one::tell_one;
 use anyhow::Result;
 use std::alloc::Global;
 use std::io::Write;
@@ -40,7 +41,7 @@ static FAULTS: [Fault; 10] = [
 pub fn tell_outcomes<W: Write>(out: &mut W) -> Result<()> {
     for outcome in &OUTCOMES {
         let code = outcome.code().unwrap_or("none");
-        writeln!(out, "Outcome {outcome:?} {code}")?;
+        tell_one("Outcome", outcome, code, out)?;
     }
     Ok(())
 }
@@ -50,7 +51,9 @@ pub fn tell_faults<W: Write>(alloc: Global, out: &mut W) -> Result<()> {
     for fault in &FAULTS {
         let mut told = String::new(alloc);
         push_fault(&mut told, alloc, fault)?;
-        writeln!(out, "Fault {fault:?} {}:{told}", fault.code())?;
+        let written = writeln!(out, "Fault {fault:?} {}:{told}", fault.code());
+        drop(told);
+        written?;
     }
     Ok(())
 }

@@ -1,5 +1,6 @@
 //! What is a word in a print.
 
+use crate::values::one::tell_one;
 use anyhow::Result;
 use std::alloc::Global;
 use std::io::Write;
@@ -22,7 +23,7 @@ static MARKS: [Mark; 2] = [Mark::Good, Mark::Stale];
 /// The word for each state.
 pub fn tell_states<W: Write>(out: &mut W) -> Result<()> {
     for state in &STATES {
-        writeln!(out, "State {state:?} {}", state_to_word(*state))?;
+        tell_one("State", state, state_to_word(*state), out)?;
     }
     Ok(())
 }
@@ -30,7 +31,7 @@ pub fn tell_states<W: Write>(out: &mut W) -> Result<()> {
 /// The word for each side.
 pub fn tell_sides<W: Write>(out: &mut W) -> Result<()> {
     for side in &SIDES {
-        writeln!(out, "Side {side:?} {}", side_to_word(*side))?;
+        tell_one("Side", side, side_to_word(*side), out)?;
     }
     Ok(())
 }
@@ -39,7 +40,9 @@ pub fn tell_sides<W: Write>(out: &mut W) -> Result<()> {
 pub fn tell_marks<W: Write>(alloc: Global, out: &mut W) -> Result<()> {
     for mark in &MARKS {
         let line = data_line(alloc, Some((&DataAnswer::Absent, *mark)))?;
-        write!(out, "Mark {mark:?} {line}")?;
+        let written = write!(out, "Mark {mark:?} {line}");
+        drop(line);
+        written?;
     }
     Ok(())
 }

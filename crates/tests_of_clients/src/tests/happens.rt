@@ -139,19 +139,15 @@ fn set<A: Allocator + Copy>(alloc: A, length: usize) -> Result<Input<A>, AllocEr
 
 /// A reply in a piece of its own, with one request for memory.
 fn reply<A: Allocator>(alloc: A, xid: u32, told: Reply) -> Result<Input<A>, AllocError> {
-    let mut frame = Vec::with_capacity(alloc, 94)?;
-    put_reply(&mut frame, xid, told)?;
-    Ok(Input::Bytes(frame))
-}
-
-fn put_reply<A: Allocator>(
-    frame: &mut Vec<u8, A>,
-    xid: u32,
-    told: Reply,
-) -> Result<(), AllocError> {
     let (length, first) = told;
-    frame.extend_from_slice(&[0, 0, 0, length])?;
-    frame.extend_from_slice(&xid.to_be_bytes())?;
-    frame.extend_from_slice(first)?;
-    frame.resize(usize::from(length) + 4, 0)
+    let mut frame = Vec::with_capacity(alloc, 94)?;
+    let is_put = frame.extend_from_slice(&[0, 0, 0, length]).is_ok()
+        && frame.extend_from_slice(&xid.to_be_bytes()).is_ok()
+        && frame.extend_from_slice(first).is_ok()
+        && frame.resize(usize::from(length) + 4, 0).is_ok();
+    if is_put {
+        Ok(Input::Bytes(frame))
+    } else {
+        Err(AllocError)
+    }
 }

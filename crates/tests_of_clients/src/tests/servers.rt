@@ -5,18 +5,6 @@ use crate::tests::scripts::{Line, Makes, Move, Row, Script};
 use std::alloc::{AllocError, Allocator, Global};
 use zk_bench::Bench;
 use zk_history::{Change, History, HistoryFault};
-use zk_nodes::Path;
-
-// A path, with its data.
-fn node<A: Allocator + Copy>(
-    heap: A,
-    text: &str,
-    data: &str,
-) -> Result<(Path<A>, Option<Vec<u8, A>>), AllocError> {
-    let path = path_of(heap, text)?;
-    let bytes = Vec::from_slice(heap, data.as_bytes())?;
-    Ok((path, Some(bytes)))
-}
 
 fn add<A: Allocator + Copy>(
     heap: A,
@@ -27,7 +15,8 @@ fn add<A: Allocator + Copy>(
     if let Makes::Transaction(zxid) = makes {
         return history.begin(zxid, number);
     }
-    let (path, bytes) = node(heap, text, data)?;
+    let bytes = Some(Vec::from_slice(heap, data.as_bytes())?);
+    let path = path_of(heap, text)?;
     match makes {
         Makes::Node => history.node(path, bytes, number),
         Makes::Create => history.change(Change::Create(path, bytes, number)),

@@ -207,10 +207,22 @@ enum Before {
     Part,
 }
 
-// The call, where there is memory for it.
-fn call<A: Allocator + Copy>(alloc: A, text: &str, before: Before) -> Option<Call<A>> {
+// The frame that is to be sent.
+fn ask<A: Allocator + Copy>(
+    alloc: A,
+    conversation: &mut Conversation<A>,
+    before: Before,
+) -> Option<Vec<u8, A>> {
+    if conversation.phase() != Phase::Talking {
+        return None;
+    }
+    let (ticket, text) = match before {
+        Before::Data => (7, "/a"),
+        Before::Create => (8, "/l/n-"),
+        _ => (8, "/a"),
+    };
     let path = Path::new(alloc, text).ok()?;
-    Some(match before {
+    let call = match before {
         Before::Names => Call::GetChildren { path, watch: true },
         Before::Create => Call::Create {
             path,
@@ -218,25 +230,7 @@ fn call<A: Allocator + Copy>(alloc: A, text: &str, before: Before) -> Option<Cal
             mode: CreateMode::EphemeralSequential,
         },
         _ => Call::GetData { path, watch: true },
-    })
-}
-
-// The frame that is to be sent.
-fn ask<A: Allocator + Copy>(
-    alloc: A,
-    conversation: &mut Conversation<A>,
-    before: Before,
-) -> Option<Vec<u8, A>> {
-    let (ticket, text) = match before {
-        Before::Data => (7, "/a"),
-        Before::Create => (8, "/l/n-"),
-        _ => (8, "/a"),
     };
-    let call = call(alloc, text, before)?;
-    if conversation.phase() != Phase::Talking {
-        drop(call);
-        return None;
-    }
     match conversation.ask(ticket, call) {
         Ok(asked) => Some(asked.frame),
         Err(_) => None,
@@ -271,11 +265,16 @@ fn begins_by(alloc: Global, conversation: &mut Conversation<Global>, before: Bef
     if open(conversation).is_none() {
         return false;
     }
+    if let Before::Opening = before {
+        return true;
+    }
+    if !is_accepted(alloc, conversation) {
+        return false;
+    }
     match before {
-        Before::Opening => true,
-        Before::Nothing => is_accepted(alloc, conversation),
-        Before::Part => is_accepted(alloc, conversation) && send_part(conversation).is_some(),
-        _ => is_accepted(alloc, conversation) && ask(alloc, conversation, before).is_some(),
+        Before::Nothing => true,
+        Before::Part => send_part(conversation).is_some(),
+        _ => ask(alloc, conversation, before).is_some(),
     }
 }
 
@@ -443,15 +442,14 @@ static HOSTILE: [(Before, &[u8], Want); 13] = [
     ),
 ];
 
-fn sends(alloc: Global, before: Before, payload: &[u8], want: &Want) -> bool {
-    let mut conversation = Conversation::new(alloc);
-    begins_by(alloc, &mut conversation, before) && arrives(alloc, &mut conversation, payload, want)
-}
-
 #[test]
 fn tells_what_a_peer_sends(rt: HostRuntime) {
     for (place, (before, payload, want)) in HOSTILE.iter().enumerate() {
-        holds(&rt, sends(rt.alloc(), *before, payload, want), place);
+        let mut conversation = Conversation::new(rt.alloc());
+        let is = begins_by(rt.alloc(), &mut conversation, *before)
+            && arrives(rt.alloc(), &mut conversation, payload, want);
+        drop(conversation);
+        holds(&rt, is, place);
     }
 }
 

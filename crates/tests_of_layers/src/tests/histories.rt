@@ -3,7 +3,7 @@
 use crate::tests::checks::holds;
 use crate::tests::refused_memory::{Steps, refuse_each};
 use refusing::Refusing;
-use std::alloc::{AllocError, Allocator, Global};
+use std::alloc::{Allocator, Global};
 use std::process::Abort;
 use zk_history::{Change, Data, History, HistoryFault};
 use zk_nodes::{Names, Path, Stat};
@@ -149,16 +149,6 @@ fn path_of<A: Allocator + Copy>(alloc: A, text: &str) -> Result<Path<A>, History
     }
 }
 
-fn data_of<A: Allocator + Copy>(
-    alloc: A,
-    text: Option<&str>,
-) -> Result<Option<Vec<u8, A>>, AllocError> {
-    match text {
-        Some(text) => Ok(Some(Vec::from_slice(alloc, text.as_bytes())?)),
-        None => Ok(None),
-    }
-}
-
 // Gives a history what a line does.
 fn take<A: Allocator + Copy>(
     alloc: A,
@@ -169,7 +159,10 @@ fn take<A: Allocator + Copy>(
         Line::Tx(zxid, time) => return history.begin(*zxid, *time),
         Line::At(what, text, data) => (what, text, data),
     };
-    let bytes = data_of(alloc, *data)?;
+    let bytes = match data {
+        Some(text) => Some(Vec::from_slice(alloc, text.as_bytes())?),
+        None => None,
+    };
     let path = path_of(alloc, text)?;
     match what {
         What::Node(time) => history.node(path, bytes, *time),

@@ -130,31 +130,30 @@ impl IsKept for Listed {
     }
 }
 
-fn keeps_full(alloc: Global, cache: &mut Cache<Global>, path: &Path<Global>, mzxid: i64) -> bool {
-    match Vec::from_slice(alloc, &BYTES) {
-        Ok(bytes) => {
-            let full = DataAnswer::Full(Some(bytes), stat(mzxid));
-            cache.keep_data(path, full).is_ok()
-        }
-        Err(_) => false,
-    }
-}
-
 fn takes(alloc: Global, cache: &mut Cache<Global>, path: &Path<Global>, step: Step) -> bool {
-    match step {
-        Step::Absent => return cache.keep_data(path, DataAnswer::Absent).is_ok(),
-        Step::Known(mzxid) => {
-            let known = DataAnswer::Known(stat(mzxid));
-            return cache.keep_data(path, known).is_ok();
-        }
-        Step::Full(mzxid) => return keeps_full(alloc, cache, path, mzxid),
+    let answer = match step {
+        Step::Absent => DataAnswer::Absent,
+        Step::Known(mzxid) => DataAnswer::Known(stat(mzxid)),
+        Step::Full(mzxid) => match Vec::from_slice(alloc, &BYTES) {
+            Ok(bytes) => DataAnswer::Full(Some(bytes), stat(mzxid)),
+            Err(_) => return false,
+        },
         Step::Few(pzxid) => return cache.keep_children(path, &FEW, pzxid).is_ok(),
         Step::Listing(pzxid) => return cache.keep_children(path, &LISTING, pzxid).is_ok(),
-        Step::Spoil(side) => cache.stale(side, "/a"),
-        Step::Forget => cache.forget_stale(),
-        Step::Clear => cache.clear(),
-    }
-    true
+        Step::Spoil(side) => {
+            cache.stale(side, "/a");
+            return true;
+        }
+        Step::Forget => {
+            cache.forget_stale();
+            return true;
+        }
+        Step::Clear => {
+            cache.clear();
+            return true;
+        }
+    };
+    cache.keep_data(path, answer).is_ok()
 }
 
 // Goes through the rows.

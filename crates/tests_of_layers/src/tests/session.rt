@@ -158,20 +158,17 @@ fn saved(session: i64, password: &[u8], last_zxid: i64) -> Saved<'_> {
     }
 }
 
-fn response(time_out: i32, password: &[u8]) -> Response<'_> {
-    Response {
-        time_out,
-        session_id: 2748,
-        password,
-    }
-}
-
 // Whether a response with a timeout of 0 or less, and no other, is answered as an expiry.
 fn is_answered<A: Allocator>(session: &mut Session<A>, time_out: i32, password: &[u8]) -> bool {
     if session.state() != State::Connecting {
         return false;
     }
-    match session.accepted(&response(time_out, password)) {
+    let response = Response {
+        time_out,
+        session_id: 2748,
+        password,
+    };
+    match session.accepted(&response) {
         Ok(accepted) => (accepted == Accepted::Expired) == (time_out <= 0),
         Err(_) => false,
     }

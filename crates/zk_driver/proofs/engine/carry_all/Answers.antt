@@ -3,7 +3,7 @@ use Rattle.std.specs.Prelude.{fold}
 use Rattle.std.specs.List.{filter}
 use Rattle.zk_agent.specs.Telling.{action_view, told_by}
 use Rattle.zk_driver.specs.Driving.{carried, channel_view, is_passed}
-use Rattle.zk_driver.proofs.Carrying.{kept_more, made_more, extends_on}
+use Rattle.zk_driver.proofs.Carrying.{kept_more, made_more, extends_on, stays_on}
 use Rattle.zk_driver.proofs.engine.carry_all.Goals as goal
 
 pub loop-action-preserved : goal.loop-action-preserved
@@ -12,9 +12,14 @@ loop-action-preserved g c = record {
       (action_view c.in-Some.action) (told_by c.pop_front.new.self.items) (told_by c.loop-action.left.items) (ap told_by c.in-Some.ensures.items) c.in_ok-carry.ensures.channel c.loop-action.invariant.channel;
   waiting = kept_more is_passed (told_by c.loop-action.waiting.items) (told_by c.carry.new.waiting.items) (told_by c.args.waiting.now.items ++ filter is_passed (told_by c.args.actions.items))
       (action_view c.in-Some.action) (told_by c.pop_front.new.self.items) (told_by c.loop-action.left.items) (ap told_by c.in-Some.ensures.items) c.in_ok-carry.ensures.waiting c.loop-action.invariant.waiting;
+  stays = stays_on c.args.channel.now.stream c.loop-action.channel.stream c.carry.new.channel.stream c.loop-action.invariant.stays c.carry.ensures.stays;
   kept = extends_on (told_by c.args.waiting.now.items) (told_by c.loop-action.waiting.items) (told_by c.carry.new.waiting.items) c.loop-action.invariant.kept c.carry.ensures.kept;
 }
 
 pub returns-in_err-carry-clause-kept : goal.returns-in_err-carry-clause-kept
 returns-in_err-carry-clause-kept g c =
     extends_on (told_by c.args.waiting.now.items) (told_by c.loop-action.waiting.items) (told_by c.carry.new.waiting.items) c.loop-action.invariant.kept c.carry.ensures.kept
+
+pub returns-in_err-carry-clause-stays : goal.returns-in_err-carry-clause-stays
+returns-in_err-carry-clause-stays g c =
+    stays_on c.args.channel.now.stream c.loop-action.channel.stream c.carry.new.channel.stream c.loop-action.invariant.stays c.carry.ensures.stays

@@ -1,5 +1,5 @@
-use Rattle.std.proofs.Common.{◌≡◌, ◌++◌, length}
-use Rattle.std.specs.Prelude.{fold}
+use Rattle.std.proofs.Common.{◌≡◌, ◌++◌, length, true}
+use Rattle.std.specs.Prelude.{fold, is_some}
 use Rattle.std.specs.List.{filter}
 use Rattle.zk_agent.specs.Telling.{told_by}
 use Rattle.zk_driver.specs.Driving.{carried, channel_view, is_passed, Extends}
@@ -10,6 +10,7 @@ abbrev pub invariant-loop-action : goal.invariant-loop-action
 invariant-loop-action g l = record {
   channel : fold carried (channel_view l.channel) (told_by l.left.items) ≡ fold carried (channel_view l.fn.channel) (told_by l.fn.actions.items);
   waiting : told_by l.waiting.items ++ filter is_passed (told_by l.left.items) ≡ told_by l.fn.waiting.items ++ filter is_passed (told_by l.fn.actions.items);
+  stays : is_some l.channel.stream ≡ true → l.channel.stream ≡ l.fn.channel.stream;
   kept : Extends (told_by l.fn.waiting.items) (told_by l.waiting.items);
 }
 

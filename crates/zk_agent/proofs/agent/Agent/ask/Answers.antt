@@ -21,5 +21,5 @@ returns-clause-comes g c =
       its_limit = refl;
       waits = refl;
       last = trail_eq (record old { line = old.line ++ entry ∷ [] }) between (ap (λ (f : Follower g.row.A.Denot). view_of f.client) c.ask.ensures.follower)
-          (ap (λ (f : Follower g.row.A.Denot). f.subjects.items) c.ask.ensures.follower) c.in_ok-ask.ensures.line refl refl refl;
+          (ap (λ (f : Follower g.row.A.Denot). f.subjects.items) c.ask.ensures.follower) c.in_ok-ask.ensures.line refl refl refl refl;
     })) c.hear.ensures.comes

@@ -13,7 +13,7 @@ returns-clause-comes g c =
     let old = trail_of c.args.self.now c.args.actions.now.items in
     let new = record old { dialler = c.due-due.new.self; told = told_by c.push_due.new.actions.items } in
     on_ok _ _ c.push_due.result (λ told. decided old new c.timeout_ms-timeout_ms.result c.args.now c.due-due.result
-    (not_closed (view_of c.args.self.now.asker.follower.client).standing.state (sym c.is_closed.ensures ∙ c.if-is_closed.false)) c.timeout_ms-timeout_ms.ensures c.due-due.ensures.well c.due-due.ensures.told (trail_eq _ new refl refl refl refl refl told)) c.push_due.ensures
+    (not_closed (view_of c.args.self.now.asker.follower.client).standing.state (sym c.is_closed.ensures ∙ c.if-is_closed.false)) c.timeout_ms-timeout_ms.ensures c.due-due.ensures.well c.due-due.ensures.told (trail_eq _ new refl refl refl refl refl refl told)) c.push_due.ensures
 
 pub returns-then-is_closed-clause-comes : goal.returns-then-is_closed-clause-comes
 returns-then-is_closed-clause-comes g c = nothing c.args.now (trail_of c.args.self.now c.args.actions.now.items)

@@ -18,7 +18,7 @@ returns-clause-comes g c =
     let new = trail_of (record c.args.self.now { asker = c.give_up.new.self }) c.give_up.new.actions.items in
     both_ok c.give_up.result (λ line told.
     one c.args.now (GivesUp c.args.now) old new refl refl (trail_eq (record old { line = left (Late c.args.now) old.line; told = old.told ++ endings (Late c.args.now) old.line }) new
-    (ap (λ (f : Follower g.row.A.Denot). view_of f.client) c.give_up.ensures.follower) (ap (λ (f : Follower g.row.A.Denot). f.subjects.items) c.give_up.ensures.follower) line refl refl told))
+    (ap (λ (f : Follower g.row.A.Denot). view_of f.client) c.give_up.ensures.follower) (ap (λ (f : Follower g.row.A.Denot). f.subjects.items) c.give_up.ensures.follower) line refl refl refl told))
     c.give_up.ensures.line c.give_up.ensures.told
 
 pub returns-clause-limits : goal.returns-clause-limits
@@ -33,7 +33,7 @@ returns-then-is_closed-clause-comes g c =
     let old = trail_of c.args.self.now c.args.actions.now.items in
     let new = trail_of (record c.args.self.now { asker = c.close.new.self }) c.close.new.actions.items in
     closed c.close.result c.args.now old new (is_shut (view_of c.args.self.now.asker.follower.client).standing.state (sym c.is_closed.ensures ∙ c.if-is_closed.true))
-    (ap (λ (f : Follower g.row.A.Denot). view_of f.client) c.close.ensures.follower) (ap (λ (f : Follower g.row.A.Denot). f.subjects.items) c.close.ensures.follower) c.close.ensures.line refl refl
+    (ap (λ (f : Follower g.row.A.Denot). view_of f.client) c.close.ensures.follower) (ap (λ (f : Follower g.row.A.Denot). f.subjects.items) c.close.ensures.follower) c.close.ensures.line refl refl refl
     c.close.ensures.told
 
 pub returns-then-is_closed-clause-limits : goal.returns-then-is_closed-clause-limits

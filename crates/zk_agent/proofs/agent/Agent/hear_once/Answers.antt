@@ -1,4 +1,4 @@
-use Rattle.std.proofs.Common.{sym, ap, subst}
+use Rattle.std.proofs.Common.{sym, ap, subst, ◌∙◌}
 use Rattle.std.specs.Prelude.{All}
 use Rattle.zk_client.specs.Clients.{view_of}
 use Rattle.zk_client.specs.Views.{input_view}
@@ -6,6 +6,7 @@ use Rattle.zk_dialler.specs.Dialling.{is_open}
 use Rattle.zk_follow.specs.Following.{IsFollowed}
 use Rattle.zk_agent.specs.declared.asker.Asker.{Asker}
 use Rattle.zk_agent.specs.Agents.{trail_of}
+use Rattle.zk_agent.specs.Waits.{waited_after}
 use Rattle.zk_agent.proofs.Moves.{may_hear, not_handed, taken_and}
 use Rattle.zk_agent.proofs.agent.Agent.hear_once.Goals as goal
 
@@ -22,3 +23,4 @@ returns-clause-hears g c =
     (may_hear input old c.requires) (not_handed input (is_open old.dialler.phase) old.line c.requires) c.in_ok-heard.ensures.takes
     (ap (λ (a : Asker g.row.A.Denot). view_of a.follower.client) c.heed.ensures.asker) (ap (λ (a : Asker g.row.A.Denot). a.follower.subjects.items) c.heed.ensures.asker)
     (ap (λ (a : Asker g.row.A.Denot). a.line.entries.items) c.heed.ensures.asker) c.heed.ensures.timeout c.in_ok-heed.ensures.goes
+    (c.in_ok-heed.ensures.waits ∙ ap (waited_after c.args.now c.in_ok-heard.heard.sent) c.note_answers.ensures)

@@ -28,4 +28,4 @@ returns-clause-comes g c =
     subst (λ given. OnOk c.end.result (Comes c.args.now given old new))
     (late_makes c.timeout_ms-timeout_ms.result c.args.now c.args.self.now.dialler c.open.new.self c.open.result c.open.ensures c.if-open.false)
     (ok_after c.end.result c.args.now (HungUp ∷ []) (over_at c.args.now) old between new
-    (gives c.args.now HungUp old between refl tt (trail_eq (record old { told = old.told ++ HangsUp ∷ [] }) between refl refl refl same refl c.in_ok-push.ensures)) c.end.ensures.comes)
+    (gives c.args.now HungUp old between refl tt (trail_eq (record old { told = old.told ++ HangsUp ∷ [] }) between refl refl refl same refl refl c.in_ok-push.ensures)) c.end.ensures.comes)

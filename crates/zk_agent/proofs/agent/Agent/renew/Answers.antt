@@ -1,12 +1,14 @@
+use Rattle.std.proofs.Common.{ap}
 use Rattle.zk_client.specs.Clients.{view_of}
 use Rattle.zk_agent.specs.Agents.{trail_of}
+use Rattle.zk_agent.specs.Waits.{waited_of}
 use Rattle.zk_agent.proofs.Moves.{begun, followed_ok, nothing, renewed}
 use Rattle.zk_agent.proofs.agent.Agent.renew.Goals as goal
 
 pub returns-then-is_expired-clause-comes : goal.returns-then-is_expired-clause-comes
 returns-then-is_expired-clause-comes g c = λ now.
     renewed c.begin.result now (trail_of c.args.self.now c.args.actions.now.items) (trail_of c.begin.new.self c.begin.new.actions.items)
-    (c.is_expired.ensures.yes c.if-is_expired.true) c.begin.ensures.view c.begin.ensures.subjects c.begin.ensures.dialler c.begin.ensures.timeout c.begin.ensures.line c.begin.ensures.told
+    (c.is_expired.ensures.yes c.if-is_expired.true) c.begin.ensures.view c.begin.ensures.subjects c.begin.ensures.dialler c.begin.ensures.timeout (ap waited_of c.begin.ensures.waits) c.begin.ensures.line c.begin.ensures.told
 
 pub returns-then-is_expired-clause-renewed : goal.returns-then-is_expired-clause-renewed
 returns-then-is_expired-clause-renewed g c =

@@ -3,6 +3,8 @@ use Rattle.zk_agent.specs.Telling.{told_by}
 use Rattle.zk_driver.specs.Driving.{course_of}
 use Rattle.zk_driver.specs.Noting.{notes_of_event, GoesBy}
 use Rattle.zk_driver.proofs.Carrying.{extends_on}
+use Rattle.zk_driver.specs.Flowing.{flow_of}
+use Rattle.zk_driver.proofs.Flowed.{flow_after}
 use Rattle.zk_driver.proofs.Going.{by_after}
 use Rattle.zk_driver.proofs.driver.Driver.listen.Goals as goal
 
@@ -20,6 +22,8 @@ loop-preserved g c =
     let notes = notes_of_event c.in_ok-glance-2.glance.event in
     record {
       goes = by_after [] notes old so_far new (subst (λ ns. GoesBy ns old so_far) (c.loop.invariant.quiet again) c.loop.invariant.goes) c.in_ok-glance-2.ensures.goes;
+      flows = flow_after (flow_of g.D.Stream.Read.remaining g.D.Stream.Write.contents c.args.self.now.engine None) (flow_of g.D.Stream.Read.remaining g.D.Stream.Write.contents c.loop.self.engine None) (flow_of g.D.Stream.Read.remaining g.D.Stream.Write.contents c.read-in-loop.new.self.engine None)
+          c.loop.invariant.flows c.in_ok-glance-2.ensures.flows;
       told = c.in_ok-glance-2.ensures.told;
       none = c.in_ok-glance-2.ensures.none;
       stream = c.in_ok-glance-2.ensures.open;

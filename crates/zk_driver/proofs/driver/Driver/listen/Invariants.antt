@@ -1,6 +1,7 @@
 use Rattle.std.proofs.Common.{◌≡◌, ◌≤◌, [], None, true, is_some}
 use Rattle.zk_agent.specs.Telling.{told_by}
 use Rattle.zk_driver.specs.Driving.{course_of, Extends}
+use Rattle.zk_driver.specs.Flowing.{flow_of, Flows}
 use Rattle.zk_driver.specs.Noting.{notes_of_event, GoesBy}
 use Rattle.zk_driver.proofs.driver.Driver.listen.Given as goal
 
@@ -8,6 +9,7 @@ use Rattle.zk_driver.proofs.driver.Driver.listen.Given as goal
 abbrev pub invariant-loop : goal.invariant-loop
 invariant-loop g l = record {
   goes : GoesBy (notes_of_event l.glance.event) (course_of l.fn.self.engine None) (course_of l.self.engine None);
+  flows : Flows (flow_of g.D.Stream.Read.remaining g.D.Stream.Write.contents l.fn.self.engine None) (flow_of g.D.Stream.Read.remaining g.D.Stream.Write.contents l.self.engine None);
   told : l.glance.told ≤ l.self.engine.agent.latest;
   none : l.glance.is_again ≡ true → l.self.engine.channel.attempt ≡ None;
   stream : l.glance.is_again ≡ true → is_some l.self.engine.channel.stream ≡ true;

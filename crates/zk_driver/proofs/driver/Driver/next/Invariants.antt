@@ -1,11 +1,13 @@
 use Rattle.std.proofs.Common.{None}
 use Rattle.zk_agent.specs.Telling.{told_by}
 use Rattle.zk_driver.specs.Driving.{course_of, Extends, Goes}
+use Rattle.zk_driver.specs.Flowing.{flow_of, Flows}
 use Rattle.zk_driver.proofs.driver.Driver.next.Given as goal
 
 -- the moves so far, and what waits
 abbrev pub invariant-loop : goal.invariant-loop
 invariant-loop g l = record {
   goes : Goes (course_of l.fn.self.engine None) (course_of l.self.engine None);
+  flows : Flows (flow_of g.D.Stream.Read.remaining g.D.Stream.Write.contents l.fn.self.engine None) (flow_of g.D.Stream.Read.remaining g.D.Stream.Write.contents l.self.engine None);
   kept : Extends (told_by l.fn.self.engine.waiting.items) (told_by l.self.engine.waiting.items);
 }

@@ -1,6 +1,8 @@
-use Rattle.std.proofs.Common.{refl}
+use Rattle.std.proofs.Common.{[], ap, refl}
 use Rattle.zk_agent.specs.Telling.{told_by}
 use Rattle.zk_driver.specs.Driving.{channel_view}
+use Rattle.zk_driver.specs.Flowing.{known_of}
+use Rattle.zk_driver.proofs.Streaming.{exchanges_none}
 use Rattle.zk_driver.proofs.engine.Engine.hand.Goals as goal
 
 pub returns-clause-hands : goal.returns-clause-hands
@@ -15,6 +17,7 @@ returns-clause-hands g c = record {
     calls = c.in-Ok.ensures.calls;
     served = c.in-Ok.ensures.served;
     limits = c.in-Ok.ensures.limits;
+    answers = c.in-Ok.ensures.answers;
     closed = c.in-Ok.ensures.closed;
     renewed = c.in-Ok.ensures.renewed;
     dials = c.in-Ok.ensures.dials;
@@ -23,5 +26,24 @@ returns-clause-hands g c = record {
     channel = c.in-Ok-carry_all.ensures.channel;
     told = c.in-Ok-carry_all.ensures.waiting;
   };
-  writes = (c.flush.ensures, refl);
+  writes = (c.flush.ensures.writes, refl);
 }
+
+pub returns-clause-flows : goal.returns-clause-flows
+unfolding returns-clause-hands
+returns-clause-flows g c =
+    let hands = returns-clause-hands g c in
+    let know = known_of g.S.Read.remaining g.S.Write.contents in
+    record {
+      now = c.args.now;
+      between = record { course = hands.between; known = know c.carry_all.new.channel.stream; held = [] };
+      takes = hands.takes;
+      lasts = λ there. ap know (c.carry_all.ensures.stays there);
+      held = refl;
+      writes = (
+        hands.writes,
+        exchanges_none c.carry_all.new.channel.unsent.items c.flush.new.self.unsent.items (know c.carry_all.new.channel.stream) (know c.flush.new.self.stream)
+            c.flush.ensures.sends c.flush.ensures.gives,
+        refl,
+      );
+    }

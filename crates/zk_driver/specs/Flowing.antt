@@ -1,0 +1,122 @@
+-- What goes through a driver, byte by byte, over streams that know what they have still to give and what they took.
+use Rattle.std.specs.Prelude.{◌≡◌, ⊤, ℕ, true, List, [], ◌∷◌, ◌++◌, Option, Some, None, IfSome}
+use Rattle.std.specs.List.{flat_map, FoldsTo}
+use Rattle.std.specs.Io.KnownBytes.{Appends, Consumes}
+use Rattle.zk_turns.specs.Turns.{Send}
+use Rattle.zk_agent.specs.declared.action.Action.{Action}
+use Rattle.zk_agent.specs.declared.input.Input.{Input}
+use Rattle.zk_agent.specs.declared.input.Input.TheVariants as happens
+use Rattle.zk_agent.specs.Telling.{Told, Says, told_by}
+use Rattle.zk_driver.specs.declared.engine.Engine.{Engine}
+use Rattle.zk_driver.specs.Driving.{course_of, Course, Does, IsAsked, Move, Written, Looked, Noted, Takes}
+
+-- What a stream has still to give, and what it took, each where it knows that.
+pub record Known : Type 0 where
+  pub left : Option (List ℕ)
+  pub took : Option (List ℕ)
+
+-- of the stream of a connection, where there is one
+abbrev pub known_of : {S : Type 0} → (remaining contents : S → Option (List ℕ)) → Option S → Known
+known_of remaining contents None = record { left = None; took = None }
+known_of remaining contents (Some stream) = record { left = remaining stream; took = contents stream }
+
+-- How far a driver has come, what the stream of its connection knows, and what was read and is not handed to the agent yet.
+pub record Flow (A : Type 0) : Type 0 where
+  pub course : Course A
+  pub known : Known
+  pub held : List ℕ
+
+abbrev pub flow_of : {A S : Type 0} → (remaining contents : S → Option (List ℕ)) → Engine A S → Option (Action A) → Flow A
+flow_of remaining contents engine passed =
+    record { course = course_of engine passed; known = known_of remaining contents engine.channel.stream; held = [] }
+
+-- the bytes that the agent is handed by an input
+abbrev pub bytes_in : {A : Type 0} → Input A → List ℕ
+bytes_in (happens.Bytes bytes) = bytes.items
+bytes_in input = []
+
+-- What leaves the front of what is unsent is what the stream took, after what it had taken.
+abbrev pub Sends : (unsent rest : List ℕ) → (before after : Option (List ℕ)) → Type 0
+Sends unsent rest before after = (written : List ℕ) × (unsent ≡ written ++ rest) × Appends before after written
+
+-- Some of what is unsent is written, and these bytes are read: the first ones that the stream had to give. Each leaves what the other changes.
+pub record Exchanges (unsent rest : List ℕ) (old new : Known) (piece : List ℕ) : Type 0 where
+  pub sends : Sends unsent rest old.took new.took
+  pub gives : Consumes old.left new.left piece
+
+-- The stream is as it was, unless a connection begins or is over.
+abbrev pub Lasts : {A : Type 0} → Input A → (old new : Flow A) → Type 0
+Lasts happens.Opened old new = ⊤
+Lasts happens.Failed old new = ⊤
+Lasts happens.Cut old new = ⊤
+Lasts input old new = new.course.channel.is_open ≡ true → new.known ≡ old.known
+
+-- A driver makes a move, or its program asks for something.
+pub data Deed (A : Type 0) : Type 0 where
+  Made : Move A → Deed A
+  Asked : (now : ℕ) → Input A → Deed A
+
+-- What each does. What a read brings is held, and is what the agent is handed next, whole; nothing else is handed to it as bytes, and nothing is
+-- read before that.
+abbrev pub Carries : {A : Type 0} → Flow A → Deed A → Flow A → Type 0
+Carries old (Made Written) new =
+    Does old.course Written new.course × Exchanges old.course.channel.unsent new.course.channel.unsent old.known new.known [] × (new.held ≡ old.held)
+Carries old (Made (Looked look)) new =
+    Does old.course (Looked look) new.course × Exchanges old.course.channel.unsent new.course.channel.unsent old.known new.known new.held × (old.held ≡ [])
+Carries old (Made (Noted now input)) new =
+    Does old.course (Noted now input) new.course × Lasts input old new × (bytes_in input ≡ old.held) × (new.held ≡ [])
+Carries old (Asked now input) new =
+    Takes now input old.course new.course × IsAsked input × (new.course.channel.is_open ≡ true → new.known ≡ old.known) × (old.held ≡ []) × (new.held ≡ [])
+
+-- deeds, the oldest first
+pub record Flows {A : Type 0} (old new : Flow A) : Type 0 where
+  pub deeds : List (Deed A)
+  pub carries : FoldsTo Carries old deeds new
+
+-- The agent takes an input, and what it says is carried out; then some of what is unsent is written.
+pub record HandsOver {A : Type 0} (input : Input A) (old new : Flow A) : Type 0 where
+  pub now : ℕ
+  pub between : Flow A
+  pub takes : Takes now input old.course between.course
+  pub lasts : between.course.channel.is_open ≡ true → between.known ≡ old.known
+  pub held : between.held ≡ []
+  pub writes : Carries between (Made Written) new
+
+-- ---- what follows, as long as one connection lasts
+
+-- No connection begins.
+abbrev pub AreWithin : {A : Type 0} → List (Deed A) → Type 0
+AreWithin [] = ⊤
+AreWithin (Made (Noted now happens.Opened) ∷ deeds) = ⊥
+AreWithin (deed ∷ deeds) = AreWithin deeds
+
+-- what the agent is handed of the connection
+abbrev pub handed_by : {A : Type 0} → Deed A → List ℕ
+handed_by (Made (Noted now input)) = bytes_in input
+handed_by deed = []
+
+-- the frame that is sent
+abbrev pub frame_of : Told → List ℕ
+frame_of (Says (Send bytes)) = bytes
+frame_of told = []
+
+-- what is sent, in order
+abbrev pub sent_in : {A : Type 0} → (deeds : List (Deed A)) → (old new : Flow A) → FoldsTo Carries old deeds new → List ℕ
+sent_in [] old new carries = []
+sent_in (Made (Noted now input) ∷ deeds) old new carries = flat_map frame_of (told_by carries.1.0.2.actions) ++ sent_in deeds carries.0 new carries.2
+sent_in (Asked now input ∷ deeds) old new carries = flat_map frame_of (told_by carries.1.0.actions) ++ sent_in deeds carries.0 new carries.2
+sent_in (Made Written ∷ deeds) old new carries = sent_in deeds carries.0 new carries.2
+sent_in (Made (Looked look) ∷ deeds) old new carries = sent_in deeds carries.0 new carries.2
+
+-- Whatever a driver does on a connection: what the agent is handed, joined, is a beginning of what the stream had to give.
+abbrev pub BytesComeWhole : Type 0 → Type 0
+BytesComeWhole A =
+    (deeds : List (Deed A)) → (old new : Flow A) → FoldsTo Carries old deeds new → AreWithin deeds
+    → old.held ≡ [] → IfSome old.known.left (λ bytes. (rest : List ℕ) × (bytes ≡ flat_map handed_by deeds ++ rest))
+
+-- And as long as the connection is there, what the stream took is a beginning of what was unsent, and was sent since: the rest is unsent.
+abbrev pub BytesGoWhole : Type 0 → Type 0
+BytesGoWhole A =
+    (deeds : List (Deed A)) → (old new : Flow A) → (carries : FoldsTo Carries old deeds new) → AreWithin deeds
+    → new.course.channel.is_open ≡ true
+    → (written : List ℕ) × Appends old.known.took new.known.took written × (old.course.channel.unsent ++ sent_in deeds old new carries ≡ written ++ new.course.channel.unsent)

@@ -1,0 +1,16 @@
+//! What follows of the bytes of a connection from what each call of a driver does.
+
+ghost use Rattle.zk_driver.specs.Flowing.{BytesComeWhole, BytesGoWhole};
+
+use std::alloc::Allocator;
+
+/// What the agent is handed of a connection, joined, is a beginning of what its stream had to give: nothing is lost on the way, nothing comes
+/// twice, and nothing from elsewhere.
+pub fn bytes_come_whole<A: Allocator>()
+    ensures { BytesComeWhole A }
+{}
+
+/// What the stream of a connection took is a beginning of what was sent on it: the rest is still to be written.
+pub fn bytes_go_whole<A: Allocator>()
+    ensures { BytesGoWhole A }
+{}
