@@ -744,7 +744,7 @@ run_closed() {
     echo "closes: status 4 as wanted"
 }
 
-# The example over a link: it follows a node through a server that is gone for a while, and through a minute in which nothing happens.
+# The example over a driver: it follows a node through a server that is gone for a while, and through a minute in which nothing happens.
 run_follower() {
     outside "$1" create /follow one
     begin follow "$follower" /follow "127.0.0.1:$1"

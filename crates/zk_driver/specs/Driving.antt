@@ -13,9 +13,9 @@ use Rattle.zk_agent.specs.declared.input.Input.TheVariants as happens
 use Rattle.zk_agent.specs.Agents.{given_of, heard_after, how_many_asked, how_many_ended, trail_of, Comes, IsAnswered, IsDecided, IsLed, IsShut, NothingAt}
 use Rattle.zk_agent.specs.Calls.{how_many, IsInTime, IsServed}
 use Rattle.zk_agent.specs.Telling.{Told, Says, Dials, HangsUp, action_view, told_by}
-use Rattle.zk_link.specs.declared.bring.Brought.{Brought}
-use Rattle.zk_link.specs.declared.bring.Brought.TheVariants as brought
-use Rattle.zk_link.specs.Frames.{IsLeftOf}
+use Rattle.zk_link.specs.declared.brought.Brought.{Brought}
+use Rattle.zk_link.specs.declared.brought.Brought.TheVariants as brought
+use Rattle.zk_link.specs.Written.{IsLeftOf}
 use Rattle.zk_driver.specs.declared.channel.Attempt.{Attempt}
 use Rattle.zk_driver.specs.declared.channel.Channel.{Channel}
 use Rattle.zk_driver.specs.declared.engine.Engine.{Engine}

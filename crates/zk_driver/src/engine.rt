@@ -10,12 +10,13 @@ ghost use Rattle.zk_driver.specs.Noting.{notes_in, notes_of_event, Made, Missed,
 ghost use Rattle.zk_driver.specs.Flowing.{bytes_in, flow_of, Flows, HandsOver};
 
 use crate::channel::{Attempt, Channel};
+use crate::stop::Stop;
 use crate::turn::Event;
 use crate::wait::wait_between;
 use std::alloc::{AllocError, Allocator};
 use std::collections::VecDeque;
 use zk_agent::{Action, Agent, Input};
-use zk_link::{Brought, Stop, Stream};
+use zk_link::{Brought, Stream};
 
 /// The most reads of what a connection has before a moment is told, where something was due before it.
 pub(crate) const MOST_READS: u32 = 64;
