@@ -82,8 +82,8 @@ open_taken now input old new takes there =
 
 -- a connection that is over is none after what the agent said to it
 unless_true : (b : Bool) → (b ≡ true → ⊥) → b ≡ false
-unless_true true no = absurd (no refl)
-unless_true false no = refl
+unless_true true never = absurd (never refl)
+unless_true false never = refl
 
 pub ok_stays_shut : {A X E : Type 0} (result : Result X E) (input : Input A) (old new : Course A) → old.channel.is_open ≡ false → OnOk result (Hands input old new)
     → OnOk result (new.channel.is_open ≡ false)
