@@ -2,7 +2,7 @@
 //! somebody waits.
 //!
 //! [`Shared`] is what a driver of `zk_driver` dials, and its clock, over any [`Server`]. A [`World`] answers each request as it comes, so a
-//! program over such a link runs as it would over a network, and prints the same each time.
+//! program over such a driver runs as it would over a network, and prints the same each time.
 #![tactic(auto)]
 
 mod events;

@@ -2,7 +2,7 @@
 
 use std::cell::RefCell;
 
-/// A clock that stands still but where somebody waits. Several links may share it.
+/// A clock that stands still but where somebody waits. Several drivers may share it.
 #[derive(Drop)]
 pub struct Moments {
     now: RefCell<u64>,

@@ -87,7 +87,7 @@ impl<'a, S: Server> Stream for Partner<'a, S> {
     }
 }
 
-/// What dials a server in memory, whatever the address, and the clock. A link has one of each.
+/// What dials a server in memory, whatever the address, and the clock. A driver has one of each.
 #[derive(Drop)]
 pub struct Shared<'a, S: Server> {
     server: &'a RefCell<S>,
