@@ -336,6 +336,7 @@ run_alone() {
     run_operator "$port"
     run_changes "$port"
     run_objects "$port"
+    run_trees "$port"
     run_unknown
     run_idle "$port"
     run_expired "$port"
@@ -618,6 +619,55 @@ assert zxids == sorted(zxids), zxids
 EOF
 }
 
+# A watch of a tree of three nodes at most, beside another node: its root comes later, it grows past the bound, and shrinks.
+run_trees() {
+    local at=127.0.0.1:$1
+    known=()
+    outside "$1" create /beside one
+    begin trees "$program" watch "$at" --tree /trees --most 3 --data /beside --timeout 10000
+    sees_connected trees "$at"
+    sees trees <<'EOF'
+~ /beside data full 6f6e65 @beside @beside @ @ 0 0 3 good last @
+~ /trees does not exist last @
+~ /trees does not exist last @
+EOF
+    outside "$1" create /trees one
+    sees trees <<'EOF'
+~ /trees data absent stale last @
+~ /trees names none last @
+~ /trees data full 6f6e65 @root @root @ @ 0 0 3 good last @
+~ /trees names 0 @root good last @
+EOF
+    outside "$1" create /trees/a one
+    sees trees <<'EOF'
+~ /trees names 0 @root stale last @
+~ /trees names 1 a @child good last @
+~ /trees/a data full 6f6e65 @child @child @ @ 0 0 3 good last @
+~ /trees/a names 0 @child good last @
+EOF
+    outside "$1" create /trees/a/b one
+    sees trees <<'EOF'
+~ /trees/a names 0 @child stale last @
+~ /trees/a names 1 b @below good last @
+~ /trees/a/b data full 6f6e65 @below @below @ @ 0 0 3 good last @
+~ /trees/a/b names 0 @below good last @
+EOF
+    outside "$1" create /trees/c one
+    sees trees <<'EOF'
+~ /trees names 1 a @child stale last @
+~ /trees names 2 a c @more good last @
+~ bound 3 a tree has more nodes: no more of it are watched
+EOF
+    outside "$1" delete /trees/a/b
+    within 40 has_word trees '/trees/c names 0 .* good' || fail "trees does not take on a node that is below the bound again"
+    [[ $(grep -c '/trees/a/b does not exist' "$folder/trees.out") == 2 ]] || fail "trees tells otherwise that a node is gone"
+    outside "$1" create /trees/a/b two
+    within 40 has_word trees '/trees/a names 1 b .* good' || fail "trees does not tell of a name that is back"
+    seen[trees]=$(wc -l <"$folder/trees.out")
+    end_by_force trees
+    rises @beside @root @child @below @more
+}
+
 # A watch of a host that no name server knows: this is told, and at its end that no server was ever connected.
 run_unknown() {
     local status=0
@@ -694,7 +744,7 @@ run_closed() {
     echo "closes: status 4 as wanted"
 }
 
-# The example over a link: it follows a node through a server that is gone for a while, and through a minute in which nothing happens.
+# The example over a driver: it follows a node through a server that is gone for a while, and through a minute in which nothing happens.
 run_follower() {
     outside "$1" create /follow one
     begin follow "$follower" /follow "127.0.0.1:$1"

@@ -11,7 +11,7 @@ from typing import Callable, Optional
 
 from dirwolleu._driver import Driver
 from dirwolleu._process import this_process
-from dirwolleu._waiting import Callbacks
+from dirwolleu._waiting import Callbacks, ends_within
 
 LONGEST_END = 5.0
 """How long `stop` waits for its own threads, in seconds: they end at once, unless the process is held up."""
@@ -102,8 +102,7 @@ class Loop(threading.Thread):
         if self._is_first():
             return self._loop.close()
         self._soon(lambda: self._driver.stop(end))
-        if self.ident is not None:
-            self.join(longest)
+        ends_within(self, longest)
 
     def _is_first(self) -> bool:
         """Whether this is the first call: the thread itself and whoever stops it may come here at one time."""

@@ -104,6 +104,17 @@ class Future(concurrent.futures.Future[Any]):
         super().add_done_callback(tell)
 
 
+def ends_within(thread: threading.Thread, longest: float) -> bool:
+    """Waits for the end of a thread, and answers whether it came in time. It waits neither for one that has not begun, nor for the current one.
+
+    Where a start is under way, `ident` is there before the thread may be joined: that it may from the moment on at which it is alive.
+    """
+    if not thread.is_alive() or thread is threading.current_thread():
+        return True
+    thread.join(longest)
+    return not thread.is_alive()
+
+
 class Callbacks(threading.Thread):
     """The thread that calls a program's functions, one after the other, so that these may use the client."""
 
@@ -115,12 +126,9 @@ class Callbacks(threading.Thread):
         self._queue.put((function, argument))
 
     def stop(self) -> None:
-        """Ends after what was told before, which it waits for, though not without bound."""
+        """Ends after what was told before, which it waits for, though not without bound. Where it has not begun, it ends then."""
         self._queue.put(None)
-        if self.ident is None or threading.current_thread() is self:
-            return
-        self.join(LONGEST_CALLBACK)
-        if self.is_alive():
+        if not ends_within(self, LONGEST_CALLBACK):
             logger.warning("a callback has not returned in %s seconds: it is left to itself", LONGEST_CALLBACK)
 
     def run(self) -> None:

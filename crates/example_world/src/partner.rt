@@ -1,11 +1,11 @@
-//! What a link dials, reads, writes and waits by, over a server in memory.
+//! What a driver dials, reads, writes and waits by, over a server in memory.
 
 use crate::moments::Moments;
 use std::cell::RefCell;
 use std::io::{self, ErrorKind, Read, Write};
 use zk_link::{Clock, Dial, Stream};
 
-/// A server in memory as a link meets it, with the connection to it. What it refuses is an error, as of an operating system.
+/// A server in memory as a driver meets it, with the connection to it. What it refuses is an error, as of an operating system.
 pub trait Server: Drop {
     /// What a connection holds as long as it is there.
     type Held: Drop;

@@ -1,4 +1,4 @@
-//! Links against partners in memory: what happens, with the moment at which it does.
+//! Drivers against partners in memory: what happens, with the moment at which it does.
 
 mod played;
 mod reads;
@@ -13,7 +13,7 @@ use std::io::Write;
 use swept::{close_at_each_byte, dial_nobody, refuse_each_request};
 use world::{Flaw, Plan, STEADY};
 
-/// The rows: what a partner does, and until which moment a link goes on.
+/// The rows: what a partner does, and until which moment a driver goes on.
 static ROWS: [Row; 19] = [
     Row {
         name: "answers",

@@ -1,5 +1,5 @@
-//! Runs links, watches and drivers against servers in memory, and a driver over the network of this process, and prints what happens. What
-//! is to be printed is in the file `stdout`.
+//! Runs drivers, and watches over drivers, against servers in memory, and a driver over the network of this process, and prints what
+//! happens. What is to be printed is in the file `stdout`.
 #![tactic(auto)]
 
 mod links;

@@ -21,6 +21,9 @@ static CHANGES: [Event; 2] = [Event::Takes, Event::Takes];
 /// The last of three does.
 static ALL: [Event; 3] = [Event::Takes, Event::Takes, Event::Takes];
 
+/// The second of four does, and the last, which deletes a node.
+static GONE: [Event; 4] = [Event::Takes, Event::Takes, Event::Takes, Event::Takes];
+
 /// The connection is cut, and what is watched changes meanwhile.
 static CUT: [Event; 2] = [Event::Cuts, Event::Takes];
 
@@ -34,7 +37,7 @@ static END: [Event; 2] = [Event::Expires, Event::Cuts];
 static NOTHING: [Event; 0] = [];
 
 /// Rows of which each is played once.
-fn single_rows() -> [Row; 7] {
+fn single_rows() -> [Row; 11] {
     let data = |name, events| Row::new(name, Side::Data, "/config", events);
     [
         data("an expiry, after a change", &END).after(1),
@@ -44,6 +47,10 @@ fn single_rows() -> [Row; 7] {
         data("an address that refuses", &EXPIRY).away(1, 2_000),
         data("no server ever", &NOTHING).away(u32::MAX, 1_000),
         data("a change, as text", &CHANGE).printed(Style::Text),
+        Row::tree("a tree of too many nodes", "/a", 2, &CHANGES).printed(Style::Json),
+        Row::tree("a tree that grows", "/a", 1_000, &CHANGES),
+        Row::tree("a tree that shrinks", "/a", 1_000, &GONE),
+        Row::tree("a tree whose root comes later", "/late", 1_000, &ALL),
     ]
 }
 

@@ -5,8 +5,8 @@ use crate::partner::{Partner, Partners};
 use crate::texts::add;
 use std::alloc::Global;
 use zk_client::{Call, Client, Path};
-use zk_link::Ring;
 use zk_live::link::Link;
+use zk_live::ring::Ring;
 use zk_replay::call_line::Asked;
 
 /// The call that a link is handed.

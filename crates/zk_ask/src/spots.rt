@@ -11,7 +11,7 @@ use crate::names::set_of;
 use std::alloc::{AllocError, Allocator};
 use std::collections::BTreeSet;
 use zk_client::{Path, PathFault};
-use zk_link::Stop;
+use zk_driver::Stop;
 
 /// A node of a tree: how many levels it lies below the tree's root, its path, and its path below the chroot.
 #[derive(Drop)]

@@ -23,6 +23,7 @@ use Rattle.zk_watch.specs.declared.plan.Style.{Style}
 use Rattle.zk_watch.specs.declared.plan.Style.TheVariants as style
 use Rattle.zk_commands.specs.declared.command.Command.{Command}
 use Rattle.zk_commands.specs.declared.command.Question.{Question}
+use Rattle.zk_commands.specs.declared.command.Scope.{Scope}
 use Rattle.zk_commands.specs.declared.command.Tour.{Tour}
 use Rattle.zk_commands.specs.declared.command.Command.TheVariants.{Show, History, Replay, Rehearse, Live, Watch, Ask, Tree}
 use Rattle.zk_commands.specs.declared.line_fault.LineFault.{LineFault}
@@ -83,9 +84,18 @@ timeout_rule = record (option_rule (codes "timeout")) { defaults = codes "30000"
 abbrev pub duration_rule : Rule
 duration_rule = option_rule (codes "for")
 
+-- a number of nodes, 1,000 where no number is given
+abbrev pub bound_rule : Rule
+bound_rule = record (option_rule (codes "most")) { defaults = codes "1000" ∷ [] }
+
+-- what is watched
+abbrev pub scope_app : App
+scope_app =
+    with_rule (with_rule (with_rule (with_rule (with_rule (new_app (codes "watch")) servers_rule) (path_rule (codes "data"))) (path_rule (codes "children")))
+    (path_rule (codes "tree"))) bound_rule
+
 abbrev pub watch_app : App
-watch_app =
-    with_rule (with_rule (with_rule (with_rule (with_rule (with_rule (with_rule (new_app (codes "watch")) servers_rule) (path_rule (codes "data"))) (path_rule (codes "children"))) timeout_rule) duration_rule) (flag_rule (codes "text"))) (flag_rule (codes "json"))
+watch_app = with_rule (with_rule (with_rule (with_rule scope_app timeout_rule) duration_rule) (flag_rule (codes "text"))) (flag_rule (codes "json"))
 
 -- the program without its subcommands: one must be given
 abbrev pub shell_top : App
@@ -126,6 +136,10 @@ abbrev pub AreAims : (chroot : Text) → List (Side × Text) → List Row → Ty
 AreAims chroot aims rows = (aims ≡ aims_at chroot Data (given (codes "data") rows) ++ aims_at chroot Child (given (codes "children") rows))
     × (list_all (is_below chroot) (given (codes "data") rows) ≡ true) × (list_all (is_below chroot) (given (codes "children") rows) ≡ true)
 
+-- Below a chroot, the roots of the trees that were given; each is a path.
+abbrev pub AreRoots : (chroot : Text) → List Text → List Row → Type 0
+AreRoots chroot roots rows = (roots ≡ map (λ p. absolute chroot p) (given (codes "tree") rows)) × (list_all (is_below chroot) (given (codes "tree") rows) ≡ true)
+
 -- the number, if it is not 0
 abbrev pub above_zero : Option ℕ → Option ℕ
 above_zero (Some n) = if n == 0 then None else Some n
@@ -156,10 +170,31 @@ IsDuration ms rows = duration_read (first_of (codes "for") rows) ≡ Some ms
 abbrev pub style_in : List Row → Style
 style_in rows = if flag (codes "json") rows then style.Json else (if flag (codes "text") rows then style.Text else style.Hex)
 
+-- how many nodes are printed, or watched of one tree, at most
+abbrev pub most_at : Text → Option ℕ
+most_at word = count_at 4294967295 word
+
+-- the number of nodes that was given
+abbrev pub IsMost : ℕ → List Row → Type 0
+IsMost most rows = option_and_then most_at (first_of (codes "most") rows) ≡ Some most
+
+-- sides of nodes, roots of trees, and the most nodes of one tree
+pub record Sights : Type 0 where
+  pub aims : List (Side × Text)
+  pub roots : List Text
+  pub most : ℕ
+
+abbrev pub sights_of : Scope → Sights
+sights_of scope = record { aims = aims_of scope.subjects.items; roots = scope.trees.items; most = scope.most }
+
+-- what is watched below a chroot
+abbrev pub AreSights : (chroot : Text) → Sights → List Row → Type 0
+AreSights chroot sights rows = AreAims chroot sights.aims rows × AreRoots chroot sights.roots rows × IsMost sights.most rows
+
 -- what `watch` was given: servers with their chroot, what to watch, a timeout, how long, and how to print
-abbrev pub IsWatch : (addresses : List Text) → (chroot : Text) → List (Side × Text) → ℤ → Option ℕ → Style → List Row → Type 0
-IsWatch addresses chroot aims timeout_ms for_ms how rows =
-    AreServers addresses chroot rows × AreAims chroot aims rows × IsTimeout timeout_ms rows × IsDuration for_ms rows × (how ≡ style_in rows)
+abbrev pub IsWatch : (addresses : List Text) → (chroot : Text) → Sights → ℤ → Option ℕ → Style → List Row → Type 0
+IsWatch addresses chroot sights timeout_ms for_ms how rows =
+    AreServers addresses chroot rows × AreSights chroot sights rows × IsTimeout timeout_ms rows × IsDuration for_ms rows × (how ≡ style_in rows)
 
 -- how long to wait, in milliseconds: the words say it in seconds
 abbrev pub wait_at : Text → Option ℕ
@@ -183,10 +218,6 @@ AsksQuestion verb question rows =
     IsAsked verb (map (λ a. a.now) question.addresses.items) (string_bytes question.chroot) question.name.now (call_view question.call)
     (option_map (λ f. f.now) question.from) question.form question.wait_ms rows
 
--- how many nodes are printed at most
-abbrev pub most_at : Text → Option ℕ
-most_at word = count_at 4294967295 word
-
 -- What `tree` was given: servers with their chroot, the root by its path and by its name below the chroot, how many levels and how many nodes, how to
 -- print, and how long to wait.
 abbrev pub IsTree : (addresses : List Text) → (chroot path name : Text) → (deepest most : ℕ) → Form → (wait_ms : ℕ) → List Row → Type 0
@@ -207,8 +238,8 @@ IsFound History found = (rows : List Row) × (found ≡ Some (codes "history", r
 IsFound Replay found = (rows : List Row) × (found ≡ Some (codes "replay", rows))
 IsFound Rehearse found = (rows : List Row) × (found ≡ Some (codes "rehearse", rows))
 IsFound (Live addresses) found = (rows : List Row) × (found ≡ Some (codes "live", rows)) × AreAddresses (map (λ a. a.now) addresses.items) rows
-IsFound (Watch addresses subjects timeout_ms for_ms how) found = (rows : List Row) × (found ≡ Some (codes "watch", rows))
-    × (chroot : Text) × IsWatch (map (λ a. a.now) addresses.items) chroot (aims_of subjects.items) timeout_ms for_ms how rows
+IsFound (Watch addresses scope timeout_ms for_ms how) found = (rows : List Row) × (found ≡ Some (codes "watch", rows))
+    × (chroot : Text) × IsWatch (map (λ a. a.now) addresses.items) chroot (sights_of scope) timeout_ms for_ms how rows
 IsFound (Tree tour) found = (rows : List Row) × (found ≡ Some (codes "tree", rows)) × AsksTour tour rows
 IsFound (Ask question) found = (verb : Verb) × (rows : List Row) × (found ≡ Some (verb_word verb, rows)) × AsksQuestion verb question rows
 

@@ -9,6 +9,7 @@ use Rattle.zk_script.specs.declared.script.End.TheVariants as ends
 use Rattle.zk_script.specs.declared.script_fault.ScriptFault.{ScriptFault}
 use Rattle.zk_commands.specs.declared.command.Command.{Command}
 use Rattle.zk_commands.specs.declared.command.Question.{Question}
+use Rattle.zk_commands.specs.declared.command.Scope.{Scope}
 use Rattle.zk_commands.specs.declared.command.Tour.{Tour}
 use Rattle.zk_commands.specs.Tours.{PrintsTree, TellsTree}
 use Rattle.zk_ask.specs.Trees.{Full, Whole, ending_told}
@@ -26,7 +27,6 @@ use Rattle.zk_conversation.specs.Calls.{Call as Calls}
 use Rattle.zk_commands.specs.declared.status.Status.{Status}
 use Rattle.zk_watch.specs.Watching.{aims_of, IsPrinted, IsWatched}
 use Rattle.zk_watch.specs.declared.plan.Style.{Style}
-use Rattle.zk_watch.specs.declared.plan.Subject.{Subject}
 use Rattle.zk_commands.specs.Scripts.{IsInput, IsTranscriptOf}
 use Rattle.zk_commands.specs.Written.{IsHalt, RunsOut}
 use Rattle.zk_commands.specs.Show.{ShowsFrame, IsFault, fault_text}
@@ -49,8 +49,8 @@ pub data IsDone (words : List Text) (files : Text → Option (List ℕ)) (input 
   tells : (script : List ℕ) → asks_stream words ≡ true → IsInput input script → IsShown (lines_of script) text ends.Taken → IsDone words files input text
   plays : (command : Command) (script : List ℕ) → AsksFor words command → IsInput input script → IsTranscriptOf command (lines_of script) text ends.Taken
       → IsDone words files input text
-  watches : (addresses : Vec (Bor Text)) (subjects : Vec (Subject Global)) (timeout_ms : ℤ) (for_ms : Option ℕ) (style : Style)
-      → AsksFor words (Watch addresses subjects timeout_ms for_ms style) → IsWatched Global style (aims_of subjects.items) for_ms text true → IsDone words files input text
+  watches : (addresses : Vec (Bor Text)) (scope : Scope) (timeout_ms : ℤ) (for_ms : Option ℕ) (style : Style)
+      → AsksFor words (Watch addresses scope timeout_ms for_ms style) → IsWatched Global style (aims_of scope.subjects.items) scope.trees.items scope.most for_ms text true → IsDone words files input text
   asks : (question : Question) (asked : Calls) → AsksFor words (Ask question)
       → IsAskedBy files input (option_map (λ f. f.now) question.from) (call_view question.call) asked
       → PrintsAnswer Global asked question.form (string_bytes question.chroot) text → IsDone words files input text
@@ -84,12 +84,12 @@ pub record IsCutOff (words : List Text) (text told : List ℕ) : Type 0 where
 -- The words ask for a watch, no server has ever accepted its session, and the text is what it prints.
 pub record IsNeverConnected (words : List Text) (text : List ℕ) : Type 0 where
   pub addresses : Vec (Bor Text)
-  pub subjects : Vec (Subject Global)
+  pub scope : Scope
   pub timeout_ms : ℤ
   pub for_ms : Option ℕ
   pub style : Style
-  pub asks : AsksFor words (Watch addresses subjects timeout_ms for_ms style)
-  pub watched : IsWatched Global style (aims_of subjects.items) for_ms text false
+  pub asks : AsksFor words (Watch addresses scope timeout_ms for_ms style)
+  pub watched : IsWatched Global style (aims_of scope.subjects.items) scope.trees.items scope.most for_ms text false
 
 -- the words are refused
 abbrev pub IsRefusal : List Text → List ℕ → Type 0
@@ -102,6 +102,6 @@ pub data IsWhole (words : List Text) (input : Option (List ℕ)) (text : List �
       → RunsOut end told → text ≡ printed ++ told → IsWhole words input text
   begins : (command : Command) (script printed told : List ℕ) (end : End) → AsksFor words command → IsInput input script
       → IsTranscriptOf command (lines_of script) printed end → RunsOut end told → text ≡ printed ++ told → IsWhole words input text
-  ceases : (addresses : Vec (Bor Text)) (subjects : Vec (Subject Global)) (timeout_ms : ℤ) (for_ms : Option ℕ) (style : Style) (printed told : List ℕ)
-      → AsksFor words (Watch addresses subjects timeout_ms for_ms style) → IsPrinted Global style (aims_of subjects.items) printed → IsHalt told
+  ceases : (addresses : Vec (Bor Text)) (scope : Scope) (timeout_ms : ℤ) (for_ms : Option ℕ) (style : Style) (printed told : List ℕ)
+      → AsksFor words (Watch addresses scope timeout_ms for_ms style) → IsPrinted Global style (aims_of scope.subjects.items) scope.trees.items scope.most printed → IsHalt told
       → text ≡ printed ++ told → IsWhole words input text

@@ -6,13 +6,11 @@ ghost use Rattle.std.specs.Global.{Global, Vec};
 ghost use Rattle.clap.specs.Words.{Text, app_of, found_of, first_value, kind_of, new_app, rows_of, subcommand_rows_of, with_subcommand};
 ghost use Rattle.zk_live.specs.Addresses.{is_address};
 ghost use Rattle.zk_commands.specs.Kinds.{kind_word};
-ghost use Rattle.zk_commands.specs.CommandLine.{AreAddresses, AreKinds, AsksFor, AsksForNone, AsksQuestion, IsAsked, IsDue, IsFound, IsWatch, Tells, TellsIf, history_app, live_app, rehearse_app, replay_app, show_app, shell_app, shell_top, watch_app};
+ghost use Rattle.zk_commands.specs.CommandLine.{AreAddresses, AreKinds, AsksFor, AsksForNone, AsksQuestion, IsAsked, IsDue, IsFound, IsWatch, Tells, TellsIf, Sights, sights_of, history_app, live_app, rehearse_app, replay_app, show_app, shell_app, shell_top, watch_app};
 ghost use Rattle.zk_ask.specs.declared.plan.Form.{Form};
 ghost use Rattle.zk_conversation.specs.Calls.{Call as Calls};
 ghost use Rattle.zk_nodes.specs.declared.side.Side.{Side};
 ghost use Rattle.zk_watch.specs.declared.plan.Style.{Style};
-ghost use Rattle.zk_watch.specs.declared.plan.Subject.{Subject};
-ghost use Rattle.zk_watch.specs.Watching.{aims_of};
 
 use crate::ask_forms::{with_reads, with_writes};
 use crate::ask_words::{form_for, node_of, servers_of, wait_of};
@@ -22,9 +20,7 @@ use crate::kind::Kind;
 use crate::line_fault::{LineFault, no_address, no_command};
 use crate::tree_words::tree_of;
 use crate::verb::Verb;
-use crate::watch_words::{
-    addresses_arg, duration_of, style_of, subjects_of, timeout_of, watch_form,
-};
+use crate::watch_words::{addresses_arg, duration_of, scope_of, style_of, timeout_of, watch_form};
 use clap::error::ErrorKind;
 use clap::{Arg, ArgMatches, Error};
 use std::alloc::{AllocError, Global};
@@ -70,7 +66,7 @@ pub enum Command<'a> {
     /// there is no such number. What it prints has this style.
     Watch {
         addresses: Vec<&'a str>,
-        subjects: Vec<Subject<Global>>,
+        scope: Scope,
         timeout_ms: i32,
         for_ms: Option<u64>,
         style: Style,
@@ -79,6 +75,14 @@ pub enum Command<'a> {
     Ask(Question<'a>),
     /// Lists a tree.
     Tree(Tour<'a>),
+}
+
+/// What is watched: sides of nodes, and trees by their roots. Of a tree that is known to have more nodes than the most, no more are taken on.
+#[derive(Drop)]
+pub struct Scope {
+    pub subjects: Vec<Subject<Global>>,
+    pub trees: Vec<Path>,
+    pub most: u64,
 }
 
 /// A call of servers at these addresses, whose answer is waited for this many milliseconds. The node has this name below a chroot.
@@ -280,19 +284,19 @@ fn live_of<'a>(alloc: Global, matches: &ArgMatches<'a>) -> Result<Command<'a>, L
 
 /// The command that the matches of `watch` give.
 fn watch_of<'a>(alloc: Global, matches: &ArgMatches<'a>) -> Result<Command<'a>, LineFault>
-    ensures ok { IfOk result (λ command. (addresses : Vec (Bor Text)) × (subjects : Vec (Subject Global)) × (timeout_ms : ℤ) × (for_ms : Option ℕ) × (style : Style)
-        × (command ≡ Command.Watch addresses subjects timeout_ms for_ms style)
-        × (chroot : Text) × IsWatch (map (λ a. a.now) addresses.items) chroot (aims_of subjects.items) timeout_ms for_ms style (rows_of (found_of matches.now))) }
-    ensures err { IfErr result (TellsIf ((addresses : List Text) (chroot : Text) (aims : List (Side × Text)) (timeout_ms : ℤ) (for_ms : Option ℕ) (style : Style)
-        → IsWatch addresses chroot aims timeout_ms for_ms style (rows_of (found_of matches.now)) → ⊥)) }
+    ensures ok { IfOk result (λ command. (addresses : Vec (Bor Text)) × (scope : Scope) × (timeout_ms : ℤ) × (for_ms : Option ℕ) × (style : Style)
+        × (command ≡ Command.Watch addresses scope timeout_ms for_ms style)
+        × (chroot : Text) × IsWatch (map (λ a. a.now) addresses.items) chroot (sights_of scope) timeout_ms for_ms style (rows_of (found_of matches.now))) }
+    ensures err { IfErr result (TellsIf ((addresses : List Text) (chroot : Text) (sights : Sights) (timeout_ms : ℤ) (for_ms : Option ℕ) (style : Style)
+        → IsWatch addresses chroot sights timeout_ms for_ms style (rows_of (found_of matches.now)) → ⊥)) }
 {
     let timeout_ms = timeout_of(alloc, matches)?;
     let for_ms = duration_of(alloc, matches)?;
     let (addresses, chroot) = servers_of(alloc, matches)?;
-    let subjects = subjects_of(alloc, chroot.as_str(), matches)?;
+    let scope = scope_of(alloc, chroot.as_str(), matches)?;
     Ok(Command::Watch {
         addresses,
-        subjects,
+        scope,
         timeout_ms,
         for_ms,
         style: style_of(matches),

@@ -80,9 +80,14 @@ pub const WATCH: &str =
     r"Connects to one of the hosts of SERVERS, which `zk_shell get --help` tells, in random order, reads each
 node with a watch, and goes on to print a line whenever something else is kept of it than was printed last.
 Where the connection is lost, the next host is dialled, and where the session expires, a new one begins.
---data and --children may be used several times, each with a PATH as it is, without escapes. With neither,
-the session alone is told. Where a path stands after the hosts, each PATH is below it, and the paths that
-are printed are whole: with 127.0.0.1:2181/app and --data /config, /app/config.
+--data, --children and --tree may be used several times, each with a PATH as it is, without escapes. With
+none, the session alone is told. Where a path stands after the hosts, each PATH is below it, and the paths
+that are printed are whole: with 127.0.0.1:2181/app and --data /config, /app/config.
+
+With --tree the node and all below it are watched, as they come to be known: of each its data and the names
+below it. One that was found so and is deleted is printed once more, as one that does not exist, and then
+watched no more; the node of --tree itself is watched also before it is made and after it is deleted. Where a
+tree is known to have more nodes than --most, no more of it are watched while it has.
 
 Printed, each line at once, with the seconds since the watch began before it:
   dial ADDRESS                  This host is tried
@@ -103,6 +108,8 @@ Printed, each line at once, with the seconds since the watch began before it:
   PATH names none last ZXID     What is kept of the names below it
   PATH refused code N WORDS     A read was refused, and is tried again a second later; told once for each
                                 reason. K3, K5 or K6 in place of code N: no server was asked
+  bound N a tree has more nodes: no more of it are watched
+                                N is that of --most
   halt                          Memory ran out in the client
 
 DATA, SEVEN, NAME, PZXID, MARK, FAULT and SESSION are as in `zk_shell live --help`; in a PATH a space is
@@ -114,9 +121,10 @@ With --text the DATA of data full stand in quotes, with the escapes of JSON, whe
 no control characters other than tab and newline. Others stand in hex, and null as \0.
 
 With --json each line is an object of JSON. Its kind is dial, failed, ended, drop, state, renewed (for session
-new) or refused; and of what is kept data, names, absent (there is no such node), known or none. ms are the
-milliseconds since the watch began; side is data or names, whichever is watched; data are a text or null, or
-hex where they are no UTF-8; the other keys are named as the words above, and the fields as by ZooKeeper.
+new), refused or bound (its nodes are N); and of what is kept data, names, absent (there is no such node), known
+or none. ms are the milliseconds since the watch began; side is data or names, whichever is watched; data are
+a text or null, or hex where they are no UTF-8; the other keys are named as the words above, and the fields as
+by ZooKeeper.
 
 The session is closed when the time of --for is over, and when a line can't be written. That standard
 output is closed is seen at the next line alone. An interrupt is not seen at all: it ends the program, and

@@ -9,7 +9,7 @@ ghost use Rattle.zk_commands.specs.Run.{IsCutOff, IsDone, IsFaulty, IsHelpText, 
 
 use crate::ask::ask_with;
 use crate::capture::{ToldCapture, asks_stream};
-use crate::command::{Command, command_of};
+use crate::command::{Command, Scope, command_of};
 use crate::files::Files;
 use crate::line_fault::LineFault;
 use crate::plays::{LiveClient, RehearsedClient, ReplayedClient, ToldHistory};
@@ -22,23 +22,32 @@ use crate::written::write_text;
 use std::alloc::Global;
 use std::io::{Read, Write};
 use zk_link::{Clock, Dial};
-use zk_watch::{Plan, Style, Subject};
+use zk_watch::{Plan, Style};
 
 /// The plan of a watch.
 fn plan_of<'a>(
     addresses: &'a [&'a str],
-    subjects: Vec<Subject<Global>>,
+    scope: Scope,
     timeout_ms: i32,
     for_ms: Option<u64>,
     style: Style,
 ) -> Plan<'a, Global>
-    ensures subjects { result.subjects ≡ subjects }
+    ensures subjects { result.subjects ≡ scope.subjects }
+    ensures trees { result.trees ≡ scope.trees }
+    ensures most { result.most ≡ scope.most }
     ensures for_ms { result.for_ms ≡ for_ms }
     ensures style { result.style ≡ style }
 {
+    let Scope {
+        subjects,
+        trees,
+        most,
+    } = scope;
     Plan {
         addresses,
         subjects,
+        trees,
+        most,
         timeout_ms,
         for_ms,
         style,
@@ -76,13 +85,13 @@ fn perform<F: Files, D: Dial + Drop, C: Clock + Drop, I: Read, O: Write, E: Writ
         }
         Command::Watch {
             addresses,
-            subjects,
+            scope,
             timeout_ms,
             for_ms,
             style,
         } => {
             let addresses = addresses.as_slice();
-            let plan = plan_of(addresses, subjects, timeout_ms, for_ms, style);
+            let plan = plan_of(addresses, scope, timeout_ms, for_ms, style);
             watch_over(alloc, dial, clock, plan, out)
         }
         Command::Ask(question) => {

@@ -64,8 +64,8 @@ fn depth_of(alloc: Global, matches: &ArgMatches<'_>) -> Result<u64, LineFault>
     }
 }
 
-/// How many nodes are printed at most.
-fn most_of(alloc: Global, matches: &ArgMatches<'_>) -> Result<u64, LineFault>
+/// How many nodes are printed, or watched of one tree, at most.
+pub(crate) fn most_of(alloc: Global, matches: &ArgMatches<'_>) -> Result<u64, LineFault>
     ensures ok { IfOk result (λ most. option_and_then most_at (first_of (codes "most") (rows_of (found_of matches.now))) ≡ Some most) }
     ensures err { IfErr result (TellsIf (option_and_then most_at (first_of (codes "most") (rows_of (found_of matches.now))) ≡ None)) }
 {

@@ -6,12 +6,15 @@ ghost use Rattle.std.specs.List.{list_all};
 ghost use Rattle.clap.specs.Words.{Text, app_of, new_app, first_of, found_of, rows_of, rule_of};
 ghost use Rattle.zk_nodes.specs.declared.side.Side.{Side as Sides};
 ghost use Rattle.zk_watch.specs.Watching.{aims_of};
-ghost use Rattle.zk_commands.specs.CommandLine.{AreAims, IsDuration, IsTimeout, TellsIf, address_rule, aims_at, count_at, duration_rule, duration_read, given, is_below, is_path, option_rule, path_rule, style_in, timeout_at, timeout_rule, watch_app};
+ghost use Rattle.zk_commands.specs.Asks.{absolute};
+ghost use Rattle.zk_commands.specs.CommandLine.{AreAims, IsDuration, IsTimeout, TellsIf, AreRoots, AreSights, Sights, address_rule, aims_at, bound_rule, scope_app, sights_of, count_at, duration_rule, duration_read, given, is_below, is_path, option_rule, path_rule, style_in, timeout_at, timeout_rule, watch_app};
 
 use crate::ask_forms::{flag_arg, servers_arg};
 use crate::ask_words::{flag, node_of};
+use crate::command::Scope;
 use crate::help;
 use crate::line_fault::{LineFault, no_command, no_duration, no_path, no_timeout};
+use crate::tree_words::most_of;
 use clap::{Arg, ArgAction, ArgMatches};
 use std::alloc::{AllocError, Global};
 use zk_nodes::{Path, PathFault, Side};
@@ -59,6 +62,15 @@ fn paths_arg<'a>(alloc: Global, name: &'a str, about: &'a str) -> Arg<'a>
     option_arg(alloc, name, "PATH", about).action(ArgAction::Append)
 }
 
+/// The option of how many nodes of one tree to watch.
+fn bound_arg<'a>(alloc: Global) -> Arg<'a>
+    ensures rule { rule_of result ≡ bound_rule }
+    ensures local { result.global ≡ false }
+{
+    let about = "How many nodes of one tree at most, 1 to 4294967295";
+    option_arg(alloc, "most", "N", about).default_value("1000")
+}
+
 /// The option of the session's timeout.
 fn timeout_arg<'a>(alloc: Global) -> Arg<'a>
     ensures rule { rule_of result ≡ timeout_rule }
@@ -86,13 +98,22 @@ fn watch_named<'a>(alloc: Global) -> clap::Command<'a>
         .after_help(help::WATCH)
 }
 
-/// The form of `watch`.
-pub(crate) fn watch_form<'a>(alloc: Global) -> Result<clap::Command<'a>, AllocError>
-    ensures { IfOk result (λ r. app_of r ≡ watch_app) }
+/// The form of `watch`, as far as it says what is watched.
+fn scope_form<'a>(alloc: Global) -> Result<clap::Command<'a>, AllocError>
+    ensures { IfOk result (λ r. app_of r ≡ scope_app) }
 {
     let watch = watch_named(alloc).arg(servers_arg(alloc))?;
     let watch = watch.arg(paths_arg(alloc, "data", "A node whose data to watch"))?;
     let watch = watch.arg(paths_arg(alloc, "children", "A node below which to watch the names"))?;
+    let watch = watch.arg(paths_arg(alloc, "tree", "A node to watch with all below it"))?;
+    watch.arg(bound_arg(alloc))
+}
+
+/// The form of `watch`.
+pub(crate) fn watch_form<'a>(alloc: Global) -> Result<clap::Command<'a>, AllocError>
+    ensures { IfOk result (λ r. app_of r ≡ watch_app) }
+{
+    let watch = scope_form(alloc)?;
     let watch = watch.arg(timeout_arg(alloc))?;
     let watch = watch.arg(duration_arg(alloc))?;
     let text = flag_arg(alloc, "text", "Prints data in quotes where they are text");
@@ -206,8 +227,8 @@ fn add_given(
     }
 }
 
-/// What is to be watched below a chroot.
-pub(crate) fn subjects_of(
+/// The sides of nodes that are to be watched below a chroot.
+fn subjects_of(
     alloc: Global,
     chroot: &str,
     matches: &ArgMatches<'_>,
@@ -226,4 +247,50 @@ pub(crate) fn subjects_of(
         "children",
     )?;
     Ok(subjects)
+}
+
+/// The paths below a chroot that words are.
+fn paths_of(alloc: Global, chroot: &str, words: &[&str]) -> Result<Vec<Path>, LineFault>
+    ensures ok { IfOk result (λ paths. paths.items ≡ map (λ p. absolute chroot.now p) (map (λ w. w.now) words.now)) }
+    ensures accepted { OnOk result (list_all (is_below chroot.now) (map (λ w. w.now) words.now) ≡ true) }
+    ensures err { IfErr result (TellsIf (list_all (is_below chroot.now) (map (λ w. w.now) words.now) ≡ false)) }
+{
+    let mut paths = Vec::new(alloc);
+    for word in words {
+        let path = node_of(alloc, chroot, word)?;
+        if paths.push(path).is_err() {
+            return Err(LineFault::Memory);
+        }
+    }
+    Ok(paths)
+}
+
+/// The roots of the trees that are to be watched below a chroot.
+fn trees_of(alloc: Global, chroot: &str, matches: &ArgMatches<'_>) -> Result<Vec<Path>, LineFault>
+    ensures ok { IfOk result (λ trees. AreRoots chroot.now trees.items (rows_of (found_of matches.now))) }
+    ensures err { IfErr result (TellsIf ((roots : List Text) → AreRoots chroot.now roots (rows_of (found_of matches.now)) → ⊥)) }
+{
+    match matches.get_strs("tree") {
+        Some(words) => paths_of(alloc, chroot, words),
+        None => Ok(Vec::new(alloc)),
+    }
+}
+
+/// What is to be watched below a chroot.
+pub(crate) fn scope_of(
+    alloc: Global,
+    chroot: &str,
+    matches: &ArgMatches<'_>,
+) -> Result<Scope, LineFault>
+    ensures ok { IfOk result (λ scope. AreSights chroot.now (sights_of scope) (rows_of (found_of matches.now))) }
+    ensures err { IfErr result (TellsIf ((sights : Sights) → AreSights chroot.now sights (rows_of (found_of matches.now)) → ⊥)) }
+{
+    let most = most_of(alloc, matches)?;
+    let subjects = subjects_of(alloc, chroot, matches)?;
+    let trees = trees_of(alloc, chroot, matches)?;
+    Ok(Scope {
+        subjects,
+        trees,
+        most,
+    })
 }

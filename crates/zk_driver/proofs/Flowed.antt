@@ -9,7 +9,7 @@ use Rattle.zk_turns.specs.Turns.{Send}
 use Rattle.zk_agent.specs.Telling.{Told, Says, Dials, HangsUp, told_by}
 use Rattle.zk_agent.specs.declared.input.Input.{Input}
 use Rattle.zk_agent.specs.declared.input.Input.TheVariants as happens
-use Rattle.zk_driver.specs.Driving.{carried, closed, ChannelView, Course, IsAsked, Meets, Written, Looked, Noted, Takes}
+use Rattle.zk_driver.specs.Driving.{carried, closed, ChannelView, Course, Hands, IsAsked, Meets, Written, Looked, Noted, Takes}
 use Rattle.zk_driver.specs.Flowing.{bytes_in, frame_of, handed_by, sent_in, AreWithin, Asked, BytesComeWhole, BytesGoWhole, Carries, Deed, Flow, Flows, HandsOver, Known, Lasts, Made, Sends}
 use Rattle.zk_driver.proofs.Streaming.{appends_none, appends_on}
 
@@ -79,6 +79,18 @@ open_taken : {A : Type 0} (now : ℕ) (input : Input A) (old new : Course A) (ta
 open_taken now input old new takes there =
     let was = open_carried old.channel (told_by takes.actions) (sym (ap (λ (c : ChannelView). c.is_open) takes.channel) ∙ there) in
     (was.0, ap (λ (c : ChannelView). c.unsent) takes.channel ∙ was.1)
+
+-- a connection that is over is none after what the agent said to it
+unless_true : (b : Bool) → (b ≡ true → ⊥) → b ≡ false
+unless_true true no = absurd (no refl)
+unless_true false no = refl
+
+pub ok_stays_shut : {A X E : Type 0} (result : Result X E) (input : Input A) (old new : Course A) → old.channel.is_open ≡ false → OnOk result (Hands input old new)
+    → OnOk result (new.channel.is_open ≡ false)
+ok_stays_shut (Ok x) input old new shut hands = unless_true new.channel.is_open (λ there.
+    let was = open_taken hands.now input old hands.between hands.takes (sym hands.writes.0.is_open ∙ there) in
+    let e : false ≡ true = sym shut ∙ was.0 in cc)
+ok_stays_shut (Err e) input old new shut hands = tt
 
 -- one deed, with which no connection begins
 open_before : {A : Type 0} (deed : Deed A) (old new : Flow A) → Carries old deed new → AreWithin (deed ∷ []) → new.course.channel.is_open ≡ true

@@ -99,6 +99,11 @@ pub ok_by_after : {A X E : Type 0} (result : Result X E) (old between new : Cour
 ok_by_after (Ok x) old between new first rest = by_after [] [] old between new first rest
 ok_by_after (Err e) old between new first rest = tt
 
+pub ok_by_then : {A X E : Type 0} (result : Result X E) (notes : List Note) (old between new : Course A) → GoesBy notes old between → OnOk result (GoesBy [] between new)
+    → OnOk result (GoesBy notes old new)
+ok_by_then (Ok x) notes old between new first rest = by_then notes old between new first rest
+ok_by_then (Err e) notes old between new first rest = tt
+
 pub by_same_notes : {A : Type 0} (notes other : List Note) (old new : Course A) → other ≡ notes → GoesBy notes old new → GoesBy other old new
 by_same_notes notes other old new is by = subst (λ ns. GoesBy ns old new) (sym is) by
 

@@ -4,8 +4,8 @@ use Rattle.std.specs.Prelude.{Result, Ok, Err, IfOk}
 use Rattle.std.specs.Io.KnownBytes.{Appends, Consumes, Keeps}
 use Rattle.std.proofs.Math.Seq.{drop-append_seam}
 use Rattle.std.proofs.lemmas.List.{take-append-le}
-use Rattle.zk_link.specs.Frames.{IsLeftOf}
-use Rattle.zk_link.specs.declared.bring.Brought.{Brought}
+use Rattle.zk_link.specs.Written.{IsLeftOf}
+use Rattle.zk_link.specs.declared.brought.Brought.{Brought}
 use Rattle.zk_driver.specs.Driving.{input_of}
 use Rattle.zk_driver.specs.Flowing.{bytes_in, Exchanges, Known, Sends}
 

@@ -13,9 +13,9 @@ use Rattle.zk_agent.specs.declared.input.Input.TheVariants as happens
 use Rattle.zk_agent.specs.Agents.{given_of, heard_after, how_many_asked, how_many_ended, trail_of, Comes, IsAnswered, IsDecided, IsLed, IsShut, NothingAt}
 use Rattle.zk_agent.specs.Calls.{how_many, IsInTime, IsServed}
 use Rattle.zk_agent.specs.Telling.{Told, Says, Dials, HangsUp, action_view, told_by}
-use Rattle.zk_link.specs.declared.bring.Brought.{Brought}
-use Rattle.zk_link.specs.declared.bring.Brought.TheVariants as brought
-use Rattle.zk_link.specs.Frames.{IsLeftOf}
+use Rattle.zk_link.specs.declared.brought.Brought.{Brought}
+use Rattle.zk_link.specs.declared.brought.Brought.TheVariants as brought
+use Rattle.zk_link.specs.Written.{IsLeftOf}
 use Rattle.zk_driver.specs.declared.channel.Attempt.{Attempt}
 use Rattle.zk_driver.specs.declared.channel.Channel.{Channel}
 use Rattle.zk_driver.specs.declared.engine.Engine.{Engine}
@@ -122,14 +122,14 @@ IsSeen agent (Some look) = ((look.is_quiet ≡ true) × IsOverdue agent look.beg
 abbrev pub IsTimely : {A : Type 0} → (now : ℕ) → Course A → Type 0
 IsTimely now course = course.channel.is_open ≡ true → NothingAt course.agent (now - 1) ⊎ IsSeen course.agent course.channel.looked
 
--- What comes on a connection, and what the program asks for while one is there, is handed in at a moment at which nothing is due. A moment
--- itself is told where it may be.
+-- What comes on a connection, its end, and what the program asks for while one is there, are handed in at a moment at which nothing is due. A
+-- moment itself is told where it may be.
 abbrev pub IsPatient : {A : Type 0} → (now : ℕ) → Input A → Course A → Type 0
 IsPatient now happens.Moment course = IsTimely now course
 IsPatient now (happens.Bytes bytes) course = 0 < now → NothingAt course.agent now
 IsPatient now happens.Opened course = ⊤
 IsPatient now happens.Failed course = ⊤
-IsPatient now happens.Cut course = ⊤
+IsPatient now happens.Cut course = 0 < now → NothingAt course.agent now
 IsPatient now _ course = course.channel.is_open ≡ true → 0 < now → NothingAt course.agent now
 
 -- The agent takes an input that was noticed at a moment, and what comes from outside is that: each subject is followed then, each call is settled

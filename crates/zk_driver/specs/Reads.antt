@@ -7,8 +7,8 @@ use Rattle.std_io.specs.declared.io.kind.ErrorKind.{ErrorKind}
 use Rattle.std_io.specs.declared.io.kind.ErrorKind.TheVariants.{WouldBlock, TimedOut, Interrupted, ConnectionRefused, ConnectionReset, HostUnreachable, NetworkUnreachable, NotFound}
 use Rattle.zk_driver.specs.declared.reason.Reason.{Reason}
 use Rattle.zk_driver.specs.declared.reason.Reason.TheVariants as reason
-use Rattle.zk_link.specs.declared.bring.Brought.{Brought}
-use Rattle.zk_link.specs.declared.bring.Brought.TheVariants as brought
+use Rattle.zk_link.specs.declared.brought.Brought.{Brought}
+use Rattle.zk_link.specs.declared.brought.Brought.TheVariants as brought
 use Rattle.zk_driver.specs.declared.bring.Reading.{Reading}
 use Rattle.zk_driver.specs.declared.bring.Reading.TheVariants.{Bytes, Nothing, End}
 

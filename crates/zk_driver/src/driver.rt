@@ -13,11 +13,12 @@ ghost use Rattle.zk_driver.specs.Flowing.{flow_of, Flows};
 use crate::channel::Attempt;
 use crate::engine::{Engine, MOST_READS};
 use crate::reason::{Reason, reason_of};
+use crate::stop::Stop;
 use crate::turn::{Event, Glance, Turn};
 use std::alloc::{AllocError, Allocator};
 use zk_agent::{Action, Agent, Input, Settings};
 use zk_client::{Call, Client, Path, Side};
-use zk_link::{Clock, Dial, Stop};
+use zk_link::{Clock, Dial};
 
 /// An agent, and what carries out what it says.
 #[derive(Drop)]

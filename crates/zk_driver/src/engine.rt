@@ -10,12 +10,13 @@ ghost use Rattle.zk_driver.specs.Noting.{notes_in, notes_of_event, Made, Missed,
 ghost use Rattle.zk_driver.specs.Flowing.{bytes_in, flow_of, Flows, HandsOver};
 
 use crate::channel::{Attempt, Channel};
+use crate::stop::Stop;
 use crate::turn::Event;
 use crate::wait::wait_between;
 use std::alloc::{AllocError, Allocator};
 use std::collections::VecDeque;
 use zk_agent::{Action, Agent, Input};
-use zk_link::{Brought, Stop, Stream};
+use zk_link::{Brought, Stream};
 
 /// The most reads of what a connection has before a moment is told, where something was due before it.
 pub(crate) const MOST_READS: u32 = 64;
@@ -152,19 +153,39 @@ impl<A: Allocator + Copy, S: Stream> Engine<A, S> {
         self.hand(now, Input::Failed)
     }
 
-    /// The connection is over.
+    /// The connection is over, and the agent is told so with the moment of bytes: when it was over is not known where the program was stopped
+    /// or was away, and a server that has ended a connection was not silent.
+    fn end(&mut self, now: u64) -> Result<u64, Stop>
+        requires none { self.old.channel.attempt ≡ None }
+        requires open { is_some self.old.channel.stream ≡ true }
+        ensures goes { OnOk result (GoesBy (Lost ∷ []) (course_of self.old None) (course_of self.new None)) }
+        ensures notes { OnOk result (Notes happens.Cut (course_of self.old None) (course_of self.new None)) }
+        ensures flows { OnOk result (Flows (flow_of S.remaining S.contents self.old None) (flow_of S.remaining S.contents self.new None)) }
+        ensures shut { OnOk result (is_some self.new.channel.stream ≡ false) }
+        ensures told { IfOk result (λ moment. moment ≤ self.new.agent.latest) }
+        ensures kept { Extends (told_by self.old.waiting.items) (told_by self.new.waiting.items) }
+    {
+        let moment = self.moment_of_bytes(now);
+        self.channel.close();
+        self.hand(moment, Input::Cut)
+    }
+
+    /// The connection is over. Where the agent was told that with a moment before this one, this one is told after it, unless an address is to
+    /// be dialled. The answer is the moment that was told last.
     fn cut(&mut self, now: u64) -> Result<u64, Stop>
         requires none { self.old.channel.attempt ≡ None }
         requires open { is_some self.old.channel.stream ≡ true }
-        ensures noted { OnOk result (now ≤ self.new.agent.latest) }
         ensures goes { OnOk result (GoesBy (Lost ∷ []) (course_of self.old None) (course_of self.new None)) }
         ensures notes { OnOk result (Notes happens.Cut (course_of self.old None) (course_of self.new None)) }
         ensures flows { OnOk result (Flows (flow_of S.remaining S.contents self.old None) (flow_of S.remaining S.contents self.new None)) }
         ensures told { IfOk result (λ moment. moment ≤ self.new.agent.latest) }
         ensures kept { Extends (told_by self.old.waiting.items) (told_by self.new.waiting.items) }
     {
-        self.channel.close();
-        self.hand(now, Input::Cut)
+        let told = self.end(now)?;
+        if told == now {
+            return Ok(told);
+        }
+        self.catch_up(now, told)
     }
 
     /// Nothing has come but a moment.
@@ -269,9 +290,9 @@ impl<A: Allocator + Copy, S: Stream> Engine<A, S> {
         now
     }
 
-    /// The moment that is told with bytes which are read at this one: this one, and where something was due before it, the last moment
-    /// before that. The program was stopped then, or was away: when the bytes came is not known, and a server that has sent something is
-    /// not silent.
+    /// The moment that is told with bytes which are read at this one, and with the end of a connection: this one, and where something was due
+    /// before it, the last moment before that. The program was stopped then, or was away: when the bytes came is not known, and a server that
+    /// has sent something is not silent.
     fn moment_of_bytes(&self, now: u64) -> u64
         ensures most { result ≤ now }
         ensures quiet { 0 < result → NothingAt self.now.agent result }
@@ -344,7 +365,24 @@ impl<A: Allocator + Copy, S: Stream> Engine<A, S> {
     {
         match self.channel.attempt {
             Some(_) => self.fail(now),
-            None if self.channel.is_open() => self.cut(now),
+            None if self.channel.is_open() => {
+                self.end(now)?;
+                self.settle_closed(now)
+            }
+            None => self.tell(now),
+        }
+    }
+
+    /// The same, where there is no connection.
+    fn settle_closed(&mut self, now: u64) -> Result<u64, Stop>
+        requires { is_some self.old.channel.stream ≡ false }
+        ensures goes { OnOk result (Goes (course_of self.old None) (course_of self.new None)) }
+        ensures flows { OnOk result (Flows (flow_of S.remaining S.contents self.old None) (flow_of S.remaining S.contents self.new None)) }
+        ensures told { OnOk result (now ≤ self.new.agent.latest) }
+        ensures kept { Extends (told_by self.old.waiting.items) (told_by self.new.waiting.items) }
+    {
+        match self.channel.attempt {
+            Some(_) => self.fail(now),
             None => self.tell(now),
         }
     }

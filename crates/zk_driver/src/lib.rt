@@ -13,12 +13,13 @@ pub mod laws;
 mod look;
 mod reason;
 mod send;
+mod stop;
 mod turn;
 mod wait;
 
 pub use driver::Driver;
 pub use reason::Reason;
+pub use stop::Stop;
 pub use turn::Turn;
 pub use zk_agent::{Action, Agent, Settings};
 pub use zk_follow::Refusal;
-pub use zk_link::Stop;

@@ -1,3 +1,0 @@
-pub mod TrailLemmas
-pub mod WaitLemmas
-pub mod GiveLemmas

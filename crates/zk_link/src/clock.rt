@@ -2,7 +2,7 @@
 
 use std::time;
 
-/// What tells moments, in milliseconds from any beginning, and waits. It may go back: a link never does.
+/// What tells moments, in milliseconds from any beginning, and waits. It may go back: a driver never does.
 pub trait Clock {
     /// The moment.
     fn now(&mut self) -> u64;

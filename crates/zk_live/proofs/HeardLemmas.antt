@@ -7,14 +7,11 @@ use Rattle.zk_turns.specs.Rule.{after_signals}
 use Rattle.zk_session.specs.declared.states.State.{State}
 use Rattle.zk_session.specs.declared.states.State.TheVariants.{Idle, Connecting, Connected, Expired, Closed}
 use Rattle.std.specs.Prelude.{codes, if◌then◌else◌}
-use Rattle.zk_link.specs.declared.stop.Stop.{Stop as LinkStop}
-use Rattle.zk_link.specs.declared.stop.Stop.TheVariants as link
-use Rattle.zk_link.specs.Trails.{is_given, Fails, Hears as LinkHears, IsLoud, Trail}
+use Rattle.zk_live.specs.Trails.{is_given, Fails, Hears as JointHears, IsLoud, Trail}
 use Rattle.zk_script.specs.declared.stop.Stop.{Stop}
 use Rattle.zk_script.specs.declared.stop.Stop.TheVariants as stops
 use Rattle.zk_script.specs.Stops.{IfHalted, IsWant}
 use Rattle.zk_live.specs.Heard.{is_waiting, tape, AllBrought, Awaits, Brings, Connects, Halts, HaltsAmong, HaltsAwaiting, HaltsBrought, HaltsConnecting, Hears, IsBrought, MayEnd, Takes, Tape, TellsEach}
-use Rattle.zk_live.specs.Wants.{want_of}
 
 -- one output, given or sent, and what is printed of it
 told_first : (output : Output) (given outputs : List Output) (text : List ℕ) → ((rest : List ℕ) → TellsEach given rest → TellsEach outputs rest)
@@ -31,7 +28,7 @@ told_all [] text none = none
 told_all (output ∷ outputs) text tells = told_first output (filter is_given outputs) outputs text (told_all outputs) tells
 
 -- one input, of which what is given is printed
-pub heard : (old new : Trail) (input : Input) (before told after : List ℕ) → old.given ≡ [] → LinkHears old input new → TellsEach new.given told
+pub heard : (old new : Trail) (input : Input) (before told after : List ℕ) → old.given ≡ [] → JointHears old input new → TellsEach new.given told
     → after ≡ before ++ told → Hears (tape old.view before) input (tape new.view after)
 heard old new input before told after none hears tells printed =
     let given : new.given ≡ filter is_given hears.outputs = hears.given ∙ ap (λ g. g ++ filter is_given hears.outputs) none in
@@ -44,14 +41,16 @@ heard old new input before told after none hears tells printed =
     }
 
 -- want of memory at one input
-pub halted : (stop : LinkStop) (old new : Trail) (input : Input) (text : List ℕ) → Fails stop old new → IsLoud stop old.view input
-    → IfHalted (Halts (tape old.view text) input (tape new.view text)) (want_of stop)
-halted link.Halted old new input text fails loud = record { halts = record { loud = loud; halts = fails.0 }; printed = refl }
-halted link.Memory old new input text fails loud = tt
+pub halted : (stop : Stop) (old new : Trail) (input : Input) (text : List ℕ) → Fails stop old new → IsLoud stop old.view input
+    → IfHalted (Halts (tape old.view text) input (tape new.view text)) stop
+halted (stops.Refused fault) old new input text fails loud = tt
+halted stops.Halted old new input text fails loud = record { halts = record { loud = loud; halts = fails.0 }; printed = refl }
+halted stops.Memory old new input text fails loud = tt
 
-pub wants : (stop : LinkStop) → IsWant (want_of stop)
-wants link.Halted = tt
-wants link.Memory = tt
+pub wants : (stop : Stop) (old new : Trail) → Fails stop old new → IsWant stop
+wants (stops.Refused fault) old new fails = fails
+wants stops.Halted old new fails = tt
+wants stops.Memory old new fails = tt
 
 -- nothing came
 pub nothing : (here : Tape) → Brings here here

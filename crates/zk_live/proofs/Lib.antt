@@ -1,2 +1,4 @@
 pub mod HeardLemmas
 pub mod LiveLemmas
+pub mod TrailLemmas
+pub mod GiveLemmas

@@ -4,4 +4,5 @@ pub mod Lines
 pub mod Begins
 pub mod Heard
 pub mod Lives
-pub mod Wants
+pub mod Frames
+pub mod Trails

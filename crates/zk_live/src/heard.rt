@@ -6,11 +6,11 @@ ghost use Rattle.zk_client.specs.Clients.{view_of};
 ghost use Rattle.zk_client.specs.Views.{input_view, output_view, said};
 ghost use Rattle.zk_script.specs.Stops.{IfHalted, IsWant};
 ghost use Rattle.zk_live.specs.Heard.{tape, Halts, Hears, TellsEach, TellsHeard};
-ghost use Rattle.zk_live.specs.Wants.{want_of};
 
+use crate::joint::Joint;
 use std::alloc::{AllocError, Allocator};
 use zk_client::{Input, Output};
-use zk_link::{Joint, Stream};
+use zk_link::Stream;
 use zk_replay::outputs::push_output;
 use zk_script::stop::Stop;
 
@@ -51,16 +51,6 @@ fn push_told<A: Allocator + Copy>(
     text.push_str(told.as_str())
 }
 
-/// Why a line is not done, where a link has no memory.
-fn want_of(stop: zk_link::Stop) -> Stop
-    ensures { result ≡ want_of stop }
-{
-    match stop {
-        zk_link::Stop::Halted => Stop::Halted,
-        zk_link::Stop::Memory => Stop::Memory,
-    }
-}
-
 /// What a client says to an input, except what goes to the server, and whether the connection has not failed.
 #[derive(Drop)]
 pub struct Heard<A: Allocator> {
@@ -82,7 +72,7 @@ pub fn hear<A: Allocator + Copy, S: Stream>(
     let mut outputs = Vec::new(alloc);
     let is_well = match joint.hear(input, &mut outputs) {
         Ok(is_well) => is_well,
-        Err(stop) => return Err(want_of(stop)),
+        Err(stop) => return Err(stop),
     };
     push_told(alloc, outputs.as_slice(), text)?;
     Ok(Heard { outputs, is_well })
@@ -100,7 +90,7 @@ pub fn cut<A: Allocator + Copy, S: Stream>(
 {
     let mut outputs = Vec::new(alloc);
     if let Err(stop) = joint.cut(&mut outputs) {
-        return Err(want_of(stop));
+        return Err(stop);
     }
     match push_told(alloc, outputs.as_slice(), text) {
         Ok(()) => Ok(()),

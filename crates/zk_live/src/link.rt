@@ -9,9 +9,11 @@ ghost use Rattle.zk_script.specs.Stops.{IfHalted, IsWant};
 ghost use Rattle.zk_live.specs.Heard.{is_waiting, tape, Awaits, Brings, Connects, Halts, HaltsAmong, HaltsAwaiting, HaltsBrought, HaltsConnecting, Hears, MayEnd, Takes};
 
 use crate::heard::{cut, hear};
+use crate::joint::Joint;
+use crate::ring::Ring;
 use std::alloc::{AllocError, Allocator};
 use zk_client::{Client, Input, Output};
-use zk_link::{Brought, Dial, Joint, Ring, Stream};
+use zk_link::{Brought, Dial, Stream};
 use zk_replay::call_line::Asked;
 use zk_script::stop::Stop;
 use zk_session::State;

@@ -17,9 +17,10 @@ ghost use Rattle.zk_live.specs.Lives.{position_of, rules, DoesLive, HaltsLine, H
 use crate::first_line::begin_of;
 use crate::link::Link;
 use crate::live_line::{LiveLine, parse_live_line};
+use crate::ring::Ring;
 use std::alloc::{AllocError, Allocator};
 use zk_client::Input;
-use zk_link::{Dial, Ring};
+use zk_link::Dial;
 use zk_replay::begin_line::BeginLine;
 use zk_replay::client_line::ClientLine;
 use zk_replay::driven::{driven, make_client};

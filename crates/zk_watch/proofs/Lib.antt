@@ -1,6 +1,9 @@
 mod Ending
+mod Going
+mod Growing
 mod Objects
 mod Pieces
 mod Printing
 mod Showing
 mod Telling
+mod Tending

@@ -1,8 +1,9 @@
 -- What is printed, one move after another.
-use Rattle.std.proofs.Common.{◌≡◌, ◌≤◌, ◌<◌, ◌+◌, ◌++◌, ◌∙◌, ℕ, Bool, true, List, [], ◌∷◌, length, get_or, take, Option, refl, sym, ap, subst, append_assoc, append-nil}
+use Rattle.std.proofs.Common.{◌≡◌, ◌≤◌, ◌<◌, ◌+◌, ◌++◌, ◌∙◌, ℕ, Bool, true, false, List, [], ◌∷◌, length, get_or, take, Option, refl, sym, ap, subst, append_assoc, append-nil}
 use Rattle.std.proofs.lemmas.List.{map-append, take_more}
 use Rattle.std.specs.Prelude.{Result, Ok, Err, OnOk, IfErr}
 use Rattle.std.proofs.KnownBytes.{Appends-nil, Appends-trans}
+use Rattle.std.specs.Io.KnownBytes.{Appends}
 use Rattle.std.specs.List.{flat_map, FoldsTo}
 use Rattle.std.specs.Prelude.{◌||◌, None, string_bytes}
 use Rattle.zk_client.specs.Clients.{view_of}
@@ -17,8 +18,11 @@ use Rattle.zk_nodes.specs.Path.{Text}
 use Rattle.zk_nodes.specs.declared.side.Side.{Side}
 use Rattle.zk_watch.specs.declared.plan.Style.{Style}
 use Rattle.zk_watch.specs.declared.plan.Subject.{Subject}
+use Rattle.zk_watch.specs.declared.trees.Trees.{Trees}
+use Rattle.zk_watch.specs.Trees.{growth_of}
+use Rattle.zk_watch.proofs.Growing.{mapped_next}
 use Rattle.zk_watch.specs.Lines.{none_words}
-use Rattle.zk_watch.specs.Watching.{accepts, aim_of, aims_of, stand_of, text_of, FollowsAll, FollowsSo, TellsTurn, Does, Heard, Move, Prints, Stand, Takes, Writes, WritesOn}
+use Rattle.zk_watch.specs.Watching.{accepts, aim_of, aims_of, stand_of, text_of, FollowsAll, FollowsSo, TellsTurn, TendsSo, Does, HasCome, Heard, Move, Prints, Stand, Takes, Writes, WritesOn}
 
 pub does_on : {A : Type 0} (moves more : List (Move A)) (old between new : Stand A) → FoldsTo Does old moves between → FoldsTo Does between more new → FoldsTo Does old (moves ++ more) new
 does_on {A} [] more old between new same rest = subst (λ (s : Stand A). FoldsTo Does s more new) (sym same) rest
@@ -63,9 +67,27 @@ writes_on old between a b c same writes = (between, subst (Writes old between a)
 pub on_after : {A : Type 0} (old between : Stand A) (a b c : Option (List ℕ)) → Writes old between a b → WritesOn between b c → WritesOn old a c
 on_after old between a b c first rest = (rest.0, writes_after old between rest.0 a b c first rest.1)
 
--- one turn
-pub heard : {A : Type 0} (until : ℕ) (is_over : Bool) (old : Stand A) (text : List ℕ) (new : Stand A) → Heard until is_over old text new → Prints old text new
-heard until is_over old text new is = one (Takes is.turn text) old new is.turns
+-- one turn, and what becomes of the trees
+pub rounds : {A : Type 0} (until : ℕ) (is_over : Bool) (old between new : Stand A) (told more : List ℕ) (a b : Option (List ℕ)) → Heard until is_over old told between
+    → TendsSo is_over between more new → Appends a b (told ++ more) → Writes old new a b
+rounds {A} until is_over old between new told more a b heard tends adds = (
+  told ++ more,
+  one (Takes heard.turn (told ++ more)) old new (record {
+    between = between;
+    told = told;
+    more = more;
+    turns = heard.turns;
+    tends = subst (λ (o : Bool). TendsSo o between more new) heard.over tends;
+    are = refl;
+  }),
+  adds,
+)
+
+-- where the moment has come, it still has
+pub come : {A : Type 0} (until : ℕ) (is_over : Bool) (old between new : Stand A) (told more : List ℕ) → Heard until is_over old told between → TendsSo is_over between more new
+    → is_over ≡ true → HasCome until new
+come {A} until is_over old between new told more heard tends is =
+    subst (λ (s : Stand A). HasCome until s) (sym (tends.over is).0) (heard.comes is)
 
 -- where what comes after may end otherwise
 pub err_after : {A X E : Type 0} (P : E → Type 0) (result : Result X E) (old between : Stand A) (a b c : Option (List ℕ)) → Writes old between a b
@@ -77,43 +99,41 @@ err_after P (Err e) old between a b c first rest = λ well. on_after old between
 
 -- one more
 pub follows_more : {A : Type 0} (subjects : List (Subject A)) (index : ℕ) (subject : Subject A) (first here new : Stand A) → index < length subjects → subject ≡ get_or subjects index subject
-    → FollowsAll (aims_of (take index subjects)) first here → FollowsSo (aim_of subject) here new → FollowsAll (aims_of (take (index + 1) subjects)) first new
+    → FollowsAll (aims_of (take index subjects)) first here → FollowsSo false (aim_of subject) here new → FollowsAll (aims_of (take (index + 1) subjects)) first new
 follows_more {A} subjects index subject first here new within is follows next =
-    subst (λ aims. FollowsAll aims first new)
-    (sym (ap aims_of (take_more subjects index subject within) ∙ map-append aim_of (take index subjects) (get_or subjects index subject ∷ [])
-    ∙ ap (λ s. aims_of (take index subjects) ++ aim_of s ∷ []) (sym is)))
-    (on (aims_of (take index subjects)) first follows)
-  where
-    on : (aims : List (Side × Text)) (first : Stand A) → FollowsAll aims first here → FollowsAll (aims ++ aim_of subject ∷ []) first new
-    on [] first same = (new, subst (λ (s : Stand A). FollowsSo (aim_of subject) s new) (sym same) next, refl)
-    on (aim ∷ aims) first all = (all.0, all.1, on aims all.0 all.2)
+    mapped_next (λ at aim after. FollowsSo false aim at after) aim_of subjects index subject first here new within is follows next
 
-pub ok_follows : {A S X E : Type 0} (result : Result X E) (aim : Side × Text) (first last : Engine A S) (olds news : List (Watched A)) (one : Watched A) (is_accepted : Bool) (style : Style) (ticket : ℕ)
-    → aim_of one.subject ≡ aim → string_bytes one.words ≡ none_words aim.0 → news ≡ olds ++ one ∷ [] → ticket ≡ length olds + 1
-    → OnOk result (Hands (happens.Follow ticket aim.0 aim.1) (course_of first None) (course_of last None)) → OnOk result (FollowsSo aim (stand_of first olds is_accepted style) (stand_of last news is_accepted style))
-ok_follows {A} (Ok x) aim first last olds news one is_accepted style ticket is words more place hands = record {
-  hands = subst (λ (t : ℕ). Hands (happens.Follow t aim.0 aim.1) (course_of first None) (course_of last None)) place hands;
+pub ok_follows : {A S X E : Type 0} (result : Result X E) (is_found : Bool) (aim : Side × Text) (first last : Engine A S) (olds news : List (Watched A)) (one : Watched A) (is_accepted : Bool) (style : Style)
+    (trees : Trees A) (next : ℕ) → aim_of one.subject ≡ aim → string_bytes one.words ≡ none_words aim.0 → one.ticket ≡ trees.ticket → one.is_found ≡ is_found → news ≡ olds ++ one ∷ []
+    → next ≡ trees.ticket + 1 → OnOk result (Hands (happens.Follow trees.ticket aim.0 aim.1) (course_of first None) (course_of last None))
+    → OnOk result (FollowsSo is_found aim (stand_of first olds is_accepted style trees) (stand_of last news is_accepted style (record trees { ticket = next })))
+ok_follows {A} (Ok x) is_found aim first last olds news one is_accepted style trees next is words ticket part more after hands = record {
+  hands = hands;
   one = one;
   its_aim = is;
   its_words = words;
+  its_ticket = ticket;
+  its_part = part;
   watched = more;
   accepted = refl;
   style = refl;
+  growth = ap (λ n. record (growth_of trees) { ticket = n }) after;
 }
-ok_follows (Err e) aim first last olds news one is_accepted style ticket is words more place hands = tt
+ok_follows (Err e) is_found aim first last olds news one is_accepted style trees next is words ticket part more after hands = tt
 
 -- ---- one turn, heard
 
 -- what a driver has come to, with what it hands on
-pub heard_so : {A S : Type 0} (until : ℕ) (is_over : Bool) (turn : Turn A) (first between last : Engine A S) (olds news : List (Watched A)) (was is : Bool) (style : Style) (text : List ℕ) → last ≡ between
+pub heard_so : {A S : Type 0} (until : ℕ) (is_over : Bool) (turn : Turn A) (first between last : Engine A S) (olds news : List (Watched A)) (was is : Bool) (style : Style) (trees : Trees A) (text : List ℕ) → last ≡ between
     → GoesBy (notes_of turn) (course_of first None) (course_of between (passed_in turn))
     → TellsTurn style turn (view_of between.agent.asker.follower.client) (told_by between.waiting.items) olds news text → is ≡ (was || accepts turn) → is_over ≡ is_come turn
     → (is_come turn ≡ true → until ≤ between.agent.latest) → (is_come turn ≡ true → between.waiting.items ≡ [])
-    → Heard until is_over (stand_of first olds was style) text (stand_of last news is style)
-heard_so {A} {S} until is_over turn first between last olds news was is style text same goes tells accepted over comes waits =
-    subst (λ (e : Engine A S). Heard until is_over (stand_of first olds was style) text (stand_of e news is style)) (sym same) (record {
+    → Heard until is_over (stand_of first olds was style trees) text (stand_of last news is style trees)
+heard_so {A} {S} until is_over turn first between last olds news was is style trees text same goes tells accepted over comes waits =
+    subst (λ (e : Engine A S). Heard until is_over (stand_of first olds was style trees) text (stand_of e news is style trees)) (sym same) (record {
       turn = turn;
-      turns = record { goes = goes; tells = tells; accepted = accepted; style = refl };
+      turns = record { goes = goes; tells = tells; accepted = accepted; style = refl; growth = refl };
+      over = over;
       comes = λ is_so. (comes (sym over ∙ is_so), ap told_by (waits (sym over ∙ is_so)));
     })
 

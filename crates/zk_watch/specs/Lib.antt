@@ -1,2 +1,3 @@
 pub mod Lines
+pub mod Trees
 pub mod Watching

@@ -1,8 +1,8 @@
 -- What a watch prints, word by word.
-use Rattle.std.specs.Prelude.{◌≡◌, ◌==◌, ◌-◌, ◌/◌, ◌%◌, ◌&&◌, ◌||◌, not, nat_le, nat_lt, chars, map, slice_get, ℕ, ℤ, pos, negsuc, Bool, true, false, if◌then◌else◌, List, [], ◌∷◌, ◌++◌, codes, Option, Some, None}
+use Rattle.std.specs.Prelude.{◌≡◌, ◌==◌, ◌/◌, ◌%◌, ◌&&◌, ◌||◌, not, nat_le, nat_lt, chars, map, ℕ, ℤ, pos, negsuc, Bool, true, false, if◌then◌else◌, List, [], ◌∷◌, ◌++◌, codes, Option, Some, None}
 use Rattle.std.specs.Fmt.{decimal, signed_decimal}
 use Rattle.std.specs.FinSet as set
-use Rattle.std.specs.List.{flat_map, list_any}
+use Rattle.std.specs.List.{find, flat_map, list_any}
 use Rattle.std.specs.Str.{is_utf8}
 use Rattle.json.specs.Print.{print}
 use Rattle.json.specs.Token as json
@@ -251,7 +251,7 @@ path_in None = []
 path_in (Some one) = one.subject.path
 
 abbrev pub path_of : {A : Type 0} → List (Watched A) → (ticket : ℕ) → Text
-path_of watched ticket = path_in (slice_get watched (ticket - 1))
+path_of watched ticket = path_in (find (λ one. one.ticket == ticket) watched)
 
 abbrev pub refusal_words : Text → Refusal → List ℕ
 refusal_words path why = text_word (Some path) ++ why_text why

@@ -1,6 +1,6 @@
 -- What a watch does, and what it prints.
 use Rattle.std.specs.Prelude.{◌≡◌, ◌≢◌, ◌≤◌, ◌+◌, ◌||◌, min, ◌^◌, ◌-◌, ◌⊎◌, ⊤, ℕ, Bool, true, false, bytes_eq, List, [], ◌∷◌, ◌++◌, length, map, Option, Some, None, string_bytes}
-use Rattle.std.specs.List.{flat_map, FoldsTo}
+use Rattle.std.specs.List.{filter, flat_map, FoldsTo}
 use Rattle.std.specs.Io.KnownBytes.{Appends}
 use Rattle.zk_nodes.specs.Path.{Text}
 use Rattle.zk_nodes.specs.declared.side.Side.{Side}
@@ -14,13 +14,15 @@ use Rattle.zk_agent.specs.Telling.{Told, Says, action_view}
 use Rattle.zk_agent.specs.declared.input.Input.TheVariants as happens
 use Rattle.zk_driver.specs.declared.engine.Engine.{Engine}
 use Rattle.zk_driver.specs.Driving.{closed, course_of, passed_by, AreFollowed, Course, Hands}
-use Rattle.zk_driver.specs.Noting.{notes_of, passed_in, GoesBy}
+use Rattle.zk_driver.specs.Noting.{is_come, notes_of, passed_in, GoesBy}
 use Rattle.zk_driver.specs.declared.turn.Turn.{Turn}
 use Rattle.zk_driver.specs.declared.turn.Turn.TheVariants as turn
 use Rattle.zk_watch.specs.Lines.{none_words, turn_line, IsSubjectLine, Looks}
+use Rattle.zk_watch.specs.Trees.{bound_text, growth_of, is_settled, roots_aims, stays, tickets_gone, AreWanted, Growth, Wants}
 use Rattle.zk_watch.specs.declared.plan.Style.{Style}
 use Rattle.zk_watch.specs.declared.plan.Subject.{Subject}
 use Rattle.zk_watch.specs.declared.shown.Watched.{Watched}
+use Rattle.zk_watch.specs.declared.trees.Trees.{Trees}
 
 -- a side of a path
 abbrev pub aim_of : {A : Type 0} → Subject A → Side × Text
@@ -39,6 +41,8 @@ PrintsChange false style ms side path view words text = IsSubjectLine style ms s
 -- A subject is shown: what was printed of it last is the look-up then, and it is printed where it was not.
 pub record ShowsSo {A : Type 0} (style : Style) (ms : ℕ) (view : View) (old new : Watched A) (text : List ℕ) : Type 0 where
   pub aim : aim_of new.subject ≡ aim_of old.subject
+  pub ticket : new.ticket ≡ old.ticket
+  pub found : new.is_found ≡ old.is_found
   pub looks : Looks new.subject.side new.subject.path view (string_bytes new.words)
   pub line : PrintsChange (bytes_eq (string_bytes new.words) (string_bytes old.words)) style ms new.subject.side new.subject.path view (string_bytes new.words) text
 
@@ -51,15 +55,17 @@ ShowsAll style ms view olds news text = ⊥
 -- ---- how far a watch has come
 
 -- The agent and its connection, with what it has told that was not taken yet; the subjects with what was printed of each last; whether a
--- server has accepted a session; and how it is printed.
+-- server has accepted a session; how it is printed; and how far its trees are known.
 pub record Stand (A : Type 0) : Type 0 where
   pub course : Course A
   pub watched : List (Watched A)
   pub is_accepted : Bool
   pub style : Style
+  pub growth : Growth
 
-abbrev pub stand_of : {A S : Type 0} → Engine A S → List (Watched A) → (is_accepted : Bool) → Style → Stand A
-stand_of engine watched is_accepted style = record { course = course_of engine None; watched = watched; is_accepted = is_accepted; style = style }
+abbrev pub stand_of : {A S : Type 0} → Engine A S → List (Watched A) → (is_accepted : Bool) → Style → Trees A → Stand A
+stand_of engine watched is_accepted style trees =
+    record { course = course_of engine None; watched = watched; is_accepted = is_accepted; style = style; growth = growth_of trees }
 
 abbrev pub view_in : {A : Type 0} → Stand A → View
 view_in stand = view_of stand.course.agent.asker.follower.client
@@ -100,25 +106,90 @@ pub record Turns {A : Type 0} (turn : Turn A) (old : Stand A) (text : List ℕ) 
   pub tells : TellsTurn old.style turn (view_in new) new.course.told old.watched new.watched text
   pub accepted : new.is_accepted ≡ (old.is_accepted || accepts turn)
   pub style : new.style ≡ old.style
+  pub growth : new.growth ≡ old.growth
 
--- A subject is followed, by the ticket that is its place, counted from 1: as if nothing were kept of it and that were printed.
-pub record FollowsSo {A : Type 0} (aim : Side × Text) (old new : Stand A) : Type 0 where
-  pub hands : Hands (happens.Follow (length old.watched + 1) aim.0 aim.1) old.course new.course
+-- A subject is followed, by the next ticket: as if nothing were kept of it and that were printed.
+pub record FollowsSo {A : Type 0} (is_found : Bool) (aim : Side × Text) (old new : Stand A) : Type 0 where
+  pub hands : Hands (happens.Follow old.growth.ticket aim.0 aim.1) old.course new.course
   pub one : Watched A
   pub its_aim : aim_of one.subject ≡ aim
   pub its_words : string_bytes one.words ≡ none_words aim.0
+  pub its_ticket : one.ticket ≡ old.growth.ticket
+  pub its_part : one.is_found ≡ is_found
   pub watched : new.watched ≡ old.watched ++ one ∷ []
   pub accepted : new.is_accepted ≡ old.is_accepted
   pub style : new.style ≡ old.style
+  pub growth : new.growth ≡ record old.growth { ticket = old.growth.ticket + 1 }
 
--- Each of these is, in order.
+-- Each of these is, in order. None was found below a root.
 abbrev pub FollowsAll : {A : Type 0} → List (Side × Text) → (old new : Stand A) → Type 0
-FollowsAll aims old new = FoldsTo (λ at aim after. FollowsSo aim at after) old aims new
+FollowsAll aims old new = FoldsTo (λ at aim after. FollowsSo false aim at after) old aims new
+
+-- ---- what becomes of trees
+
+-- The subject of this ticket is followed no more.
+pub record LetsGo {A : Type 0} (ticket : ℕ) (old new : Stand A) : Type 0 where
+  pub hands : Hands (happens.Unfollow ticket) old.course new.course
+  pub same : new ≡ record old { course = new.course }
+
+-- What is gone is watched no more: each node that was found below a root and of which it is kept and good that there is none. All others stay, in
+-- their order.
+abbrev pub LetsAllGo : {A : Type 0} → (old new : Stand A) → Type 0
+LetsAllGo old new =
+    FoldsTo (λ at ticket after. LetsGo ticket at after) (record old { watched = filter (stays (view_in old)) old.watched })
+    (tickets_gone (view_in old) old.watched) new
+
+-- A side of a path that is watched already stays so, and is not followed twice; that of a node of which it is kept and good that there is none is
+-- left; else it is followed, as one that was found.
+abbrev pub TakesOnWhere : {A : Type 0} → (is_settled : Bool) → Side × Text → (old new : Stand A) → Type 0
+TakesOnWhere true aim old new = new ≡ old
+TakesOnWhere false aim old new = FollowsSo true aim old new
+
+abbrev pub TakesOn : {A : Type 0} → Side × Text → (old new : Stand A) → Type 0
+TakesOn aim old new = TakesOnWhere (is_settled (view_in old) aim old.watched) aim old new
+
+-- Each of these is taken on, in order, and whether a tree has more nodes than the most is noted.
+pub record TakesAllOn {A : Type 0} (wants : Wants) (old new : Stand A) : Type 0 where
+  pub last : Stand A
+  pub takes : FoldsTo (λ at aim after. TakesOn aim at after) old wants.aims last
+  pub ends : new ≡ record last { growth = record last.growth { is_bounded = wants.is_bounded } }
+
+-- Each tree is taken on, as far as good names lead.
+pub record Grows {A : Type 0} (old new : Stand A) : Type 0 where
+  pub wants : Wants
+  pub wanted : AreWanted (view_in old) old.growth.most old.growth.roots wants
+  pub takes : TakesAllOn wants old new
+
+-- What is gone is let go, each tree is taken on, and a line tells where one has more nodes than the most, and none had.
+pub record Tends {A : Type 0} (old : Stand A) (text : List ℕ) (new : Stand A) : Type 0 where
+  pub ms : ℕ
+  pub left : Stand A
+  pub lets : LetsAllGo old left
+  pub grows : Grows left new
+  pub bound : text ≡ bound_text old.growth.is_bounded new.growth.is_bounded new.style ms new.growth.most
+
+-- That is done where nothing waits to be told, and the moment has not come at which the watch is over; else nothing is.
+pub record TendsSo {A : Type 0} (is_over : Bool) (old : Stand A) (text : List ℕ) (new : Stand A) : Type 0 where
+  pub tends : is_over ≡ false → old.course.told ≡ [] → Tends old text new
+  pub over : is_over ≡ true → (new ≡ old) × (text ≡ [])
+  pub waits : old.course.told ≢ [] → (new ≡ old) × (text ≡ [])
+
+-- One turn of the driver, what is printed of it, and what becomes of the trees after it.
+pub record Rounds {A : Type 0} (turn : Turn A) (old : Stand A) (text : List ℕ) (new : Stand A) : Type 0 where
+  pub between : Stand A
+  pub told : List ℕ
+  pub more : List ℕ
+  pub turns : Turns turn old told between
+  pub tends : TendsSo (is_come turn) between more new
+  pub are : text ≡ told ++ more
+
+-- ---- how a watch goes on
 
 -- One turn, by whose moment this one may have come.
 pub record Heard {A : Type 0} (until : ℕ) (is_over : Bool) (old : Stand A) (text : List ℕ) (new : Stand A) : Type 0 where
   pub turn : Turn A
   pub turns : Turns turn old text new
+  pub over : is_over ≡ is_come turn
   pub comes : is_over ≡ true → (until ≤ new.course.agent.latest) × (new.course.told ≡ [])
 
 pub data Move (A : Type 0) : Type 0 where
@@ -129,10 +200,12 @@ abbrev pub text_of : {A : Type 0} → Move A → List ℕ
 text_of (Takes turn text) = text
 text_of (Closes until) = []
 
--- A turn is made and printed, or the end of the session is asked for.
+-- A turn is made and printed, and the trees are tended; or the end of the session is asked for, and no tree is tended from then on.
 abbrev pub Does : {A : Type 0} → Stand A → Move A → Stand A → Type 0
-Does old (Takes turn text) new = Turns turn old text new
-Does old (Closes until) new = Hands (happens.Call 0 call.Close (Some until)) old.course new.course × (new.watched ≡ old.watched) × (new.is_accepted ≡ old.is_accepted) × (new.style ≡ old.style)
+Does old (Takes turn text) new = Rounds turn old text new
+Does old (Closes until) new =
+    Hands (happens.Call 0 call.Close (Some until)) old.course new.course × (new.watched ≡ old.watched) × (new.is_accepted ≡ old.is_accepted)
+    × (new.style ≡ old.style) × (new.growth ≡ record old.growth { roots = [] })
 
 -- Some moves print this.
 pub record Prints {A : Type 0} (old : Stand A) (text : List ℕ) (new : Stand A) : Type 0 where
@@ -186,8 +259,8 @@ pub record IsOver {A : Type 0} (for_ms : Option ℕ) (ready last : Stand A) (tex
 
 -- ---- the whole
 
--- A new session, which asks for some timeout, and no connection; and how it is printed.
-pub record IsBegun {A : Type 0} (style : Style) (first : Stand A) : Type 0 where
+-- A new session, which asks for some timeout, and no connection; how it is printed; and the roots of trees, of which nothing is known.
+pub record IsBegun {A : Type 0} (style : Style) (roots : List Text) (most : ℕ) (first : Stand A) : Type 0 where
   pub timeout : ℕ
   pub client : view_in first ≡ view_at (new_start timeout) []
   pub followed : AreFollowed first.course.agent
@@ -196,6 +269,7 @@ pub record IsBegun {A : Type 0} (style : Style) (first : Stand A) : Type 0 where
   pub watched : first.watched ≡ []
   pub accepted : first.is_accepted ≡ false
   pub prints : first.style ≡ style
+  pub growth : first.growth ≡ record { roots = roots; most = most; is_bounded = false; ticket = 1 }
 
 -- What a watch of these has printed, wherever it stopped: nothing before each is followed.
 pub record PrintsFrom {A : Type 0} (aims : List (Side × Text)) (first : Stand A) (text : List ℕ) : Type 0 where
@@ -212,18 +286,25 @@ pub record EndsFrom {A : Type 0} (aims : List (Side × Text)) (for_ms : Option �
   pub over : IsOver for_ms ready last text
   pub accepted : last.is_accepted ≡ is_accepted
 
+-- the client that a turn has led to, before the trees were tended
+abbrev pub IsTurnLed : {A : Type 0} → (move : Move A) → (old new : Stand A) → Does old move new → Type 0
+IsTurnLed (Takes turn text) old new does = IsLed (view_in does.between)
+IsTurnLed (Closes until) old new does = ⊤
+
 -- Each client that something is printed of stands where turns by the rule have led it.
 abbrev pub AllStood : {A : Type 0} → (moves : List (Move A)) → (old new : Stand A) → FoldsTo Does old moves new → Type 0
 AllStood [] old new does = ⊤
-AllStood (move ∷ moves) old new does = IsLed (view_in does.0) × AllStood moves does.0 new does.2
+AllStood (move ∷ moves) old new does = IsTurnLed move old does.0 does.1 × IsLed (view_in does.0) × AllStood moves does.0 new does.2
 
 abbrev pub IsStood : {A : Type 0} → (old : Stand A) → (text : List ℕ) → (new : Stand A) → Prints old text new → Type 0
 IsStood old text new prints = AllStood prints.moves old new prints.does
 
-abbrev pub IsPrinted : (A : Type 0) → Style → List (Side × Text) → List ℕ → Type 0
-IsPrinted A style aims text = (text ≡ []) ⊎ ((first : Stand A) × IsBegun style first × (from : PrintsFrom aims first text) × IsStood from.ready text from.last from.prints)
+abbrev pub IsPrinted : (A : Type 0) → Style → List (Side × Text) → (roots : List Text) → (most : ℕ) → List ℕ → Type 0
+IsPrinted A style aims roots most text =
+    (text ≡ []) ⊎ ((first : Stand A) × IsBegun style roots most first × (from : PrintsFrom (aims ++ roots_aims roots) first text)
+    × IsStood from.ready text from.last from.prints)
 
-abbrev pub IsWatched : (A : Type 0) → Style → List (Side × Text) → Option ℕ → List ℕ → (is_accepted : Bool) → Type 0
-IsWatched A style aims for_ms text is_accepted =
-    (first : Stand A) × IsBegun style first × (from : EndsFrom aims for_ms first text is_accepted)
+abbrev pub IsWatched : (A : Type 0) → Style → List (Side × Text) → (roots : List Text) → (most : ℕ) → Option ℕ → List ℕ → (is_accepted : Bool) → Type 0
+IsWatched A style aims roots most for_ms text is_accepted =
+    (first : Stand A) × IsBegun style roots most first × (from : EndsFrom (aims ++ roots_aims roots) for_ms first text is_accepted)
     × IsStood from.ready from.over.told from.over.over from.over.prints × IsStood from.over.over from.over.rest from.last from.over.closes

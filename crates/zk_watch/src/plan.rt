@@ -28,6 +28,10 @@ pub struct Plan<'a, A: Allocator + Copy> {
     /// What the dial takes: for `Tcp` a host and a port each.
     pub addresses: &'a [&'a str],
     pub subjects: Vec<Subject<A>, A>,
+    /// The roots of trees: the data of each and the names below it are watched, and those of each node below it, as it comes to be known.
+    pub trees: Vec<Path<A>, A>,
+    /// Of a tree that is known to have more nodes than this, no more are taken on.
+    pub most: u64,
     /// The timeout to ask for, in milliseconds; one below 1 counts as 1.
     pub timeout_ms: i32,
     /// How long, in milliseconds; none: until output fails.

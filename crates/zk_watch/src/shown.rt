@@ -25,10 +25,12 @@ pub(crate) fn copy_of<A: Allocator + Copy>(alloc: A, path: &Path<A>) -> Result<P
     }
 }
 
-/// A subject, and the words that were printed of it last.
+/// A subject, the ticket by which it is followed, whether it was found below a root, and the words that were printed of it last.
 #[derive(Drop)]
 pub(crate) struct Watched<A: Allocator> {
     pub(crate) subject: Subject<A>,
+    pub(crate) ticket: u64,
+    pub(crate) is_found: bool,
     pub(crate) words: String<A>,
 }
 
@@ -84,8 +86,15 @@ fn subject_line<A: Allocator + Copy>(
 
 impl<A: Allocator + Copy> Watched<A> {
     /// A copy of a subject, as if nothing were kept of it and that were printed.
-    pub(crate) fn new(alloc: A, subject: &Subject<A>) -> Result<Watched<A>, AllocError>
+    pub(crate) fn new(
+        alloc: A,
+        subject: &Subject<A>,
+        ticket: u64,
+        is_found: bool,
+    ) -> Result<Watched<A>, AllocError>
         ensures aim { IfOk result (λ one. aim_of one.subject ≡ aim_of subject.now) }
+        ensures ticket { IfOk result (λ one. one.ticket ≡ ticket) }
+        ensures found { IfOk result (λ one. one.is_found ≡ is_found) }
         ensures words { IfOk result (λ one. string_bytes one.words ≡ none_words subject.now.side) }
     {
         let words = String::from_str(alloc, none_words(subject.side))?;
@@ -93,6 +102,8 @@ impl<A: Allocator + Copy> Watched<A> {
         let side = subject.side;
         Ok(Watched {
             subject: Subject { side, path },
+            ticket,
+            is_found,
             words,
         })
     }

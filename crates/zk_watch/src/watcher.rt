@@ -5,11 +5,14 @@ ghost use Rattle.std.specs.Io.KnownBytes.{Appends};
 ghost use Rattle.zk_agent.specs.Telling.{told_by};
 ghost use Rattle.zk_client.specs.Clients.{view_of};
 ghost use Rattle.zk_driver.specs.Noting.{is_come};
-ghost use Rattle.zk_watch.specs.Watching.{accepts, aim_of, aims_of, end_of, stand_of, EndsFrom, FollowsAll, FollowsSo, HasCome, Closes, Does, Heard, IsOver, LinesOf, PrintsFrom, ShowsThen, TellsTurn, Writes, WritesEnd, WritesOn};
+ghost use Rattle.zk_watch.specs.Trees.{wants_of};
+ghost use Rattle.zk_watch.specs.Watching.{accepts, aim_of, aims_of, end_of, stand_of, EndsFrom, FollowsAll, FollowsSo, HasCome, Closes, Does, Grows, Heard, IsOver, LetsAllGo, LinesOf, PrintsFrom, ShowsThen, TakesAllOn, TakesOn, TellsTurn, Tends, TendsSo, Writes, WritesEnd, WritesOn};
 
+use crate::bound::bound_text;
 use crate::end::{End, Failure};
 use crate::plan::{Style, Subject};
 use crate::shown::{Watched, copy_of, show_all};
+use crate::trees::{Trees, Wanted, drop_gone, is_settled, tickets_gone, wanted_of};
 use crate::words::turn_line;
 use std::alloc::{AllocError, Allocator};
 use std::io::{self, Write};
@@ -20,7 +23,7 @@ use zk_link::{Clock, Dial};
 /// The ticket of the call that ends the session. Those of subjects begin at 1.
 const CLOSE: u64 = 0;
 
-/// A driver, what was printed of the subjects, whether a server has accepted a session, when the watch began, and how it is printed.
+/// A driver, what was printed of the subjects, whether a server has accepted a session, when the watch began, how it is printed, and its trees.
 #[derive(Drop)]
 pub(crate) struct Watcher<'a, A: Allocator + Copy, D: Dial + Drop, C: Clock + Drop> {
     pub(crate) alloc: A,
@@ -29,6 +32,7 @@ pub(crate) struct Watcher<'a, A: Allocator + Copy, D: Dial + Drop, C: Clock + Dr
     pub(crate) is_accepted: bool,
     pub(crate) begins: u64,
     pub(crate) style: Style,
+    pub(crate) trees: Trees<A>,
 }
 
 /// Writes what was made, if anything was.
@@ -84,6 +88,7 @@ impl<'a, A: Allocator + Copy, D: Dial + Drop, C: Clock + Drop> Watcher<'a, A, D,
         ensures watched { self.new.watched ≡ self.old.watched }
         ensures accepted { self.new.is_accepted ≡ self.old.is_accepted }
         ensures style { self.new.style ≡ self.old.style }
+        ensures trees { self.new.trees ≡ self.old.trees }
     {
         self.driver.now().saturating_sub(self.begins)
     }
@@ -93,6 +98,7 @@ impl<'a, A: Allocator + Copy, D: Dial + Drop, C: Clock + Drop> Watcher<'a, A, D,
         ensures engine { self.new.driver.engine ≡ self.old.driver.engine }
         ensures accepted { self.new.is_accepted ≡ self.old.is_accepted }
         ensures style { self.new.style ≡ self.old.style }
+        ensures trees { self.new.trees ≡ self.old.trees }
         ensures shows { OnOk result (ShowsThen self.old.style ms (view_of self.old.driver.engine.agent.asker.follower.client) (told_by self.old.driver.engine.waiting.items) self.old.watched.items self.new.watched.items (string_bytes text.old) (string_bytes text.new)) }
     {
         if self.driver.has_told() {
@@ -118,6 +124,7 @@ impl<'a, A: Allocator + Copy, D: Dial + Drop, C: Clock + Drop> Watcher<'a, A, D,
         ensures engine { self.new.driver.engine ≡ self.old.driver.engine }
         ensures accepted { self.new.is_accepted ≡ self.old.is_accepted }
         ensures style { self.new.style ≡ self.old.style }
+        ensures trees { self.new.trees ≡ self.old.trees }
         ensures tells { IfOk result (λ text. TellsTurn self.old.style turn.now (view_of self.old.driver.engine.agent.asker.follower.client) (told_by self.old.driver.engine.waiting.items) self.old.watched.items self.new.watched.items (string_bytes text)) }
     {
         let mut text = self.line(turn, ms)?;
@@ -131,6 +138,7 @@ impl<'a, A: Allocator + Copy, D: Dial + Drop, C: Clock + Drop> Watcher<'a, A, D,
         ensures engine { self.new.driver.engine ≡ self.old.driver.engine }
         ensures watched { self.new.watched ≡ self.old.watched }
         ensures style { self.new.style ≡ self.old.style }
+        ensures trees { self.new.trees ≡ self.old.trees }
     {
         if accepts(turn) {
             self.is_accepted = true;
@@ -139,7 +147,7 @@ impl<'a, A: Allocator + Copy, D: Dial + Drop, C: Clock + Drop> Watcher<'a, A, D,
 
     /// One turn, and what is printed of it. Whether the moment has come, and nothing waits to be told.
     fn hear(&mut self, until: u64) -> Result<(bool, String<A>), Failure>
-        ensures ok { IfOk result (λ heard. Heard until heard.0 (stand_of self.old.driver.engine self.old.watched.items self.old.is_accepted self.old.style) (string_bytes heard.1) (stand_of self.new.driver.engine self.new.watched.items self.new.is_accepted self.new.style)) }
+        ensures ok { IfOk result (λ heard. Heard until heard.0 (stand_of self.old.driver.engine self.old.watched.items self.old.is_accepted self.old.style self.old.trees) (string_bytes heard.1) (stand_of self.new.driver.engine self.new.watched.items self.new.is_accepted self.new.style self.new.trees)) }
         ensures err { IfErr result (λ why. why ≢ Failure.Stream) }
     {
         let turn = self.driver.turn(until)?;
@@ -149,22 +157,100 @@ impl<'a, A: Allocator + Copy, D: Dial + Drop, C: Clock + Drop> Watcher<'a, A, D,
         Ok((is_come(&turn), text))
     }
 
-    /// One turn, which is printed. Whether the moment has come, and nothing waits to be told.
+    /// Follows no more what is gone.
+    fn let_go(&mut self) -> Result<(), Stop>
+        ensures { OnOk result (LetsAllGo (stand_of self.old.driver.engine self.old.watched.items self.old.is_accepted self.old.style self.old.trees) (stand_of self.new.driver.engine self.new.watched.items self.new.is_accepted self.new.style self.new.trees)) }
+    {
+        let client = self.driver.client();
+        let Ok(tickets) = tickets_gone(self.alloc, client, self.watched.as_slice()) else {
+            return Err(Stop::Memory);
+        };
+        drop_gone(client, &mut self.watched);
+        for ticket in tickets.as_slice() {
+            self.driver.unfollow(*ticket)?;
+        }
+        Ok(())
+    }
+
+    /// Follows a subject that was found, where it is not settled.
+    fn take_on(&mut self, subject: &Subject<A>) -> Result<(), Stop>
+        ensures { OnOk result (TakesOn (aim_of subject.now) (stand_of self.old.driver.engine self.old.watched.items self.old.is_accepted self.old.style self.old.trees) (stand_of self.new.driver.engine self.new.watched.items self.new.is_accepted self.new.style self.new.trees)) }
+    {
+        let client = self.driver.client();
+        if is_settled(client, subject, self.watched.as_slice()) {
+            return Ok(());
+        }
+        self.follow(subject, true)
+    }
+
+    /// Takes on each of these, and notes whether a tree has more nodes than the most.
+    fn take_all_on(&mut self, wanted: &Wanted<A>) -> Result<(), Stop>
+        ensures { OnOk result (TakesAllOn (wants_of wanted.now) (stand_of self.old.driver.engine self.old.watched.items self.old.is_accepted self.old.style self.old.trees) (stand_of self.new.driver.engine self.new.watched.items self.new.is_accepted self.new.style self.new.trees)) }
+    {
+        for subject in wanted.subjects.as_slice() {
+            self.take_on(subject)?;
+        }
+        self.trees.is_bounded = wanted.is_bounded;
+        Ok(())
+    }
+
+    /// Takes on each tree, as far as good names lead.
+    fn grow(&mut self) -> Result<(), Stop>
+        ensures { OnOk result (Grows (stand_of self.old.driver.engine self.old.watched.items self.old.is_accepted self.old.style self.old.trees) (stand_of self.new.driver.engine self.new.watched.items self.new.is_accepted self.new.style self.new.trees)) }
+    {
+        let client = self.driver.client();
+        let Ok(wanted) = wanted_of(self.alloc, client, &self.trees) else {
+            return Err(Stop::Memory);
+        };
+        self.take_all_on(&wanted)
+    }
+
+    /// Lets go what is gone, and takes on each tree. What is printed of it.
+    fn tend_all(&mut self) -> Result<String<A>, Failure>
+        ensures ok { IfOk result (λ text. Tends (stand_of self.old.driver.engine self.old.watched.items self.old.is_accepted self.old.style self.old.trees) (string_bytes text) (stand_of self.new.driver.engine self.new.watched.items self.new.is_accepted self.new.style self.new.trees)) }
+        ensures err { IfErr result (λ why. why ≢ Failure.Stream) }
+    {
+        let was = self.trees.is_bounded;
+        self.let_go()?;
+        self.grow()?;
+        let ms = self.elapsed();
+        let (is, most) = (self.trees.is_bounded, self.trees.most);
+        let text = bound_text(self.alloc, self.style, ms, was, is, most)?;
+        Ok(text)
+    }
+
+    /// The same where nothing waits to be told, and the watch is not over.
+    fn tend(&mut self, is_over: bool) -> Result<String<A>, Failure>
+        ensures ok { IfOk result (λ text. TendsSo is_over (stand_of self.old.driver.engine self.old.watched.items self.old.is_accepted self.old.style self.old.trees) (string_bytes text) (stand_of self.new.driver.engine self.new.watched.items self.new.is_accepted self.new.style self.new.trees)) }
+        ensures err { IfErr result (λ why. why ≢ Failure.Stream) }
+    {
+        if is_over {
+            return Ok(String::new(self.alloc));
+        }
+        if self.driver.has_told() {
+            return Ok(String::new(self.alloc));
+        }
+        self.tend_all()
+    }
+
+    /// One turn, which is printed, and what becomes of the trees. Whether the moment has come, and nothing waits to be told.
     fn round<O: Write>(&mut self, until: u64, out: &mut O) -> Result<bool, Failure>
-        ensures ok { OnOk result (Writes (stand_of self.old.driver.engine self.old.watched.items self.old.is_accepted self.old.style) (stand_of self.new.driver.engine self.new.watched.items self.new.is_accepted self.new.style) (O.contents out.old) (O.contents out.new)) }
-        ensures come { IfOk result (λ is_over. is_over ≡ true → HasCome until (stand_of self.new.driver.engine self.new.watched.items self.new.is_accepted self.new.style)) }
+        ensures ok { OnOk result (Writes (stand_of self.old.driver.engine self.old.watched.items self.old.is_accepted self.old.style self.old.trees) (stand_of self.new.driver.engine self.new.watched.items self.new.is_accepted self.new.style self.new.trees) (O.contents out.old) (O.contents out.new)) }
+        ensures come { IfOk result (λ is_over. is_over ≡ true → HasCome until (stand_of self.new.driver.engine self.new.watched.items self.new.is_accepted self.new.style self.new.trees)) }
         ensures err { IfErr result (λ why. why ≢ Failure.Stream → out.new ≡ out.old) }
     {
-        let (is_over, text) = self.hear(until)?;
+        let (is_over, mut text) = self.hear(until)?;
+        let more = self.tend(is_over)?;
+        text.push_str(more.as_str())?;
         write(out, text.as_str())?;
         Ok(is_over)
     }
 
     /// Goes on until this moment.
     fn run<O: Write>(&mut self, end: u64, out: &mut O) -> Result<(), Failure>
-        ensures ok { OnOk result (Writes (stand_of self.old.driver.engine self.old.watched.items self.old.is_accepted self.old.style) (stand_of self.new.driver.engine self.new.watched.items self.new.is_accepted self.new.style) (O.contents out.old) (O.contents out.new)) }
-        ensures come { OnOk result (HasCome end (stand_of self.new.driver.engine self.new.watched.items self.new.is_accepted self.new.style)) }
-        ensures err { IfErr result (λ why. why ≢ Failure.Stream → WritesOn (stand_of self.old.driver.engine self.old.watched.items self.old.is_accepted self.old.style) (O.contents out.old) (O.contents out.new)) }
+        ensures ok { OnOk result (Writes (stand_of self.old.driver.engine self.old.watched.items self.old.is_accepted self.old.style self.old.trees) (stand_of self.new.driver.engine self.new.watched.items self.new.is_accepted self.new.style self.new.trees) (O.contents out.old) (O.contents out.new)) }
+        ensures come { OnOk result (HasCome end (stand_of self.new.driver.engine self.new.watched.items self.new.is_accepted self.new.style self.new.trees)) }
+        ensures err { IfErr result (λ why. why ≢ Failure.Stream → WritesOn (stand_of self.old.driver.engine self.old.watched.items self.old.is_accepted self.old.style self.old.trees) (O.contents out.old) (O.contents out.new)) }
     {
         for _ in 0..u64::MAX {
             match self.round(end, out) {
@@ -178,8 +264,8 @@ impl<'a, A: Allocator + Copy, D: Dial + Drop, C: Clock + Drop> Watcher<'a, A, D,
 
     /// Goes on until the client is not connected any more, and nothing waits to be told, but not past this moment.
     fn await_close<O: Write>(&mut self, until: u64, out: &mut O) -> Result<(), Failure>
-        ensures ok { OnOk result (Writes (stand_of self.old.driver.engine self.old.watched.items self.old.is_accepted self.old.style) (stand_of self.new.driver.engine self.new.watched.items self.new.is_accepted self.new.style) (O.contents out.old) (O.contents out.new)) }
-        ensures err { IfErr result (λ why. why ≢ Failure.Stream → WritesOn (stand_of self.old.driver.engine self.old.watched.items self.old.is_accepted self.old.style) (O.contents out.old) (O.contents out.new)) }
+        ensures ok { OnOk result (Writes (stand_of self.old.driver.engine self.old.watched.items self.old.is_accepted self.old.style self.old.trees) (stand_of self.new.driver.engine self.new.watched.items self.new.is_accepted self.new.style self.new.trees) (O.contents out.old) (O.contents out.new)) }
+        ensures err { IfErr result (λ why. why ≢ Failure.Stream → WritesOn (stand_of self.old.driver.engine self.old.watched.items self.old.is_accepted self.old.style self.old.trees) (O.contents out.old) (O.contents out.new)) }
     {
         for _ in 0..u64::MAX {
             if !self.is_connected() && !self.driver.has_told() {
@@ -194,20 +280,21 @@ impl<'a, A: Allocator + Copy, D: Dial + Drop, C: Clock + Drop> Watcher<'a, A, D,
         Ok(())
     }
 
-    /// Asks for the end of the session. The answer is the moment until which it is waited for: a third of the timeout.
+    /// Asks for the end of the session, and tends no tree from then on. The answer is the moment until which it is waited for: a third of the timeout.
     fn ask_close(&mut self) -> Result<u64, Stop>
-        ensures { IfOk result (λ until. Does (stand_of self.old.driver.engine self.old.watched.items self.old.is_accepted self.old.style) (Closes until) (stand_of self.new.driver.engine self.new.watched.items self.new.is_accepted self.new.style)) }
+        ensures { IfOk result (λ until. Does (stand_of self.old.driver.engine self.old.watched.items self.old.is_accepted self.old.style self.old.trees) (Closes until) (stand_of self.new.driver.engine self.new.watched.items self.new.is_accepted self.new.style self.new.trees)) }
     {
         let wait = u64::from(self.driver.client().timeout_ms() / 3);
         let until = self.driver.now().saturating_add(wait);
         self.driver.ask(CLOSE, Call::Close, Some(until))?;
+        self.trees.roots = Vec::new(self.alloc);
         Ok(until)
     }
 
     /// Ends the session where the client is connected, and waits for that a third of the timeout at most.
     fn close<O: Write>(&mut self, out: &mut O) -> Result<(), Failure>
-        ensures ok { OnOk result (WritesEnd (stand_of self.old.driver.engine self.old.watched.items self.old.is_accepted self.old.style) (stand_of self.new.driver.engine self.new.watched.items self.new.is_accepted self.new.style) (O.contents out.old) (O.contents out.new)) }
-        ensures err { IfErr result (λ why. why ≢ Failure.Stream → WritesOn (stand_of self.old.driver.engine self.old.watched.items self.old.is_accepted self.old.style) (O.contents out.old) (O.contents out.new)) }
+        ensures ok { OnOk result (WritesEnd (stand_of self.old.driver.engine self.old.watched.items self.old.is_accepted self.old.style self.old.trees) (stand_of self.new.driver.engine self.new.watched.items self.new.is_accepted self.new.style self.new.trees) (O.contents out.old) (O.contents out.new)) }
+        ensures err { IfErr result (λ why. why ≢ Failure.Stream → WritesOn (stand_of self.old.driver.engine self.old.watched.items self.old.is_accepted self.old.style self.old.trees) (O.contents out.old) (O.contents out.new)) }
     {
         if !self.is_connected() {
             return Ok(());
@@ -228,37 +315,41 @@ impl<'a, A: Allocator + Copy, D: Dial + Drop, C: Clock + Drop> Watcher<'a, A, D,
         why.end()
     }
 
-    /// Follows a subject, by the ticket that is its place, counted from 1.
-    fn follow(&mut self, subject: &Subject<A>) -> Result<(), Stop>
-        ensures { OnOk result (FollowsSo (aim_of subject.now) (stand_of self.old.driver.engine self.old.watched.items self.old.is_accepted self.old.style) (stand_of self.new.driver.engine self.new.watched.items self.new.is_accepted self.new.style)) }
+    /// Follows a subject, by the next ticket.
+    fn follow(&mut self, subject: &Subject<A>, is_found: bool) -> Result<(), Stop>
+        ensures { OnOk result (FollowsSo is_found (aim_of subject.now) (stand_of self.old.driver.engine self.old.watched.items self.old.is_accepted self.old.style self.old.trees) (stand_of self.new.driver.engine self.new.watched.items self.new.is_accepted self.new.style self.new.trees)) }
     {
         let Ok(path) = copy_of(self.alloc, &subject.path) else {
             return Err(Stop::Memory);
         };
-        let Ok(one) = Watched::new(self.alloc, subject) else {
+        let ticket = self.trees.ticket;
+        let Some(next) = ticket.checked_add(1) else {
+            return Err(Stop::Memory);
+        };
+        let Ok(one) = Watched::new(self.alloc, subject, ticket, is_found) else {
             return Err(Stop::Memory);
         };
         if self.watched.push(one).is_err() {
             return Err(Stop::Memory);
         }
-        self.driver
-            .follow(self.watched.len() as u64, subject.side, path)
+        self.trees.ticket = next;
+        self.driver.follow(ticket, subject.side, path)
     }
 
     /// Follows each subject.
     fn follow_all(&mut self, subjects: &[Subject<A>]) -> Result<(), Stop>
-        ensures { OnOk result (FollowsAll (aims_of subjects.now) (stand_of self.old.driver.engine self.old.watched.items self.old.is_accepted self.old.style) (stand_of self.new.driver.engine self.new.watched.items self.new.is_accepted self.new.style)) }
+        ensures { OnOk result (FollowsAll (aims_of subjects.now) (stand_of self.old.driver.engine self.old.watched.items self.old.is_accepted self.old.style self.old.trees) (stand_of self.new.driver.engine self.new.watched.items self.new.is_accepted self.new.style self.new.trees)) }
     {
         for subject in subjects {
-            self.follow(subject)?;
+            self.follow(subject, false)?;
         }
         Ok(())
     }
 
     /// Goes on for this many milliseconds, and then ends the session.
     fn go_on<O: Write>(&mut self, for_ms: Option<u64>, out: &mut O) -> Result<(), Failure>
-        ensures ok { OnOk result ((text : List ℕ) × IsOver for_ms (stand_of self.old.driver.engine self.old.watched.items self.old.is_accepted self.old.style) (stand_of self.new.driver.engine self.new.watched.items self.new.is_accepted self.new.style) text × Appends (O.contents out.old) (O.contents out.new) text) }
-        ensures err { IfErr result (λ why. why ≢ Failure.Stream → WritesOn (stand_of self.old.driver.engine self.old.watched.items self.old.is_accepted self.old.style) (O.contents out.old) (O.contents out.new)) }
+        ensures ok { OnOk result ((text : List ℕ) × IsOver for_ms (stand_of self.old.driver.engine self.old.watched.items self.old.is_accepted self.old.style self.old.trees) (stand_of self.new.driver.engine self.new.watched.items self.new.is_accepted self.new.style self.new.trees) text × Appends (O.contents out.old) (O.contents out.new) text) }
+        ensures err { IfErr result (λ why. why ≢ Failure.Stream → WritesOn (stand_of self.old.driver.engine self.old.watched.items self.old.is_accepted self.old.style self.old.trees) (O.contents out.old) (O.contents out.new)) }
     {
         self.begins = self.driver.now();
         let end = end_of(self.begins, for_ms);
@@ -287,9 +378,9 @@ impl<'a, A: Allocator + Copy, D: Dial + Drop, C: Clock + Drop> Watcher<'a, A, D,
         for_ms: Option<u64>,
         out: &mut O,
     ) -> End
-        ensures over { result ≡ End.Over → (text : List ℕ) × EndsFrom (aims_of subjects.now) for_ms (stand_of self.old.driver.engine self.old.watched.items self.old.is_accepted self.old.style) text true × Appends (O.contents out.old) (O.contents out.new) text }
-        ensures never { result ≡ End.NeverConnected → (text : List ℕ) × EndsFrom (aims_of subjects.now) for_ms (stand_of self.old.driver.engine self.old.watched.items self.old.is_accepted self.old.style) text false × Appends (O.contents out.old) (O.contents out.new) text }
-        ensures printed { result ≢ End.Stream → (text : List ℕ) × ((text ≡ []) ⊎ PrintsFrom (aims_of subjects.now) (stand_of self.old.driver.engine self.old.watched.items self.old.is_accepted self.old.style) text) × Appends (O.contents out.old) (O.contents out.new) text }
+        ensures over { result ≡ End.Over → (text : List ℕ) × EndsFrom (aims_of subjects.now) for_ms (stand_of self.old.driver.engine self.old.watched.items self.old.is_accepted self.old.style self.old.trees) text true × Appends (O.contents out.old) (O.contents out.new) text }
+        ensures never { result ≡ End.NeverConnected → (text : List ℕ) × EndsFrom (aims_of subjects.now) for_ms (stand_of self.old.driver.engine self.old.watched.items self.old.is_accepted self.old.style self.old.trees) text false × Appends (O.contents out.old) (O.contents out.new) text }
+        ensures printed { result ≢ End.Stream → (text : List ℕ) × ((text ≡ []) ⊎ PrintsFrom (aims_of subjects.now) (stand_of self.old.driver.engine self.old.watched.items self.old.is_accepted self.old.style self.old.trees) text) × Appends (O.contents out.old) (O.contents out.new) text }
     {
         if let Err(stop) = self.follow_all(subjects) {
             return Failure::from(stop).end();

@@ -1,6 +1,8 @@
 //! What a driver tells, in words.
 
-ghost use Rattle.std.specs.Prelude.{◌≡◌, ◌++◌, IfOk, OnOk, string_bytes};
+ghost use Rattle.std.specs.Prelude.{◌≡◌, ◌==◌, ◌++◌, IfOk, OnOk, string_bytes};
+ghost use Rattle.std.specs.List.{find};
+ghost use Rattle.std.specs.Option.{option_map};
 ghost use Rattle.zk_client.specs.Clients.{view_of};
 ghost use Rattle.zk_client.specs.Views.{fault_view};
 ghost use Rattle.zk_agent.specs.Telling.{action_view};
@@ -50,11 +52,18 @@ pub(crate) fn code_words(code: i32) -> &'static str
     }
 }
 
+/// The subject that has a ticket.
+fn one_of<A: Allocator>(watched: &[Watched<A>], ticket: u64) -> Option<&Watched<A>>
+    ensures { option_map (λ one. one.now) result ≡ find (λ one. one.ticket == ticket) watched.now }
+{
+    watched.iter().find(|one| one.ticket == ticket)
+}
+
 /// The path of the subject that has a ticket, and nothing where none has.
 pub(crate) fn path_of<A: Allocator>(watched: &[Watched<A>], ticket: u64) -> &str
     ensures { result.now ≡ path_of watched.now ticket }
 {
-    match watched.get((ticket as usize).saturating_sub(1)) {
+    match one_of(watched, ticket) {
         Some(one) => one.subject.path.as_str(),
         None => "",
     }

@@ -1,13 +1,14 @@
-//! A client and its connection without a link, read once while bytes are left to be written.
+//! A client and its connection without a driver, read once while bytes are left to be written.
 
 use crate::links::world::{Flaw, Plan, STEADY, World};
 use anyhow::Result;
 use example_world::{Moments, Partner, Shared};
-use std::alloc::{Allocator, Global};
+use std::alloc::{AllocError, Allocator, Global};
 use std::cell::RefCell;
 use std::io::Write;
 use zk_client::{Client, Input};
-use zk_link::{Brought, Dial, Joint};
+use zk_link::{Brought, Dial};
+use zk_live::joint::Joint;
 
 /// How long a read may wait, in milliseconds.
 const WAIT: u64 = 100;
@@ -61,8 +62,10 @@ fn begin(alloc: Global, joint: &mut Read<'_>) -> Result<()> {
     let mut outputs = Vec::new(alloc);
     let heard = joint.hear(Input::Opened, &mut outputs);
     drop(outputs);
-    heard?;
-    Ok(())
+    match heard {
+        Ok(_) => Ok(()),
+        Err(_) => Err(AllocError.into()),
+    }
 }
 
 /// Reads once, and prints what that brings, at which moment, and whether bytes are left to be written.

@@ -1,6 +1,6 @@
-//! Links that are played many times, with one thing different each time, and printed in a line.
+//! Drivers that are played many times, with one thing different each time, and printed in a line.
 
-use crate::links::played::{Played, SEED, is_connected};
+use crate::links::played::{Played, agent};
 use crate::links::world::{Plan, STEADY, World};
 use anyhow::Result;
 use example_world::{Moments, Shared};
@@ -8,10 +8,10 @@ use refusing::Refusing;
 use std::alloc::{Allocator, Global};
 use std::cell::RefCell;
 use std::io::Write;
-use zk_client::{Call, Client, Outcome, Output, Path};
-use zk_link::{Link, Stop};
+use zk_client::{Call, Outcome, Path};
+use zk_driver::{Action, Driver, Stop};
 
-/// The most times that a link goes on.
+/// The most actions that a driver is asked for.
 const MOST: u32 = 30;
 
 /// A moment by which a connection that was closed has been followed by another one.
@@ -20,7 +20,7 @@ const UNTIL: u64 = 1_000;
 /// More bytes than pass before the answer is there: the two connect frames, the request and its reply.
 const BYTES: usize = 300;
 
-/// More requests for memory than a link makes before the answer is there.
+/// More requests for memory than a driver makes before the answer is there.
 const REQUESTS: u32 = 300;
 
 /// What is dialled, in turn.
@@ -29,56 +29,32 @@ static ADDRESSES: [&str; 2] = ["a", "b"];
 /// Nobody to dial.
 static NOBODY: [&str; 0] = [];
 
-/// Whether a call has its reply by one of these.
-fn is_replied<A: Allocator>(outputs: &[Output<A>]) -> bool {
-    outputs.iter().any(|output| {
-        matches!(
-            output,
-            Output::Answer {
-                outcome: Outcome::Replied { .. },
-                ..
-            }
-        )
-    })
+/// Whether a call has its reply by this.
+fn is_replied<A: Allocator>(action: &Action<A>) -> bool {
+    matches!(
+        action,
+        Action::Answer {
+            outcome: Outcome::Replied { .. },
+            ..
+        }
+    )
 }
 
 /// Asks for a node.
-fn ask<A: Allocator + Copy>(
-    alloc: A,
-    link: &mut Played<'_, A>,
-    outputs: &mut Vec<Output<A>, A>,
-) -> Result<(), Stop> {
+fn ask<A: Allocator + Copy>(alloc: A, driver: &mut Played<'_, A>) -> Result<(), Stop> {
     let Ok(path) = Path::new(alloc, "/a") else {
         return Err(Stop::Memory);
     };
-    link.ask(1, Call::GetData { path, watch: true }, outputs)
+    driver.ask(1, Call::GetData { path, watch: true }, None)
 }
 
-/// Lets a link go on once, and asks for a node where the client is connected by it. Whether the reply came, and none at the end.
-fn go_on<A: Allocator + Copy>(
-    alloc: A,
-    link: &mut Played<'_, A>,
-    outputs: &mut Vec<Output<A>, A>,
-) -> Result<Option<bool>, Stop> {
-    outputs.clear();
-    link.go_on(UNTIL, outputs)?;
-    if outputs.is_empty() {
-        return Ok(None);
-    }
-    let is_replied = is_replied(outputs.as_slice());
-    if is_connected(outputs.as_slice()) {
-        ask(alloc, link, outputs)?;
-    }
-    Ok(Some(is_replied))
-}
-
-/// Whether a call has its reply in the end.
-fn is_served<A: Allocator + Copy>(alloc: A, link: &mut Played<'_, A>) -> Result<bool, Stop> {
-    let mut outputs = Vec::new(alloc);
+/// Whether a call that is asked at first has its reply in the end.
+fn is_served<A: Allocator + Copy>(alloc: A, driver: &mut Played<'_, A>) -> Result<bool, Stop> {
+    ask(alloc, driver)?;
     let mut is_served = false;
     for _ in 0..MOST {
-        match go_on(alloc, link, &mut outputs)? {
-            Some(is_replied) => is_served = is_served || is_replied,
+        match driver.next(UNTIL)? {
+            Some(action) => is_served = is_served || is_replied(&action),
             None => return Ok(is_served),
         }
     }
@@ -94,10 +70,12 @@ fn play<A: Allocator + Copy>(
 ) -> Result<Result<bool, Stop>> {
     let (world, moments) = (RefCell::new(World::new(heap, plan)?), Moments::new());
     let (dial, clock) = (Shared::new(&world, &moments), Shared::new(&world, &moments));
-    let client = Client::new(alloc, 9_000);
-    let mut link = Link::new(alloc, client, dial, clock, addresses, SEED);
-    let served = is_served(alloc, &mut link);
-    drop(link);
+    let Ok(agent) = agent(alloc, addresses.len()) else {
+        return Ok(Err(Stop::Memory));
+    };
+    let mut driver = Driver::new(alloc, agent, dial, clock, addresses);
+    let served = is_served(alloc, &mut driver);
+    drop(driver);
     Ok(served)
 }
 
@@ -120,7 +98,7 @@ pub fn close_at_each_byte<W: Write>(alloc: Global, out: &mut W) -> Result<()> {
     Ok(writeln!(out, "closed at each byte")?)
 }
 
-/// Each request for memory is refused, in turn: the link stops, or what is lost is made up for.
+/// Each request for memory is refused, in turn: the driver stops.
 pub fn refuse_each_request<W: Write>(alloc: Global, out: &mut W) -> Result<()> {
     for passed in 0..REQUESTS {
         let refusing = Refusing::after(passed, alloc);
@@ -135,7 +113,7 @@ pub fn refuse_each_request<W: Write>(alloc: Global, out: &mut W) -> Result<()> {
     Ok(())
 }
 
-/// Without an address nobody is dialled: nothing is given, and the link goes on to the moment that it is to.
+/// Without an address nobody is dialled: nothing is given, and the driver goes on to the moment that it is to.
 pub fn dial_nobody<W: Write>(alloc: Global, out: &mut W) -> Result<()> {
     let word = match play(alloc, alloc, STEADY, &NOBODY)? {
         Ok(false) => "dialled nobody",

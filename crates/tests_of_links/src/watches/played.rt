@@ -18,7 +18,8 @@ static ADDRESSES: [&str; 1] = ["a"];
 const TIMEOUT: i32 = 9_000;
 
 /// A row of the test: what is watched, what happens, how many transactions have happened before, with which code the data of /config are
-/// refused, unless it is 0, how many attempts to connect are refused, and how long is watched, in milliseconds.
+/// refused, unless it is 0, how many attempts to connect are refused, how long is watched, in milliseconds, and of how many nodes at most a
+/// tree; none where it is no tree.
 #[derive(Drop)]
 pub struct Row {
     name: &'static str,
@@ -30,6 +31,7 @@ pub struct Row {
     refusals: u32,
     for_ms: u64,
     style: Style,
+    most: Option<u64>,
 }
 
 impl Row {
@@ -50,6 +52,20 @@ impl Row {
             refusals: 0,
             for_ms: 2_000,
             style: Style::Hex,
+            most: None,
+        }
+    }
+
+    /// A row with this name: the tree at this path is watched, of this many nodes at most.
+    pub fn tree(
+        name: &'static str,
+        path: &'static str,
+        most: u64,
+        events: &'static [Event],
+    ) -> Row {
+        Row {
+            most: Some(most),
+            ..Row::new(name, Side::Data, path, events)
         }
     }
 
@@ -78,19 +94,33 @@ impl Row {
     }
 }
 
-/// What a row watches.
+/// The path of a row.
+fn path<A: Allocator + Copy>(alloc: A, row: &Row) -> Result<Path<A>, AllocError> {
+    match Path::new(alloc, row.path) {
+        Ok(path) => Ok(path),
+        Err(_) => Err(AllocError),
+    }
+}
+
+/// The side of a node that a row watches.
 fn subjects<A: Allocator + Copy>(alloc: A, row: &Row) -> Result<Vec<Subject<A>, A>, AllocError> {
-    let Ok(path) = Path::new(alloc, row.path) else {
-        return Err(AllocError);
-    };
     let mut subjects = Vec::new(alloc);
-    subjects
-        .push(Subject {
-            side: row.side,
-            path,
-        })
-        .map_err(AllocError::from)?;
+    if row.most.is_none() {
+        let (side, path) = (row.side, path(alloc, row)?);
+        subjects
+            .push(Subject { side, path })
+            .map_err(AllocError::from)?;
+    }
     Ok(subjects)
+}
+
+/// The tree that a row watches.
+fn trees<A: Allocator + Copy>(alloc: A, row: &Row) -> Result<Vec<Path<A>, A>, AllocError> {
+    let mut trees = Vec::new(alloc);
+    if row.most.is_some() {
+        trees.push(path(alloc, row)?).map_err(AllocError::from)?;
+    }
+    Ok(trees)
 }
 
 /// Watches what a row says, over a world of its own whose reads bring at most this many bytes, and memory of this allocator.
@@ -105,12 +135,14 @@ fn watched<A: Allocator + Copy, W: Write>(
         RefCell::new(World::new(global, row.events, row.taken, row.code, row.refusals, piece)?),
         Moments::new(),
     );
-    let Ok(subjects) = subjects(alloc, row) else {
+    let (Ok(subjects), Ok(trees)) = (subjects(alloc, row), trees(alloc, row)) else {
         return Ok(End::Memory);
     };
     let plan = Plan {
         addresses: &ADDRESSES,
         subjects,
+        trees,
+        most: row.most.unwrap_or(1_000),
         timeout_ms: TIMEOUT,
         for_ms: Some(row.for_ms),
         style: row.style,

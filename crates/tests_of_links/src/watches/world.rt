@@ -65,22 +65,31 @@ fn node(alloc: Global, path: &str, data: &str, history: &mut History<Global>) ->
     Ok(())
 }
 
+/// What becomes of a node.
+#[derive(Clone, Copy)]
+enum Deed {
+    Makes,
+    Writes,
+    Deletes,
+}
+
 /// A change of the node at a path, whose data are these.
-fn change(alloc: Global, path: &str, data: &str, is_new: bool) -> Result<Change<Global>> {
+fn change(alloc: Global, path: &str, data: &str, deed: Deed) -> Result<Change<Global>> {
     let path = Path::new(alloc, path)?;
     let bytes = Vec::from_slice(alloc, data.as_bytes())?;
-    Ok(if is_new {
-        Change::Create(path, Some(bytes), 0)
-    } else {
-        Change::Set(path, Some(bytes))
+    Ok(match deed {
+        Deed::Makes => Change::Create(path, Some(bytes), 0),
+        Deed::Writes => Change::Set(path, Some(bytes)),
+        Deed::Deletes => Change::Delete(path),
     })
 }
 
-/// The transactions: the zxid, which is the time in seconds, the path, the data, and whether the node is made.
-static TRANSACTIONS: [(i64, &str, &str, bool); 3] = [
-    (5, "/config", "two", false),
-    (6, "/a/y", "", true),
-    (7, "/late", "new", true),
+/// The transactions: the zxid, which is the time in seconds, the path, the data, and what becomes of the node.
+static TRANSACTIONS: [(i64, &str, &str, Deed); 4] = [
+    (5, "/config", "two", Deed::Writes),
+    (6, "/a/y", "", Deed::Makes),
+    (7, "/late", "new", Deed::Makes),
+    (8, "/a/x", "", Deed::Deletes),
 ];
 
 /// The nodes of the first tree, and their data.
@@ -91,9 +100,9 @@ fn fill(alloc: Global, history: &mut History<Global>) -> Result<()> {
     for (path, data) in &NODES {
         node(alloc, path, data, history)?;
     }
-    for (zxid, path, data, is_new) in &TRANSACTIONS {
+    for (zxid, path, data, deed) in &TRANSACTIONS {
         history.begin(*zxid, zxid.saturating_mul(1_000))?;
-        history.change(change(alloc, path, data, *is_new)?)?;
+        history.change(change(alloc, path, data, *deed)?)?;
     }
     Ok(())
 }

@@ -9,14 +9,13 @@ use Rattle.zk_commands.specs.declared.command.Command.{Command}
 use Rattle.zk_commands.specs.declared.command.Command.TheVariants.{Show, History, Replay, Rehearse, Live, Watch, Ask, Tree}
 use Rattle.zk_commands.specs.declared.kind.Kind.{Kind}
 use Rattle.zk_commands.specs.Kinds.{kind_word}
-use Rattle.zk_commands.specs.CommandLine.{AreAddresses, AsksForNone, AsksQuestion, AsksTour, IsAsked, IsTree, IsFound, IsWatch}
+use Rattle.zk_commands.specs.CommandLine.{AreAddresses, AsksForNone, AsksQuestion, AsksTour, IsAsked, IsTree, IsFound, IsWatch, Sights, sights_of}
 use Rattle.zk_ask.specs.declared.plan.Form.{Form}
 use Rattle.zk_conversation.specs.Calls.{Call}
 use Rattle.zk_conversation.specs.Views.{call_view}
 use Rattle.zk_commands.specs.Asks.{verb_word}
 use Rattle.zk_commands.specs.declared.verb.Verb.{Verb}
 use Rattle.zk_commands.proofs.VerbLemmas.{is_new, same_verb}
-use Rattle.zk_watch.specs.Watching.{aims_of}
 use Rattle.zk_watch.specs.declared.plan.Style.{Style}
 use Rattle.zk_nodes.specs.declared.side.Side.{Side}
 use Rattle.zk_commands.proofs.AddressLemmas.{tells, tells_more}
@@ -47,7 +46,7 @@ without_values found rows is absent History f = apart is f.1 refl
 without_values found rows is absent Replay f = apart is f.1 refl
 without_values found rows is absent Rehearse f = apart is f.1 refl
 without_values found rows is absent (Live addresses) f = apart is f.1 refl
-without_values found rows is absent (Watch addresses subjects timeout_ms for_ms style) f = apart is f.1 refl
+without_values found rows is absent (Watch addresses scope timeout_ms for_ms style) f = apart is f.1 refl
 without_values found rows is absent (Tree tour) f = apart is f.1 refl
 without_values found rows is absent (Ask question) f = apart f.2 is (is_new f.0).shows
 
@@ -61,22 +60,22 @@ without_addresses found rows is absent Rehearse f = apart is f.1 refl
 without_addresses found rows is absent (Live addresses) f =
     let same : rows ≡ f.0 = ap rows_in (sym is ∙ f.1) in
     absent (map (λ a. a.now) addresses.items) (rw same f.2)
-without_addresses found rows is absent (Watch addresses subjects timeout_ms for_ms style) f = apart is f.1 refl
+without_addresses found rows is absent (Watch addresses scope timeout_ms for_ms style) f = apart is f.1 refl
 without_addresses found rows is absent (Tree tour) f = apart is f.1 refl
 without_addresses found rows is absent (Ask question) f = apart f.2 is (is_new f.0).lives
 
 -- where `watch` was found without what it is to be given, the words ask for no command
 without_watch : (found : Option (Text × List Row)) (rows : List Row) → found ≡ Some (codes "watch", rows)
-    → ((addresses : List Text) (chroot : Text) (aims : List (Side × Text)) (timeout_ms : ℤ) (for_ms : Option ℕ) (style : Style) → IsWatch addresses chroot aims timeout_ms for_ms style rows → ⊥)
+    → ((addresses : List Text) (chroot : Text) (sights : Sights) (timeout_ms : ℤ) (for_ms : Option ℕ) (style : Style) → IsWatch addresses chroot sights timeout_ms for_ms style rows → ⊥)
     → AsksForNone found
 without_watch found rows is absent (Show kind hex) f = apart is f.1 refl
 without_watch found rows is absent History f = apart is f.1 refl
 without_watch found rows is absent Replay f = apart is f.1 refl
 without_watch found rows is absent Rehearse f = apart is f.1 refl
 without_watch found rows is absent (Live addresses) f = apart is f.1 refl
-without_watch found rows is absent (Watch addresses subjects timeout_ms for_ms style) f =
+without_watch found rows is absent (Watch addresses scope timeout_ms for_ms style) f =
     let same : rows ≡ f.0 = ap rows_in (sym is ∙ f.1) in
-    absent (map (λ a. a.now) addresses.items) f.2 (aims_of subjects.items) timeout_ms for_ms style (rw same f.3)
+    absent (map (λ a. a.now) addresses.items) f.2 (sights_of scope) timeout_ms for_ms style (rw same f.3)
 without_watch found rows is absent (Tree tour) f = apart is f.1 refl
 without_watch found rows is absent (Ask question) f = apart f.2 is (is_new f.0).watches
 
@@ -89,7 +88,7 @@ without_tree found rows is absent History f = apart is f.1 refl
 without_tree found rows is absent Replay f = apart is f.1 refl
 without_tree found rows is absent Rehearse f = apart is f.1 refl
 without_tree found rows is absent (Live addresses) f = apart is f.1 refl
-without_tree found rows is absent (Watch addresses subjects timeout_ms for_ms style) f = apart is f.1 refl
+without_tree found rows is absent (Watch addresses scope timeout_ms for_ms style) f = apart is f.1 refl
 without_tree found rows is absent (Tree tour) f =
     let same : f.0 ≡ rows = ap rows_in (sym f.1 ∙ is) in
     let its = subst (λ (r : List Row). AsksTour tour r) same f.2 in
@@ -105,7 +104,7 @@ without_ask verb found rows is absent History f = apart is f.1 (is_new verb).tel
 without_ask verb found rows is absent Replay f = apart is f.1 (is_new verb).replays
 without_ask verb found rows is absent Rehearse f = apart is f.1 (is_new verb).rehearses
 without_ask verb found rows is absent (Live addresses) f = apart is f.1 (is_new verb).lives
-without_ask verb found rows is absent (Watch addresses subjects timeout_ms for_ms style) f = apart is f.1 (is_new verb).watches
+without_ask verb found rows is absent (Watch addresses scope timeout_ms for_ms style) f = apart is f.1 (is_new verb).watches
 without_ask verb found rows is absent (Tree tour) f = apart is f.1 (is_new verb).tours
 without_ask verb found rows is absent (Ask question) f =
     let its : f.0 ≡ verb = same_verb f.0 verb (ap name_in (sym f.2 ∙ is)) in

@@ -104,18 +104,18 @@ returns-in-Live-clause-memory g c = λ is words asked.
 
 pub returns-in-Watch-clause-done : goal.returns-in-Watch-clause-done
 returns-in-Watch-clause-done g c = λ is words asked.
-    let told = rw (c.plan_of-plan.ensures.subjects, c.plan_of-plan.ensures.for_ms, c.plan_of-plan.ensures.style) at (c.watch_over.ensures.done is) in (
+    let told = rw (c.plan_of-plan.ensures.subjects, c.plan_of-plan.ensures.trees, c.plan_of-plan.ensures.most, c.plan_of-plan.ensures.for_ms, c.plan_of-plan.ensures.style) at (c.watch_over.ensures.done is) in (
       told.0,
-      watches c.in-Watch.addresses c.in-Watch.subjects c.in-Watch.timeout_ms c.in-Watch.for_ms c.in-Watch.style (rw c.in-Watch.is at asked) told.1,
+      watches c.in-Watch.addresses c.in-Watch.scope c.in-Watch.timeout_ms c.in-Watch.for_ms c.in-Watch.style (rw c.in-Watch.is at asked) told.1,
       told.2,
       refl,
     )
 
 pub returns-in-Watch-clause-memory : goal.returns-in-Watch-clause-memory
 returns-in-Watch-clause-memory g c = λ is words asked.
-    let told = rw (c.plan_of-plan.ensures.subjects, c.plan_of-plan.ensures.style) at (c.watch_over.ensures.memory is) in (
+    let told = rw (c.plan_of-plan.ensures.subjects, c.plan_of-plan.ensures.trees, c.plan_of-plan.ensures.most, c.plan_of-plan.ensures.style) at (c.watch_over.ensures.memory is) in (
       told.0 ++ told.1,
-      ceases c.in-Watch.addresses c.in-Watch.subjects c.in-Watch.timeout_ms c.in-Watch.for_ms c.in-Watch.style told.0 told.1 (rw c.in-Watch.is at asked) told.2 told.3 refl,
+      ceases c.in-Watch.addresses c.in-Watch.scope c.in-Watch.timeout_ms c.in-Watch.for_ms c.in-Watch.style told.0 told.1 (rw c.in-Watch.is at asked) told.2 told.3 refl,
       told.4,
       refl,
     )
@@ -173,11 +173,11 @@ returns-in-Ask-clause-never g c = λ is words asked. absurd (c.ask_with.ensures.
 
 pub returns-in-Watch-clause-never : goal.returns-in-Watch-clause-never
 returns-in-Watch-clause-never g c = λ is words asked.
-    let told = rw (c.plan_of-plan.ensures.subjects, c.plan_of-plan.ensures.for_ms, c.plan_of-plan.ensures.style) at (c.watch_over.ensures.never is) in (
+    let told = rw (c.plan_of-plan.ensures.subjects, c.plan_of-plan.ensures.trees, c.plan_of-plan.ensures.most, c.plan_of-plan.ensures.for_ms, c.plan_of-plan.ensures.style) at (c.watch_over.ensures.never is) in (
       told.0,
       record {
         addresses = c.in-Watch.addresses;
-        subjects = c.in-Watch.subjects;
+        scope = c.in-Watch.scope;
         timeout_ms = c.in-Watch.timeout_ms;
         for_ms = c.in-Watch.for_ms;
         style = c.in-Watch.style;

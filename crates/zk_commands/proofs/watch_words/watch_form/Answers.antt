@@ -5,11 +5,9 @@ use Rattle.zk_commands.proofs.watch_words.watch_form.Goals as goal
 
 pub returns : goal.returns
 returns c =
-    let one = c.in_ok-watch.ensures.shape c.servers_arg.ensures.local ∙ ap₂ with_rule c.watch_named.ensures c.servers_arg.ensures.rule in
-    let two = c.in_ok-watch-2.ensures.shape c.paths_arg.ensures.local ∙ ap₂ with_rule one c.paths_arg.ensures.rule in
-    let three = c.in_ok-watch-3.ensures.shape c.paths_arg-2.ensures.local ∙ ap₂ with_rule two c.paths_arg-2.ensures.rule in
-    let four = c.in_ok-watch-4.ensures.shape c.timeout_arg.ensures.local ∙ ap₂ with_rule three c.timeout_arg.ensures.rule in
-    let five = c.in_ok-watch-5.ensures.shape c.duration_arg.ensures.local ∙ ap₂ with_rule four c.duration_arg.ensures.rule in
-    let six = c.in_ok-watch-6.ensures.shape c.flag_arg-text.ensures.local ∙ ap₂ with_rule five c.flag_arg-text.ensures.rule in
-    IfOk-weaker c.arg-7.result _ _
-    (λ watch adds. adds.shape c.flag_arg.ensures.local ∙ ap₂ with_rule six c.flag_arg.ensures.rule) c.arg-7.ensures
+    let one = c.in_ok-watch.ensures in
+    let two = c.in_ok-watch-2.ensures.shape c.timeout_arg.ensures.local ∙ ap₂ with_rule one c.timeout_arg.ensures.rule in
+    let three = c.in_ok-watch-3.ensures.shape c.duration_arg.ensures.local ∙ ap₂ with_rule two c.duration_arg.ensures.rule in
+    let four = c.in_ok-watch-4.ensures.shape c.flag_arg-text.ensures.local ∙ ap₂ with_rule three c.flag_arg-text.ensures.rule in
+    IfOk-weaker c.arg-4.result _ _
+    (λ watch adds. adds.shape c.flag_arg.ensures.local ∙ ap₂ with_rule four c.flag_arg.ensures.rule) c.arg-4.ensures

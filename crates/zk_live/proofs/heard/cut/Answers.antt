@@ -2,7 +2,7 @@ use Rattle.std.proofs.Common.{ap, false}
 use Rattle.std.specs.Prelude.{string_bytes}
 use Rattle.zk_turns.specs.Turns.{Cut}
 use Rattle.zk_client.specs.Views.{said}
-use Rattle.zk_link.specs.Trails.{trail_of}
+use Rattle.zk_live.specs.Trails.{trail_of}
 use Rattle.zk_live.specs.Heard.{TellsEach}
 use Rattle.zk_live.proofs.HeardLemmas.{heard}
 use Rattle.zk_live.proofs.heard.cut.Goals as goal

@@ -1,7 +1,7 @@
 use Rattle.std.proofs.Common.{ap}
 use Rattle.std.specs.Prelude.{string_bytes}
 use Rattle.zk_client.specs.Views.{input_view, said}
-use Rattle.zk_link.specs.Trails.{trail_of}
+use Rattle.zk_live.specs.Trails.{trail_of}
 use Rattle.zk_live.specs.Heard.{TellsEach}
 use Rattle.zk_live.proofs.HeardLemmas.{heard}
 use Rattle.zk_live.proofs.heard.hear.Goals as goal

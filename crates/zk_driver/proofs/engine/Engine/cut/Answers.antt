@@ -1,18 +1,27 @@
-use Rattle.std.proofs.Common.{None, refl}
+use Rattle.std.proofs.Common.{[], ◌∷◌, None}
+use Rattle.zk_agent.specs.Telling.{told_by}
 use Rattle.zk_agent.specs.declared.input.Input.TheVariants as happens
-use Rattle.zk_driver.specs.Driving.{channel_view, course_of}
-use Rattle.zk_driver.specs.Flowing.{flow_of, known_of}
-use Rattle.zk_driver.proofs.Flowed.{ok_flow_noted}
-use Rattle.zk_driver.proofs.Going.{first, noted}
+use Rattle.zk_driver.specs.Driving.{course_of}
+use Rattle.zk_driver.specs.Flowing.{flow_of}
+use Rattle.zk_driver.specs.Noting.{Lost}
+use Rattle.zk_driver.proofs.Carrying.{extends_on}
+use Rattle.zk_driver.proofs.Flowed.{ok_flow_after}
+use Rattle.zk_driver.proofs.Going.{first_then, ok_by_then}
 use Rattle.zk_driver.proofs.engine.Engine.cut.Goals as goal
 
 pub returns-clause-goes : goal.returns-clause-goes
-returns-clause-goes g c = noted c.hand.result happens.Cut (course_of c.args.self.now None) (course_of c.hand.new.self None) (channel_view c.close.new.self) (c.requires.none, c.requires.open, c.close.ensures.view) c.hand.ensures.hands
+returns-clause-goes g c =
+    ok_by_then c.catch_up.result (Lost ∷ []) (course_of c.args.self.now None) (course_of c.end.new.self None) (course_of c.catch_up.new.self None) c.in_ok-told.ensures.goes c.catch_up.ensures.goes
 
 pub returns-clause-notes : goal.returns-clause-notes
-returns-clause-notes g c = first c.hand.result happens.Cut (course_of c.args.self.now None) (course_of c.hand.new.self None) (channel_view c.close.new.self) (c.requires.none, c.requires.open, c.close.ensures.view) c.hand.ensures.hands
+returns-clause-notes g c =
+    first_then c.catch_up.result happens.Cut (course_of c.args.self.now None) (course_of c.end.new.self None) (course_of c.catch_up.new.self None) c.in_ok-told.ensures.notes c.catch_up.ensures.goes
 
 pub returns-clause-flows : goal.returns-clause-flows
 returns-clause-flows g c =
-    ok_flow_noted c.hand.result happens.Cut (flow_of g.S.Read.remaining g.S.Write.contents c.args.self.now None) (flow_of g.S.Read.remaining g.S.Write.contents c.hand.new.self None) (channel_view c.close.new.self)
-    (known_of g.S.Read.remaining g.S.Write.contents c.close.new.self.stream) (c.requires.none, c.requires.open, c.close.ensures.view) refl (λ between lasts. tt) c.hand.ensures.flows
+    let flow = flow_of g.S.Read.remaining g.S.Write.contents in
+    ok_flow_after c.catch_up.result (flow c.args.self.now None) (flow c.end.new.self None) (flow c.catch_up.new.self None) c.in_ok-told.ensures.flows c.catch_up.ensures.flows
+
+pub returns-clause-kept : goal.returns-clause-kept
+returns-clause-kept g c =
+    extends_on (told_by c.args.self.now.waiting.items) (told_by c.end.new.self.waiting.items) (told_by c.catch_up.new.self.waiting.items) c.end.ensures.kept c.catch_up.ensures.kept

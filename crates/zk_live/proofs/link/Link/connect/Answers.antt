@@ -3,7 +3,7 @@ use Rattle.std.specs.Prelude.{string_bytes}
 use Rattle.zk_turns.specs.Turns.{Cut, Opened}
 use Rattle.zk_turns.specs.View.{View}
 use Rattle.zk_client.specs.Clients.{view_of}
-use Rattle.zk_link.specs.Trails.{Trail}
+use Rattle.zk_live.specs.Trails.{Trail}
 use Rattle.zk_script.specs.Stops.{IfHalted}
 use Rattle.zk_live.specs.Heard.{tape, HaltsAmong, Takes}
 use Rattle.zk_live.proofs.HeardLemmas.{connects, halts_opened, halts_settling}

@@ -1,5 +1,5 @@
 use Rattle.std.proofs.Common.{ap}
-use Rattle.zk_link.specs.Trails.{Trail}
+use Rattle.zk_live.specs.Trails.{Trail}
 use Rattle.zk_live.proofs.link.Link.next_piece.Goals as goal
 
 pub returns : goal.returns

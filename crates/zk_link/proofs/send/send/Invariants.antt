@@ -1,6 +1,0 @@
-use Rattle.zk_link.specs.Frames.{IsLeftOf}
-use Rattle.zk_link.proofs.send.send.Given as goal
-
--- what was written so far
-abbrev pub invariant-loop : goal.invariant-loop
-invariant-loop g l = IsLeftOf l.fn.unsent.items l.unsent.items

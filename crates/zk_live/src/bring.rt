@@ -1,0 +1,42 @@
+//! What a connection brings.
+
+use std::alloc::{AllocError, Allocator};
+use std::io::ErrorKind;
+use zk_link::{Brought, Stream};
+
+/// The most bytes that one read is asked for.
+const PIECE: usize = 65_536;
+
+/// Makes room for a piece, where there is none yet.
+pub(crate) fn make_room<A: Allocator>(room: &mut Vec<u8, A>) -> Result<(), AllocError> {
+    if room.is_empty() {
+        return room.resize(PIECE, 0);
+    }
+    Ok(())
+}
+
+/// Whether a read or a write that failed so may succeed later: it took too long, or it was interrupted.
+pub(crate) fn is_late(kind: ErrorKind) -> bool {
+    matches!(
+        kind,
+        ErrorKind::WouldBlock | ErrorKind::TimedOut | ErrorKind::Interrupted
+    )
+}
+
+/// What a connection brings within `ms` milliseconds. It ends where it has no more bytes, and where it fails.
+pub(crate) fn bring<A: Allocator, S: Stream>(
+    alloc: A,
+    stream: &mut S,
+    room: &mut Vec<u8, A>,
+    ms: u64,
+) -> Result<Brought<A>, AllocError> {
+    if stream.wait_at_most(ms).is_err() {
+        return Ok(Brought::End);
+    }
+    match stream.read(room.as_mut_slice()) {
+        Ok(0) => Ok(Brought::End),
+        Ok(count) => Ok(Brought::Piece(Vec::from_slice(alloc, &room[..count])?)),
+        Err(fault) if is_late(fault.kind()) => Ok(Brought::Nothing),
+        Err(_) => Ok(Brought::End),
+    }
+}
