@@ -42,7 +42,7 @@ enum Kind {
     Sent,
     /// How many it takes.
     Heard,
-    /// How many it sends at a time, but for 1.
+    /// One less than it sends at a time.
     Pace,
 }
 
