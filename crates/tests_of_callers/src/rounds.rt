@@ -83,24 +83,21 @@ fn play<'t, W: Write>(
     let text = format!(in world.alloc; "{number}")?;
     let wrong = world.rows(case.rows, text.as_str());
     drop(text);
-    if let Some(row) = wrong? {
-        writeln!(out, "{} at {number}: {row}", case.name)?;
-        return Ok(End::Badly);
-    }
     let is_whole = match kind {
         Kind::Pace => number == SIZES,
         _ => !world.was_cut,
     };
-    let most = case.connections.saturating_add(u32::from(world.was_cut));
-    if !world.is_kept()? || world.connections > most {
-        writeln!(
-            out,
-            "{} at {number}: {} connections",
-            case.name, world.connections
-        )?;
-        return Ok(End::Badly);
-    }
-    Ok(if is_whole { End::Whole } else { End::Well })
+    let row = match wrong? {
+        Some(row) => row,
+        None => {
+            if world.is_well(case.connections)? {
+                return Ok(if is_whole { End::Whole } else { End::Well });
+            }
+            "something else is kept, or more connections were made"
+        }
+    };
+    writeln!(out, "{} at {number}: {row}", case.name)?;
+    Ok(End::Badly)
 }
 
 /// How many rounds from this number on end well, in one session, and whether they were the last ones.

@@ -5,11 +5,13 @@ use std::alloc::{AllocError, Global};
 use zk_bench::History;
 use zk_client::{Client, DataAnswer, Mark, Names, Path};
 
-/// The bytes of the data of a node, where they are good.
-pub fn good_data<'c>(client: &'c Client<Global>, path: &Path<Global>) -> Option<&'c [u8]> {
+/// Whether the data of a node are these, and are good.
+pub fn are_data(client: &Client<Global>, path: &Path<Global>, wanted: &str) -> bool {
     match client.peek_data(path) {
-        Some((DataAnswer::Full(Some(bytes), _), Mark::Good)) => Some(bytes.as_slice()),
-        _ => None,
+        Some((DataAnswer::Full(Some(bytes), _), Mark::Good)) => {
+            bytes.as_slice() == wanted.as_bytes()
+        }
+        _ => false,
     }
 }
 

@@ -2,7 +2,7 @@
 
 ghost use Rattle.std.specs.Prelude.{◌≤◌};
 
-use crate::rounds::kept::{are_names, good_data, has_data, has_names};
+use crate::rounds::kept::{are_data, are_names, has_data, has_names};
 use anyhow::Result;
 use std::alloc::{AllocError, Global};
 use zk_agent_device::AgentDevice;
@@ -73,7 +73,7 @@ pub struct World<'t> {
     pace: usize,
     /// Whether a connection was cut in this round, and how many were made.
     pub was_cut: bool,
-    pub connections: u32,
+    connections: u32,
     node: &'t str,
     parent: &'t str,
     awaited: Awaited,
@@ -102,6 +102,14 @@ fn or_end(done: Result<(), Refusal>) -> Result<(), AllocError> {
 /// A word, or the number of the round where that is meant.
 fn filled<'w>(word: &'w str, number: &'w str) -> &'w str {
     if word == "%" { number } else { word }
+}
+
+/// Whether a ConnectRequest asks for a new session.
+fn is_new_session(frame: &[u8]) -> bool {
+    match frame.get(NUMBER..NUMBER_END) {
+        Some(number) => number == NO_SESSION.as_slice(),
+        None => false,
+    }
 }
 
 /// What happens to a node by another client, if this is a word for it.
@@ -154,10 +162,12 @@ impl<'t> World<'t> {
     /// The connection takes a frame. The server of an expired session admits one that asks for a new session.
     fn carry(&mut self, frame: &[u8]) -> Result<(), AllocError> {
         match self.link {
-            Link::New if frame.get(NUMBER..NUMBER_END) == Some(NO_SESSION.as_slice()) => {
-                self.bench.renew()
+            Link::New => {
+                if is_new_session(frame) {
+                    self.bench.renew();
+                }
             }
-            Link::New | Link::Open => (),
+            Link::Open => (),
             _ => return Ok(()),
         }
         let passed = pass(&mut self.heard, frame.len());
@@ -356,7 +366,7 @@ impl<'t> World<'t> {
                 self.is_node_shown = false;
                 let (_, data) = text.split_once(' ').unwrap_or((text, ""));
                 let path = Path::new(self.alloc, self.node)?;
-                Ok(good_data(client, &path) == Some(filled(data, number).as_bytes()))
+                Ok(are_data(client, &path, filled(data, number)))
             }
             Awaited::Names => {
                 self.is_parent_shown = false;
@@ -389,14 +399,16 @@ impl<'t> World<'t> {
         Ok(None)
     }
 
-    /// Whether what is followed is good, and what the server has.
-    pub fn is_kept(&self) -> Result<bool> {
+    /// Whether what is followed is good and what the server has, and no more than this many connections were made, and another one where one
+    /// was cut.
+    pub fn is_well(&self, connections: u32) -> Result<bool> {
         let (client, history) = (self.device.agent.client(), self.bench.history());
         let (node, parent) = (
             Path::new(self.alloc, self.node)?,
             Path::new(self.alloc, self.parent)?,
         );
-        let has_names = has_names(client, history, &parent)?;
-        Ok(has_data(client, history, &node)? && has_names)
+        let most = connections.saturating_add(u32::from(self.was_cut));
+        let is_kept = has_data(client, history, &node)? && has_names(client, history, &parent)?;
+        Ok(is_kept && self.connections <= most)
     }
 }
