@@ -1,0 +1,87 @@
+//! What a client has of what is followed, beside the tree of the server.
+
+use anyhow::Result;
+use std::alloc::{AllocError, Global};
+use zk_bench::History;
+use zk_client::{Client, DataAnswer, Mark, Names, Path};
+
+/// Whether the data of a node are these, and are good.
+pub fn are_data(client: &Client<Global>, path: &Path<Global>, wanted: &str) -> bool {
+    match client.peek_data(path) {
+        Some((DataAnswer::Full(Some(bytes), _), Mark::Good)) => {
+            bytes.as_slice() == wanted.as_bytes()
+        }
+        _ => false,
+    }
+}
+
+/// Names, with a space between two.
+fn joined(alloc: Global, names: &Names<Global>) -> Result<String, AllocError> {
+    let mut text = String::new(alloc);
+    for name in &names.names {
+        if !text.is_empty() {
+            text.push(' ')?;
+        }
+        text.push_str(name.as_str())?;
+    }
+    Ok(text)
+}
+
+/// Whether the names below a node are these, and are good.
+pub fn are_names(
+    alloc: Global,
+    client: &Client<Global>,
+    path: &Path<Global>,
+    wanted: &str,
+) -> Result<bool, AllocError> {
+    match client.peek_children(path) {
+        Some((names, Mark::Good)) => Ok(joined(alloc, names)?.as_str() == wanted),
+        _ => Ok(false),
+    }
+}
+
+/// Whether these bytes are those, which are not null.
+fn is_same(bytes: &[u8], held: &Option<Vec<u8>>) -> bool {
+    match held {
+        Some(held) => bytes == held.as_slice(),
+        None => false,
+    }
+}
+
+/// Whether the data of a node are good, and with all fields those that the server has.
+pub fn has_data(
+    client: &Client<Global>,
+    history: &History<Global>,
+    path: &Path<Global>,
+) -> Result<bool, AllocError> {
+    let held = history.data_at(history.last_zxid(), path)?;
+    Ok(match (client.peek_data(path), &held) {
+        (Some((DataAnswer::Full(Some(bytes), stat), Mark::Good)), Some(held)) => {
+            is_same(bytes.as_slice(), &held.bytes) && *stat == held.stat
+        }
+        _ => false,
+    })
+}
+
+/// Whether these names are those, since the same zxid.
+fn are_same(names: &Names<Global>, held: &Names<Global>) -> bool {
+    for name in &names.names {
+        if !held.names.contains(name.as_str()) {
+            return false;
+        }
+    }
+    names.names.len() == held.names.len() && names.pzxid == held.pzxid
+}
+
+/// Whether the names below a node are good, and those that the server has since the same zxid.
+pub fn has_names(
+    client: &Client<Global>,
+    history: &History<Global>,
+    path: &Path<Global>,
+) -> Result<bool, AllocError> {
+    let held = history.names_at(history.last_zxid(), path)?;
+    Ok(match (client.peek_children(path), &held) {
+        (Some((names, Mark::Good)), Some(held)) => are_same(names, held),
+        _ => false,
+    })
+}
