@@ -51,7 +51,6 @@ class LaneCase(PartnerCase):
     def client(self, host: str, timeout: float = 6.0, auth_data: Any = ()) -> Client:
         client = Client(host, timeout, auth_data=auth_data)
         self.addCleanup(client.close)
-        self.addCleanup(client._end_threads, client._engine.end)
         client.start(WAIT)
         return client
 
