@@ -189,7 +189,7 @@ class OrderTest(LaneCase):
         client = self.client(host, 60.0)
         futures = [client.sync_async("/") for _ in range(2500)]
         self.assertEqual(len(concurrent.futures.wait(futures, 3 * WAIT).done), 2500)
-        self.assertEqual([one.xid for one in asked], [-1001 - number for number in range(2500)])
+        self.assertEqual([one.xid for one in asked if one.kind != PING], [-1001 - number for number in range(2500)])
 
     def test_what_a_write_of_the_lane_ended_is_stale_when_its_caller_goes_on(self) -> None:
         def answer(peer: Peer, asked: Asked) -> None:
