@@ -257,7 +257,7 @@ class OrderTest(LaneCase):
             if asked.kind != SYNC:
                 peer.send(reply(asked))
 
-        client = self.client(self.serve(answer), 1.5)
+        client = self.client(self.serve(answer), 3.0)
         with self.raises(ConnectionLoss, -4):
             client.sync("/")
 

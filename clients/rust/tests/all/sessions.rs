@@ -254,10 +254,10 @@ fn an_idle_session_goes_on_by_pings() {
     let Some(server) = Server::start(&[]) else {
         return;
     };
-    let session = session_at(&server, 3_000);
+    let session = session_at(&server, 6_000);
     session.watch("/").unwrap();
     while session.next_event(Some(Instant::now())).unwrap().is_some() {}
-    let until = Instant::now() + Duration::from_millis(2_500);
+    let until = Instant::now() + Duration::from_millis(5_000);
     let event = session.next_event(Some(until)).unwrap();
     assert_eq!(event, None, "the connection goes on");
 }
