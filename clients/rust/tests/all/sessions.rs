@@ -182,10 +182,11 @@ fn a_connection_that_is_dropped_begins_again() {
     let session = session_at(&server, 10_000);
     session.watch("/a").unwrap();
     session.watch("/b").unwrap();
-    server.tell("drop");
+    server.tell("down");
     server.tell("set /a two");
     wait_for_state(&session, State::Idle);
     assert_eq!(kept(&session, "/a"), Some((b"one".to_vec(), Mark::Good)));
+    server.tell("up");
     wait_for_state(&session, State::Connected);
     let changed = report("/a", Side::Data, NodeEvent::DataChanged);
     wait_for(&session, |event| *event == changed);
