@@ -63,7 +63,7 @@ class _Waiting(selectors.DefaultSelector):
 
 
 class Loop(threading.Thread):
-    """The thread of the event loop that keeps a client connected. It makes each step of the engine, from its beginning to its end.
+    """The thread of the event loop that keeps a client connected. It makes each step of the engine, the first and the last.
 
     `begin` begins the engine. `end` ends it, where nobody has stopped the thread; `ended` is called when all is over.
     """

@@ -122,7 +122,7 @@ def ends_within(thread: threading.Thread, longest: float) -> bool:
 
 
 class Fate:
-    """Whether a thread runs, or was stopped before it began: the thread itself and whoever stops it may ask at one time.
+    """Whether a thread runs, or was stopped before it began: it and whoever stops it may ask at one time.
 
     Who asks first decides, and all later answers are the same.
     """

@@ -586,8 +586,8 @@ class Client(Shown):
             threads.loop.stop(self._engine.leave, LONGEST_LEAVING)
 
     def _begin_threads(self, until: Optional[float] = None) -> Optional[Threads]:
-        """The threads of the client, which are started where there are none. Where they are just being stopped, it waits for that before:
-        up to a moment, and there are none then.
+        """The threads of the client, which are started where there are none. Where they are just being stopped, it waits for
+        that before: up to a moment, and then there are none.
         """
         while True:
             threads = self._threads()
@@ -601,7 +601,7 @@ class Client(Shown):
                 return None
 
     def _start_threads(self) -> Optional[Threads]:
-        """Starts threads, and answers them: None where another thread was first. A stop may come at any moment of it."""
+        """Starts threads, and answers them: None where somebody else was first. A stop may come at any moment of it."""
         from dirwolleu._threads import Threads  # here, so that no import of the package loads asyncio
 
         made = Threads(self._driver(), self._engine, self._begin_tasks)
@@ -626,7 +626,7 @@ class Client(Shown):
         return Driver(self._servers, self._engine, self._tls)
 
     def _stop(self, threads: Optional[Threads]) -> None:
-        """Ends the session that these threads keep, and them. It may be called again, and by another thread, while it runs."""
+        """Ends the session that these threads keep, and them. Another thread may call it too, while it runs."""
         if threads is None:
             return
         if self.state is State.CONNECTED and not threads.are_over():
