@@ -8,7 +8,7 @@ int main(int argc, char **argv)
 {
     static dws_call call;
     char why[DWS_LONGEST_LINE];
-    dws_options options = {.timeout_ms = 3000};
+    dws_options options = {.timeout_ms = 18000, .patience_ms = 9000}; /* so a call ends before a silent server is left */
     dws_session *session = argc == 3 || argc == 4 ? dws_open(argv[1], &options, why, sizeof why) : NULL;
     if (session == NULL) {
         return 2;

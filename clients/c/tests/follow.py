@@ -122,11 +122,12 @@ class Follow(Followed):
 
     def test_refused_reads(self):
         """The program goes on at each code, and reads once a second at most on a connection. It says each reason once."""
-        codes, reads = [-127, -4, -102, -102], []
+        codes, reads, answers = [-127, -4, -102, -102], [], []
 
         def read(line, xid):
             reads.append(time.monotonic())
             code = codes.pop() if codes else 0
+            answers.append(time.monotonic())
             line.answer(xid, code, b"" if code else DATA)
 
         def serve(_, line):
@@ -135,7 +136,7 @@ class Follow(Followed):
 
         self.server(serve)
         self.expect('good "one"')
-        self.assertGreater(min(after - before for before, after in zip(reads, reads[1:])), 0.95)
+        self.assertGreater(min(after - before for before, after in zip(answers, reads[1:])), 0.95)
         self.errors.seek(0)
         self.assertEqual(self.errors.read().count("does not admit this client: /config\n"), 1)
 
@@ -265,5 +266,5 @@ class Asks(Case):
         self.addCleanup(asking.stderr.close)
         self.addCleanup(asking.wait, BOUND)
         self.addCleanup(asking.kill)
-        wanted = f"session: no server of {address} accepted the session in 3 s; last: {address}: connection refused\n"
+        wanted = f"session: no server of {address} accepted the session in 9 s; last: {address}: connection refused\n"
         self.assertEqual(asking.stderr.readline(), wanted)

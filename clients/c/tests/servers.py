@@ -142,7 +142,7 @@ class Servers(Followed):
 
 
 class Late(Case):
-    """What a call says whose limit has come, of 3 seconds."""
+    """What a call says whose limit has come, of 9 seconds."""
 
     def says(self, serve, *words):
         server = self.server(serve)
@@ -152,7 +152,7 @@ class Late(Case):
     def test_server_that_never_answers(self):
         server, said = self.says(lambda number, line: (line.frame(), time.sleep(BOUND)), "/a")
         last = "connected, and it has not accepted the session"
-        self.assertEqual(said, f"no server of {server.address} accepted the session in 3 s; last: {server.address}: {last}")
+        self.assertEqual(said, f"no server of {server.address} accepted the session in 9 s; last: {server.address}: {last}")
 
     def test_read_that_is_lost(self):
         """It is asked again on each connection, as long as the call waits."""
@@ -190,4 +190,4 @@ class Late(Case):
             threading.Event().wait(BOUND)
 
         _, said = self.says(serve, "/a", "one")
-        self.assertEqual(said, "no answer came in 3 s: /a; it may have happened, or may yet: read again")
+        self.assertEqual(said, "no answer came in 9 s: /a; it may have happened, or may yet: read again")

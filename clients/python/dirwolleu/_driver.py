@@ -104,7 +104,7 @@ class Driver:
         self._timer: Optional[asyncio.TimerHandle] = None
         self._wakes_at = self._awake_at = 0
         self._has_brought = False
-        self._is_to_act = self._is_started = self._is_stopped = False
+        self._is_to_act = self._is_started = self.is_stopped = False
 
     def start(self) -> None:
         self._loop = asyncio.get_running_loop()
@@ -114,14 +114,14 @@ class Driver:
 
     async def run(self) -> None:
         """Starts, and goes on until it is stopped or the session is closed."""
-        if not self._is_stopped:
+        if not self.is_stopped:
             self._ended = asyncio.get_running_loop().create_future()
             self.start()
             await self._ended
 
     def stop(self, end: Callable[[], None]) -> None:
         """Does what ends the engine, ends the connection, and stops dialling."""
-        self._is_stopped = True
+        self.is_stopped = True
         end()
         self._hang_up()
         self._end()
@@ -156,7 +156,7 @@ class Driver:
         if self._servers.hosts is not self._hosts:
             self._tell_hosts()
         engine.take_handed(self._noticed())
-        if self._is_stopped:
+        if self.is_stopped:
             return
         hangs_up, dial, frames = engine.take_orders()
         if hangs_up:
@@ -167,7 +167,7 @@ class Driver:
             return self._end()
         if dial is not None:
             self._dial(dial.place)
-        if not self._is_stopped and (self._timer is None or engine.is_recast()):
+        if not self.is_stopped and (self._timer is None or engine.is_recast()):
             self._wake_by(engine.deadline())
 
     def leave(self, why: str = "") -> None:

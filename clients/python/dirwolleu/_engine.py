@@ -26,7 +26,7 @@ from dirwolleu._growing import Growing
 from dirwolleu._jute import Malformed
 from dirwolleu._keeping import Keeping
 from dirwolleu._lane import Lane, LaneRequest
-from dirwolleu._library import Answer, Drop, NoMemory, Report, Send, StateChange
+from dirwolleu._library import Answer, Closed, Drop, NoMemory, Report, Send, StateChange
 from dirwolleu._line import Line
 from dirwolleu._listening import Listeners
 from dirwolleu._process import this_process
@@ -142,6 +142,8 @@ class Engine(Keeping):
         """Why credentials were refused on the last connection, if they were."""
         self._process: Optional[int] = None
         self.is_running = self.is_left = False
+        self.life = 0
+        """How often it was begun."""
         self.state = State.LOST
 
     def _hold_callers(self, credentials: Iterable[Credential]) -> None:
@@ -181,6 +183,7 @@ class Engine(Keeping):
             self._process = this_process()
             self._refuse_handed(ConnectionClosedError("the client was not started"))
             self.refused = None
+            self.life += 1
             self.is_running = True
 
     def end(self) -> None:
@@ -210,9 +213,10 @@ class Engine(Keeping):
         self.is_running = False
         self._subjects.clear()
         self._forget_callers(ConnectionClosedError("the client was closed"), State.LOST)
-        self._saved_at_close = self._session.saved()
-        self._granted_ms = self._timeout_ms
-        self._session.close()
+        with contextlib.suppress(Closed):  # by another thread that closes it too
+            self._saved_at_close = self._session.saved()
+            self._granted_ms = self._timeout_ms
+            self._session.close()
 
     # What happens to the connection.
 
@@ -460,6 +464,10 @@ class Engine(Keeping):
             yield
         finally:
             self._listening.remove(path, key)
+
+    def tell_news(self) -> None:
+        """Wakes all who wait for news."""
+        self._wake(None)
 
     # Steps.
 

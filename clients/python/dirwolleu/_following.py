@@ -77,6 +77,7 @@ class Follower(Generic[Told]):
 
     def __init__(self, engine: Engine, subject: Subject[Told], news: News) -> None:
         self._engine, self._subject, self._news = engine, subject, news
+        self._life = engine.life
         self._told: Optional[Told] = None
 
     @contextmanager
@@ -90,7 +91,7 @@ class Follower(Generic[Told]):
             yield lambda: self._next(followed)
 
     def _next(self, followed: Followed) -> Steps[Optional[Told]]:
-        while self._engine.is_running:
+        while self._engine.is_running and self._engine.life == self._life:
             self._news.clear()
             came = followed.found.pop() if followed.found else None
             kept = self._subject.settled() or came

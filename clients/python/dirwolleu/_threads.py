@@ -10,8 +10,10 @@ import threading
 from typing import Callable, Optional
 
 from dirwolleu._driver import Driver
+from dirwolleu._engine import Engine
 from dirwolleu._process import this_process
-from dirwolleu._waiting import Callbacks, ends_within
+from dirwolleu._waiting import Callbacks, Fate, ends_within
+from dirwolleu.exceptions import ConnectionClosedError
 
 LONGEST_END = 5.0
 """How long `stop` waits for its own threads, in seconds: they end at once, unless the process is held up."""
@@ -61,26 +63,52 @@ class _Waiting(selectors.DefaultSelector):
 
 
 class Loop(threading.Thread):
-    """The thread of the event loop that keeps a client connected. It makes each step of the engine."""
+    """The thread of the event loop that keeps a client connected. It makes each step of the engine, the first and the last.
 
-    def __init__(self, driver: Driver) -> None:
+    `begin` begins the engine. `end` ends it, where nobody has stopped the thread; `ended` is called when all is over.
+    """
+
+    def __init__(
+        self, driver: Driver, begin: Callable[[], None], end: Callable[[], None], ended: Callable[[], None]
+    ) -> None:
         super().__init__(name="dirwolleu", daemon=True)
-        self._driver = driver
+        self._driver, self._begin, self._end, self._ended = driver, begin, end, ended
+        self._fate = Fate()
+        self.is_stopped = self._is_over = False
         self._waiting = _Waiting(self._act)
         try:
             self._loop = asyncio.SelectorEventLoop(self._waiting)
         except BaseException:
             self._waiting.close()
             raise
-        self._turns = [None]
+        self._unclosed = [self._loop]
+
+    def is_over(self) -> bool:
+        """Whether it has ended, and does nothing more with the engine; or never begins."""
+        return self._is_over or self.never_runs()
+
+    def never_runs(self) -> bool:
+        return self._fate.is_sealed()
 
     def run(self) -> None:
-        if not self._is_first():  # it was stopped before it began
+        if not self._fate.begins():
             return
         try:
-            self._loop.run_until_complete(self._driver.run())
+            self._loop.run_until_complete(self._keep_connected())
         finally:
-            self._loop.close()
+            self._close()
+            self._is_over = True
+            self._ended()
+
+    async def _keep_connected(self) -> None:
+        if self._driver.is_stopped:  # before the first turn of the event loop
+            return
+        try:
+            self._begin()
+            await self._driver.run()
+        finally:
+            if not self._driver.is_stopped:
+                self._driver.stop(self._end)
 
     def act(self) -> None:
         """Lets the driver do what was asked."""
@@ -98,17 +126,22 @@ class Loop(threading.Thread):
         self._soon(lambda: self._loop.call_later(seconds, function))
 
     def stop(self, end: Callable[[], None], longest: float = LONGEST_END) -> None:
-        """Does what ends the engine, and ends. Where the thread has ended already, or not begun, `end` is not called."""
-        if self._is_first():
-            return self._loop.close()
-        self._soon(lambda: self._driver.stop(end))
-        ends_within(self, longest)
+        """Does what ends the engine, and ends, which it waits for, though not without bound.
 
-    def _is_first(self) -> bool:
-        """Whether this is the first call: the thread itself and whoever stops it may come here at one time."""
+        Where the thread has ended already, `end` is not called; nor where it has not begun, which it then never does.
+        """
+        self.is_stopped = True
+        if self._fate.never_begins():
+            self._close()
+            self._ended()
+        else:
+            self._soon(lambda: self._driver.stop(end))
+            ends_within(self, longest)
+
+    def _close(self) -> None:
+        """Closes the event loop, if this is the first call."""
         with contextlib.suppress(IndexError):
-            return self._turns.pop() is None
-        return False
+            self._unclosed.pop().close()
 
     def _soon(self, call: Callable[[], object]) -> None:
         with contextlib.suppress(RuntimeError):  # the loop is closed
@@ -116,17 +149,52 @@ class Loop(threading.Thread):
 
 
 class Threads:
-    """The threads of a client that is started, in one process."""
+    """The threads of a client that is started, from then until it is stopped, in one process."""
 
-    def __init__(self, driver: Driver) -> None:
-        self.loop = Loop(driver)
+    def __init__(self, driver: Driver, engine: Engine, begun: Callable[[], None]) -> None:
+        """`begun` is called once the engine has begun."""
+        self._engine, self._begun = engine, begun
         self.callbacks = Callbacks()
+        self.loop = Loop(driver, self._begin, engine.end, self._ended)
+        self.have_begun = False
+        self.later: dict[str, Optional[Threads]] = {}
+        """Those of the client after these, once these are over."""
         self._process = this_process()
 
     def are_here(self) -> bool:
         """Whether this is the process that they run in. A forked child has none of them."""
         return this_process() == self._process
 
+    def have_come(self) -> bool:
+        """Whether they have begun the engine, or never will."""
+        return self.have_begun or self.are_over()
+
+    def are_over(self) -> bool:
+        """Whether they do nothing more with the engine. A callback may still run."""
+        return self.loop.is_over()
+
+    def are_ending(self) -> bool:
+        """Whether they were stopped, or end by themselves, as where the session is closed."""
+        return self.loop.is_stopped or self.have_begun and not self._engine.is_running
+
     def start(self) -> None:
         self.callbacks.start()
         self.loop.start()
+
+    def stop(self, end: Callable[[], None]) -> None:
+        """Ends the engine by `end`, if these have begun it, and ends them. Any thread may call it, and again."""
+        self.loop.stop(end)
+        if self.loop.never_runs():
+            self.callbacks.seal()
+        self.callbacks.stop()
+
+    def _begin(self) -> None:
+        with contextlib.suppress(ConnectionClosedError):  # the client was closed
+            self._engine.begin()
+        self.have_begun = True
+        self._engine.tell_news()
+        self._begun()
+
+    def _ended(self) -> None:
+        self.callbacks.end()
+        self._engine.tell_news()

@@ -3,6 +3,7 @@
 from __future__ import annotations
 
 import concurrent.futures
+import contextlib
 import logging
 import queue
 import threading
@@ -105,14 +106,57 @@ class Future(concurrent.futures.Future[Any]):
 
 
 def ends_within(thread: threading.Thread, longest: float) -> bool:
-    """Waits for the end of a thread, and answers whether it came in time. It waits neither for one that has not begun, nor for the current one.
+    """Waits for the end of a thread, and answers whether it came in time. It does not wait for one that has not begun,
+    nor for the current one.
 
-    Where a start is under way, `ident` is there before the thread may be joined: that it may from the moment on at which it is alive.
+    While a thread starts, it has an `ident` before it may be joined; it may be from the moment on at which it is alive.
     """
-    if not thread.is_alive() or thread is threading.current_thread():
+    if thread is threading.current_thread():
         return True
-    thread.join(longest)
-    return not thread.is_alive()
+    try:
+        if thread.is_alive():
+            thread.join(longest)
+        return not thread.is_alive()
+    except AssertionError:  # it has ended, and CPython 3.11 trips where two threads see that at one moment
+        return True
+
+
+class Fate:
+    """Whether a thread runs, or was stopped before it began: it and whoever stops it may ask at one time.
+
+    Who asks first decides, and all later answers are the same.
+    """
+
+    def __init__(self) -> None:
+        self._decided: dict[str, bool] = {}  # a dict's functions are single steps of the interpreter: no lock
+
+    def begins(self) -> bool:
+        """The thread asks this, before all else."""
+        return self._decided.setdefault("runs", True)
+
+    def never_begins(self) -> bool:
+        """Whoever stops the thread asks this."""
+        return not self._decided.setdefault("runs", False)
+
+    def is_sealed(self) -> bool:
+        """Whether it was stopped before it began."""
+        return not self._decided.get("runs", True)
+
+
+class _Told:
+    """A function to be called, by the first one who takes it."""
+
+    __slots__ = "function", "argument", "_turns"
+
+    def __init__(self, function: Callable[[Any], object], argument: Any) -> None:
+        self.function, self.argument, self._turns = function, argument, [None]
+
+    def take(self) -> bool:
+        try:
+            self._turns.pop()
+        except IndexError:
+            return False
+        return True
 
 
 class Callbacks(threading.Thread):
@@ -120,24 +164,54 @@ class Callbacks(threading.Thread):
 
     def __init__(self) -> None:
         super().__init__(name="dirwolleu-callbacks", daemon=True)
-        self._queue: queue.SimpleQueue[Optional[tuple[Callable[[Any], object], Any]]] = queue.SimpleQueue()
+        self._queue: queue.SimpleQueue[Optional[_Told]] = queue.SimpleQueue()
+        self._fate = Fate()
+        self._has_ended = self._is_left = False
 
-    def tell(self, function: Callable[[Any], object], argument: Any) -> None:
-        self._queue.put((function, argument))
+    def tell(self, function: Callable[[Any], object], argument: Any) -> bool:
+        """Has a function called, and answers whether it is: it is not where the thread has ended."""
+        told = _Told(function, argument)
+        self._queue.put(told)
+        return not (self._has_ended and told.take())
+
+    def end(self) -> None:
+        """Ends after what was told before. It waits for nothing."""
+        self._queue.put(None)
+
+    def seal(self) -> None:
+        """Never begins, if it has not begun: what was told is called here."""
+        if self._fate.never_begins():
+            self._call_the_rest()
 
     def stop(self) -> None:
-        """Ends after what was told before, which it waits for, though not without bound. Where it has not begun, it ends then."""
-        self._queue.put(None)
-        if not ends_within(self, LONGEST_CALLBACK):
+        """Ends after what was told before, and waits for that, though not without bound."""
+        self.end()
+        if not self._is_left and not ends_within(self, LONGEST_CALLBACK):
+            self._is_left = True
             logger.warning("a callback has not returned in %s seconds: it is left to itself", LONGEST_CALLBACK)
 
     def run(self) -> None:
-        while (told := self._queue.get()) is not None:
-            function, argument = told
-            try:
-                function(argument)
-            except BaseException:  # SystemExit too, which would end the callbacks alone, and no program
-                logger.exception("a callback failed")
+        if self._fate.begins():
+            while (told := self._queue.get()) is not None:
+                self._call(told)
+            self._call_the_rest()
+
+    def _call_the_rest(self) -> None:
+        """Nothing is told from now on. What was, up to now, is still called."""
+        self._has_ended = True
+        with contextlib.suppress(queue.Empty):
+            while True:
+                told = self._queue.get_nowait()
+                if told is not None:
+                    self._call(told)
+
+    def _call(self, told: _Told) -> None:
+        if not told.take():
+            return
+        try:
+            told.function(told.argument)
+        except BaseException:  # SystemExit too, which would end the callbacks alone, and no program
+            logger.exception("a callback failed")
 
 
 class Doing(Protocol):
@@ -186,6 +260,8 @@ class Task:
     ) -> None:
         self._client, self._end = client, end
         self._is_news, self._is_told, self._waits, self._number = False, False, False, 0
+        self._open = {0: True}
+        """The step that is to come, until somebody takes it: after a stop that may be any thread."""
         self._steps: Optional[Generator[Step, Any, Any]] = begin(self)
 
     def start(self) -> None:
@@ -224,10 +300,11 @@ class Task:
     def _go_on(self, came: tuple[int, Any, Optional[BaseException]]) -> None:
         number, answer, error = came
         steps = self._steps
-        if steps is None or number != self._number:
+        if steps is None or not self._open.pop(number, False):
             return
         self._number += 1
         self._waits = False
+        self._open[self._number] = True
         try:
             step = steps.send(answer) if error is None else steps.throw(error)
         except StopIteration as end:

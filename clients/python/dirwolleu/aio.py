@@ -126,10 +126,11 @@ class Client(Shown):
         try:
             await asyncio.wait_for(self._wait_until_connected(), timeout)
         except BaseException as error:
+            trouble = self._engine.no_server(timeout)  # before the attempt that is under way is given up
             await self.stop()
             if not isinstance(error, asyncio.TimeoutError):
                 raise
-            raise TimeoutError(self._engine.no_server(timeout)) from None
+            raise TimeoutError(trouble) from None
 
     async def stop(self) -> None:
         """Ends the session, with its ephemeral nodes and its watches.

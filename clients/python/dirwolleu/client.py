@@ -5,6 +5,7 @@ from __future__ import annotations
 import atexit
 import concurrent.futures
 import contextlib
+import functools
 import logging
 import threading
 import time
@@ -100,7 +101,14 @@ class Client(Shown):
     ) -> None:
         super().__init__(*parts_of(hosts, timeout, saved, auth_data, randomize_hosts, self._tell), retry)
         self._tls = ssl
-        self._running: dict[str, Threads] = {}  # a dict's functions are single steps of the interpreter: no lock
+        self._hold_threads()
+
+    def _hold_threads(self) -> None:
+        """Makes what holds the threads. A dict's functions are single steps of the interpreter: no lock is taken."""
+        self._running: dict[str, Optional[Threads]] = {}
+        """The threads that were started last, and None once it is closed. Later ones are in `later` of those."""
+        self._past: Optional[Threads] = None
+        """Threads that are over, and may still call a function."""
 
     def __enter__(self) -> Client:
         self.start()
@@ -122,16 +130,19 @@ class Client(Shown):
         `AuthFailedError`, and stops, where the server refuses credentials.
         """
         self._check_process()
-        self._engine.begin()
-        is_connected = False
+        until = None if timeout is None else time.monotonic() + timeout
+        threads: Optional[Threads] = None
+        is_connected, trouble = False, ""
         try:
-            self._begin_threads()
-            is_connected = self._wait_until_connected(timeout)
+            threads = self._begin_threads(until)
+            is_connected = threads is not None and self._wait(functools.partial(self._is_connected, threads), until)
+            trouble = self._engine.no_server(timeout)  # before the attempt that is under way is given up
         finally:
-            if not is_connected:
-                self.stop()
+            threads = threads or self._threads()
+            if not is_connected and threads is not None and not threads.are_ending():
+                self._stop(threads)
         if not is_connected:
-            raise TimeoutError(self._engine.no_server(timeout))
+            raise TimeoutError(trouble)
 
     def stop(self) -> None:
         """Ends the session, with its ephemeral nodes and its watches, and the threads of the client.
@@ -139,20 +150,21 @@ class Client(Shown):
         `start` begins another session. Where no server has ended the session within a third of its timeout, and within
         2 seconds, it lives on for its timeout. For a callback that runs it waits 5 seconds at most.
         """
-        if not self._is_here() or self._threads() is None and not self._engine.is_running:
-            return
-        if self.state is State.CONNECTED:
-            with contextlib.suppress(ZookeeperError, TimeoutError):
-                self._ask(requests.close_session(), min(self._engine.timeout() / 3, LONGEST_FAREWELL))
-        self._end_threads(self._engine.end)
+        if self._is_here():
+            self._stop(self._threads() or self._past)
 
     def close(self) -> None:
         """Frees what the client holds; it can't be started again.
 
         The session of a client that was not stopped lives on for its timeout, and `saved_session` can be taken up.
         """
-        if self._is_here():
-            self._end_threads(self._engine.close)
+        if not self._is_here():
+            return
+        while (threads := self._threads() or self._running.setdefault("threads", None)) is not None:
+            threads.stop(self._engine.close)
+            if not threads.are_over():
+                return  # the process is held up: they close it when they go on
+        self._engine.close()
 
     def exists(self, path: str, watch: Watch = None, *, timeout: Optional[float] = None) -> Optional[Stat]:
         """What is known of a node, or None where there is none. A watch is left also where there is none."""
@@ -526,22 +538,29 @@ class Client(Shown):
         if threads is not None:
             threads.loop.later(seconds, function)
 
-    def _wait_until_connected(self, timeout: Optional[float]) -> bool:
-        until = None if timeout is None else time.monotonic() + timeout
+    def _is_connected(self, threads: Threads) -> bool:
+        """Whether a server has accepted the session that these threads keep. Raises an error where none will."""
+        if threads.are_over():
+            raise ConnectionClosedError("the client was stopped")
+        refused = self._engine.refused
+        if threads.have_begun and refused is not None:
+            raise refused
+        return threads.have_begun and self._engine.is_introduced()
+
+    def _wait(self, condition: Callable[[], bool], until: Optional[float]) -> bool:
+        """Waits until a condition holds, or up to a moment. The engine tells the news of it."""
         news = News()
         with self._engine.news(news.set):
-            while not self._engine.is_introduced():
-                if self._engine.refused is not None:
-                    raise self._engine.refused
-                if not self._engine.is_running:
-                    raise ConnectionClosedError("the client was stopped")
-                left = None if until is None else until - time.monotonic()
-                if not news.wait(left):
+            while not condition():
+                if not news.wait(None if until is None else until - time.monotonic()):
                     return False
         return True
 
     def _threads(self) -> Optional[Threads]:
-        return self._running.get("threads")
+        """The threads of the client, where it was started and these are not over."""
+        while (threads := self._running.get("threads")) is not None and threads.are_over():
+            self._past, self._running = threads, threads.later
+        return threads
 
     def _is_here(self) -> bool:
         """Whether the client was not started in another process, of which this is a forked child."""
@@ -558,9 +577,7 @@ class Client(Shown):
     def _tell(self, function: Callable[[Any], object], argument: Any) -> bool:
         """Has the thread of the callbacks call a function, if there is one."""
         threads = self._threads()
-        if threads is not None:
-            threads.callbacks.tell(function, argument)
-        return threads is not None
+        return threads is not None and threads.callbacks.tell(function, argument)
 
     def _leave(self) -> None:
         """Ends the threads and the connection, at the end of the program. The session goes on for its timeout."""
@@ -568,18 +585,39 @@ class Client(Shown):
         if threads is not None and threads.are_here():
             threads.loop.stop(self._engine.leave, LONGEST_LEAVING)
 
-    def _begin_threads(self) -> None:
-        if self._threads() is None:
-            from dirwolleu._threads import Threads  # here, so that no import of the package loads asyncio
+    def _begin_threads(self, until: Optional[float] = None) -> Optional[Threads]:
+        """The threads of the client, which are started where there are none. Where they are just being stopped, it waits for
+        that before: up to a moment, and then there are none.
+        """
+        while True:
+            threads = self._threads()
+            if threads is None:
+                started = self._start_threads()
+                if started is not None:
+                    return started
+            elif not threads.are_ending():
+                return threads
+            elif not self._wait(threads.are_over, until):
+                return None
 
-            threads = Threads(self._driver())
-            if self._running.setdefault("threads", threads) is threads:
-                _started.add(self)
-                threads.start()
-                for task in list(self._tasks):
-                    task.start()
-            else:
-                threads.loop.stop(lambda: None)
+    def _start_threads(self) -> Optional[Threads]:
+        """Starts threads, and answers them: None where somebody else was first. A stop may come at any moment of it."""
+        from dirwolleu._threads import Threads  # here, so that no import of the package loads asyncio
+
+        made = Threads(self._driver(), self._engine, self._begin_tasks)
+        threads = self._running.setdefault("threads", made)
+        if threads is made:
+            _started.add(self)
+            made.start()
+            return made
+        made.stop(lambda: None)
+        if threads is None:
+            raise ConnectionClosedError("the client is closed")
+        return None
+
+    def _begin_tasks(self) -> None:
+        for task in list(self._tasks):
+            task.start()
 
     def _driver(self) -> Driver:
         """What keeps the client connected, once it is started."""
@@ -587,15 +625,14 @@ class Client(Shown):
 
         return Driver(self._servers, self._engine, self._tls)
 
-    def _end_threads(self, end: Callable[[], None]) -> None:
-        """Ends the engine and the threads. It may be called again, and by another thread, while it runs."""
-        threads = self._threads()
-        if threads is not None:
-            threads.loop.stop(end)
-        end()
-        if threads is not None:
-            self._running.pop("threads", None)
-            threads.callbacks.stop()
+    def _stop(self, threads: Optional[Threads]) -> None:
+        """Ends the session that these threads keep, and them. Another thread may call it too, while it runs."""
+        if threads is None:
+            return
+        if self.state is State.CONNECTED and not threads.are_over():
+            with contextlib.suppress(ZookeeperError, TimeoutError):
+                self._ask(requests.close_session(), min(self._engine.timeout() / 3, LONGEST_FAREWELL))
+        threads.stop(self._engine.end)
 
 
 _started: weakref.WeakSet[Client] = weakref.WeakSet()

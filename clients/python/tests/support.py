@@ -6,6 +6,7 @@ import contextlib
 import json
 import pathlib
 import re
+import signal
 import socket
 import struct
 import subprocess
@@ -17,6 +18,9 @@ from typing import Any, Callable, NamedTuple, Optional
 
 CLIENTS = pathlib.Path(__file__).resolve().parents[2]
 sys.path.insert(0, str(CLIENTS / "python"))
+
+if signal.getsignal(signal.SIGINT) is signal.SIG_IGN:  # as in the background of a shell's script: programs that tests begin are interrupted
+    signal.signal(signal.SIGINT, signal.default_int_handler)
 
 WAIT = 60.0
 """The longest that a test waits for one thing, in seconds: a busy machine takes less."""

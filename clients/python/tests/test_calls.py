@@ -14,7 +14,9 @@ import threading
 import time
 import unittest
 from typing import Any, Callable, Optional
+from unittest import mock
 
+from both import in_thread
 from support import CLIENTS, GET_DATA, SET_WATCHES, WAIT, PartnerCase, Peer, data_reply, reply, within
 
 from dirwolleu import (
@@ -34,6 +36,7 @@ from dirwolleu import (
     ZookeeperError,
     aio,
 )
+from dirwolleu._clock import moment
 
 SET_DATA = 5
 
@@ -53,7 +56,7 @@ class TimeoutTest(ClientCase):
         client = self.client(partner.host, 60.0)
         partner.do("mute")
         with self.assertRaisesRegex(CallTimeoutError, "may still happen") as caught:
-            client.create("/a", timeout=0.2)
+            client.create("/a", timeout=2.0)
         self.assertTrue(caught.exception.may_have_happened)
         with self.assertRaises(TimeoutError) as read:
             client.get("/", timeout=0.2)
@@ -86,7 +89,7 @@ class TimeoutTest(ClientCase):
             async with aio.Client(partner.host, 60.0) as client:
                 partner.do("mute")
                 with self.assertRaises(CallTimeoutError) as caught:
-                    await client.set("/", b"x", timeout=0.2)
+                    await client.set("/", b"x", timeout=2.0)
                 self.assertTrue(caught.exception.may_have_happened)
                 partner.do("unmute")
                 await client.ensure_path("/a/b/c")
@@ -228,14 +231,17 @@ class RetryTest(ClientCase):
         self.assertEqual(writes.count(SET_DATA), 1)
 
     def test_what_was_not_sent_is_asked_again(self) -> None:
+        """The first call is as one that was asked for a minute before."""
         partner = self.partner()
-        client = self.client(partner.host, 1.0, Retry(tries=None, deadline=WAIT, pause=0.05))
+        client = self.client(partner.host, 15.0, Retry(tries=None, deadline=6 * WAIT, pause=0.05))
         partner.do("down")
         within(lambda: client.state is State.SUSPENDED)
-        timer = threading.Timer(1.5, lambda: partner.do("up"))
-        timer.start()
-        self.addCleanup(timer.join)
-        self.assertEqual(client.create("/a"), "/a")
+        past = [moment() - 60_000]
+        with mock.patch("dirwolleu.client.moment", lambda: past.pop() if past else moment()):
+            made = in_thread(lambda: client.create("/a"))
+            within(lambda: client.stats().lost)
+            partner.do("up")
+            self.assertEqual(made.get(timeout=WAIT), "/a")
 
     def test_what_is_asked_again(self) -> None:
         policy = Retry(tries=3, pause=0.0)

@@ -428,9 +428,9 @@ class InternalsTest(KazooCase):
         zk = self.unstarted(timeout=30.0)
         connect = zk._connection._connect
         connection: Any = zk._connection
-        connection._connect = lambda *words: (3000, connect(*words)[1])  # as patroni does
+        connection._connect = lambda *words: (6000, connect(*words)[1])  # as patroni does
         zk.start(WAIT)
-        time.sleep(1.7)
+        time.sleep(3.4)
         assert zk._session is not None
         self.assertEqual((zk.connected, zk._session.stats().connections), (True, 1))
         self.server.do("mute")

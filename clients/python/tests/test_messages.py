@@ -85,7 +85,7 @@ class RefusalTest(MessageCase):
         partner = self.partner()
         client = self.client(partner)
         partner.do("mute")
-        message = self.said(lambda: client.get("/a", timeout=0.3))
+        message = self.said(lambda: client.get("/a", timeout=2.0))
         self.assertEqual(message, "no answer has come in time: /a; it may still happen")
 
     def test_a_text_that_is_no_path_says_why(self) -> None:
@@ -155,7 +155,7 @@ class RefusalTest(MessageCase):
 
     def test_a_call_that_finds_no_server_says_so_too(self) -> None:
         partner = self.partner()
-        client = Client(partner.host, timeout=1.0)
+        client = Client(partner.host, timeout=3.0)
         self.addCleanup(client.close)
         client.start(WAIT)
         partner.do("mute")
@@ -164,7 +164,7 @@ class RefusalTest(MessageCase):
         support.within(lambda: client.state is not State.CONNECTED)
         with self.assertRaises(NotConnectedError) as raised:
             client.get("/a")
-        begin = f"no server of {partner.host} accepted the session in 1 s; last: {partner.host}: "
+        begin = f"no server of {partner.host} accepted the session in 3 s; last: {partner.host}: "
         self.assertTrue(str(raised.exception).startswith(begin), str(raised.exception))
 
     def test_errors_go_through_pickle(self) -> None:

@@ -1,8 +1,9 @@
-"""Tests of blocking clients that are stopped while they start."""
+"""Tests of blocking clients that several threads start and stop at once."""
 
 from __future__ import annotations
 
 import contextlib
+import random
 import sys
 import threading
 import time
@@ -12,11 +13,13 @@ from typing import Any
 from unittest import mock
 
 from both import in_thread
-from support import WAIT
+from support import WAIT, PartnerCase, within
 
 from dirwolleu import Client, ConnectionClosedError, State
+from dirwolleu._threads import Threads
+from dirwolleu._waiting import Callbacks
 
-ROUNDS, LONGEST = 100, 0.6
+ROUNDS, LONGEST = 60, 0.4
 
 
 @contextlib.contextmanager
@@ -50,24 +53,169 @@ def held_at_start(thread: Any) -> Iterator[None]:
             assert begun.get(timeout=WAIT) is None
 
 
-class StoppingTest(unittest.TestCase):
-    def client(self) -> Client:
-        """A client that finds no server."""
-        client = Client("127.0.0.1:1")
+class StoppingCase(PartnerCase):
+    def client(self, host: str = "127.0.0.1:1") -> Client:
+        """A client, which finds no server unless it is told of one."""
+        client = Client(host)
         self.addCleanup(client.close)
+        self.addCleanup(client.stop)
         return client
 
-    def test_threads_may_be_stopped_while_each_of_them_starts(self) -> None:
-        from dirwolleu._threads import Threads
+    def check_stopped(self, client: Client) -> None:
+        self.assertEqual((client._threads(), client._engine.is_running, client.state), (None, False, State.LOST))
 
-        threads = Threads(self.client()._driver())
-        for thread in (threads.callbacks, threads.loop):
-            with held_at_start(thread):
-                for _ in range(2):
-                    threads.callbacks.stop()
-                    threads.loop.stop(lambda: self.fail("the engine has not begun"))
+
+class ThreadsTest(StoppingCase):
+    """The threads of one client, which are stopped at moments that are chosen."""
+
+    def setUp(self) -> None:
+        self.stopped = self.client()
+        self.threads = Threads(self.stopped._driver(), self.stopped._engine, lambda: None)
+        self.addCleanup(self.threads.stop, lambda: None)
+
+    def check_over(self, life: int) -> None:
+        """Both threads have ended, and the engine has begun so often."""
+        for thread in (self.threads.callbacks, self.threads.loop):
             thread.join(WAIT)
             self.assertFalse(thread.is_alive())
+        self.assertTrue(self.threads.are_over())
+        self.assertEqual((self.stopped._engine.life, self.stopped._engine.is_running), (life, False))
+
+    def stop(self) -> None:
+        for _ in range(2):
+            self.threads.stop(self.stopped._engine.end)
+
+    def test_a_stop_while_the_thread_of_callbacks_starts(self) -> None:
+        with held_at_start(self.threads.callbacks):
+            self.stop()
+        self.threads.loop.start()
+        self.check_over(0)
+
+    def test_a_stop_while_the_thread_of_the_loop_starts(self) -> None:
+        self.threads.callbacks.start()
+        with held_at_start(self.threads.loop):
+            self.stop()
+        self.check_over(0)
+
+    def test_a_stop_before_the_start(self) -> None:
+        self.stop()
+        self.threads.start()
+        self.check_over(0)
+
+    def test_a_stop_before_the_first_turn_of_the_event_loop(self) -> None:
+        run = self.threads.loop._loop.run_until_complete
+
+        def stop_and_run(main: Any) -> Any:
+            self.stop()
+            return run(main)
+
+        with mock.patch.object(self.threads.loop._loop, "run_until_complete", stop_and_run):
+            self.threads.start()
+            self.check_over(0)
+
+    def test_a_stop_of_a_client_that_runs(self) -> None:
+        self.threads.start()
+        within(lambda: self.threads.have_begun)
+        self.stop()
+        self.check_over(1)
+
+    def test_the_loop_ends_where_the_engine_does(self) -> None:
+        self.threads.start()
+        within(lambda: self.threads.have_begun)
+        self.threads.loop._soon(self.stopped._engine.end)
+        self.threads.loop.act()
+        self.check_over(1)
+
+
+class CallbacksTest(unittest.TestCase):
+    def test_what_is_told_is_called_once_or_refused(self) -> None:
+        called = list[int]()
+        callbacks = Callbacks()
+        self.assertTrue(callbacks.tell(called.append, 1))
+        callbacks.start()
+        callbacks.stop()
+        self.assertEqual((callbacks.tell(called.append, 2), called), (False, [1]))
+
+    def test_what_is_told_before_a_thread_that_never_begins_is_called(self) -> None:
+        called = list[int]()
+        callbacks = Callbacks()
+        self.assertTrue(callbacks.tell(called.append, 1))
+        callbacks.seal()
+        callbacks.start()
+        callbacks.join(WAIT)
+        self.assertEqual((callbacks.tell(called.append, 2), called), (False, [1]))
+
+    def test_what_is_told_while_the_thread_ends(self) -> None:
+        """Each number is called, or is not said to be."""
+        with quick_switches():
+            for _ in range(20):
+                called, refused = list[int](), list[int]()
+                callbacks = Callbacks()
+                callbacks.start()
+
+                def tell() -> None:
+                    for number in range(200):
+                        if not callbacks.tell(called.append, number):
+                            refused.append(number)
+
+                tells = in_thread(tell)
+                callbacks.stop()
+                self.assertIsNone(tells.get(timeout=WAIT))
+                callbacks.join(WAIT)
+                self.assertEqual(sorted(called + refused), list(range(200)))
+
+
+class ClientTest(StoppingCase):
+    def test_a_stop_that_comes_late_leaves_the_next_session(self) -> None:
+        client = self.client(self.shared_partner().host)
+        client.start(WAIT)
+        first = client._threads()
+        client.stop()
+        client.start(WAIT)
+        client._stop(first)
+        self.assertEqual(client.get_children("/"), [])
+
+    def test_a_start_waits_for_a_stop(self) -> None:
+        client, goes_on = self.client(self.shared_partner().host), threading.Event()
+        self.addCleanup(goes_on.set)
+        client.start(WAIT)
+        session, threads = client.session_id, client._threads()
+        assert threads is not None
+        close = threads.loop._close
+
+        def close_late() -> None:
+            goes_on.wait(WAIT)
+            close()
+
+        with mock.patch.object(threads.loop, "_close", close_late):
+            stops = in_thread(client.stop)
+            within(lambda: client.state is not State.CONNECTED)
+            starts = in_thread(lambda: client.start(WAIT))
+            with self.assertRaises(TimeoutError):
+                client.start(0.05)
+            goes_on.set()
+            self.assertIsNone(starts.get(timeout=WAIT))
+            self.assertIsNone(stops.get(timeout=WAIT))
+        self.assertNotEqual(client.session_id, session)
+        self.assertEqual(client.get_children("/"), [])
+
+    def test_a_follower_ends_though_the_client_is_started_again(self) -> None:
+        client = self.client(self.shared_partner().host)
+        client.start(WAIT)
+        follower = client.follow("/")
+        next(follower)
+        client.stop()
+        client.start(WAIT)
+        self.assertEqual(list(follower), [])
+
+    def test_a_start_after_an_interrupted_stop(self) -> None:
+        """The server has ended the session, and the stop did not come to its end."""
+        client = self.client(self.shared_partner().host)
+        client.start(WAIT)
+        with mock.patch.object(Threads, "stop", side_effect=KeyboardInterrupt), self.assertRaises(KeyboardInterrupt):
+            client.stop()
+        client.start(WAIT)
+        self.assertEqual(client.get_children("/"), [])
 
     def test_a_stop_comes_at_any_moment_of_a_start(self) -> None:
         until = time.monotonic() + LONGEST
@@ -78,9 +226,30 @@ class StoppingTest(unittest.TestCase):
                 while starts.empty():
                     client.stop()
                 self.assertIsInstance(starts.get(), ConnectionClosedError)
-                self.assertIs(client.state, State.LOST)
+                self.check_stopped(client)
                 if time.monotonic() > until:
                     break
+
+    def test_many_start_and_stop_at_once(self) -> None:
+        until = time.monotonic() + LONGEST
+        with quick_switches():
+            for _ in range(ROUNDS):
+                self.check_many(self.client())
+                if time.monotonic() > until:
+                    break
+
+    def check_many(self, client: Client) -> None:
+        calls = [lambda: client.start(None), client.stop, lambda: client.start(None), client.stop, client.stop]
+        random.shuffle(calls)
+        outcomes = [in_thread(call) for call in calls]
+        while any(outcome.empty() for outcome in outcomes):
+            client.stop()
+        for call, outcome in zip(calls, outcomes):
+            self.assertIsInstance(outcome.get(), type(None) if call == client.stop else ConnectionClosedError)
+        self.check_stopped(client)
+        client.close()
+        with self.raises(ConnectionClosedError, None):
+            client.start()
 
 
 if __name__ == "__main__":

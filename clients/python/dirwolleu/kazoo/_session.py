@@ -307,15 +307,17 @@ class Session(Client):
         engine = KazooEngine(timeout, saved, self._tell, servers.hosts.root, credentials, owner._told_refusal)
         self._servers, self._engine, self._retry = servers, engine, None
         self._owner, self._tls, self._timeout = owner, tls, timeout
-        self._running, self._tasks = {}, {}
+        self._tasks = {}
+        self._hold_threads()
         self._dials: Optional[KazooDriver] = None
         engine.add_listener(owner._told_state)
 
     def begin(self) -> None:
-        """Begins to connect, and waits for nothing."""
+        """Begins to connect, and does not wait for a server."""
         self._check_process()
-        self._engine.begin()
-        self._begin_threads()
+        threads = self._begin_threads()
+        if threads is not None:  # it is, without a moment up to which it waits
+            self._wait(threads.have_come, None)
 
     def is_running(self) -> bool:
         """Whether it goes on by itself."""

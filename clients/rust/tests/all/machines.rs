@@ -57,14 +57,17 @@ fn silent() -> Partner {
 fn a_call_waits_to_a_limit_of_its_own() {
     let partner = silent();
     let session = Session::open(partner.address, TIMEOUT).unwrap();
+    while session.state() != Some(State::Connected) {
+        sleep(millis(5));
+    }
     let begun = Instant::now();
-    let write = Request::set("/a", b"one", 0).within(millis(300));
+    let write = Request::set("/a", b"one", 0).within(millis(2_000));
     let late = session.call(write).unwrap_err();
     let took = begun.elapsed();
     assert_eq!(late.kind(), &ErrorKind::TimedOut);
     assert!(late.may_have_happened());
     assert!(
-        took >= millis(300) && took < millis(300) + SLACK,
+        took >= millis(2_000) && took < millis(2_000) + SLACK,
         "{took:?}"
     );
     let mut local = LocalSession::open(partner.address, TIMEOUT).unwrap();
@@ -142,7 +145,7 @@ fn a_call_of_the_lane_waits_to_its_limit_too() {
     while session.state() != Some(State::Connected) {
         sleep(millis(5));
     }
-    let late = session.call(Request::sync("/").within(millis(200)));
+    let late = session.call(Request::sync("/").within(millis(2_000)));
     assert_eq!(late.map_err(Error::into_kind), Err(ErrorKind::TimedOut));
 }
 

@@ -134,19 +134,19 @@ fn a_text_that_is_no_path_says_why() {
 #[test]
 fn where_no_server_is_there_the_last_attempt_is_told() {
     let address = nobody();
-    let session = Session::open(address, Duration::from_secs(1)).unwrap();
+    let session = Session::open(address, Duration::from_secs(3)).unwrap();
     let (seconds, last) = searched(&printed(session.get("/a")), &format!(" of {address}"));
-    assert!(seconds >= 1.0, "{seconds}");
+    assert!(seconds >= 3.0, "{seconds}");
     assert_eq!(last, format!("{address}: connection refused"));
 }
 
 #[test]
 fn a_call_whose_limit_has_passed_tells_it_too() {
     let address = nobody();
-    let options = SessionOptions::new(TIMEOUT).limit(Duration::from_millis(500));
+    let options = SessionOptions::new(TIMEOUT).limit(Duration::from_secs(2));
     let session = options.open(address).unwrap();
     let (seconds, last) = searched(&printed(session.get("/a")), &format!(" of {address}"));
-    assert!((0.5..10.0).contains(&seconds), "{seconds}");
+    assert!((2.0..10.0).contains(&seconds), "{seconds}");
     assert_eq!(last, format!("{address}: connection refused"));
 }
 
@@ -155,7 +155,8 @@ fn a_server_that_says_nothing_is_told() {
     let listener = TcpListener::bind("127.0.0.1:0").unwrap();
     let address = listener.local_addr().unwrap();
     thread::spawn(move || listener.incoming().map(Result::unwrap).collect::<Vec<_>>());
-    let session = Session::open(address, Duration::from_secs(1)).unwrap();
+    let options = SessionOptions::new(TIMEOUT).limit(Duration::from_secs(2)); // before the server is left
+    let session = options.open(address).unwrap();
     let (_, last) = searched(&printed(session.get("/a")), &format!(" of {address}"));
     let wanted = format!("{address}: connected, and it has not accepted the session");
     assert_eq!(last, wanted);

@@ -144,7 +144,7 @@ fn a_program_that_was_stopped_keeps_a_server_that_has_sent_something() {
     let (stop, stopped) = channel();
     let (note, told) = channel();
     let partner = Partner::start(move |_, mut line| {
-        line.admit(3_000);
+        line.admit(6_000);
         let request = line.request().unwrap();
         line.tell_data(request.xid);
         stopped.recv_timeout(PATIENCE).unwrap();
@@ -152,10 +152,10 @@ fn a_program_that_was_stopped_keeps_a_server_that_has_sent_something() {
         note.send(()).unwrap();
         serve_well(line);
     });
-    let mut session = session_at(&partner, millis(3_000));
+    let mut session = session_at(&partner, millis(6_000));
     session.watch("/a").unwrap();
     stop.send(()).unwrap();
-    sleep(millis(2_300));
+    sleep(millis(4_300));
     told.recv_timeout(PATIENCE).unwrap();
     let answer = session.call(Request::exists("/").within(PATIENCE));
     assert!(answer.unwrap().is_some());
@@ -261,7 +261,7 @@ fn a_server_that_dribbles_is_left_while_it_connects() {
 /// A server that sends these bytes again and again in place of the first answer, and is well on the next connection.
 fn distracted(bytes: Vec<u8>) -> Partner {
     Partner::start(move |number, mut line| {
-        line.admit(1_500);
+        line.admit(3_000);
         if number == 0 {
             line.request();
             dribble(line, bytes.clone());
@@ -276,14 +276,14 @@ fn patient() -> Request<()> {
     Request::delete("/a", ANY_VERSION).within(millis(30_000))
 }
 
-/// Whether a call is lost after two thirds of the timeout of 1.5 seconds.
+/// Whether a call is lost after two thirds of the timeout of three seconds.
 fn is_lost_in_time<T: Debug>(call: impl FnOnce() -> Result<T, Error>) {
     let begun = Instant::now();
     let lost = call();
     let took = begun.elapsed();
     assert_eq!(kind_of(lost), ErrorKind::NoReply(NoReply::ConnectionLoss));
     assert!(
-        took >= millis(990) && took < millis(1_000) + SLACK,
+        took >= millis(1_990) && took < millis(2_000) + SLACK,
         "{took:?}"
     );
 }
@@ -291,27 +291,27 @@ fn is_lost_in_time<T: Debug>(call: impl FnOnce() -> Result<T, Error>) {
 #[test]
 fn a_call_that_is_not_answered_is_lost_whatever_else_comes() {
     let partner = distracted(jute::Record::notice(3, "/a"));
-    let mut session = session_at(&partner, millis(1_500));
+    let mut session = session_at(&partner, millis(3_000));
     is_lost_in_time(|| session.call(patient()));
     let partner = distracted(jute::Record::notice(3, "/a"));
-    let session = Session::open(partner.address, millis(1_500)).unwrap();
+    let session = Session::open(partner.address, millis(3_000)).unwrap();
     is_lost_in_time(|| session.call(patient()));
     let partner = distracted(jute::Record::notice(3, "/a"));
-    let session = Session::open(partner.address, millis(1_500)).unwrap();
+    let session = Session::open(partner.address, millis(3_000)).unwrap();
     is_lost_in_time(|| block_on(session.ask(patient())));
 }
 
 #[test]
 fn a_call_of_the_lane_that_is_not_answered_is_lost_too() {
     let partner = distracted(jute::Record::notice(3, "/a"));
-    let session = Session::open(partner.address, millis(1_500)).unwrap();
+    let session = Session::open(partner.address, millis(3_000)).unwrap();
     is_lost_in_time(|| session.call(Request::sync("/").within(millis(30_000))));
 }
 
 #[test]
 fn a_read_that_is_not_answered_is_asked_of_another_server() {
     let partner = distracted(jute::Record::notice(3, "/a"));
-    let mut session = session_at(&partner, millis(1_500));
+    let mut session = session_at(&partner, millis(3_000));
     let read = Request::exists("/a").within(millis(30_000));
     assert!(session.call(read).unwrap().is_some());
     assert_eq!(partner.dials(), 2);
@@ -321,12 +321,12 @@ fn a_read_that_is_not_answered_is_asked_of_another_server() {
 fn a_ping_that_is_not_answered_ends_the_connection() {
     let partner = distracted(jute::Record::notice(3, "/a"));
     let begun = Instant::now();
-    let mut session = session_at(&partner, millis(1_500));
+    let mut session = session_at(&partner, millis(3_000));
     while session.next_event(None).unwrap() != Some(Event::State(State::Connected)) {}
     while session.next_event(None).unwrap() != Some(Event::State(State::Idle)) {}
     let took = begun.elapsed();
     assert!(
-        took >= millis(1_490) && took < millis(1_500) + SLACK,
+        took >= millis(2_990) && took < millis(3_000) + SLACK,
         "{took:?}"
     );
 }
@@ -337,7 +337,7 @@ fn a_program_that_was_stopped_keeps_a_server_that_has_answered() {
     let (stop, stopped) = channel();
     let (note_answer, answered) = channel();
     let partner = Partner::start(move |_, mut line| {
-        line.admit(1_500);
+        line.admit(6_000);
         let ping = line.request().unwrap();
         note_ping.send(()).unwrap();
         stopped.recv_timeout(PATIENCE).unwrap();
@@ -345,12 +345,12 @@ fn a_program_that_was_stopped_keeps_a_server_that_has_answered() {
         note_answer.send(()).unwrap();
         serve_well(line);
     });
-    let mut session = session_at(&partner, millis(1_500));
+    let mut session = session_at(&partner, millis(6_000));
     while pinged.try_recv().is_err() {
         go_on(&mut session, millis(20));
     }
     stop.send(()).unwrap();
-    sleep(millis(1_300));
+    sleep(millis(4_300));
     answered.recv_timeout(PATIENCE).unwrap();
     assert_eq!(session.state(), None);
     let answer = session.call(Request::exists("/").within(PATIENCE));

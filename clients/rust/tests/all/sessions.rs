@@ -182,10 +182,11 @@ fn a_connection_that_is_dropped_begins_again() {
     let session = session_at(&server, 10_000);
     session.watch("/a").unwrap();
     session.watch("/b").unwrap();
-    server.tell("drop");
+    server.tell("down");
     server.tell("set /a two");
     wait_for_state(&session, State::Idle);
     assert_eq!(kept(&session, "/a"), Some((b"one".to_vec(), Mark::Good)));
+    server.tell("up");
     wait_for_state(&session, State::Connected);
     let changed = report("/a", Side::Data, NodeEvent::DataChanged);
     wait_for(&session, |event| *event == changed);
@@ -254,10 +255,10 @@ fn an_idle_session_goes_on_by_pings() {
     let Some(server) = Server::start(&[]) else {
         return;
     };
-    let session = session_at(&server, 3_000);
+    let session = session_at(&server, 6_000);
     session.watch("/").unwrap();
     while session.next_event(Some(Instant::now())).unwrap().is_some() {}
-    let until = Instant::now() + Duration::from_millis(2_500);
+    let until = Instant::now() + Duration::from_millis(5_000);
     let event = session.next_event(Some(until)).unwrap();
     assert_eq!(event, None, "the connection goes on");
 }

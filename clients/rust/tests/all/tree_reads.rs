@@ -302,7 +302,7 @@ fn a_read_that_was_lost_is_made_again_at_once() {
     let whole = tree.wait_for(PATIENCE);
     assert_eq!(whole.map(|all| all.len()), Ok(2), "no loss is told");
     let least = times.try_iter().flatten().min().unwrap();
-    assert!(least < Duration::from_millis(500), "{least:?}");
+    assert!(least < Duration::from_millis(900), "{least:?}"); // and not after a second
 }
 
 #[test]
