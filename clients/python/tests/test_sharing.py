@@ -255,8 +255,10 @@ class SharingRules(BothCase):
         taken: list[Any] = []
 
         def work(client: Any) -> None:
-            while (data := self.recipe("Queue", client, "/queue").get(0)) is not None:
-                taken.append(int(data))
+            entries = self.recipe("Queue", client, "/queue")
+            while len(entries):  # `get` answers None too where the connection was lost
+                if (data := entries.get(0)) is not None:
+                    taken.append(int(data))
 
         ends = [in_thread(functools.partial(work, client)) for client in (self.one, self.other)]
         for end in ends:
