@@ -1,6 +1,6 @@
 -- A client between a driver and the servers: what it has sent and the stream has not taken counts as come, and what was read and is not handed to
 -- it as still on its way. So each turn keeps it served.
-use Rattle.std.proofs.Common.{◌≡◌, ◌≤◌, ◌++◌, ◌∙◌, ℕ, Bool, true, false, cond, List, [], ◌∷◌, Option, Some, None, map, length, ap, append-nil, append_assoc, refl, sym, subst}
+use Rattle.std.proofs.Common.{◌≡◌, ◌≤◌, ◌++◌, ◌∙◌, ℕ, Bool, true, false, cond, List, [], ◌∷◌, Some, map, length, ap, append-nil, append_assoc, refl, sym, subst}
 use Rattle.std.specs.Prelude.{⊤, ◌&&◌, not, max}
 use Rattle.std.specs.List.{AllByRecursion}
 use Rattle.zk_nodes.specs.History.{History}
