@@ -27,7 +27,7 @@ use Rattle.zk_driver.specs.Driving.{closed, opened, ChannelView, Course, Looked,
 use Rattle.zk_driver.specs.Flowing.{Asked, Carries, Deed, Exchanges, Flow, Made}
 use Rattle.zk_served.specs.Asking.{DeedFits, DeedsFit, MovesFit}
 use Rattle.zk_served.specs.Acts.{given_in, taken_in}
-use Rattle.zk_served.specs.Worlds.{Befalls, ByDriver, ByStream, Meanwhile, Meets}
+use Rattle.zk_served.specs.Worlds.{Befalls, ByDriver, ByStream, Meanwhile, Meets, Passes}
 use Rattle.zk_served.specs.Serving.{Begins, MeetsServers}
 use Rattle.zk_served.proofs.Turned.{kept_down, let_go, Kept}
 use Rattle.zk_served.proofs.Heard.{left_by}
@@ -238,11 +238,15 @@ deed_bound (Made (Looked look)) old new before after carries fits meets bound =
 deed_bound (Made (Noted now input)) old new before after carries fits meets bound = noted_bound now input old new before after carries fits meets bound
 deed_bound (Asked now input) old new before after carries fits meets bound = subst (Bound new) (sym meets) (asked_bound now input old new before carries fits bound)
 
-deeds_bound : {A : Type 0} (deeds : List (Deed A)) (old new : Flow A) (carries : FoldsTo Carries old deeds new) (before after : Shown) → DeedsFit deeds old new carries → Meets ByDriver deeds old new carries before after
+-- what the program takes of what it is told changes nothing of that
+told_bound : {A : Type 0} (old new : Flow A) (shown : Shown) → new ≡ record old { course = record old.course { told = new.course.told } } → Bound old shown → Bound new shown
+told_bound old new shown same bound = subst (λ f. Bound f shown) (sym same) (record { here = bound.here; tied = bound.tied; later = bound.later })
+
+deeds_bound : {A : Type 0} (deeds : List (Deed A)) (old new : Flow A) (carries : FoldsTo Passes old deeds new) (before after : Shown) → DeedsFit deeds old new carries → Meets ByDriver deeds old new carries before after
     → Bound old before → Bound new after
 deeds_bound [] old new same before after fits meets bound = subst (Bound new) (sym meets) (subst (λ f. Bound f before) same bound)
 deeds_bound (deed ∷ deeds) old new carries before after fits meets bound =
-    deeds_bound deeds carries.0 new carries.2 meets.0 after fits.1 meets.2 (deed_bound deed old carries.0 before meets.0 carries.1 fits.0 meets.1 bound)
+    deeds_bound deeds carries.0 new carries.2 meets.0 after fits.1 meets.2 (told_bound carries.1.0 carries.0 meets.0 carries.1.2 (deed_bound deed old carries.1.0 before meets.0 carries.1.1 fits.0 meets.1 bound))
 
 begins_bound : {A : Type 0} (flow : Flow A) (before : Shown) → Begins flow → Bound flow before
 begins_bound flow before begins = record {
@@ -300,10 +304,10 @@ befalls_driver (Made (Noted now (happens.Follow ticket side path))) old new befo
 befalls_driver (Made (Noted now (happens.Unfollow ticket))) old new before after carries meets = meets
 befalls_driver (Asked now input) old new before after carries meets = meets
 
-meets_driver : {A : Type 0} (deeds : List (Deed A)) (old new : Flow A) (carries : FoldsTo Carries old deeds new) (before after : Shown) → Meets ByStream deeds old new carries before after → Meets ByDriver deeds old new carries before after
+meets_driver : {A : Type 0} (deeds : List (Deed A)) (old new : Flow A) (carries : FoldsTo Passes old deeds new) (before after : Shown) → Meets ByStream deeds old new carries before after → Meets ByDriver deeds old new carries before after
 meets_driver [] old new same before after meets = meets
 meets_driver (deed ∷ deeds) old new carries before after meets =
-    (meets.0, befalls_driver deed old carries.0 before meets.0 carries.1 meets.1, meets_driver deeds carries.0 new carries.2 meets.0 after meets.2)
+    (meets.0, befalls_driver deed old carries.1.0 before meets.0 carries.1.1 meets.1, meets_driver deeds carries.0 new carries.2 meets.0 after meets.2)
 
 -- ---- in the end
 

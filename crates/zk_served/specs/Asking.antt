@@ -9,6 +9,7 @@ use Rattle.zk_agent.specs.Agents.{Closes, Decides, Does, GivesUp, Hands, Hears, 
 use Rattle.zk_agent.specs.Agents as agents
 use Rattle.zk_driver.specs.Driving.{Noted}
 use Rattle.zk_driver.specs.Flowing.{Asked, Carries, Deed, Flow, Made}
+use Rattle.zk_served.specs.Worlds.{Passes}
 
 abbrev pub IsFitInput : Input → Type 0
 IsFitInput input = AsksOf IsTyped input × AsksOf IsPathCall input
@@ -39,6 +40,6 @@ DeedFits old (Asked now input) new carries =
     MovesFit carries.0.comes.moves (agents.trail_of old.course.agent []) (agents.trail_of new.course.agent carries.0.actions) carries.0.comes.does
 DeedFits old deed new carries = ⊤
 
-abbrev pub DeedsFit : {A : Type 0} → (deeds : List (Deed A)) → (old new : Flow A) → FoldsTo Carries old deeds new → Type 0
+abbrev pub DeedsFit : {A : Type 0} → (deeds : List (Deed A)) → (old new : Flow A) → FoldsTo Passes old deeds new → Type 0
 DeedsFit [] old new carries = ⊤
-DeedsFit (deed ∷ deeds) old new carries = DeedFits old deed carries.0 carries.1 × DeedsFit deeds carries.0 new carries.2
+DeedsFit (deed ∷ deeds) old new carries = DeedFits old deed carries.1.0 carries.1.1 × DeedsFit deeds carries.0 new carries.2

@@ -9,9 +9,9 @@ use Rattle.zk_client.specs.Clients.{view_of}
 use Rattle.zk_laws.specs.Headline.{IsCoherentWith}
 use Rattle.zk_serving.specs.Shown.{Shown}
 use Rattle.zk_conclusions.specs.Seen.{IsServedFrom}
-use Rattle.zk_driver.specs.Flowing.{Carries, Deed, Flow}
+use Rattle.zk_driver.specs.Flowing.{Deed, Flow}
 use Rattle.zk_served.specs.Asking.{DeedsFit}
-use Rattle.zk_served.specs.Worlds.{ByDriver, ByStream, Meets}
+use Rattle.zk_served.specs.Worlds.{ByDriver, ByStream, Meets, Passes}
 
 -- A driver begins: no connection is there, and its client has gone through nothing. The session to begin with is in range, and so are the later
 -- ones, which ask for a timeout above 0.
@@ -28,7 +28,7 @@ pub record Begins {A : Type 0} (flow : Flow A) : Type 0 where
 pub record MeetsServers {A : Type 0} (By : List ℕ → List ℕ → Flow A → Flow A → Type 0) (old new : Flow A) (after : Shown) : Type 0 where
   pub begins : Begins old
   pub deeds : List (Deed A)
-  pub carries : FoldsTo Carries old deeds new
+  pub carries : FoldsTo Passes old deeds new
   pub fits : DeedsFit deeds old new carries
   pub before : Shown
   pub meets : Meets By deeds old new carries before after

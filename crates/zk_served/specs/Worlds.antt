@@ -26,6 +26,10 @@ pub record ByDriver {A : Type 0} (took gave : List ℕ) (old new : Flow A) : Typ
 
 -- ---- beside what a driver does
 
+-- A deed of a driver, after which its program may have taken of what it is told.
+abbrev pub Passes : {A : Type 0} → Flow A → Deed A → Flow A → Type 0
+Passes {A} old deed new = (between : Flow A) × Carries old deed between × (new ≡ record between { course = record between.course { told = new.course.told } })
+
 module _ {A : Type 0} (By : List ℕ → List ℕ → Flow A → Flow A → Type 0) where
   -- While a connection is there, what befalls it are acts with these bytes; without one the history may go on.
   abbrev pub Meanwhile : Bool → (old new : Flow A) → (before after : Shown) → Type 0
@@ -40,6 +44,6 @@ module _ {A : Type 0} (By : List ℕ → List ℕ → Flow A → Flow A → Type
   Befalls old deed new before after = after ≡ before
 
   -- deed after deed
-  abbrev pub Meets : (deeds : List (Deed A)) → (old new : Flow A) → FoldsTo Carries old deeds new → (before after : Shown) → Type 0
+  abbrev pub Meets : (deeds : List (Deed A)) → (old new : Flow A) → FoldsTo Passes old deeds new → (before after : Shown) → Type 0
   Meets [] old new carries before after = after ≡ before
-  Meets (deed ∷ deeds) old new carries before after = (between : Shown) × Befalls old deed carries.0 before between × Meets deeds carries.0 new carries.2 between after
+  Meets (deed ∷ deeds) old new carries before after = (between : Shown) × Befalls old deed carries.1.0 before between × Meets deeds carries.0 new carries.2 between after
