@@ -1,5 +1,5 @@
 -- A driver's deeds, one after the other, keep its client served.
-use Rattle.std.proofs.Common.{◌≡◌, ◌≤◌, ◌++◌, ◌∙◌, ℕ, Bool, true, false, List, [], ◌∷◌, Option, Some, length, ap, append-nil, refl, sym, subst}
+use Rattle.std.proofs.Common.{◌≡◌, ◌≤◌, ◌++◌, ◌∙◌, ℕ, Bool, true, false, List, [], ◌∷◌, Option, Some, None, length, map, ap, append-nil, refl, sym, subst}
 use Rattle.std.specs.Prelude.{◌&&◌, not, max}
 use Rattle.std.specs.List.{AllByRecursion, FoldsTo}
 use Rattle.std.specs.Io.KnownBytes.{Appends, Consumes}
@@ -22,12 +22,13 @@ use Rattle.zk_serving.proofs.Views.{first_session, good_session}
 use Rattle.zk_conclusions.specs.Seen.{IsServedFrom}
 use Rattle.zk_agent.specs.declared.input.Input.{Input}
 use Rattle.zk_agent.specs.declared.input.Input.TheVariants as happens
+use Rattle.zk_agent.specs.Telling.{Told}
 use Rattle.zk_agent.specs.Agents.{bytes_at, given_of, opened_at, trail_of, Ended, Hears, HungUp, Move, Opened, Trail}
 use Rattle.zk_driver.specs.Driving.{closed, opened, ChannelView, Course, Looked, Noted, Takes, Written}
-use Rattle.zk_driver.specs.Flowing.{Asked, Carries, Deed, Exchanges, Flow, Made}
-use Rattle.zk_served.specs.Asking.{DeedFits, DeedsFit, MovesFit}
+use Rattle.zk_driver.specs.Flowing.{Asked, Carries, Deed, Exchanges, Flow, Flows, Made}
+use Rattle.zk_served.specs.Asking.{DeedFits, StepsFit, MovesFit}
 use Rattle.zk_served.specs.Acts.{given_in, taken_in}
-use Rattle.zk_served.specs.Worlds.{Befalls, ByDriver, ByStream, Meanwhile, Meets, Passes}
+use Rattle.zk_served.specs.Worlds.{Befalls, ByDriver, ByStream, Meanwhile, Meets, Passes, Runs}
 use Rattle.zk_served.specs.Serving.{Begins, MeetsServers}
 use Rattle.zk_served.proofs.Turned.{kept_down, let_go, Kept}
 use Rattle.zk_served.proofs.Heard.{left_by}
@@ -242,11 +243,13 @@ deed_bound (Asked now input) old new before after carries fits meets bound = sub
 told_bound : {A : Type 0} (old new : Flow A) (shown : Shown) → new ≡ record old { course = record old.course { told = new.course.told } } → Bound old shown → Bound new shown
 told_bound old new shown same bound = subst (λ f. Bound f shown) (sym same) (record { here = bound.here; tied = bound.tied; later = bound.later })
 
-deeds_bound : {A : Type 0} (deeds : List (Deed A)) (old new : Flow A) (carries : FoldsTo Passes old deeds new) (before after : Shown) → DeedsFit deeds old new carries → Meets ByDriver deeds old new carries before after
+steps_bound : {A : Type 0} (steps : List (Option (Deed A))) (old new : Flow A) (passes : FoldsTo Passes old steps new) (before after : Shown) → StepsFit steps old new passes → Meets ByDriver steps old new passes before after
     → Bound old before → Bound new after
-deeds_bound [] old new same before after fits meets bound = subst (Bound new) (sym meets) (subst (λ f. Bound f before) same bound)
-deeds_bound (deed ∷ deeds) old new carries before after fits meets bound =
-    deeds_bound deeds carries.0 new carries.2 meets.0 after fits.1 meets.2 (told_bound carries.1.0 carries.0 meets.0 carries.1.2 (deed_bound deed old carries.1.0 before meets.0 carries.1.1 fits.0 meets.1 bound))
+steps_bound [] old new same before after fits meets bound = subst (Bound new) (sym meets) (subst (λ f. Bound f before) same bound)
+steps_bound (Some deed ∷ steps) old new passes before after fits meets bound =
+    steps_bound steps passes.0 new passes.2 meets.0 after fits.1 meets.2 (deed_bound deed old passes.0 before meets.0 passes.1 fits.0 meets.1 bound)
+steps_bound (None ∷ steps) old new passes before after fits meets bound =
+    steps_bound steps passes.0 new passes.2 before after fits meets (told_bound old passes.0 before passes.1 bound)
 
 begins_bound : {A : Type 0} (flow : Flow A) (before : Shown) → Begins flow → Bound flow before
 begins_bound flow before begins = record {
@@ -304,15 +307,35 @@ befalls_driver (Made (Noted now (happens.Follow ticket side path))) old new befo
 befalls_driver (Made (Noted now (happens.Unfollow ticket))) old new before after carries meets = meets
 befalls_driver (Asked now input) old new before after carries meets = meets
 
-meets_driver : {A : Type 0} (deeds : List (Deed A)) (old new : Flow A) (carries : FoldsTo Passes old deeds new) (before after : Shown) → Meets ByStream deeds old new carries before after → Meets ByDriver deeds old new carries before after
+meets_driver : {A : Type 0} (steps : List (Option (Deed A))) (old new : Flow A) (passes : FoldsTo Passes old steps new) (before after : Shown) → Meets ByStream steps old new passes before after → Meets ByDriver steps old new passes before after
 meets_driver [] old new same before after meets = meets
-meets_driver (deed ∷ deeds) old new carries before after meets =
-    (meets.0, befalls_driver deed old carries.1.0 before meets.0 carries.1.1 meets.1, meets_driver deeds carries.0 new carries.2 meets.0 after meets.2)
+meets_driver (Some deed ∷ steps) old new passes before after meets =
+    (meets.0, befalls_driver deed old passes.0 before meets.0 passes.1 meets.1, meets_driver steps passes.0 new passes.2 meets.0 after meets.2)
+meets_driver (None ∷ steps) old new passes before after meets = meets_driver steps passes.0 new passes.2 before after meets
+
+-- ---- calls, one after the other
+
+passes_of : {A : Type 0} (deeds : List (Deed A)) (old new : Flow A) → FoldsTo Carries old deeds new → FoldsTo Passes old (map Some deeds) new
+passes_of [] old new same = same
+passes_of (deed ∷ deeds) old new carries = (carries.0, carries.1, passes_of deeds carries.0 new carries.2)
+
+pub calls_run : {A : Type 0} (old new : Flow A) → Flows old new → Runs old new
+calls_run old new flows = record { steps = map Some flows.deeds; passes = passes_of flows.deeds old new flows.carries }
+
+pub taking_runs : {A : Type 0} (old : Flow A) (told : List Told) → Runs old (record old { course = record old.course { told = told } })
+taking_runs old told = record { steps = None ∷ []; passes = (record old { course = record old.course { told = told } }, refl, refl) }
+
+passes_on : {A : Type 0} (steps more : List (Option (Deed A))) (old between new : Flow A) → FoldsTo Passes old steps between → FoldsTo Passes between more new → FoldsTo Passes old (steps ++ more) new
+passes_on [] more old between new same rest = subst (λ f. FoldsTo Passes f more new) (sym same) rest
+passes_on (step ∷ steps) more old between new passes rest = (passes.0, passes.1, passes_on steps more passes.0 between new passes.2 rest)
+
+pub runs_join : {A : Type 0} (old between new : Flow A) → Runs old between → Runs between new → Runs old new
+runs_join old between new first rest = record { steps = first.steps ++ rest.steps; passes = passes_on first.steps rest.steps old between new first.passes rest.passes }
 
 -- ---- in the end
 
 kept_in : {A : Type 0} (old new : Flow A) (after : Shown) (meets : MeetsServers ByDriver old new after) → Bound new after
-kept_in old new after meets = deeds_bound meets.deeds old new meets.carries meets.before after meets.fits meets.meets (begins_bound old meets.before meets.begins)
+kept_in old new after meets = steps_bound meets.runs.steps old new meets.runs.passes meets.before after meets.fits meets.meets (begins_bound old meets.before meets.begins)
 
 pub bytes_serve : {A : Type 0} (old new : Flow A) (after : Shown) → MeetsServers ByDriver old new after → IsServedFrom after.history (view_in new.course)
 bytes_serve old new after meets =
@@ -328,11 +351,10 @@ bytes_serve old new after meets =
 to_driver : {A : Type 0} (old new : Flow A) (after : Shown) → MeetsServers ByStream old new after → MeetsServers ByDriver old new after
 to_driver old new after meets = record {
   begins = meets.begins;
-  deeds = meets.deeds;
-  carries = meets.carries;
+  runs = meets.runs;
   fits = meets.fits;
   before = meets.before;
-  meets = meets_driver meets.deeds old new meets.carries meets.before after meets.meets;
+  meets = meets_driver meets.runs.steps old new meets.runs.passes meets.before after meets.meets;
   history = meets.history;
 }
 

@@ -1,5 +1,5 @@
 -- That what a driver's client is asked is about paths, with values of their types: so it is for values of Rust.
-use Rattle.std.specs.Prelude.{⊤, ℕ, Bool, true, false, List, [], ◌∷◌}
+use Rattle.std.specs.Prelude.{⊤, ℕ, Bool, true, false, List, [], ◌∷◌, Option, Some, None}
 use Rattle.std.specs.List.{AllByRecursion, FoldsTo}
 use Rattle.zk_turns.specs.Turns.{Input, Turn}
 use Rattle.zk_turns.specs.Turns as turns
@@ -40,6 +40,7 @@ DeedFits old (Asked now input) new carries =
     MovesFit carries.0.comes.moves (agents.trail_of old.course.agent []) (agents.trail_of new.course.agent carries.0.actions) carries.0.comes.does
 DeedFits old deed new carries = ⊤
 
-abbrev pub DeedsFit : {A : Type 0} → (deeds : List (Deed A)) → (old new : Flow A) → FoldsTo Passes old deeds new → Type 0
-DeedsFit [] old new carries = ⊤
-DeedsFit (deed ∷ deeds) old new carries = DeedFits old deed carries.1.0 carries.1.1 × DeedsFit deeds carries.0 new carries.2
+abbrev pub StepsFit : {A : Type 0} → (steps : List (Option (Deed A))) → (old new : Flow A) → FoldsTo Passes old steps new → Type 0
+StepsFit [] old new passes = ⊤
+StepsFit (Some deed ∷ steps) old new passes = DeedFits old deed passes.0 passes.1 × StepsFit steps passes.0 new passes.2
+StepsFit (None ∷ steps) old new passes = StepsFit steps passes.0 new passes.2

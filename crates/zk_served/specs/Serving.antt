@@ -1,6 +1,5 @@
 -- THE statement: a driver over connections to servers of the model has a client that was served by them.
 use Rattle.std.specs.Prelude.{◌≡◌, ◌<◌, ℕ, false, List, [], unsigned_abs}
-use Rattle.std.specs.List.{FoldsTo}
 use Rattle.zk_nodes.specs.History.{IsHistory}
 use Rattle.zk_turns.specs.Turns.{Start, new_start}
 use Rattle.zk_turns.specs.Ranges.{IsResumable}
@@ -9,9 +8,9 @@ use Rattle.zk_client.specs.Clients.{view_of}
 use Rattle.zk_laws.specs.Headline.{IsCoherentWith}
 use Rattle.zk_serving.specs.Shown.{Shown}
 use Rattle.zk_conclusions.specs.Seen.{IsServedFrom}
-use Rattle.zk_driver.specs.Flowing.{Deed, Flow}
-use Rattle.zk_served.specs.Asking.{DeedsFit}
-use Rattle.zk_served.specs.Worlds.{ByDriver, ByStream, Meets, Passes}
+use Rattle.zk_driver.specs.Flowing.{Flow}
+use Rattle.zk_served.specs.Asking.{StepsFit}
+use Rattle.zk_served.specs.Worlds.{ByDriver, ByStream, Meets, Runs}
 
 -- A driver begins: no connection is there, and its client has gone through nothing. The session to begin with is in range, and so are the later
 -- ones, which ask for a timeout above 0.
@@ -27,11 +26,10 @@ pub record Begins {A : Type 0} (flow : Flow A) : Type 0 where
 -- What it does meets servers from a beginning on, and what they show in the end has a history.
 pub record MeetsServers {A : Type 0} (By : List ℕ → List ℕ → Flow A → Flow A → Type 0) (old new : Flow A) (after : Shown) : Type 0 where
   pub begins : Begins old
-  pub deeds : List (Deed A)
-  pub carries : FoldsTo Passes old deeds new
-  pub fits : DeedsFit deeds old new carries
+  pub runs : Runs old new
+  pub fits : StepsFit runs.steps old new runs.passes
   pub before : Shown
-  pub meets : Meets By deeds old new carries before after
+  pub meets : Meets By runs.steps old new runs.passes before after
   pub history : IsHistory after.history
 
 -- Where streams know their bytes: what they took the servers had, and what they gave the servers had sent.

@@ -1,11 +1,12 @@
 -- Servers at the far end of a driver's connections.
-use Rattle.std.specs.Prelude.{◌≡◌, ◌≤◌, ℕ, Bool, true, false, List, [], ◌∷◌, ◌++◌, length, Some}
+use Rattle.std.specs.Prelude.{◌≡◌, ◌≤◌, ℕ, Bool, true, false, List, [], ◌∷◌, ◌++◌, length, Option, Some, None}
 use Rattle.std.specs.List.{FoldsTo}
 use Rattle.zk_serving.specs.GoingOn.{GoesOn}
 use Rattle.zk_serving.specs.Shown.{connected, Shown}
 use Rattle.zk_agent.specs.declared.input.Input.TheVariants as happens
+use Rattle.zk_agent.specs.Telling.{Told}
 use Rattle.zk_driver.specs.Driving.{Looked, Noted, Written}
-use Rattle.zk_driver.specs.Flowing.{Carries, Deed, Flow, Made}
+use Rattle.zk_driver.specs.Flowing.{Carries, Deed, Flow, Flows, Made}
 use Rattle.zk_served.specs.Acts.{given_in, taken_in, Act, Happens}
 
 -- ---- which bytes these are
@@ -26,9 +27,25 @@ pub record ByDriver {A : Type 0} (took gave : List ℕ) (old new : Flow A) : Typ
 
 -- ---- beside what a driver does
 
--- A deed of a driver, after which its program may have taken of what it is told.
-abbrev pub Passes : {A : Type 0} → Flow A → Deed A → Flow A → Type 0
-Passes {A} old deed new = (between : Flow A) × Carries old deed between × (new ≡ record between { course = record between.course { told = new.course.told } })
+-- A driver does something; or its program takes of what it is told.
+abbrev pub Passes : {A : Type 0} → Flow A → Option (Deed A) → Flow A → Type 0
+Passes old (Some deed) new = Carries old deed new
+Passes old None new = new ≡ record old { course = record old.course { told = new.course.told } }
+
+-- some of that, the oldest first
+pub record Runs {A : Type 0} (old new : Flow A) : Type 0 where
+  pub steps : List (Option (Deed A))
+  pub passes : FoldsTo Passes old steps new
+
+-- So is a call of a driver, that the program takes of what it is told, and one after the other.
+abbrev pub CallsRun : Type 0 → Type 0
+CallsRun A = (old new : Flow A) → Flows old new → Runs old new
+
+abbrev pub TakingRuns : Type 0 → Type 0
+TakingRuns A = (old : Flow A) (told : List Told) → Runs old (record old { course = record old.course { told = told } })
+
+abbrev pub RunsJoin : Type 0 → Type 0
+RunsJoin A = (old between new : Flow A) → Runs old between → Runs between new → Runs old new
 
 module _ {A : Type 0} (By : List ℕ → List ℕ → Flow A → Flow A → Type 0) where
   -- While a connection is there, what befalls it are acts with these bytes; without one the history may go on.
@@ -43,7 +60,8 @@ module _ {A : Type 0} (By : List ℕ → List ℕ → Flow A → Flow A → Type
   Befalls old (Made (Noted now happens.Opened)) new before after = (place : ℕ) × (place ≤ length before.history.transactions) × (after ≡ connected place before)
   Befalls old deed new before after = after ≡ before
 
-  -- deed after deed
-  abbrev pub Meets : (deeds : List (Deed A)) → (old new : Flow A) → FoldsTo Passes old deeds new → (before after : Shown) → Type 0
-  Meets [] old new carries before after = after ≡ before
-  Meets (deed ∷ deeds) old new carries before after = (between : Shown) × Befalls old deed carries.1.0 before between × Meets deeds carries.0 new carries.2 between after
+  -- step after step
+  abbrev pub Meets : (steps : List (Option (Deed A))) → (old new : Flow A) → FoldsTo Passes old steps new → (before after : Shown) → Type 0
+  Meets [] old new passes before after = after ≡ before
+  Meets (Some deed ∷ steps) old new passes before after = (between : Shown) × Befalls old deed passes.0 before between × Meets steps passes.0 new passes.2 between after
+  Meets (None ∷ steps) old new passes before after = Meets steps passes.0 new passes.2 before after
