@@ -1,0 +1,17 @@
+use Rattle.zk_served.proofs.Benched.{bench_advances, bench_ends, bench_gives, bench_processes, bench_takes}
+use Rattle.zk_served.proofs.benches_act.Goals as goal
+
+pub returns-clause-takes : goal.returns-clause-takes
+returns-clause-takes c = bench_takes
+
+pub returns-clause-gives : goal.returns-clause-gives
+returns-clause-gives c = bench_gives
+
+pub returns-clause-advances : goal.returns-clause-advances
+returns-clause-advances c = bench_advances
+
+pub returns-clause-processes : goal.returns-clause-processes
+returns-clause-processes c = bench_processes
+
+pub returns-clause-ends : goal.returns-clause-ends
+returns-clause-ends c = bench_ends

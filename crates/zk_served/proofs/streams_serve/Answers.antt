@@ -1,0 +1,5 @@
+use Rattle.zk_served.proofs.Served.{streams_serve}
+use Rattle.zk_served.proofs.streams_serve.Goals as goal
+
+pub returns : goal.returns
+returns g c = streams_serve

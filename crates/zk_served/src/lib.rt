@@ -1,0 +1,43 @@
+//! A driver whose connections lead to servers of the model, as those in memory are: its client was served by them, wherever cuts fall. The
+//! functions have empty bodies: their contracts are the laws.
+#![tactic(auto)]
+
+ghost use Rattle.zk_served.specs.Benches.{BenchAdvances, BenchEnds, BenchGives, BenchProcesses, BenchTakes};
+ghost use Rattle.zk_served.specs.Serving.{BytesServe, StreamsCohere, StreamsServe};
+ghost use Rattle.zk_served.specs.Worlds.{CallsRun, RunsJoin, TakingRuns};
+
+use std::alloc::Allocator;
+
+/// Over streams that know their bytes: where what each took was what a server of the model had, and what it gave was what this server had sent,
+/// the client within was served from the history (`IsServedFrom`). So all that is said of such a client holds.
+pub fn streams_serve<A: Allocator>()
+    ensures { StreamsServe A }
+{}
+
+/// And each of its good answers is the history's at the last seen zxid.
+pub fn streams_cohere<A: Allocator>()
+    ensures { StreamsCohere A }
+{}
+
+/// The same by what the driver wrote and read, over any streams.
+pub fn bytes_serve<A: Allocator>()
+    ensures { BytesServe A }
+{}
+
+/// What a driver does over any list of calls that succeed is a run (`Runs`): each call is one, by its clause `flows`, so is that the program takes
+/// an action, and one after the other is one.
+pub fn calls_run<A: Allocator>()
+    ensures calls { CallsRun A }
+    ensures taking { TakingRuns A }
+    ensures join { RunsJoin A }
+{}
+
+/// What befalls a connection is what servers in memory do, by the clauses of `zk_bench::Bench`: bytes come to the connected server, the first
+/// bytes that it sent are taken out, it takes a transaction, it processes a request, it ends the connection.
+pub fn benches_act()
+    ensures takes { BenchTakes }
+    ensures gives { BenchGives }
+    ensures advances { BenchAdvances }
+    ensures processes { BenchProcesses }
+    ensures ends { BenchEnds }
+{}
