@@ -666,6 +666,21 @@ EOF
     seen[trees]=$(wc -l <"$folder/trees.out")
     end_by_force trees
     rises @beside @root @child @below @more
+    timeout 60 "$program" watch "$at" --tree /trees --most 3 --json --for 2 >"$folder/branches.out" || fail "branches ends with status $?"
+    are_branches "$folder/branches.out" || fail "a line of branches is another one: $(cat "$folder/branches.out")"
+}
+
+# Whether these are the lines of a watch of a tree of four nodes, three of which are watched.
+are_branches() {
+    python3 - "$1" <<'EOF'
+import json, sys
+
+lines = [json.loads(line) for line in open(sys.argv[1])]
+bounds = [line["nodes"] for line in lines if line["kind"] == "bound"]
+assert bounds == [3], bounds
+good = {(line["path"], line["side"]) for line in lines if line.get("mark") == "good"}
+assert good == {(path, side) for path in ("/trees", "/trees/a", "/trees/c") for side in ("data", "names")}, good
+EOF
 }
 
 # A watch of a host that no name server knows: this is told, and at its end that no server was ever connected.
