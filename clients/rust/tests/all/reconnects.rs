@@ -168,13 +168,13 @@ fn a_program_that_was_stopped_keeps_a_server_that_has_sent_something() {
 fn events_that_nobody_takes_are_bounded() {
     const CHANGES: u64 = 1_500;
     let partner = Partner::start(|_, mut line| {
-        line.admit(10_000);
+        line.admit(60_000);
         while let Some(request) = line.request() {
             line.tell_data(request.xid);
             line.send(&jute::Record::notice(3, "/a"));
         }
     });
-    let mut session = session_at(&partner, millis(10_000));
+    let mut session = session_at(&partner, millis(60_000));
     for _ in 0..CHANGES {
         session.call(Request::get("/a").watched()).unwrap();
     }

@@ -105,7 +105,7 @@ fn calls_are_answered() {
     let Some(server) = Server::start(&[]) else {
         return;
     };
-    try_calls(session_at(&server, 10_000));
+    try_calls(session_at(&server, 60_000));
 }
 
 #[test]
@@ -113,7 +113,7 @@ fn calls_are_answered_byte_by_byte() {
     let Some(server) = Server::start(&["--piece", "1"]) else {
         return;
     };
-    try_calls(session_at(&server, 10_000));
+    try_calls(session_at(&server, 60_000));
 }
 
 #[test]

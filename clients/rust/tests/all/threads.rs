@@ -206,7 +206,7 @@ fn losing(kind: i32) -> (Partner, Arc<AtomicUsize>) {
     let count = Arc::new(AtomicUsize::new(0));
     let counted = Arc::clone(&count);
     let partner = Partner::start(move |_, mut line| {
-        line.admit(10_000);
+        line.admit(60_000);
         while let Some(request) = line.request() {
             let is_first = request.kind == kind && counted.fetch_add(1, Ordering::SeqCst) == 0;
             match request.kind {
@@ -228,7 +228,7 @@ fn retrying(partner: &Partner) -> Session {
 #[test]
 fn a_read_is_asked_again_after_a_lost_connection() {
     let (partner, count) = losing(GET_DATA);
-    assert!(session_at(&partner, 10_000).get("/a").is_ok());
+    assert!(session_at(&partner, 60_000).get("/a").is_ok());
     assert_eq!(count.load(Ordering::SeqCst), 2);
 }
 
