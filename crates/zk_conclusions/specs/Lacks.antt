@@ -72,6 +72,12 @@ pub record AreShown (cache : Cache) (root : Text) (paths : List Text) : Type 0 w
   pub begins : paths ≡ root ∷ rest
   pub order : AreBehind (root ∷ []) rest
 
+-- No more nodes than this number are reached by good names: these are all.
+pub record HasNoMoreNodes (cache : Cache) (root : Text) (most : ℕ) : Type 0 where
+  pub paths : List Text
+  pub shown : AreShown cache root paths
+  pub fits : length paths ≤ most
+
 -- Where there is a subtree of no more nodes than that, neither refusal is true.
 abbrev pub WalkIsTheOnlyAnswer : Type 0
 WalkIsTheOnlyAnswer = (cache : Cache) (root : Text) (most : ℕ) → HasWalk cache root most → IsWholeBelow cache root × ¬ (HasMoreNodes cache root most)

@@ -121,13 +121,13 @@ impl<A: Allocator + Copy> Lacking<A> {
     ghost use Rattle.std.specs.Prelude.{◌≡◌, ◌↔◌, [], IsTrue, IfErr, IfOk};
     ghost use Rattle.zk_client.specs.Clients.{view_of};
     ghost use Rattle.zk_conclusions.specs.Subtrees.{HasMoreNodes, Says};
-    ghost use Rattle.zk_conclusions.specs.Lacks.{AreLacking, HasNoPath, HasWalk, lacks_data, lacks_names};
+    ghost use Rattle.zk_conclusions.specs.Lacks.{AreLacking, HasNoMoreNodes, HasNoPath, HasWalk, lacks_data, lacks_names};
 
     /// What is lacking at and below the root, of at most `most` nodes: of all paths that good names lead to, those whose data are not
     /// kept and good (`data`), and those below which the names are not (`names`). Nothing is lacking exactly where there is a subtree
-    /// (`empty`).
+    /// (`empty`). No more nodes than `most` are reached then (`fits`).
     ///
-    /// `TooMany` is told where more nodes are reached than `most`; `NotWhole` where a good name makes no path, so that no read makes the
+    /// `TooMany` is told where more are; `NotWhole` where a good name makes no path, so that no read makes the
     /// subtree whole (`none`). Of a root without a node the data are lacking, and stay so: see its own answer.
     pub fn of(
         client: &Client<A>,
@@ -138,6 +138,7 @@ impl<A: Allocator + Copy> Lacking<A> {
         ensures data { IfOk result (λ lacking. AreLacking (view_of client.now).cache root.now (lacks_data (view_of client.now).cache) lacking.data.items) }
         ensures names { IfOk result (λ lacking. AreLacking (view_of client.now).cache root.now (lacks_names (view_of client.now).cache) lacking.names.items) }
         ensures empty { IfOk result (λ lacking. ((lacking.data.items ≡ []) × (lacking.names.items ≡ [])) ↔ HasWalk (view_of client.now).cache root.now most) }
+        ensures fits { IfOk result (λ lacking. HasNoMoreNodes (view_of client.now).cache root.now most) }
         ensures none { IfErr result (λ why. Says why (HasNoPath (view_of client.now).cache root.now) (HasMoreNodes (view_of client.now).cache root.now most)) }
     {
         let paths = shown_paths(client, alloc, root, most)?;

@@ -7,7 +7,7 @@ use Rattle.zk_nodes.specs.declared.side.Side.{Side}
 use Rattle.zk_nodes.specs.declared.side.Side.TheVariants.{Data, Child}
 use Rattle.zk_turns.specs.View.{View}
 use Rattle.zk_follow.specs.Following.{is_kept, says_none}
-use Rattle.zk_conclusions.specs.Lacks.{lacks_data, lacks_names, AreLacking, HasNoPath}
+use Rattle.zk_conclusions.specs.Lacks.{lacks_data, lacks_names, AreLacking, HasNoMoreNodes, HasNoPath}
 use Rattle.zk_conclusions.specs.Subtrees.{HasMoreNodes}
 use Rattle.zk_watch.specs.Lines.{line_of, number_members, object_line, stamp_of}
 use Rattle.zk_watch.specs.declared.plan.Style.{Style}
@@ -72,10 +72,10 @@ pub record Wants : Type 0 where
 abbrev pub wants_of : {A : Type 0} → Wanted A → Wants
 wants_of wanted = record { aims = map (λ subject. (subject.side, subject.path)) wanted.subjects.items; is_bounded = wanted.is_bounded }
 
--- Of a tree all is wanted that good names lead to from the root on, and that lacks something: the data of these paths, and the names below those.
--- Of one that has more nodes than the most, or a name that makes no path, nothing is.
+-- Of a tree of no more nodes than the most all is wanted that good names lead to from the root on, and that lacks something: the data of these
+-- paths, and the names below those. Of one that has more, or a name that makes no path, nothing is.
 pub data IsWanted (view : View) (most : ℕ) (root : Text) (old new : Wants) : Type 0 where
-  all : (nodes names : List Text) → AreLacking view.cache root (lacks_data view.cache) nodes → AreLacking view.cache root (lacks_names view.cache) names
+  all : (nodes names : List Text) → HasNoMoreNodes view.cache root most → AreLacking view.cache root (lacks_data view.cache) nodes → AreLacking view.cache root (lacks_names view.cache) names
       → new ≡ record old { aims = old.aims ++ (aims_at Data nodes ++ aims_at Child names) } → IsWanted view most root old new
   many : HasMoreNodes view.cache root most → new ≡ record old { is_bounded = true } → IsWanted view most root old new
   faulty : HasNoPath view.cache root → new ≡ old → IsWanted view most root old new

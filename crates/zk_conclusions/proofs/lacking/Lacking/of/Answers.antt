@@ -19,3 +19,6 @@ pub returns-clause-empty : goal.returns-clause-empty
 returns-clause-empty g c =
     empty_is_walk (view_of c.args.client.now).cache c.args.root.now c.in_ok-paths.paths.items c.in_ok-data.data.items c.in_ok-names.names.items c.args.most c.in_ok-paths.ensures.shown c.in_ok-paths.ensures.most
     (returns-clause-data g c) (returns-clause-names g c)
+
+pub returns-clause-fits : goal.returns-clause-fits
+returns-clause-fits g c = record { paths = c.in_ok-paths.paths.items; shown = c.in_ok-paths.ensures.shown; fits = c.in_ok-paths.ensures.most }
