@@ -17,6 +17,16 @@ static PIECES: [usize; 2] = [usize::MAX, 7];
 /// The most watches of a side.
 const WATCHES: usize = 65_536;
 
+/// How many paths of 4,096 bytes are watched, by numbers of five digits. Each weighs 4 more; of 131,072, which are the most of a part, 31
+/// take 127,100, and one more would be 131,200. So they are set again in 500 parts, and no fewer bytes could be: a part that is not the last
+/// has at least 126,973.
+const LONG_WATCHES: usize = 15_500;
+
+const FIRST_LONG: usize = 10_000;
+
+/// What stands after the slash and the digits of such a path.
+const FILLER: usize = 4_096 - 1 - 5;
+
 /// How many names there are below a node.
 const NAMES: usize = 100_000;
 
@@ -34,6 +44,8 @@ const PART_XID: i32 = -8;
 enum Size {
     /// As many watches as there may be, one more, and a reconnect in many parts.
     Watches,
+    /// Watches of paths that are as long as they may be, and a reconnect in 500 parts.
+    Parts,
     /// A reply that is as long as it may be.
     Reply,
     /// The names below a node.
@@ -52,10 +64,11 @@ static SIZES: [Size; 5] = [
     Size::Password,
 ];
 
-/// The path of a number.
-fn path<A: Allocator + Copy>(alloc: A, number: usize) -> Result<Path<A>> {
-    let text = format!(in alloc; "/{number}")?;
-    let path = Path::new(alloc, text.as_str());
+/// The path of a number, with what the peer fills it up by.
+fn path<A: Allocator + Copy>(peer: &Peer<A>, number: usize) -> Result<Path<A>> {
+    let filler = peer.filler.as_str();
+    let text = format!(in peer.alloc; "/{number}{filler}")?;
+    let path = Path::new(peer.alloc, text.as_str());
     drop(text);
     path.map_err(From::from)
 }
@@ -78,7 +91,7 @@ fn ask<A: Allocator + Copy>(
     is_names: bool,
     is_there: bool,
 ) -> Result<usize> {
-    let path = path(peer.alloc, number)?;
+    let path = path(peer, number)?;
     Ok(peer.ask(read(path, is_names, is_there))?.refusals)
 }
 
@@ -97,11 +110,15 @@ fn watch<A: Allocator + Copy>(peer: &mut Peer<A>, number: usize, is_names: bool)
     Ok(())
 }
 
-/// How many of the paths have good data, and how many good names.
-fn count_good<A: Allocator + Copy>(peer: &Peer<A>) -> Result<(usize, usize)> {
+/// How many of this many paths have good data, and how many good names.
+fn count_good<A: Allocator + Copy>(
+    peer: &Peer<A>,
+    first: usize,
+    many: usize,
+) -> Result<(usize, usize)> {
     let (mut with_data, mut with_names) = (0usize, 0usize);
-    for number in 0..WATCHES {
-        let path = path(peer.alloc, number)?;
+    for number in first..first.saturating_add(many) {
+        let path = path(peer, number)?;
         let has_data = matches!(peer.client.peek_data(&path), Some((_, Mark::Good)));
         let has_names = matches!(peer.client.peek_children(&path), Some((_, Mark::Good)));
         drop(path);
@@ -131,7 +148,7 @@ fn watches<A: Allocator + Copy, W: Write>(peer: &mut Peer<A>, out: &mut W) -> Re
     } else {
         "one part"
     };
-    let (with_data, with_names) = count_good(peer)?;
+    let (with_data, with_names) = count_good(peer, 0, WATCHES)?;
     writeln!(
         out,
         "watches: {refused} more refused; restored in {many}: {with_data} and {with_names} good"
@@ -139,9 +156,21 @@ fn watches<A: Allocator + Copy, W: Write>(peer: &mut Peer<A>, out: &mut W) -> Re
     .map_err(From::from)
 }
 
+fn many_parts<A: Allocator + Copy, W: Write>(peer: &mut Peer<A>, out: &mut W) -> Result<()> {
+    for _ in 0..FILLER {
+        peer.filler.push('a')?;
+    }
+    for number in FIRST_LONG..FIRST_LONG + LONG_WATCHES {
+        watch(peer, number, false)?;
+    }
+    let parts = restore(peer)?;
+    let (good, _) = count_good(peer, FIRST_LONG, LONG_WATCHES)?;
+    writeln!(out, "long paths: restored in {parts} parts: {good} good").map_err(From::from)
+}
+
 /// How many bytes of good data are kept of the first path, and how many good names.
 fn count_kept<A: Allocator + Copy>(peer: &Peer<A>) -> Result<(usize, usize)> {
-    let node = path(peer.alloc, 0)?;
+    let node = path(peer, 0)?;
     let bytes = match peer.client.peek_data(&node) {
         Some((DataAnswer::Full(Some(bytes), _), Mark::Good)) => bytes.len(),
         _ => 0,
@@ -192,6 +221,7 @@ fn try_size<A: Allocator + Copy, W: Write>(
     peer.connect(PASSWORD)?;
     match size {
         Size::Watches => watches(peer, out),
+        Size::Parts => many_parts(peer, out),
         Size::Reply => long_reply(peer, out),
         Size::Names => many_names(peer, out),
         Size::Calls => many_calls(peer, out),
@@ -199,9 +229,14 @@ fn try_size<A: Allocator + Copy, W: Write>(
     }
 }
 
-/// All of it, each over a client of its own, in pieces of at most this many bytes.
-fn try_all<A: Allocator + Copy, W: Write>(alloc: A, piece: usize, out: &mut W) -> Result<()> {
-    for size in &SIZES {
+/// Some of it, each over a client of its own, in pieces of at most this many bytes.
+fn try_all<A: Allocator + Copy, W: Write>(
+    alloc: A,
+    sizes: &[Size],
+    piece: usize,
+    out: &mut W,
+) -> Result<()> {
+    for size in sizes {
         let mut peer = Peer::new(alloc, piece);
         let tried = try_size(&mut peer, *size, out);
         drop(peer);
@@ -210,13 +245,14 @@ fn try_all<A: Allocator + Copy, W: Write>(alloc: A, piece: usize, out: &mut W) -
     Ok(())
 }
 
-/// All of it, whole and in pieces, and whether memory was refused.
+/// All of it, whole and in pieces, except for the long paths, of which the server sends nothing; and whether memory was refused.
 pub fn try_sizes<W: Write>(alloc: Global, out: &mut W) -> Result<()> {
     out.write_all(b"# sizes\n")?;
     let heap = Refusing::after(u32::MAX, alloc);
     for piece in &PIECES {
-        try_all(&heap, *piece, out)?;
+        try_all(&heap, &SIZES, *piece, out)?;
     }
+    try_all(&heap, &[Size::Parts], usize::MAX, out)?;
     let word = if heap.has_refused() { "was" } else { "was not" };
     writeln!(out, "memory {word} refused").map_err(From::from)
 }

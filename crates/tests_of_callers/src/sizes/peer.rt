@@ -25,11 +25,12 @@ const NOTHING: Count = Count {
     refusals: 0,
 };
 
-/// A client, the length of the pieces, and the xid of the last call.
+/// A client, what paths end by, the length of the pieces, and the xid of the last call.
 #[derive(Drop)]
 pub struct Peer<A: Allocator + Copy> {
     pub alloc: A,
     pub client: Client<A>,
+    pub filler: String<A>,
     piece: usize,
     xid: i32,
 }
@@ -56,6 +57,7 @@ impl<A: Allocator + Copy> Peer<A> {
         Peer {
             alloc,
             client: Client::new(alloc, TIMEOUT_MS),
+            filler: String::new(alloc),
             piece,
             xid: 0,
         }
