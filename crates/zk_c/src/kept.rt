@@ -31,7 +31,7 @@ pub extern "C" fn dw_peek_data(
     let Some(device) = take(alloc, handle) else {
         return CLOSED;
     };
-    let found = peek_data(alloc, &device.client, path, out);
+    let found = peek_data(&device.client, path, out);
     *handle = DwClient::of(device);
     match found {
         Ok(found) => {
@@ -57,7 +57,7 @@ pub extern "C" fn dw_peek_children(
     let Some(device) = take(alloc, handle) else {
         return CLOSED;
     };
-    let found = peek_children(alloc, &device.client, path);
+    let found = peek_children(&device.client, path);
     *handle = DwClient::of(device);
     match found {
         Ok(found) => {
@@ -87,7 +87,7 @@ pub extern "C" fn dw_peek_name(
     let Some(device) = take(alloc, handle) else {
         return CLOSED;
     };
-    let found = peek_name(alloc, &device.client, path, index, out);
+    let found = peek_name(&device.client, path, index, out);
     *handle = DwClient::of(device);
     match found {
         Ok(found) => {

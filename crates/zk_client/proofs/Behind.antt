@@ -1,6 +1,6 @@
 -- Turns one after the other, in one call.
 use Rattle.std.proofs.Common.{◌≡◌, ℕ, ◌*◌, ◌-◌, Bool, true, false, List, [], ◌∷◌, ◌++◌, refl, sym, ap, subst, ◌∙◌, max, inr}
-use Rattle.std.specs.Prelude.{nat_le, ◌&&◌, if◌then◌else◌}
+use Rattle.std.specs.Prelude.{nat_le, ◌&&◌, if◌then◌else◌, Result, Ok, Err, OnOk}
 use Rattle.zk_turns.specs.Turns.{Start, Item, Turned, Input, Now, Output, Silent, Ticks}
 use Rattle.zk_turns.specs.Past.{Dropped, Pinged, Ticked, is_open, is_talking}
 use Rattle.zk_turns.specs.Taken.{due, if_open, timeout_of}
@@ -8,6 +8,11 @@ use Rattle.zk_turns.specs.View.{View}
 use Rattle.zk_turns.specs.Rule.{Rule, RuleAt, Stands, StandsAt, HaltsAs, HaltsAt, next, after_all, after_signals}
 use Rattle.zk_turns.proofs.Stepped.{one_turn}
 use Rattle.zk_client.specs.Steps.{Adds, IsQuiet, IsQuietAt}
+
+-- where there is a result, what follows from what is known of it
+pub on_ok : {T E : Type 0} (r : Result T E) (P Q : Type 0) → OnOk r P → (P → Q) → OnOk r Q
+on_ok (Ok x) P Q is follows = follows is
+on_ok (Err e) P Q is follows = tt
 
 -- What was added to nothing is what the turn gave.
 pub alone : (view after : View) (input : Input) (before now : List Output) → before ≡ [] → Adds view input before now after → Rule view (record { input = input; outputs = now }) after

@@ -106,10 +106,32 @@ impl<A: Allocator + Copy> Client<A> {
         ensures halt { OnErr result (HaltsAs (view_of self.old) (view_of self.new)) }
         ensures halted { (view_of self.old).standing.halted ≡ true → IsErr result }
     {
-        one_turn();
         let mut outputs = Vec::new(self.core.alloc);
-        self.take(input, &mut outputs)?;
+        self.step_into(input, &mut outputs)?;
         Ok(outputs)
+    }
+
+    /// [`step`](Client::step), whose outputs take the place of those that were given, in the same room. After an error there are none.
+    pub fn step_into(
+        &mut self,
+        input: Input<A>,
+        outputs: &mut Vec<Output<A>, A>,
+    ) -> Result<(), Halt>
+        ensures rule { OnOk result (Rule (view_of self.old) (turn_of input outputs.new.items) (view_of self.new)) }
+        ensures stands { OnOk result ((start : Start) (items : List Item) → Stands start items (view_of self.old) → Stands start (Turned (turn_of input outputs.new.items) ∷ items) (view_of self.new)) }
+        ensures typed { AsksOf IsTyped (input_view input) }
+        ensures quiet { IsQuiet (view_of self.old) (input_view input) → IsOk result }
+        ensures halt { OnErr result (HaltsAs (view_of self.old) (view_of self.new)) }
+        ensures silent { OnErr result (outputs.new.items ≡ []) }
+        ensures halted { (view_of self.old).standing.halted ≡ true → IsErr result }
+    {
+        one_turn();
+        outputs.clear();
+        let taken = self.take(input, outputs);
+        if taken.is_err() {
+            outputs.clear();
+        }
+        taken
     }
 
     /// Takes an input that is noticed at this moment, and gives the outputs of both, in order: two turns in one call, the moment
@@ -127,12 +149,55 @@ impl<A: Allocator + Copy> Client<A> {
         ensures halt { OnErr result (HaltsAt now (view_of self.old) (view_of self.new)) }
         ensures halted { (view_of self.old).standing.halted ≡ true → IsErr result }
     {
+        let mut outputs = Vec::new(self.core.alloc);
+        self.step_at_into(now, input, &mut outputs)?;
+        Ok(outputs)
+    }
+
+    /// [`step_at`](Client::step_at), whose outputs take the place of those that were given, in the same room. After an error there
+    /// are none.
+    pub fn step_at_into(
+        &mut self,
+        now: u64,
+        input: Input<A>,
+        outputs: &mut Vec<Output<A>, A>,
+    ) -> Result<(), Halt>
+        ensures rule { OnOk result (RuleAt now (view_of self.old) (turn_of input outputs.new.items) (view_of self.new)) }
+        ensures stands { OnOk result ((start : Start) (items : List Item) → Stands start items (view_of self.old) → StandsAt start items now (turn_of input outputs.new.items) (view_of self.new)) }
+        ensures typed { AsksOf IsTyped (input_view input) }
+        ensures quiet { IsQuietAt (view_of self.old) now (input_view input) → IsOk result }
+        ensures halt { OnErr result (HaltsAt now (view_of self.old) (view_of self.new)) }
+        ensures silent { OnErr result (outputs.new.items ≡ []) }
+        ensures halted { (view_of self.old).standing.halted ≡ true → IsErr result }
+    {
+        outputs.clear();
+        let taken = self.take_at(now, input, outputs);
+        if taken.is_err() {
+            outputs.clear();
+        }
+        taken
+    }
+
+    /// Takes the moment, and then an input, and adds the outputs that they make due to none.
+    fn take_at(
+        &mut self,
+        now: u64,
+        input: Input<A>,
+        outputs: &mut Vec<Output<A>, A>,
+    ) -> Result<(), Halt>
+        requires { outputs.old.items ≡ [] }
+        ensures rule { OnOk result (RuleAt now (view_of self.old) (turn_of input outputs.new.items) (view_of self.new)) }
+        ensures stands { OnOk result ((start : Start) (items : List Item) → Stands start items (view_of self.old) → StandsAt start items now (turn_of input outputs.new.items) (view_of self.new)) }
+        ensures typed { AsksOf IsTyped (input_view input) }
+        ensures quiet { IsQuietAt (view_of self.old) now (input_view input) → IsOk result }
+        ensures halt { OnErr result (HaltsAt now (view_of self.old) (view_of self.new)) }
+        ensures halted { (view_of self.old).standing.halted ≡ true → IsErr result }
+    {
         one_turn();
         asked_length(&input);
-        let mut outputs = Vec::new(self.core.alloc);
-        self.take(Input::Now(now), &mut outputs)?;
-        self.take(input, &mut outputs)?;
-        Ok(outputs)
+        self.take(Input::Now(now), outputs)?;
+        self.take(input, outputs)?;
+        Ok(())
     }
 
     /// Takes an input, and adds the outputs that it makes due.
@@ -194,6 +259,22 @@ impl<A: Allocator + Copy> Client<A> {
         ensures { option_map (λ kept. record { answer = names_in kept.0.now; mark = kept.1 }) result ≡ (view_of self.now).cache.children path.now }
     {
         self.core.cache.peek_children(path.as_str())
+    }
+
+    /// What is kept about the data of the path with this text, as [`Client::peek_data`] tells it. Whether it is a path's is not
+    /// looked at. It takes no memory.
+    pub fn peek_data_at(&self, text: &str) -> Option<(&DataAnswer<A>, Mark)>
+        ensures { option_map (λ kept. record { answer = answer_of kept.0.now; mark = kept.1 }) result ≡ (view_of self.now).cache.nodes text.now }
+    {
+        self.core.cache.peek_data(text)
+    }
+
+    /// What is kept about the children of the path with this text, as [`Client::peek_children`] tells it. Whether it is a path's is
+    /// not looked at. It takes no memory.
+    pub fn peek_children_at(&self, text: &str) -> Option<(&Names<A>, Mark)>
+        ensures { option_map (λ kept. record { answer = names_in kept.0.now; mark = kept.1 }) result ≡ (view_of self.now).cache.children text.now }
+    {
+        self.core.cache.peek_children(text)
     }
 
     /// The greatest zxid seen: of the replies, and of the saved session.

@@ -15,9 +15,10 @@ use std::alloc::Global;
 use zk_client::{Client, Input, Output};
 use zk_conclusions::Revision;
 
-/// A client, what it said at its last step, how much of that was read, and a number that rises where what it shows may change. Its methods
-/// stand by what they are about: calls in `calls`, what was said in `outputs`, another session in `sessions`, and here what comes from a
-/// connection. What is kept is looked up by functions over the client, as [`peek_data`](crate::peek_data).
+/// A client, what it said at its last step, whose room the next step uses again, how much of that was read, and a number that rises
+/// where what it shows may change. Its methods stand by what they are about: calls in `calls`, what was said in `outputs`, another
+/// session in `sessions`, and here what comes from a connection. What is kept is looked up by functions over the client, as
+/// [`peek_data`](crate::peek_data).
 #[derive(Drop)]
 pub struct Device {
     pub client: Client<Global>,
@@ -52,26 +53,14 @@ impl Device {
         }
     }
 
-    // What was said before is forgotten.
-    fn forget_said(&mut self)
+    // What a step gave is noted.
+    fn note(&mut self)
         ensures client { self.new.client ≡ self.old.client }
-        ensures silent { self.new.said.items ≡ [] }
-        ensures unread { self.new.read ≡ 0 }
-        ensures number { self.new.revision ≡ self.old.revision }
-    {
-        self.said.clear();
-        self.read = 0;
-    }
-
-    // What a step gave is there to be read, and is noted.
-    fn tell(&mut self, said: Vec<Output<Global>, Global>)
-        ensures client { self.new.client ≡ self.old.client }
-        ensures said { self.new.said ≡ said }
+        ensures said { self.new.said ≡ self.old.said }
         ensures read { self.new.read ≡ self.old.read }
-        ensures number { self.new.revision.number ≡ noted (said_by said.items) self.old.revision.number }
+        ensures number { self.new.revision.number ≡ noted (said_by self.old.said.items) self.old.revision.number }
     {
-        self.revision.note(said.as_slice());
-        self.said = said;
+        self.revision.note(self.said.as_slice());
     }
 
     // Memory ran out within a step.
@@ -90,11 +79,11 @@ impl Device {
         ensures heard { OnOk result (Heard now (input_view input) self.old self.new) }
         ensures halted { IfErr result (λ refusal. (refusal ≡ Refusal.Halted) × Halted now self.old self.new) }
     {
-        self.forget_said();
-        let Ok(said) = self.client.step_at(now, input) else {
+        self.read = 0;
+        let Ok(()) = self.client.step_at_into(now, input, &mut self.said) else {
             return Err(self.stop());
         };
-        self.tell(said);
+        self.note();
         Ok(())
     }
 
@@ -116,11 +105,11 @@ impl Device {
     pub fn tick(&mut self, now: u64) -> Result<(), Refusal>
         ensures { Ticks now self.old (code_of result) self.new }
     {
-        self.forget_said();
-        let Ok(said) = self.client.step(Input::Now(now)) else {
+        self.read = 0;
+        let Ok(()) = self.client.step_into(Input::Now(now), &mut self.said) else {
             return Err(self.stop());
         };
-        self.tell(said);
+        self.note();
         Ok(())
     }
 

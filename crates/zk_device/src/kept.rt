@@ -1,11 +1,12 @@
 //! What a client keeps of a path, as numbers and texts.
 
-ghost use Rattle.std.specs.Prelude.{◌≡◌, ◌++◌, IfErr, IfOk, OnErr, OnOk, drop, length, option_map, slice_get, take};
+ghost use Rattle.std.specs.Prelude.{◌≡◌, ◌≢◌, ◌++◌, IfErr, IfOk, None, OnErr, OnOk, drop, length, option_map, slice_get, take};
 ghost use Rattle.std.specs.BTreeSet.{IsOrdered, btree_set_len};
 ghost use Rattle.std.specs.String.{string_cmp};
 ghost use Rattle.zk_cache.specs.Contents.{answer_of, names_in};
 ghost use Rattle.zk_client.specs.Clients.{view_of};
 ghost use Rattle.zk_nodes.specs.Names.{names_of};
+ghost use Rattle.zk_nodes.specs.PathFault.{IsPath};
 ghost use Rattle.zk_device.specs.Codes.{refusal_code};
 ghost use Rattle.zk_device.specs.Kept.{data_flat, data_stat_flat, data_text, mark_number, AreKeptNames, AreSpelled, IsKeptName, TellsNames, WritesName, WritesNames};
 ghost use Rattle.zk_device.specs.Outputs.{name_if};
@@ -13,7 +14,7 @@ ghost use Rattle.zk_device.specs.Refused.{RefusesPath};
 ghost use Rattle.zk_turns.specs.Rule.{forgotten};
 
 use crate::copying::copy_into;
-use crate::paths::path_of;
+use crate::paths::{path_of, refuse_no_path, text_of};
 use crate::refusal::Refusal;
 use std::alloc::{AllocError, Global};
 use zk_client::{Client, DataAnswer, DataStat, Mark, Names};
@@ -206,58 +207,88 @@ pub(crate) fn names_text(
     }
 }
 
-/// What is kept about the data of a path. The data are copied, as much of them as there is room for. A refusal is `NotText`,
-/// else `NotPath`, else `Memory`.
-pub fn peek_data(
-    alloc: Global,
-    client: &Client<Global>,
+// What is kept about the data of the path of these bytes.
+fn data_at<'a>(
+    client: &'a Client<Global>,
     path: &[u8],
-    room: &mut [u8],
-) -> Result<KeptData, Refusal>
+) -> Result<Option<(&'a DataAnswer<Global>, Mark)>, Refusal>
+    ensures found { IfOk result (λ found. option_map (λ kept. record { answer = answer_of kept.0.now; mark = kept.1 }) found ≡ (view_of client.now).cache.nodes path.now) }
+    ensures checked { OnOk result ((view_of client.now).cache.nodes path.now ≡ None → IsPath path.now) }
+    ensures refused { IfErr result (λ refusal. RefusesPath path.now (refusal_code refusal)) }
+    ensures memory { IfErr result (λ refusal. refusal ≢ Refusal.Memory) }
+{
+    let text = text_of(path)?;
+    let kept = client.peek_data_at(text);
+    if kept.is_none() {
+        refuse_no_path(text)?;
+    }
+    Ok(kept)
+}
+
+// What is kept about the children of the path of these bytes.
+fn children_at<'a>(
+    client: &'a Client<Global>,
+    path: &[u8],
+) -> Result<Option<(&'a Names<Global>, Mark)>, Refusal>
+    ensures found { IfOk result (λ found. option_map (λ kept. record { answer = names_in kept.0.now; mark = kept.1 }) found ≡ (view_of client.now).cache.children path.now) }
+    ensures checked { OnOk result ((view_of client.now).cache.children path.now ≡ None → IsPath path.now) }
+    ensures refused { IfErr result (λ refusal. RefusesPath path.now (refusal_code refusal)) }
+    ensures memory { IfErr result (λ refusal. refusal ≢ Refusal.Memory) }
+{
+    let text = text_of(path)?;
+    let kept = client.peek_children_at(text);
+    if kept.is_none() {
+        refuse_no_path(text)?;
+    }
+    Ok(kept)
+}
+
+/// What is kept about the data of a path. The data are copied, as much of them as there is room for. A refusal is `NotText`,
+/// else `NotPath`. It takes no memory, and looks at the path only where nothing is kept of it.
+pub fn peek_data(client: &Client<Global>, path: &[u8], room: &mut [u8]) -> Result<KeptData, Refusal>
     ensures found { IfOk result (λ flat. flat ≡ data_flat ((view_of client.now).cache.nodes path.now)) }
     ensures copied { OnOk result (room.new ≡ take (length room.old) (data_text ((view_of client.now).cache.nodes path.now)) ++ drop (length (data_text ((view_of client.now).cache.nodes path.now))) room.old) }
+    ensures checked { OnOk result ((view_of client.now).cache.nodes path.now ≡ None → IsPath path.now) }
     ensures refused { IfErr result (λ refusal. RefusesPath path.now (refusal_code refusal)) }
+    ensures memory { IfErr result (λ refusal. refusal ≢ Refusal.Memory) }
     ensures same { OnErr result (room.new ≡ room.old) }
 {
-    let path = path_of(alloc, path)?;
-    let kept = client.peek_data(&path);
+    let kept = data_at(client, path)?;
     copy_into(data_text(kept), room);
     Ok(data_flat(kept))
 }
 
 /// What is kept about the children of a path. A refusal is as of [`peek_data`].
-pub fn peek_children(
-    alloc: Global,
-    client: &Client<Global>,
-    path: &[u8],
-) -> Result<KeptNames, Refusal>
+pub fn peek_children(client: &Client<Global>, path: &[u8]) -> Result<KeptNames, Refusal>
     ensures found { IfOk result (TellsNames ((view_of client.now).cache.children path.now)) }
+    ensures checked { OnOk result ((view_of client.now).cache.children path.now ≡ None → IsPath path.now) }
     ensures refused { IfErr result (λ refusal. RefusesPath path.now (refusal_code refusal)) }
+    ensures memory { IfErr result (λ refusal. refusal ≢ Refusal.Memory) }
 {
-    let path = path_of(alloc, path)?;
-    Ok(names_flat(client.peek_children(&path)))
+    let kept = children_at(client, path)?;
+    Ok(names_flat(kept))
 }
 
 /// Copies the name of this index, in byte order, of those that are kept of a path, as much of it as there is room for, and
 /// tells how many bytes it has. A refusal is as of [`peek_data`].
 pub fn peek_name(
-    alloc: Global,
     client: &Client<Global>,
     path: &[u8],
     index: usize,
     room: &mut [u8],
 ) -> Result<usize, Refusal>
     ensures written { IfOk result (WritesName index ((view_of client.now).cache.children path.now) room.old room.new) }
+    ensures checked { OnOk result ((view_of client.now).cache.children path.now ≡ None → IsPath path.now) }
     ensures refused { IfErr result (λ refusal. RefusesPath path.now (refusal_code refusal)) }
+    ensures memory { IfErr result (λ refusal. refusal ≢ Refusal.Memory) }
     ensures same { OnErr result (room.new ≡ room.old) }
 {
-    let path = path_of(alloc, path)?;
-    let kept = client.peek_children(&path);
+    let kept = children_at(client, path)?;
     Ok(copy_into(name_at(kept, index), room))
 }
 
 /// Copies all names that are kept of a path, in byte order and each after its length in four bytes, as many bytes of them as
-/// there is room for, and tells how many there are. A refusal is as of [`peek_data`].
+/// there is room for, and tells how many there are. A refusal is `NotText`, else `NotPath`, else `Memory`.
 pub fn peek_names(
     alloc: Global,
     client: &Client<Global>,

@@ -4,6 +4,7 @@ use Rattle.std.proofs.lemmas.Bool.Decides.{nat_tests}
 use Rattle.std.proofs.lemmas.List.{take_all}
 use Rattle.std.proofs.lemmas.Str.{chars-IsAscii}
 use Rattle.std.specs.Prelude.{chars}
+use Rattle.std.specs.Str.{IsAscii}
 use Rattle.std.specs.List.{list_any}
 use Rattle.zk_nodes.specs.Path.{path_of}
 use Rattle.zk_nodes.specs.PathFault.{is_refused, fault_of, fault_of_names}
@@ -66,25 +67,31 @@ is_plain_from b c bs plain = plain_from_all b (c ∷ bs) (λ k less. let place :
       let place : length (b ∷ c ∷ bs) - 1 ≡ length (c ∷ bs) = omega arith in
       plain.1 (omega arith) (ap (λ j. get_or (b ∷ c ∷ bs) j 0) place ∙ e)
 
+-- a plain text that begins with a slash is ASCII
+pub is_ascii-plain : (text : List ℕ) → 0 < length text → get_or text 0 0 ≡ 47 → IsPlain text → IsAscii text
+is_ascii-plain [] some slash plain = absurd (omega (arith, some))
+is_ascii-plain (b ∷ []) some slash plain = λ k. first k where
+  first : (k : ℕ) → get_or (b ∷ []) k 0 < 128
+  first zero = omega (arith, slash)
+  first (suc k) = omega arith
+is_ascii-plain (b ∷ c ∷ cs) some slash plain = λ k. all_ascii k where
+  all_ascii : (k : ℕ) → get_or (b ∷ c ∷ cs) k 0 < 128
+  all_ascii zero = omega (arith, slash)
+  all_ascii (suc k) = ascii b (c ∷ cs) (is_plain_from b c cs plain) k
+
 -- a plain text that begins with a slash has no fault of its characters and none of its names
 plain_text : (text : List ℕ) → 0 < length text → get_or text 0 0 ≡ 47 → IsPlain text → (list_any is_refused (chars text) ≡ false) × (fault_of_names (path_of text) ≡ None)
 plain_text [] some slash plain = absurd (omega (arith, some))
 plain_text (b ∷ []) some slash plain =
     let spelled : list_any is_refused (b ∷ []) ≡ false = rw slash refl in
-    (ap (list_any is_refused) (chars-IsAscii (b ∷ []) (λ k. first k)) ∙ spelled, refl) where
-      first : (k : ℕ) → get_or (b ∷ []) k 0 < 128
-      first zero = omega (arith, slash)
-      first (suc k) = omega arith
+    (ap (list_any is_refused) (chars-IsAscii (b ∷ []) (is_ascii-plain (b ∷ []) some slash plain)) ∙ spelled, refl)
 plain_text (b ∷ c ∷ cs) some slash plain =
     let rest : plain_from b (c ∷ cs) ≡ true = is_plain_from b c cs plain in
     let spelled : list_any is_refused (b ∷ c ∷ cs) ≡ false = ap (λ x. is_refused x || list_any is_refused (c ∷ cs)) slash ∙ spelled b (c ∷ cs) rest in
     let names : scan 0 true false (c ∷ cs) ≡ None = named (c ∷ cs) true b 1 (omega arith) (ap (λ x. x == 47) slash) rest in (
-      ap (list_any is_refused) (chars-IsAscii (b ∷ c ∷ cs) (λ k. all_ascii k)) ∙ spelled,
+      ap (list_any is_refused) (chars-IsAscii (b ∷ c ∷ cs) (is_ascii-plain (b ∷ c ∷ cs) some slash plain)) ∙ spelled,
       sym (scan-path_of (b ∷ c ∷ cs) slash (λ e. absurd (omega (arith, e))) some) ∙ ap (scan 0 true false) (take_all (length (b ∷ c ∷ cs) - 1) (c ∷ cs) (omega arith)) ∙ names,
-    ) where
-      all_ascii : (k : ℕ) → get_or (b ∷ c ∷ cs) k 0 < 128
-      all_ascii zero = omega (arith, slash)
-      all_ascii (suc k) = ascii b (c ∷ cs) (is_plain_from b c cs plain) k
+    )
 
 pub fault_of-plain : (text : List ℕ) → (length text ≡ 0 → ⊥) → length text ≤ LONGEST_PATH → get_or text 0 0 ≡ 47 → IsPlain text → fault_of text ≡ None
 fault_of-plain text some short slash plain =

@@ -18,7 +18,7 @@ mod stat;
 pub use data::copied_data;
 pub use data_stat::DataStat;
 pub use names::Names;
-pub use path::Path;
+pub use path::{Path, text_fault};
 pub use path_fault::PathFault;
 pub use side::Side;
 pub use stat::Stat;

@@ -2,6 +2,7 @@
 
 ghost use Rattle.std.specs.Prelude.{◌≡◌, ◌≢◌, ◌≤◌, ◌<◌, ◌↔◌, ℕ, [], ◌∷◌, IsTrue, IfOk, IfErr, IfSome, OnOk, Some, None, length, not, slice_index, string_bytes};
 ghost use Rattle.std.specs.Option.{option_copied, option_map};
+ghost use Rattle.std.specs.Str.{IsAscii, IsUtf8};
 ghost use Rattle.zk_nodes.specs.Path.{path_eq, path_of, IsPathText, child_text, has_no_slash, parent_of, parent_text, name_of, is_below};
 ghost use Rattle.zk_nodes.specs.PathFault.{child_fault, fault_of, fault_of_names, fault_told, is_refused, IsPath};
 
@@ -71,8 +72,8 @@ fn name_fault(text: &[u8]) -> Option<PathFault>
     None
 }
 
-// The first fault of a text.
-fn text_fault(text: &str) -> Option<PathFault>
+/// The first fault of a text, if it is no path's. It takes no memory.
+pub fn text_fault(text: &str) -> Option<PathFault>
     ensures { result ≡ fault_of text.now }
 {
     if text.is_empty() {
@@ -91,6 +92,27 @@ fn text_fault(text: &str) -> Option<PathFault>
         return Some(PathFault::BadCharacter);
     }
     name_fault(text.as_bytes())
+}
+
+// Whether these bytes are plainly a path's. Those of which it says no may be a path's all the same.
+fn is_plain_path(bytes: &[u8]) -> bool
+    ensures ascii { IsTrue result → IsAscii bytes.now }
+    ensures path { IsTrue result → IsPath bytes.now }
+{
+    if bytes.is_empty() || bytes.len() > LONGEST_PATH {
+        return false;
+    }
+    bytes[0] == b'/' && is_plain(bytes)
+}
+
+// The text of bytes that are ASCII, with memory of its own.
+fn ascii_text<A: Allocator>(alloc: A, bytes: &[u8]) -> Result<String<A>, AllocError>
+    requires { IsAscii bytes.now }
+    ensures { IfOk result (λ text. string_bytes text ≡ bytes.now) }
+{
+    // ASCII is UTF-8, as the `requires` says.
+    let text = unsafe { std::str::from_utf8_unchecked(bytes) };
+    String::from_str(alloc, text)
 }
 
 // The place of the last slash.
@@ -170,6 +192,36 @@ impl<A: Allocator> Path<A> {
         }
         Ok(Path {
             text: String::from_str(alloc, text)?,
+        })
+    }
+
+    /// The path whose text these bytes are, as [`Path::new`] tells it; none where they are no UTF-8. Bytes that are plainly a path's
+    /// are gone over once.
+    pub fn from_utf8(alloc: A, bytes: &[u8]) -> Option<Result<Path<A>, PathFault>>
+        ensures path { IfSome result (λ made. IfOk made (λ path. path ≡ bytes.now)) }
+        ensures accepted { IfSome result (λ made. OnOk made (IsPath bytes.now)) }
+        ensures refused { IfSome result (λ made. IfErr made (λ fault. fault_of bytes.now ≡ fault_told fault)) }
+        ensures text { IfSome result (λ _. IsUtf8 bytes.now) }
+        ensures none { result ≡ None → ¬ (IsUtf8 bytes.now) }
+    {
+        if is_plain_path(bytes) {
+            return Some(Path::of_plain(alloc, bytes));
+        }
+        match std::str::from_utf8(bytes) {
+            Ok(text) => Some(Path::new(alloc, text)),
+            Err(_) => None,
+        }
+    }
+
+    // The path of these bytes.
+    fn of_plain(alloc: A, bytes: &[u8]) -> Result<Path<A>, PathFault>
+        requires ascii { IsAscii bytes.now }
+        requires path { IsPath bytes.now }
+        ensures path { IfOk result (λ path. path ≡ bytes.now) }
+        ensures refused { IfErr result (λ fault. fault_told fault ≡ None) }
+    {
+        Ok(Path {
+            text: ascii_text(alloc, bytes)?,
         })
     }
 

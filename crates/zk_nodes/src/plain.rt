@@ -10,6 +10,8 @@ const LANES: usize = 16;
 
 const FEW_LANES: usize = 8;
 
+const FEWEST_LANES: usize = 4;
+
 fn may_follow(before: u8, byte: u8) -> bool
     ensures { result ≡ may_follow before byte }
 {
@@ -40,6 +42,19 @@ fn few_are_plain(text: &[u8], at: usize) -> bool
     let refused = bytes.simd_lt(u8x8::splat(b' ')) | bytes.simd_gt(u8x8::splat(b'~'));
     let begins_badly = bytes.simd_eq(u8x8::splat(b'.')) | bytes.simd_eq(u8x8::splat(b'/'));
     let stops = refused | (begins_badly & before.simd_eq(u8x8::splat(b'/')));
+    stops.to_bitmask() == 0
+}
+
+fn fewest_are_plain(text: &[u8], at: usize) -> bool
+    requires before { 0 < at }
+    requires room { at + FEWEST_LANES ≤ length text.now }
+    ensures { IsTrue result → ArePlain text.now at (at + FEWEST_LANES) }
+{
+    let bytes = u8x4::from_slice(&text[at..]);
+    let before = u8x4::from_slice(&text[at - 1..]);
+    let refused = bytes.simd_lt(u8x4::splat(b' ')) | bytes.simd_gt(u8x4::splat(b'~'));
+    let begins_badly = bytes.simd_eq(u8x4::splat(b'.')) | bytes.simd_eq(u8x4::splat(b'/'));
+    let stops = refused | (begins_badly & before.simd_eq(u8x4::splat(b'/')));
     stops.to_bitmask() == 0
 }
 
@@ -79,6 +94,9 @@ fn all_may_follow(text: &[u8]) -> bool
     }
     if FEW_LANES < text.len() {
         return few_are_plain(text, 1) && few_are_plain(text, text.len() - FEW_LANES);
+    }
+    if FEWEST_LANES < text.len() {
+        return fewest_are_plain(text, 1) && fewest_are_plain(text, text.len() - FEWEST_LANES);
     }
     short_is_plain(text)
 }

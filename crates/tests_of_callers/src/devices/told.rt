@@ -111,7 +111,7 @@ pub fn tell(alloc: Global, device: &mut Device, told: &mut String) -> Result<Vec
 /// Tells what is kept of a path: of its data the kind, the mark, and the bytes; of its names the mark, how many, and the bytes.
 pub fn tell_kept(alloc: Global, device: &Device, path: &str, told: &mut String) -> Result<()> {
     let mut room = [0; ROOM];
-    if let Ok(kept) = peek_data(alloc, &device.client, path.as_bytes(), &mut room) {
+    if let Ok(kept) = peek_data(&device.client, path.as_bytes(), &mut room) {
         let (kind, mark) = (i64::from(kept.kind), i64::from(kept.mark));
         tell_numbers(&[("data ", kind), (" ", mark)], told)?;
         writeln!(told, " null {}", kept.is_null)?;
@@ -119,7 +119,7 @@ pub fn tell_kept(alloc: Global, device: &Device, path: &str, told: &mut String) 
             tell_text(alloc, &room[..kept.length.min(ROOM)], told)?;
         }
     }
-    if let Ok(kept) = peek_children(alloc, &device.client, path.as_bytes()) {
+    if let Ok(kept) = peek_children(&device.client, path.as_bytes()) {
         writeln!(
             told,
             "names {} {} pzxid {}",

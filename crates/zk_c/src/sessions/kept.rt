@@ -31,7 +31,7 @@ pub extern "C" fn dw_session_peek_data(
     let Some(session) = take(alloc, handle) else {
         return CLOSED;
     };
-    let found = peek_data(alloc, session.agent.client(), path, out);
+    let found = peek_data(session.agent.client(), path, out);
     *handle = DwSession::of(session);
     match found {
         Ok(found) => {
@@ -57,7 +57,7 @@ pub extern "C" fn dw_session_peek_children(
     let Some(session) = take(alloc, handle) else {
         return CLOSED;
     };
-    let found = peek_children(alloc, session.agent.client(), path);
+    let found = peek_children(session.agent.client(), path);
     *handle = DwSession::of(session);
     match found {
         Ok(found) => {
@@ -87,7 +87,7 @@ pub extern "C" fn dw_session_peek_name(
     let Some(session) = take(alloc, handle) else {
         return CLOSED;
     };
-    let found = peek_name(alloc, session.agent.client(), path, index, out);
+    let found = peek_name(session.agent.client(), path, index, out);
     *handle = DwSession::of(session);
     match found {
         Ok(found) => {

@@ -1,8 +1,8 @@
 use Rattle.std.proofs.Common.{ap}
 use Rattle.zk_client.specs.Views.{said, input_view}
 use Rattle.zk_client.proofs.Behind.{stands_behind}
-use Rattle.zk_client.proofs.client.Client.step_at.Goals as goal
+use Rattle.zk_client.proofs.client.Client.take_at.Goals as goal
 
 pub returns-clause-stands : goal.returns-clause-stands
 returns-clause-stands g c = λ start items s.
-    stands_behind c.args.now (input_view c.args.input) _ _ _ _ _ _ (ap said c.new-outputs.ensures.items) c.in_ok-take.ensures.rule c.in_ok-take-2.ensures.rule start items s
+    stands_behind c.args.now (input_view c.args.input) _ _ _ _ _ _ (ap said c.requires) c.in_ok-take.ensures.rule c.in_ok-take-2.ensures.rule start items s

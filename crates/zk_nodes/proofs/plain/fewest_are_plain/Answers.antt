@@ -1,0 +1,7 @@
+use Rattle.std.proofs.Common.{arith}
+use Rattle.std.proofs.lemmas.Bool.{eqb-true}
+use Rattle.zk_nodes.proofs.PlainLanes.{unset_are_plain}
+use Rattle.zk_nodes.proofs.plain.fewest_are_plain.Goals as goal
+
+pub returns : goal.returns
+returns c = λ none. unset_are_plain c.args.text.now c.args.at 4 c.requires.before c.requires.room (omega arith) (eqb-true _ 0 none)
