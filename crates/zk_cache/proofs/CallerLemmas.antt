@@ -15,10 +15,12 @@ use Rattle.zk_cache.proofs.LookLemmas.{get-good_of}
 pub use Rattle.zk_cache.proofs.LookLemmas.{same, get-insert, insert-same}
 
 -- after an answer was marked stale
-pub get-stale_at : {A : Type 0} (m : ByText (Kept A)) (at text : Text) → finite.get (stale_at m at) text ≡ (if bytes_eq at text then stale (finite.get m text) else finite.get m text)
+pub get-stale_at : {A : Type 0} (m : ByText (Kept A)) (at text : Text)
+    → finite.get (stale_at m at) text ≡ (if bytes_eq at text then stale (finite.get m text) else finite.get m text)
 get-stale_at {A} m at text = by (finite.get m at) refl
   where
-    here : (b : Bool) (r : Option (Kept A)) → (b ≡ true → at ≡ text) → finite.get m at ≡ r → (if b then stale r else finite.get m text) ≡ (if b then stale (finite.get m text) else finite.get m text)
+    here : (b : Bool) (r : Option (Kept A)) → (b ≡ true → at ≡ text)
+        → finite.get m at ≡ r → (if b then stale r else finite.get m text) ≡ (if b then stale (finite.get m text) else finite.get m text)
     here true r same e = ap stale (sym e ∙ ap (finite.get m) (same refl))
     here false r same e = refl
 
@@ -27,9 +29,11 @@ get-stale_at {A} m at text = by (finite.get m at) refl
     kept_out false same e = refl
 
     by : (r : Option (Kept A)) → finite.get m at ≡ r
-        → finite.get (option_map_or (λ kept. finite.insert m at (record { answer = kept.answer; mark = Stale })) r m) text ≡ (if bytes_eq at text then stale (finite.get m text) else finite.get m text)
+        → finite.get (option_map_or (λ kept. finite.insert m at (record { answer = kept.answer; mark = Stale })) r m) text
+        ≡ (if bytes_eq at text then stale (finite.get m text) else finite.get m text)
     by None e = kept_out (bytes_eq at text) (bytes_eq-Decides at text).0 e ∙ here (bytes_eq at text) None (bytes_eq-Decides at text).0 e
-    by (Some kept) e = get-insert m at (record { answer = kept.answer; mark = Stale }) text ∙ here (bytes_eq at text) (Some kept) (bytes_eq-Decides at text).0 e
+    by (Some kept) e = get-insert m at (record { answer = kept.answer; mark = Stale }) text
+        ∙ here (bytes_eq at text) (Some kept) (bytes_eq-Decides at text).0 e
 
 -- after the stale answers went
 pub get-good : {A : Type 0} (m : ByText (Kept A)) (text : Text) → finite.get (good_of m) text ≡ without_stale (finite.get m text)
@@ -45,12 +49,15 @@ get-good {A} m text = get-good_of m text ∙ by (finite.get m text)
 
 -- after an answer about the data came
 pub get-known : (answers : Answers) (path : Text) (answer : Answer) (text : Text)
-    → data_kept (with_data answers path answer) text ≡ (if bytes_eq path text then good (merged (data_kept answers text) answer) else data_kept answers text)
+    → data_kept (with_data answers path answer) text
+    ≡ (if bytes_eq path text then good (merged (data_kept answers text) answer) else data_kept answers text)
 get-known answers path answer text =
-    get-insert answers.data_answers path (as_good (merged (data_kept answers path) answer)) text ∙ by (bytes_eq path text) (bytes_eq-Decides path text).0
+    get-insert answers.data_answers path (as_good (merged (data_kept answers path) answer)) text
+    ∙ by (bytes_eq path text) (bytes_eq-Decides path text).0
   where
     by : (b : Bool) → (b ≡ true → path ≡ text)
-        → (if b then good (merged (data_kept answers path) answer) else data_kept answers text) ≡ (if b then good (merged (data_kept answers text) answer) else data_kept answers text)
+        → (if b then good (merged (data_kept answers path) answer) else data_kept answers text)
+        ≡ (if b then good (merged (data_kept answers text) answer) else data_kept answers text)
     by true same = ap (λ t. good (merged (data_kept answers t) answer)) (same refl)
     by false same = refl
 
@@ -66,7 +73,8 @@ keeps_each answers = record {
 }
 
 -- Two caches that keep the same of each text are one.
-pub same_answers : (a b : Answers) → ((text : Text) → data_kept a text ≡ data_kept b text) → ((text : Text) → names_kept a text ≡ names_kept b text) → a ≡ b
+pub same_answers : (a b : Answers) → ((text : Text) → data_kept a text ≡ data_kept b text)
+    → ((text : Text) → names_kept a text ≡ names_kept b text) → a ≡ b
 same_answers a b data_same names_same = λ i. record {
   data_answers = same a.data_answers b.data_answers data_same i;
   child_answers = same a.child_answers b.child_answers names_same i;

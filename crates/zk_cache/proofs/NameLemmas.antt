@@ -18,14 +18,17 @@ module _ {A : Type 0} where
   contains-names_of : (names : BTreeSet (String A)) (name : List ℕ) → set.contains (names_of names) name ≡ contains_text names name
   contains-names_of names name = set.contains-from_list nat_list_cmp_total (map string_bytes names.keys) name ∙ by names.keys
     where
-      by : (keys : List (String A)) → list_any (λ bs. is_eq (slice_cmp nat_cmp name bs)) (map string_bytes keys) ≡ list_any (λ k. is_eq (slice_cmp nat_cmp name (string_bytes k))) keys
+      by : (keys : List (String A)) → list_any (λ bs. is_eq (slice_cmp nat_cmp name bs))
+          (map string_bytes keys) ≡ list_any (λ k. is_eq (slice_cmp nat_cmp name (string_bytes k))) keys
       by [] = refl
       by (k ∷ keys) = ap (λ b. is_eq (slice_cmp nat_cmp name (string_bytes k)) || b) (by keys)
 
   -- after a text is inserted
-  pub names_of-insert : (old new : BTreeSet (String A)) (name : List ℕ) → UpdatesBy string_cmp (λ k. slice_cmp nat_cmp name (string_bytes k)) old new true → names_of new ≡ set.insert (names_of old) name
+  pub names_of-insert : (old new : BTreeSet (String A)) (name : List ℕ)
+      → UpdatesBy string_cmp (λ k. slice_cmp nat_cmp name (string_bytes k)) old new true → names_of new ≡ set.insert (names_of old) name
   names_of-insert old new name h =
-      set.same_set nat_list_cmp_total (set.slice_cmp-IsAntisymmetric set.nat_cmp-IsAntisymmetric) (names_of new) (set.insert (names_of old) name)
+      set.same_set nat_list_cmp_total (set.slice_cmp-IsAntisymmetric set.nat_cmp-IsAntisymmetric) (names_of new)
+      (set.insert (names_of old) name)
       (λ other.
       contains-names_of new other
       ∙ btree_set_updates_text name old new true h other

@@ -41,7 +41,8 @@ with_names answers path names = record {
 
 -- the answer at the text, if there is one, becomes stale
 abbrev pub stale_at : {A : Type 0} → ByText (Kept A) → Text → ByText (Kept A)
-stale_at answers text = option_map_or (λ kept. finite.insert answers text (record { answer = kept.answer; mark = Stale })) (finite.get answers text) answers
+stale_at answers text =
+    option_map_or (λ kept. finite.insert answers text (record { answer = kept.answer; mark = Stale })) (finite.get answers text) answers
 
 abbrev pub with_stale : Answers → Side → Text → Answers
 with_stale answers Data text = record { data_answers = stale_at answers.data_answers text; child_answers = answers.child_answers }
@@ -58,16 +59,21 @@ with_good answers = record { data_answers = good_of answers.data_answers; child_
 pub record KeepsEach (answers : Answers) : Type 0 where
   pub nothing : (text : Text) → (data_kept no_answers text ≡ None) × (names_kept no_answers text ≡ None)
   pub known : (path : Text) → (answer : Answer) → (text : Text)
-      → data_kept (with_data answers path answer) text ≡ (if bytes_eq path text then good (merged (data_kept answers text) answer) else data_kept answers text)
+      → data_kept (with_data answers path answer) text
+      ≡ (if bytes_eq path text then good (merged (data_kept answers text) answer) else data_kept answers text)
   pub listed : (path : Text) → (names : Names) → (text : Text)
       → names_kept (with_names answers path names) text ≡ (if bytes_eq path text then good names else names_kept answers text)
-  pub spoilt_data : (at text : Text) → data_kept (with_stale answers Data at) text ≡ (if bytes_eq at text then stale (data_kept answers text) else data_kept answers text)
-  pub spoilt_names : (at text : Text) → names_kept (with_stale answers Child at) text ≡ (if bytes_eq at text then stale (names_kept answers text) else names_kept answers text)
-  pub forgotten : (text : Text) → (data_kept (with_good answers) text ≡ without_stale (data_kept answers text)) × (names_kept (with_good answers) text ≡ without_stale (names_kept answers text))
+  pub spoilt_data : (at text : Text)
+      → data_kept (with_stale answers Data at) text ≡ (if bytes_eq at text then stale (data_kept answers text) else data_kept answers text)
+  pub spoilt_names : (at text : Text) → names_kept (with_stale answers Child at) text
+      ≡ (if bytes_eq at text then stale (names_kept answers text) else names_kept answers text)
+  pub forgotten : (text : Text) → (data_kept (with_good answers) text ≡ without_stale (data_kept answers text))
+      × (names_kept (with_good answers) text ≡ without_stale (names_kept answers text))
 
 abbrev pub KeepsEachText : Type 0
 KeepsEachText = (answers : Answers) → KeepsEach answers
 
 -- Two caches that keep the same of each text are one.
 abbrev pub IsKnownByTexts : Type 0
-IsKnownByTexts = (a b : Answers) → ((text : Text) → data_kept a text ≡ data_kept b text) → ((text : Text) → names_kept a text ≡ names_kept b text) → a ≡ b
+IsKnownByTexts = (a b : Answers) → ((text : Text) → data_kept a text ≡ data_kept b text)
+    → ((text : Text) → names_kept a text ≡ names_kept b text) → a ≡ b

@@ -12,9 +12,18 @@ use Rattle.zk_cache.specs.Cache.{Answers}
 
 abbrev pub stat_code : Coded DataStat
 stat_code =
-    code_by (ℤ × (ℤ × (ℤ × (ℤ × (ℤ × (ℤ × ℤ)))))) (coded× coded_ℤ (coded× coded_ℤ (coded× coded_ℤ (coded× coded_ℤ (coded× coded_ℤ (coded× coded_ℤ coded_ℤ))))))
+    code_by (ℤ × (ℤ × (ℤ × (ℤ × (ℤ × (ℤ × ℤ))))))
+    (coded× coded_ℤ (coded× coded_ℤ (coded× coded_ℤ (coded× coded_ℤ (coded× coded_ℤ (coded× coded_ℤ coded_ℤ))))))
     (λ s. (s.czxid, (s.mzxid, (s.ctime, (s.mtime, (s.version, (s.ephemeral_owner, s.data_length)))))))
-    (λ p. record { czxid = p.0; mzxid = p.1.0; ctime = p.1.1.0; mtime = p.1.1.1.0; version = p.1.1.1.1.0; ephemeral_owner = p.1.1.1.1.1.0; data_length = p.1.1.1.1.1.1 })
+    (λ p. record {
+      czxid = p.0;
+      mzxid = p.1.0;
+      ctime = p.1.1.0;
+      mtime = p.1.1.1.0;
+      version = p.1.1.1.1.0;
+      ephemeral_owner = p.1.1.1.1.1.0;
+      data_length = p.1.1.1.1.1.1;
+    })
     (λ _. refl)
 
 abbrev pub bool_of_mark : Mark → Bool
@@ -33,7 +42,8 @@ abbrev pub mark_code : Coded Mark
 mark_code = code_by Bool coded_bool bool_of_mark mark_of_bool mark_again
 
 abbrev pub kept_code : {A : Type 0} → Coded A → Coded (Kept A)
-kept_code {A} code = code_by (A × Mark) (coded× code mark_code) (λ kept. (kept.answer, kept.mark)) (λ p. record { answer = p.0; mark = p.1 }) (λ _. refl)
+kept_code {A} code =
+    code_by (A × Mark) (coded× code mark_code) (λ kept. (kept.answer, kept.mark)) (λ p. record { answer = p.0; mark = p.1 }) (λ _. refl)
 
 abbrev pub parts_of_answer : Answer → Option (DataStat × Option (Option (List ℕ)))
 parts_of_answer Absent = None
@@ -54,10 +64,12 @@ answer_again (Known stat) = refl
 answer_again (Full bytes stat) = refl
 
 abbrev pub answer_code : Coded Answer
-answer_code = code_by (Option (DataStat × Option (Option (List ℕ)))) (coded_option (coded× stat_code (coded_option (coded_option (coded_list coded_ℕ))))) parts_of_answer answer_of_parts answer_again
+answer_code = code_by (Option (DataStat × Option (Option (List ℕ))))
+    (coded_option (coded× stat_code (coded_option (coded_option (coded_list coded_ℕ))))) parts_of_answer answer_of_parts answer_again
 
 abbrev pub names_code : Coded Names
-names_code = code_by (NameSet × ℤ) (coded× (set.code (coded_list coded_ℕ)) coded_ℤ) (λ n. (n.names, n.pzxid)) (λ p. record { names = p.0; pzxid = p.1 }) (λ _. refl)
+names_code = code_by (NameSet × ℤ) (coded× (set.code (coded_list coded_ℕ)) coded_ℤ) (λ n. (n.names, n.pzxid))
+    (λ p. record { names = p.0; pzxid = p.1 }) (λ _. refl)
 
 abbrev pub answers_code : Coded Answers
 answers_code =

@@ -61,7 +61,8 @@ merged_full Good bytes old new = if same_fields old new then Full bytes old else
 merged_full Stale bytes old new = Known new
 
 abbrev pub merged_known : Kept Answer → DataStat → Answer
-merged_known kept new = elim kept.answer [ Absent ↦ Known new | Known old ↦ Known new | Full bytes old ↦ merged_full kept.mark bytes old new ]
+merged_known kept new =
+    elim kept.answer [ Absent ↦ Known new | Known old ↦ Known new | Full bytes old ↦ merged_full kept.mark bytes old new ]
 
 abbrev pub merged : Option (Kept Answer) → Answer → Answer
 merged (Some kept) (Known new) = merged_known kept new

@@ -57,7 +57,8 @@ pub(crate) fn keep<A: Allocator + Copy>(
     path: &str,
     answer: DataAnswer<A>,
 ) -> Result<(), AllocError>
-    ensures ok { OnOk result ((other : List ℕ) → get_by_text map.new other ≡ (if bytes_eq path.now other then with_answer (get_by_text map.old path.now) answer else get_by_text map.old other)) }
+    ensures ok { OnOk result ((other : List ℕ) → get_by_text map.new other
+        ≡ (if bytes_eq path.now other then with_answer (get_by_text map.old path.now) answer else get_by_text map.old other)) }
     ensures there { is_some (get_by_text map.old path.now) ≡ true → IsOk result }
     ensures err { OnErr result (IsUnchanged map.old map.new) }
 {

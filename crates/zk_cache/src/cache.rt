@@ -29,7 +29,8 @@ impl<A: Allocator + Copy> Model for Cache<A> {
 
     ghost coded = { answers_code };
 
-    ghost view = { λ c. record { data_answers = as_map (seen_by answer_of) c.data_answers; child_answers = as_map (seen_by names_in) c.child_answers } };
+    ghost view = { λ c.
+        record { data_answers = as_map (seen_by answer_of) c.data_answers; child_answers = as_map (seen_by names_in) c.child_answers } };
 }
 
 impl<A: Allocator + Copy> Cache<A> {

@@ -43,7 +43,8 @@ pub(crate) fn insert<T: Drop, A: Allocator + Copy>(
     path: &str,
     answer: T,
 ) -> Result<(), AllocError>
-    ensures ok { OnOk result ((other : List ℕ) → get_by_text map.new other ≡ (if bytes_eq path.now other then good answer else get_by_text map.old other)) }
+    ensures ok { OnOk result
+        ((other : List ℕ) → get_by_text map.new other ≡ (if bytes_eq path.now other then good answer else get_by_text map.old other)) }
     ensures err { OnErr result (IsUnchanged map.old map.new) }
 {
     map.insert(String::from_str(alloc, path)?, marked_good(answer))?;
@@ -57,7 +58,8 @@ pub(crate) fn put<T: Drop, A: Allocator + Copy>(
     path: &str,
     answer: T,
 ) -> Result<(), AllocError>
-    ensures ok { OnOk result ((other : List ℕ) → get_by_text map.new other ≡ (if bytes_eq path.now other then good answer else get_by_text map.old other)) }
+    ensures ok { OnOk result
+        ((other : List ℕ) → get_by_text map.new other ≡ (if bytes_eq path.now other then good answer else get_by_text map.old other)) }
     ensures there { is_some (get_by_text map.old path.now) ≡ true → IsOk result }
     ensures err { OnErr result (IsUnchanged map.old map.new) }
 {
@@ -81,7 +83,8 @@ pub(crate) fn peek<'a, T, A: Allocator + Copy>(
 
 /// Marks the answer stale, if there is one.
 pub(crate) fn mark_stale<T, A: Allocator + Copy>(map: &mut Held<T, A>, path: &str)
-    ensures { (other : List ℕ) → get_by_text map.new other ≡ (if bytes_eq path.now other then stale (get_by_text map.old path.now) else get_by_text map.old other) }
+    ensures { (other : List ℕ) → get_by_text map.new other
+        ≡ (if bytes_eq path.now other then stale (get_by_text map.old path.now) else get_by_text map.old other) }
 {
     if let Some(kept) = map.get_mut(path) {
         kept.mark = Mark::Stale;

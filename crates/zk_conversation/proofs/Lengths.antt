@@ -1,12 +1,14 @@
 -- How long requests are.
-use Rattle.std.proofs.Common.{◌≡◌, ℕ, ◌+◌, ℤ, Bool, true, false, List, [], ◌∷◌, map, pos, length, Option, Some, None, refl, arith, length-append}
+use Rattle.std.proofs.Common.{◌≡◌, ℕ, ◌+◌, ℤ, Bool, true, false, List, [], ◌∷◌, map, pos, length, Option, Some, None, refl, arith}
+use Rattle.std.proofs.Common.{length-append}
 use Rattle.std.specs.List.{flat_map}
 use Rattle.zk_jute.specs.Lenient.{or_empty}
 use Rattle.zk_jute.specs.Layout.{ustring, vector}
 use Rattle.zk_jute.specs.Spelling.{int_bytes, long_bytes, boolean_bytes, counted_bytes, spelling}
 use Rattle.zk_records.specs.Layouts.{acl}
 use Rattle.zk_records.specs.OpenAcl.{open_acl}
-use Rattle.zk_conversation.specs.Calls.{Exists, GetData, GetChildren, SetData, Create, Delete, Close, call_payload, connect_payload, part_payload, ping_payload}
+use Rattle.zk_conversation.specs.Calls.{Exists, GetData, GetChildren, SetData, Create, Delete, Close, call_payload, connect_payload}
+use Rattle.zk_conversation.specs.Calls.{part_payload, ping_payload}
 use Rattle.zk_nodes.specs.Path.{Text}
 
 pub length-int : (z : ℤ) → length (int_bytes z) ≡ 4
@@ -42,11 +44,13 @@ pub length-get_children : (xid : ℤ) (path : List ℕ) (watch : Bool) → lengt
 unfolding call_payload
 length-get_children xid path watch = simp (length-append, length-int, length-counted, length-boolean) (omega arith)
 
-pub length-set_data : (xid : ℤ) (path : List ℕ) (bytes : Option (List ℕ)) (version : ℤ) → length (call_payload xid (SetData path bytes version)) ≡ 20 + length path + length (or_empty bytes)
+pub length-set_data : (xid : ℤ) (path : List ℕ) (bytes : Option (List ℕ)) (version : ℤ)
+    → length (call_payload xid (SetData path bytes version)) ≡ 20 + length path + length (or_empty bytes)
 unfolding call_payload
 length-set_data xid path bytes version = simp (length-append, length-int, length-counted) (omega arith)
 
-pub length-create : (xid : ℤ) (path : List ℕ) (bytes : Option (List ℕ)) (mode : ℕ) → length (call_payload xid (Create path bytes mode)) ≡ 47 + length path + length (or_empty bytes)
+pub length-create : (xid : ℤ) (path : List ℕ) (bytes : Option (List ℕ)) (mode : ℕ)
+    → length (call_payload xid (Create path bytes mode)) ≡ 47 + length path + length (or_empty bytes)
 unfolding call_payload
 length-create xid path bytes mode = simp (length-append, length-int, length-counted, length-acl) (omega arith)
 
@@ -58,7 +62,8 @@ pub length-close : (xid : ℤ) → length (call_payload xid Close) ≡ 8
 unfolding call_payload
 length-close xid = simp (length-append, length-int) (omega arith)
 
-pub length-connect : (last timeout session : ℤ) (password : List ℕ) → length (connect_payload last timeout session password) ≡ 29 + length password
+pub length-connect : (last timeout session : ℤ) (password : List ℕ)
+    → length (connect_payload last timeout session password) ≡ 29 + length password
 unfolding connect_payload
 length-connect last timeout session password = simp (length-append, length-int, length-long, length-counted) (omega arith)
 
@@ -91,6 +96,7 @@ length-vector texts =
     let c = length-texts texts in
     omega arith
 
-pub length-part : (relative : ℤ) (known missing parents : List Text) → length (part_payload relative known missing parents) ≡ 28 + (weights known + (weights missing + weights parents))
+pub length-part : (relative : ℤ) (known missing parents : List Text)
+    → length (part_payload relative known missing parents) ≡ 28 + (weights known + (weights missing + weights parents))
 unfolding part_payload
 length-part relative known missing parents = simp (length-append, length-int, length-long, length-vector) (omega arith)

@@ -11,7 +11,8 @@ use Rattle.zk_conversation.specs.declared.fault.TalkFault.TheVariants.{BadHeader
 use Rattle.zk_conversation.specs.declared.result.ReplyResult.{ReplyResult}
 use Rattle.zk_conversation.specs.Results.{Result}
 use Rattle.zk_conversation.specs.Pending.{Pending, Waiting, Part_waits, Call_waits, Talk}
-use Rattle.zk_conversation.specs.Arriving.{Arrived, Replied, Watches_set, later_arriving, oldest_arriving, pending_after, arriving, talk_after}
+use Rattle.zk_conversation.specs.Arriving.{Arrived, Replied, Watches_set, later_arriving, oldest_arriving, pending_after, arriving}
+use Rattle.zk_conversation.specs.Arriving.{talk_after}
 use Rattle.zk_conversation.specs.Lent.{awaits_names}
 use Rattle.zk_conversation.specs.Views.{arrival_view, result_view}
 
@@ -22,8 +23,10 @@ Arrives (Err fault) read = fault ≢ Memory → read ≡ Err fault
 
 -- the header that was read, or that none is whole
 abbrev pub HeaderReads : Reading ReplyHeader TalkFault → (end : ℕ) (bytes : List ℕ) (end_after : ℕ) (rest : List ℕ) → Type 0
-HeaderReads (Ok header) end bytes end_after rest = (reading reply_header end bytes ≡ Ok ((header.xid, (header.zxid, header.err)), rest)) × (end_after ≡ end)
-HeaderReads (Err fault) end bytes end_after rest = (fault ≡ BadHeader) × ((pending : List Pending) → later_arriving pending end (reading reply_header end bytes) ≡ Err BadHeader)
+HeaderReads (Ok header) end bytes end_after rest =
+    (reading reply_header end bytes ≡ Ok ((header.xid, (header.zxid, header.err)), rest)) × (end_after ≡ end)
+HeaderReads (Err fault) end bytes end_after rest =
+    (fault ≡ BadHeader) × ((pending : List Pending) → later_arriving pending end (reading reply_header end bytes) ≡ Err BadHeader)
 
 -- what arrived, where what waited has its reply
 abbrev pub arrival_for : Waiting → ReplyHeader → Result → Arrived
@@ -31,12 +34,16 @@ arrival_for (Part_waits last) header result = Watches_set last header.zxid heade
 arrival_for (Call_waits ticket question) header result = Replied ticket question header.zxid result
 
 -- What is read of the reply to the oldest request, whatever else is pending.
-abbrev pub OldestReads : {A : Type 0} → (oldest : Pending) → ReplyHeader → (end : ℕ) (bytes : List ℕ) → Reading (ReplyResult A) TalkFault → Type 0
-OldestReads oldest header end bytes (Ok found) = (more : List Pending) → oldest_arriving (oldest ∷ more) header end bytes ≡ Ok (arrival_for oldest.waiting header (result_view found))
-OldestReads oldest header end bytes (Err fault) = fault ≢ Memory → (more : List Pending) → oldest_arriving (oldest ∷ more) header end bytes ≡ Err fault
+abbrev pub OldestReads : {A : Type 0} → (oldest : Pending) → ReplyHeader → (end : ℕ) (bytes : List ℕ)
+    → Reading (ReplyResult A) TalkFault → Type 0
+OldestReads oldest header end bytes (Ok found) =
+    (more : List Pending) → oldest_arriving (oldest ∷ more) header end bytes ≡ Ok (arrival_for oldest.waiting header (result_view found))
+OldestReads oldest header end bytes (Err fault) =
+    fault ≢ Memory → (more : List Pending) → oldest_arriving (oldest ∷ more) header end bytes ≡ Err fault
 
 -- What was answered to a reply, by its header, and the conversation after it.
-abbrev pub RepliesTo : {A : Type 0} → (old : Talk) → ReplyHeader → (end : ℕ) (bytes : List ℕ) → Reading (Arrival A) TalkFault → (new : Talk) → Type 0
+abbrev pub RepliesTo : {A : Type 0} → (old : Talk) → ReplyHeader → (end : ℕ) (bytes : List ℕ)
+    → Reading (Arrival A) TalkFault → (new : Talk) → Type 0
 RepliesTo old header end bytes (Ok arrival) new = (oldest_arriving old.pending header end bytes ≡ Ok (arrival_view arrival))
     × (new ≡ record { phase = old.phase; pending = drop 1 old.pending; xid = old.xid })
     × (pending_after (arrival_view arrival) old.pending ≡ drop 1 old.pending)
@@ -49,5 +56,6 @@ names_next (oldest ∷ more) header = int_eq oldest.xid header.xid && awaits_nam
 
 -- What was answered to a payload, and the conversation after it: a fault leaves it as it was.
 abbrev pub Answers : {A : Type 0} → (old : Talk) (payload : List ℕ) → Reading (Arrival A) TalkFault → (new : Talk) → Type 0
-Answers old payload (Ok arrival) new = (arriving old.phase old.pending payload ≡ Ok (arrival_view arrival)) × (new ≡ talk_after (arrival_view arrival) old)
+Answers old payload (Ok arrival) new =
+    (arriving old.phase old.pending payload ≡ Ok (arrival_view arrival)) × (new ≡ talk_after (arrival_view arrival) old)
 Answers old payload (Err fault) new = (fault ≢ Memory → arriving old.phase old.pending payload ≡ Err fault) × (new ≡ old)

@@ -55,7 +55,8 @@ call_arriving ticket question zxid (Err fault) = Err (BadRecord fault)
 -- the reply to what waits
 abbrev pub reply_arriving : Waiting → ReplyHeader → (end : ℕ) → List ℕ → Reading Arrived TalkFault
 reply_arriving (Part_waits last) header end bytes = Ok (Watches_set last header.zxid header.err)
-reply_arriving (Call_waits ticket question) header end bytes = call_arriving ticket question header.zxid (result_of question header.err end bytes)
+reply_arriving (Call_waits ticket question) header end bytes =
+    call_arriving ticket question header.zxid (result_of question header.err end bytes)
 
 -- a reply is that of the oldest request, and has its xid
 abbrev pub oldest_arriving : List Pending → ReplyHeader → (end : ℕ) → List ℕ → Reading Arrived TalkFault

@@ -64,4 +64,5 @@ texts_value texts = Some (map Some texts)
 -- setWatches: the paths whose data, absence and children are known as of the relative zxid
 unfoldable pub part_payload : (relative : ℤ) (data_watches exist_watches child_watches : List Text) → List ℕ
 part_payload relative data_watches exist_watches child_watches =
-    request_payload part_xid operation.SetWatches (relative, (texts_value data_watches, (texts_value exist_watches, texts_value child_watches)))
+    request_payload part_xid operation.SetWatches
+    (relative, (texts_value data_watches, (texts_value exist_watches, texts_value child_watches)))

@@ -20,7 +20,8 @@ ask_fault_code ask.Memory = codes "A3"
 abbrev pub talk_fault_words : TalkFault → List ℕ
 talk_fault_words talk.BadHeader = codes "a payload has fewer than the 16 bytes of a header"
 talk_fault_words (talk.NobodyAsked came) = codes "a reply with xid " ++ (signed_decimal came ++ codes " came, and no request is pending")
-talk_fault_words (talk.OtherXid awaited came) = codes "a reply is awaited with xid " ++ (signed_decimal awaited ++ (codes ", and one came with xid " ++ signed_decimal came))
+talk_fault_words (talk.OtherXid awaited came) =
+    codes "a reply is awaited with xid " ++ (signed_decimal awaited ++ (codes ", and one came with xid " ++ signed_decimal came))
 talk_fault_words (talk.BadRecord fault) = codes "a reply does not read: " ++ take_error_words fault
 talk_fault_words (talk.BadNotice fault) = codes "a notice does not read: " ++ take_error_words fault
 talk_fault_words talk.Memory = codes "out of memory"

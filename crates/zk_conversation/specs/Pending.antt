@@ -1,5 +1,6 @@
 -- What is pending on a connection: the requests whose replies are awaited, in the order of asking.
-use Rattle.std.specs.Prelude.{ℕ, ℤ, pos, ◌+◌, ◌==◌, Bool, true, false, List, [], ◌∷◌, ◌++◌, filter, length, Option, Some, None, is_some, option_to_list, if◌then◌else◌}
+use Rattle.std.specs.Prelude.{ℕ, ℤ, pos, ◌+◌, ◌==◌, Bool, true, false, List, [], ◌∷◌, ◌++◌, filter, length, Option, Some, None, is_some}
+use Rattle.std.specs.Prelude.{option_to_list, if◌then◌else◌}
 use Rattle.std.specs.List.{list_any}
 use Rattle.zk_nodes.specs.declared.side.Side.{Side}
 use Rattle.zk_nodes.specs.declared.side.Side.TheVariants.{Data, Child}
@@ -55,7 +56,8 @@ is_on _ _ = false
 
 -- whether it is a read that is to leave a watch on that side
 abbrev pub waits_to_watch : Side → Pending → Bool
-waits_to_watch side pending = elim pending.waiting [ Part_waits last ↦ false | Call_waits ticket question ↦ is_on side (watched_side question) ]
+waits_to_watch side pending =
+    elim pending.waiting [ Part_waits last ↦ false | Call_waits ticket question ↦ is_on side (watched_side question) ]
 
 -- how many calls are pending; parts are not counted
 abbrev pub calls_pending : List Pending → ℕ
@@ -110,7 +112,8 @@ abbrev pub talk_opened : Talk → Talk
 talk_opened talk = record { phase = Opening; pending = []; xid = talk.xid }
 
 abbrev pub talk_asked : (ticket : ℕ) → Call → Talk → Talk
-talk_asked ticket call talk = record { phase = talk.phase; pending = talk.pending ++ call_waits talk.xid ticket call ∷ []; xid = next_xid talk.xid }
+talk_asked ticket call talk =
+    record { phase = talk.phase; pending = talk.pending ++ call_waits talk.xid ticket call ∷ []; xid = next_xid talk.xid }
 
 abbrev pub talk_watching : (last : Bool) → Talk → Talk
 talk_watching last talk = record { phase = talk.phase; pending = talk.pending ++ part_waits last ∷ []; xid = talk.xid }

@@ -80,4 +80,5 @@ arrival_view arrival.Skipped = Skipped
 
 -- the payload of a part of setWatches
 abbrev pub payload_of_part : SetWatchesRef → List ℕ
-payload_of_part part = part_payload part.relative_zxid (map (λ s. s.now) part.data_watches.now) (map (λ s. s.now) part.exist_watches.now) (map (λ s. s.now) part.child_watches.now)
+payload_of_part part = part_payload part.relative_zxid (map (λ s. s.now) part.data_watches.now) (map (λ s. s.now) part.exist_watches.now)
+    (map (λ s. s.now) part.child_watches.now)

@@ -86,7 +86,8 @@ pub(crate) fn read_oldest<'a, A: Allocator + Copy>(
     at: Cursor<'a>,
 ) -> Result<ReplyResult<'a, A>, TalkFault>
     ensures gives { OldestReads (pending_view oldest.now) header (payload_len at.entry) (bytes_left at.entry) result }
-    ensures memory { IsErrOf result TalkFault.Memory → (int_eq oldest.now.xid header.xid && awaits_names (waiting_view oldest.now.waiting) header.err) ≡ true }
+    ensures memory { IsErrOf result TalkFault.Memory
+        → (int_eq oldest.now.xid header.xid && awaits_names (waiting_view oldest.now.waiting) header.err) ≡ true }
 {
     if oldest.xid != header.xid {
         return Err(TalkFault::OtherXid {

@@ -7,7 +7,8 @@ ghost use Rattle.zk_nodes.specs.declared.side.Side.TheVariants.{Data, Child};
 ghost use Rattle.zk_conversation.specs.Arrives.{Answers, RepliesTo, names_next};
 ghost use Rattle.zk_conversation.specs.Calls.{call_payload, connect_payload, ping_payload};
 ghost use Rattle.zk_conversation.specs.Lent.{names_arrive};
-ghost use Rattle.zk_conversation.specs.Pending.{Talk, Call_waits, next_xid, tickets, calls_pending, watches_pending, is_close_pending, new_talk, talk_opened, talk_asked, talk_watching, cut_off, taken_ticket, talk_taken};
+ghost use Rattle.zk_conversation.specs.Pending.{Talk, Call_waits, next_xid, tickets, calls_pending, watches_pending, is_close_pending};
+ghost use Rattle.zk_conversation.specs.Pending.{new_talk, talk_opened, talk_asked, talk_watching, cut_off, taken_ticket, talk_taken};
 ghost use Rattle.zk_conversation.specs.Views.{call_view, payload_of_part, question_view};
 
 use crate::arrival::Arrival;
@@ -150,7 +151,8 @@ impl<A: Allocator + Copy> Conversation<A> {
         requires closed { self.old.phase ≡ Phase.Closed }
         requires taken { tickets self.old.pending ≡ [] }
         requires short { length connect.now.password.now ≤ LONGEST_PASSWORD }
-        ensures frame { IfOk result (λ out. out.items ≡ frame (connect_payload connect.now.last_zxid_seen connect.now.time_out connect.now.session_id connect.now.password.now)) }
+        ensures frame { IfOk result (λ out. out.items
+            ≡ frame (connect_payload connect.now.last_zxid_seen connect.now.time_out connect.now.session_id connect.now.password.now)) }
         ensures ok { OnOk result (self.new ≡ talk_opened self.old) }
         ensures err { OnErr result (self.new ≡ self.old) }
     {
@@ -171,10 +173,14 @@ impl<A: Allocator + Copy> Conversation<A> {
         ensures xid { IfOk result (λ asked. asked.xid ≡ pos self.old.xid) }
         ensures ok { OnOk result (self.new ≡ talk_asked ticket (call_view call) self.old) }
         ensures err { OnErr result (self.new ≡ self.old) }
-        ensures fits { OnOk result ((length (call_payload (pos self.old.xid) (call_view call)) ≤ LONGEST_OUTGOING) × (calls_pending self.old.pending < MOST_PENDING)) }
-        ensures too_large { IsErrOf result AskFault.TooLarge → LONGEST_OUTGOING < length (call_payload (pos self.old.xid) (call_view call)) }
-        ensures too_many { IsErrOf result AskFault.TooMany → (length (call_payload (pos self.old.xid) (call_view call)) ≤ LONGEST_OUTGOING) × (MOST_PENDING ≤ calls_pending self.old.pending) }
-        ensures memory { IsErrOf result AskFault.Memory → (length (call_payload (pos self.old.xid) (call_view call)) ≤ LONGEST_OUTGOING) × (calls_pending self.old.pending < MOST_PENDING) }
+        ensures fits { OnOk result ((length (call_payload (pos self.old.xid) (call_view call)) ≤ LONGEST_OUTGOING)
+            × (calls_pending self.old.pending < MOST_PENDING)) }
+        ensures too_large { IsErrOf result AskFault.TooLarge
+            → LONGEST_OUTGOING < length (call_payload (pos self.old.xid) (call_view call)) }
+        ensures too_many { IsErrOf result AskFault.TooMany → (length (call_payload (pos self.old.xid) (call_view call)) ≤ LONGEST_OUTGOING)
+            × (MOST_PENDING ≤ calls_pending self.old.pending) }
+        ensures memory { IsErrOf result AskFault.Memory → (length (call_payload (pos self.old.xid) (call_view call)) ≤ LONGEST_OUTGOING)
+            × (calls_pending self.old.pending < MOST_PENDING) }
     {
         if call.payload_length() > LONGEST_OUTGOING {
             return Err(AskFault::TooLarge);
@@ -205,7 +211,14 @@ impl<A: Allocator + Copy> Conversation<A> {
     // A call was asked under the next xid, and its reply is awaited.
     fn awaits(&mut self, ticket: u64, question: Question<A>) -> Result<(), AllocError>
         requires { calls_pending self.old.pending < MOST_PENDING }
-        ensures ok { OnOk result (self.new ≡ record { phase = self.old.phase; pending = self.old.pending ++ record { xid = pos self.old.xid; waiting = Call_waits ticket (question_view question) } ∷ []; xid = next_xid self.old.xid }) }
+        ensures ok { OnOk result (self.new ≡ record {
+          phase = self.old.phase;
+          pending = self.old.pending ++ record {
+            xid = pos self.old.xid;
+            waiting = Call_waits ticket (question_view question);
+          } ∷ [];
+          xid = next_xid self.old.xid;
+        }) }
         ensures err { OnErr result (self.new ≡ self.old) }
     {
         let counts = self.counts.with(&question);

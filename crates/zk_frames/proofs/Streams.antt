@@ -1,5 +1,6 @@
 -- The frames of a stream.
-use Rattle.std.proofs.Common.{subst, ◌≡◌, ℕ, ◌+◌, ◌≤◌, List, [], ◌∷◌, ◌++◌, length, take, drop, refl, sym, ap, ◌∙◌, append_assoc, arith, length-append}
+use Rattle.std.proofs.Common.{subst, ◌≡◌, ℕ, ◌+◌, ◌≤◌, List, [], ◌∷◌, ◌++◌, length, take, drop, refl, sym, ap, ◌∙◌, append_assoc, arith}
+use Rattle.std.proofs.Common.{length-append}
 use Rattle.std.proofs.lemmas.Nat.{from_be_bytes-to_be_bytes_4}
 use Rattle.std.proofs.lemmas.List.{append-nil}
 use Rattle.std.proofs.Math.Seq.{take-append_seam, drop-append_seam}
@@ -16,7 +17,8 @@ use Rattle.zk_limits.specs.declared.limits.TheConstants.{LONGEST_INCOMING}
 -- the frames given and the bytes held are the bytes held before and the pieces fed
 kept_from : (es : List Event) (old new : Held) → Run old es new → joined (given es) ++ new.bytes ≡ old.bytes ++ fed es
 kept_from [] old new run = ap (λ (h : Held). h.bytes) run ∙ sym (append-nil old.bytes)
-kept_from (Fed piece ∷ es) old new run = kept_from es run.0 new run.2 ∙ ap (λ (h : Held). h.bytes ++ fed es) run.1 ∙ append_assoc old.bytes piece (fed es)
+kept_from (Fed piece ∷ es) old new run =
+    kept_from es run.0 new run.2 ∙ ap (λ (h : Held). h.bytes ++ fed es) run.1 ∙ append_assoc old.bytes piece (fed es)
 kept_from (Gave payload ∷ es) old new run =
     append_assoc (frame payload) (joined (given es)) new.bytes
     ∙ ap (λ l. frame payload ++ l) (kept_from es run.0 new run.2)
@@ -54,7 +56,8 @@ frame_is_whole p rest x small is less =
     absurd (omega (arith, long, field, short))
 
 -- a stream has its frames in one way
-frames_are_one : (ps qs : List (List ℕ)) (x y : List ℕ) → Admitted ps → Admitted qs → joined ps ++ x ≡ joined qs ++ y → IsUnfinished x → IsUnfinished y → (ps ≡ qs) × (x ≡ y)
+frames_are_one : (ps qs : List (List ℕ)) (x y : List ℕ)
+    → Admitted ps → Admitted qs → joined ps ++ x ≡ joined qs ++ y → IsUnfinished x → IsUnfinished y → (ps ≡ qs) × (x ≡ y)
 frames_are_one [] [] x y a b e u v = (refl, e)
 frames_are_one [] (q ∷ qs) x y a b e u v = absurd (frame_is_whole q (joined qs ++ y) x b.0 (e ∙ append_assoc (frame q) (joined qs) y) u)
 frames_are_one (p ∷ ps) [] x y a b e u v = absurd (frame_is_whole p (joined ps ++ x) y a.0 (sym e ∙ append_assoc (frame p) (joined ps) x) v)

@@ -52,7 +52,8 @@ impl<'a> Cursor<'a> {
     pub(crate) fn bytes(&mut self, count: usize) -> Result<&'a [u8], TakeError>
         ensures len { payload_len self.new ≡ payload_len self.old }
         ensures count { IfOk result (λ bytes. length bytes.now ≡ count) }
-        ensures gives { Gives (λ bytes. bytes.now) result (bytes_left self.new) (bytes_at count (payload_len self.old) (bytes_left self.old)) }
+        ensures gives { Gives (λ bytes. bytes.now) result (bytes_left self.new)
+            (bytes_at count (payload_len self.old) (bytes_left self.old)) }
         ensures memory { result ≢ Err TakeError.Memory }
     {
         if self.rest.len() < count {
@@ -91,7 +92,8 @@ impl<'a> Cursor<'a> {
     #[tactic(auto, unfolding(crate::specs::Reading::text_bytes_at))]
     pub(crate) fn text(&mut self, count: usize) -> Result<&'a str, TakeError>
         ensures len { payload_len self.new ≡ payload_len self.old }
-        ensures gives { Gives (λ text. text.now) result (bytes_left self.new) (text_bytes_at count (payload_len self.old) (bytes_left self.old)) }
+        ensures gives { Gives (λ text. text.now) result (bytes_left self.new)
+            (text_bytes_at count (payload_len self.old) (bytes_left self.old)) }
         ensures memory { result ≢ Err TakeError.Memory }
     {
         let place = self.place();

@@ -64,9 +64,11 @@ fn write_counted<A: Allocator + Copy, R: Record<A>>(
     elements: &[R],
     out: &mut Vec<u8, A>,
 ) -> Result<(), PutError>
-    ensures ok { OnOk result (out.new.items ≡ out.old.items ++ (int_bytes (pos (length elements.now)) ++ flat_map (spelling R.layout) (map R.view elements.now))) }
+    ensures ok { OnOk result (out.new.items
+        ≡ out.old.items ++ (int_bytes (pos (length elements.now)) ++ flat_map (spelling R.layout) (map R.view elements.now))) }
     ensures fits { OnOk result ((length elements.now < 2 ^ 31) × AllByRecursion (Fits R.layout) (map R.view elements.now)) }
-    ensures too_long { IsErrOf result PutError.TooLong → length elements.now < 2 ^ 31 → AllByRecursion (Fits R.layout) (map R.view elements.now) → ⊥ }
+    ensures too_long { IsErrOf result PutError.TooLong → length elements.now < 2 ^ 31
+        → AllByRecursion (Fits R.layout) (map R.view elements.now) → ⊥ }
     ensures begun { take (length out.old.items) out.new.items ≡ out.old.items }
 {
     write_length(elements.len(), out)?;
@@ -81,7 +83,8 @@ fn read_elements<'a, A: Allocator + Copy, R: Readable<'a, A> + Drop>(
     at: &mut Cursor<'a>,
 ) -> Result<Vec<R, A>, TakeError>
     ensures len { payload_len at.new ≡ payload_len at.old }
-    ensures gives { Gives (λ v. map R.view v.items) result (bytes_left at.new) (elements_at (reading R.layout (payload_len at.old)) count (bytes_left at.old)) }
+    ensures gives { Gives (λ v. map R.view v.items) result (bytes_left at.new)
+        (elements_at (reading R.layout (payload_len at.old)) count (bytes_left at.old)) }
 {
     let mut elements = Vec::new(alloc);
     for _ in 0..count {

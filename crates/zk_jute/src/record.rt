@@ -33,7 +33,8 @@ pub trait Record<A: Allocator + Copy>: Sized {
         ensures begun { take (length out.old.items) out.new.items ≡ out.old.items };
 
     /// No spelling begins another.
-    ghost one_spelling: { (a b : Value layout) (x y : List ℕ) → Fits layout a → Fits layout b → spelling layout a ++ x ≡ spelling layout b ++ y → (a ≡ b) × (x ≡ y) } = { one_spelling_of layout };
+    ghost one_spelling: { (a b : Value layout) (x y : List ℕ) → Fits layout a → Fits layout b
+        → spelling layout a ++ x ≡ spelling layout b ++ y → (a ≡ b) × (x ≡ y) } = { one_spelling_of layout };
 
     /// Writes the spelling at the end of `out`.
     ///

@@ -1,6 +1,7 @@
 -- Equal paths, and membership.
 use Rattle.zk_turns.proofs.Lists.{same_text, bytes_eq-refl}
-use Rattle.std.proofs.Common.{ℕ, ◌≡◌, ◌==◌, ◌<◌, Bool, true, false, ◌&&◌, List, [], ◌∷◌, ◌++◌, refl, ap, sym, ◌∙◌, subst, inl, inr, ◌⊎◌, arith, eqb-true, fold, append_assoc, append-nil}
+use Rattle.std.proofs.Common.{ℕ, ◌≡◌, ◌==◌, ◌<◌, Bool, true, false, ◌&&◌, List, [], ◌∷◌, ◌++◌, refl, ap, sym, ◌∙◌, subst, inl, inr, ◌⊎◌}
+use Rattle.std.proofs.Common.{arith, eqb-true, fold, append_assoc, append-nil}
 use Rattle.std.proofs.lemmas.Bool.{and_parts, and_from}
 use Rattle.zk_nodes.specs.Path.{Text, Name, NodePath, path_eq, text_of, path_of, byte_more, IsPathText}
 use Rattle.zk_records.specs.declared.event.Event.{Event}
@@ -61,16 +62,21 @@ text_all : (name : Name) (path : NodePath) (bytes : List ℕ) → text_of (fold 
 text_all name path [] = sym (append-nil (text_of (name ∷ path)))
 text_all name path (byte ∷ bytes) = go (slash_or byte) (λ n p. text_all n p bytes)
   where
-    end : (n : Name) (p : NodePath) → text_of (n ∷ p) ≡ text_of (name ∷ path) ++ byte ∷ [] → text_of (fold byte_more (n ∷ p) bytes) ≡ text_of (n ∷ p) ++ bytes → text_of (fold byte_more (n ∷ p) bytes) ≡ text_of (name ∷ path) ++ byte ∷ bytes
+    end : (n : Name) (p : NodePath) → text_of (n ∷ p) ≡ text_of (name ∷ path) ++ byte ∷ [] → text_of (fold byte_more (n ∷ p) bytes)
+        ≡ text_of (n ∷ p) ++ bytes → text_of (fold byte_more (n ∷ p) bytes) ≡ text_of (name ∷ path) ++ byte ∷ bytes
     end n p e r = r ∙ (ap (λ (t : Text). t ++ bytes) e ∙ append_assoc (text_of (name ∷ path)) (byte ∷ []) bytes)
 
-    go : (byte ≡ 47) ⊎ ((byte == 47) ≡ false) → ((n : Name) (p : NodePath) → text_of (fold byte_more (n ∷ p) bytes) ≡ text_of (n ∷ p) ++ bytes) → text_of (fold byte_more (byte_more (name ∷ path) byte) bytes) ≡ text_of (name ∷ path) ++ byte ∷ bytes
+    go : (byte ≡ 47) ⊎ ((byte == 47) ≡ false)
+        → ((n : Name) (p : NodePath) → text_of (fold byte_more (n ∷ p) bytes) ≡ text_of (n ∷ p) ++ bytes)
+        → text_of (fold byte_more (byte_more (name ∷ path) byte) bytes) ≡ text_of (name ∷ path) ++ byte ∷ bytes
     go (inl e) more =
         let h : byte_more (name ∷ path) byte ≡ [] ∷ name ∷ path = rw e refl in
-        subst (λ (q : NodePath). text_of (fold byte_more q bytes) ≡ text_of (name ∷ path) ++ byte ∷ bytes) (sym h) (end [] (name ∷ path) (ap text_of (sym h) ∙ text_more name path byte) (more [] (name ∷ path)))
+        subst (λ (q : NodePath). text_of (fold byte_more q bytes) ≡ text_of (name ∷ path) ++ byte ∷ bytes) (sym h)
+        (end [] (name ∷ path) (ap text_of (sym h) ∙ text_more name path byte) (more [] (name ∷ path)))
     go (inr f) more =
         let h : byte_more (name ∷ path) byte ≡ (name ++ byte ∷ []) ∷ path = rw f refl in
-        subst (λ (q : NodePath). text_of (fold byte_more q bytes) ≡ text_of (name ∷ path) ++ byte ∷ bytes) (sym h) (end (name ++ byte ∷ []) path (ap text_of (sym h) ∙ text_more name path byte) (more (name ++ byte ∷ []) path))
+        subst (λ (q : NodePath). text_of (fold byte_more q bytes) ≡ text_of (name ∷ path) ++ byte ∷ bytes) (sym h)
+        (end (name ++ byte ∷ []) path (ap text_of (sym h) ∙ text_more name path byte) (more (name ++ byte ∷ []) path))
 
 -- a text that begins with a / is the text of its path
 pub text_path : (text : Text) → IsPathText text → text_of (path_of text) ≡ text
@@ -108,7 +114,8 @@ times-among : (n : Notice) (xs : List Notice) → Among n xs → 0 < times n xs
 times-among n [] h = absurd h
 times-among n (x ∷ xs) (inl e) =
     let same : (event_eq n.event x.event && bytes_eq n.path x.path) ≡ true =
-    subst (λ (m : Notice). (event_eq n.event m.event && bytes_eq n.path m.path) ≡ true) e (and_from (event_eq n.event n.event) (bytes_eq n.path n.path) (event_eq-refl n.event) (text_eq-refl n.path)) in
+    subst (λ (m : Notice). (event_eq n.event m.event && bytes_eq n.path m.path) ≡ true) e
+    (and_from (event_eq n.event n.event) (bytes_eq n.path n.path) (event_eq-refl n.event) (text_eq-refl n.path)) in
     rw same (omega arith)
 times-among n (x ∷ xs) (inr h) = let more = times-among n xs h in omega arith
 

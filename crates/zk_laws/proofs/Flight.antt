@@ -2,7 +2,8 @@
 -- the client waits for.
 use Rattle.zk_turns.specs.Past.{Asking, For_part, parts_asked, Past}
 use Rattle.zk_watches.specs.Lists.{Lists}
-use Rattle.std.proofs.Common.{◌≡◌, ℕ, zero, suc, ◌+◌, ◌≤◌, ℤ, Bool, true, false, cond, List, [], ◌∷◌, ◌++◌, map, drop, length, refl, sym, ap, subst, ◌∙◌, arith, append_assoc}
+use Rattle.std.proofs.Common.{◌≡◌, ℕ, zero, suc, ◌+◌, ◌≤◌, ℤ, Bool, true, false, cond, List, [], ◌∷◌, ◌++◌, map, drop, length, refl, sym}
+use Rattle.std.proofs.Common.{ap, subst, ◌∙◌, arith, append_assoc}
 use Rattle.std.proofs.lemmas.List.{append-nil, drop-append-le}
 use Rattle.zk_turns.specs.Turns.{Start}
 use Rattle.zk_nodes.specs.History.{History}
@@ -41,7 +42,8 @@ unread_more n xs ys le = drop-append-le n xs ys le
 -- ---- what awaits its reply
 
 -- one reply less
-pub awaited_less : (talks : Bool) (n : ℕ) (xs : List Asking) (x : Asking) (more : List Asking) → cond talks (drop n xs) [] ≡ x ∷ more → cond talks (drop (suc n) xs) [] ≡ more
+pub awaited_less : (talks : Bool) (n : ℕ) (xs : List Asking) (x : Asking) (more : List Asking)
+    → cond talks (drop n xs) [] ≡ x ∷ more → cond talks (drop (suc n) xs) [] ≡ more
 awaited_less false n xs x more e = absurd cc
 awaited_less true zero [] x more e = absurd cc
 awaited_less true zero (y ∷ xs) x more e = cc
@@ -49,12 +51,14 @@ awaited_less true (suc n) [] x more e = absurd cc
 awaited_less true (suc n) (y ∷ xs) x more e = awaited_less true n xs x more e
 
 -- one call more
-pub awaited_more : (talks : Bool) (n : ℕ) (xs : List Asking) (x : Asking) → talks ≡ true → n ≤ length xs → cond talks (drop n (xs ++ x ∷ [])) [] ≡ cond talks (drop n xs) [] ++ x ∷ []
+pub awaited_more : (talks : Bool) (n : ℕ) (xs : List Asking) (x : Asking)
+    → talks ≡ true → n ≤ length xs → cond talks (drop n (xs ++ x ∷ [])) [] ≡ cond talks (drop n xs) [] ++ x ∷ []
 awaited_more true n xs x e le = drop-append-le n xs (x ∷ []) le
 awaited_more false n xs x e le = absurd cc
 
 -- one request less
-pub drop_one : (n : ℕ) (xs : List Sent) (x : Sent) (more : List Sent) → drop n xs ≡ x ∷ more → (drop (n + 1) xs ≡ more) × (n + 1 ≤ length xs)
+pub drop_one : (n : ℕ) (xs : List Sent) (x : Sent) (more : List Sent)
+    → drop n xs ≡ x ∷ more → (drop (n + 1) xs ≡ more) × (n + 1 ≤ length xs)
 drop_one zero [] x more e = absurd cc
 drop_one zero (y ∷ xs) x more e = (cc, omega arith)
 drop_one (suc n) [] x more e = absurd cc
@@ -66,5 +70,7 @@ drop_one (suc n) (y ∷ xs) x more e =
 -- ---- a client and its server
 
 -- with no connection the server does not matter
-pub still : (h : History) (start : Start) (Was : List ℕ → Type 0) (past : Past) (wire other : Wire) → is_going past ≡ false → Matches h start Was past wire → Matches h start Was past other
-still h start Was past wire other off s = record { link = s.link; reached = s.reached; going = λ e. absurd cc; calm = s.calm; counted = s.counted }
+pub still : (h : History) (start : Start) (Was : List ℕ → Type 0) (past : Past) (wire other : Wire)
+    → is_going past ≡ false → Matches h start Was past wire → Matches h start Was past other
+still h start Was past wire other off s =
+    record { link = s.link; reached = s.reached; going = λ e. absurd cc; calm = s.calm; counted = s.counted }

@@ -1,5 +1,6 @@
 -- The other laws of a run.
-use Rattle.std.proofs.Common.{ℕ, zero, suc, ◌≡◌, ◌≤◌, Bool, true, false, List, [], ◌∷◌, ◌++◌, refl, sym, subst, inl, inr, arith, Option, Some, None, if◌then◌else◌, map, take}
+use Rattle.std.proofs.Common.{ℕ, zero, suc, ◌≡◌, ◌≤◌, Bool, true, false, List, [], ◌∷◌, ◌++◌, refl, sym, subst, inl, inr, arith, Option}
+use Rattle.std.proofs.Common.{Some, None, if◌then◌else◌, map, take}
 use Rattle.std.specs.Bool.{⊤}
 use Rattle.zk_nodes.specs.DataStats.{data_stat_of}
 use Rattle.zk_nodes.specs.Path.{Text, path_of}
@@ -14,9 +15,11 @@ use Rattle.zk_turns.specs.Meaning.{Among}
 use Rattle.zk_laws.specs.Server.{Reads, FitsNames, Notice, held, tree_held, zxid_held, LastHolds, Gives}
 use Rattle.zk_laws.specs.Messages.{Message, Accepted, Expired, Replies, Watches_set, Notifies, Pong, Request, Connect, Restore, Ask, Ping}
 use Rattle.zk_laws.specs.Log.{Item, Lost, Took, last, good, Answer, Absent, Known, Full, Suits}
-use Rattle.zk_laws.specs.Steps.{is_behind, ends, Connection, Link, Down, Up, World, Step, Asks, Pings, Joins, Takes, rest_of, MayStep, stepped, By_server}
+use Rattle.zk_laws.specs.Steps.{is_behind, ends, Connection, Link, Down, Up, World, Step, Asks, Pings, Joins, Takes, rest_of, MayStep}
+use Rattle.zk_laws.specs.Steps.{stepped, By_server}
 use Rattle.zk_laws.specs.ServerSteps.{Stage, Waiting, Serving, Ended, Advances, Admits, Refuses, Answers, Restores, Pongs, IsNext}
-use Rattle.zk_laws.specs.Run.{start, Move, Opens, Loses, Halts, Forgets_stale, Goes, MayGo, gone, May, moved, IsSchedule, run, NoneBehind, AgreesWhenQuiet}
+use Rattle.zk_laws.specs.Run.{start, Move, Opens, Loses, Halts, Forgets_stale, Goes, MayGo, gone, May, moved, IsSchedule, run, NoneBehind}
+use Rattle.zk_laws.specs.Run.{AgreesWhenQuiet}
 use Rattle.zk_laws.specs.Invariant.{Ahead, IsAwaited, IsSure, IsSettled, IsOpening, IsTalking, IsKeptUp, IsKeptBy, IsKept}
 use Rattle.zk_laws.specs.Laws.{IsTrueWrite, HasChange, AreRestored}
 use Rattle.zk_laws.proofs.Stamps.{tree_at_held}
@@ -33,7 +36,8 @@ last_step h (Asks q) c log = omega arith
 last_step h Pings c log = omega arith
 last_step h (Joins parts) c log = omega arith
 last_step h (Takes m) c log = last_if (is_behind log m) (last log) (record { log = Lost ∷ log; link = Down })
-    (record { log = Took m ∷ log; link = if ends m then Down else Up (record c { messages = rest_of c.messages }) }) (omega arith) (omega arith)
+    (record { log = Took m ∷ log; link = if ends m then Down else Up (record c { messages = rest_of c.messages }) })
+    (omega arith) (omega arith)
 last_step h (By_server (Advances sent)) c log = omega arith
 last_step h (By_server (Admits seen)) c log = omega arith
 last_step h (By_server (Refuses seen)) c log = omega arith
@@ -65,7 +69,8 @@ none_behind h w k c m e next = go c.talking refl (subst (λ (l : Link). IsKeptBy
     go true f k =
         let t : IsTalking h w.log c = subst (λ (b : Bool). IsKeptUp h w.log c b) f k in
         let a : Ahead h Data [] (m ∷ rest_of c.messages) w.log (IsSettled h Data [] c.requests c.place c.watches) =
-        subst (λ (ms : List Message). Ahead h Data [] ms w.log (IsSettled h Data [] c.requests c.place c.watches)) (next_is m c.messages next) (t.ahead Data []) in
+        subst (λ (ms : List Message). Ahead h Data [] ms w.log (IsSettled h Data [] c.requests c.place c.watches))
+        (next_is m c.messages next) (t.ahead Data []) in
         a.1
     go false f k = on c.stage (subst (λ (b : Bool). IsKeptUp h w.log c b) f k).opening
       where
@@ -74,12 +79,14 @@ none_behind h w k c m e next = go c.talking refl (subst (λ (l : Link). IsKeptBy
         on Serving o = let x : m ≡ Accepted = subst (λ (ms : List Message). IsNext m ms) o.1 next in rw x refl
         on Ended o = let x : m ≡ Expired = subst (λ (ms : List Message). IsNext m ms) o.1 next in rw x refl
 
-pub never_behind : (h : History) → IsHistory h → (saved : ℕ) (moves : List Move) → IsSchedule h moves (start saved) → NoneBehind (run h moves (start saved))
+pub never_behind : (h : History) → IsHistory h → (saved : ℕ) (moves : List Move) → IsSchedule h moves (start saved)
+    → NoneBehind (run h moves (start saved))
 never_behind h is saved moves may = none_behind h (run h moves (start saved)) (run_kept h is moves (start saved) may (start_kept h saved))
 
 -- Quiet agreement
 
-not_awaited : (side : Side) (path : Text) (a : Answer) (z : ℕ) (requests : List Request) → AreRestored requests → IsAwaited side path a z requests → ⊥
+not_awaited : (side : Side) (path : Text) (a : Answer) (z : ℕ) (requests : List Request)
+    → AreRestored requests → IsAwaited side path a z requests → ⊥
 not_awaited side path a z [] r w = w
 not_awaited side path a z (Restore b x p ∷ rest) r w = r
 not_awaited side path a z (Connect seen ∷ rest) r w = w
@@ -93,14 +100,18 @@ agrees h w k c e talking none restored side path answer g = go (good side path w
     t = subst (λ (b : Bool). IsKeptUp h w.log c b) talking (subst (λ (l : Link). IsKeptBy h w.log l) e k)
 
     settled : IsSettled h side path c.requests c.place c.watches w.log
-    settled = (subst (λ (ms : List Message). Ahead h side path ms w.log (IsSettled h side path c.requests c.place c.watches)) none (t.ahead side path)).1
+    settled = (subst (λ (ms : List Message). Ahead h side path ms w.log (IsSettled h side path c.requests c.place c.watches))
+        none (t.ahead side path)).1
 
-    go : (k : Option Answer) → k ≡ Some answer → IsSure h side path c.requests c.place c.watches (last w.log) k → Suits answer (view side (tree_held h c.place) (path_of path))
+    go : (k : Option Answer) → k ≡ Some answer → IsSure h side path c.requests c.place c.watches (last w.log) k
+        → Suits answer (view side (tree_held h c.place) (path_of path))
     go None f s = absurd cc
-    go (Some a) f (inl covered) = let same : a ≡ answer = cc in subst (λ (b : Answer). Suits b (view side (tree_held h c.place) (path_of path))) same covered.fits
+    go (Some a) f (inl covered) = let same : a ≡ answer = cc in
+        subst (λ (b : Answer). Suits b (view side (tree_held h c.place) (path_of path))) same covered.fits
     go (Some a) f (inr x) = absurd (not_awaited side path a (last w.log) c.requests restored x)
 
-pub agrees_when_quiet : (h : History) → IsHistory h → (saved : ℕ) (moves : List Move) → IsSchedule h moves (start saved) → AgreesWhenQuiet h (run h moves (start saved))
+pub agrees_when_quiet : (h : History) → IsHistory h → (saved : ℕ) (moves : List Move) → IsSchedule h moves (start saved)
+    → AgreesWhenQuiet h (run h moves (start saved))
 agrees_when_quiet h is saved moves may = agrees h (run h moves (start saved)) (run_kept h is moves (start saved) may (start_kept h saved))
 
 -- Answers are true at their zxids
@@ -145,22 +156,28 @@ given_first : (h : History) (m : Message) (ms : List Message) → IsNext m ms �
 given_first h m [] n a = absurd n
 given_first h m (x ∷ xs) n a = subst (λ (y : Message). IsGiven h y) (sym n) a.0
 
-honest_step : (h : History) (step : Step) (c : Connection) (log : List Item) → MayStep h step c log → AllTaken h log → AllGiven h c.messages → IsHonest h (stepped h step c log)
+honest_step : (h : History) (step : Step) (c : Connection) (log : List Item)
+    → MayStep h step c log → AllTaken h log → AllGiven h c.messages → IsHonest h (stepped h step c log)
 honest_step h (Asks q) c log may t g = (t, g)
 honest_step h Pings c log may t g = (t, g)
 honest_step h (Joins parts) c log may t g = ((tt, t), given_rest h c.messages g)
 honest_step h (Takes m) c log may t g = go (is_behind log m) (ends m)
   where
-    go : (b d : Bool) → IsHonest h (if b then record { log = Lost ∷ log; link = Down } else record { log = Took m ∷ log; link = if d then Down else Up (record c { messages = rest_of c.messages }) })
+    go : (b d : Bool) → IsHonest h (if b then record { log = Lost ∷ log; link = Down }
+        else record { log = Took m ∷ log; link = if d then Down else Up (record c { messages = rest_of c.messages }) })
     go true d = ((tt, t), tt)
     go false true = ((given_first h m c.messages may.0 g, t), tt)
     go false false = ((given_first h m c.messages may.0 g, t), given_rest h c.messages g)
 honest_step h (By_server (Advances sent)) c log may t g = (t, given_more h c.messages (map Notifies sent) g (given_notices h sent))
 honest_step h (By_server (Admits seen)) c log may t g = (t, given_more h c.messages (Accepted ∷ []) g (tt, tt))
 honest_step h (By_server (Refuses seen)) c log may t g = (t, given_more h c.messages (Expired ∷ []) g (tt, tt))
-honest_step h (By_server (Answers q r)) c log may t g = (t, given_more h c.messages (Replies (question_of q) (zxid_held h c.place) r ∷ []) g ((c.place, q, refl, refl, may.2), tt))
-honest_step h (By_server (Restores b z part sent)) c log may t g =
-    (t, given_more h c.messages (map Notifies sent ++ Watches_set b (zxid_held h c.place) ∷ []) g (given_more h (map Notifies sent) (Watches_set b (zxid_held h c.place) ∷ []) (given_notices h sent) (tt, tt)))
+honest_step h (By_server (Answers q r)) c log may t g =
+    (t, given_more h c.messages (Replies (question_of q) (zxid_held h c.place) r ∷ []) g ((c.place, q, refl, refl, may.2), tt))
+honest_step h (By_server (Restores b z part sent)) c log may t g = (
+  t,
+  given_more h c.messages (map Notifies sent ++ Watches_set b (zxid_held h c.place) ∷ []) g
+      (given_more h (map Notifies sent) (Watches_set b (zxid_held h c.place) ∷ []) (given_notices h sent) (tt, tt)),
+)
 honest_step h (By_server Pongs) c log may t g = (t, given_more h c.messages (Pong ∷ []) g (tt, tt))
 
 honest_move : (h : History) (move : Move) (w : World) → May h move w → IsHonest h w → IsHonest h (moved h move w)
@@ -183,24 +200,35 @@ taken_given h m [] a t = absurd a
 taken_given h m (item ∷ log) (inl e) t = subst (λ (i : Item). IsGivenItem h i) (sym e) t.0
 taken_given h m (item ∷ log) (inr a) t = taken_given h m log a t.1
 
-given_read : (h : History) (is : IsHistory h) (n : ℕ) (q : Call) (r : Result) → Gives h n q r → Reads (tree_at h (zxid_held h n)) (question_of q) r
+given_read : (h : History) (is : IsHistory h) (n : ℕ) (q : Call) (r : Result)
+    → Gives h n q r → Reads (tree_at h (zxid_held h n)) (question_of q) r
 given_read h is n (Exists p w) NoNode g = subst (λ (t : Tree). Suits Absent (view Data t (path_of p))) (sym (tree_at_held h n is)) g
-given_read h is n (Exists p w) (Found f) g = subst (λ (t : Tree). Suits (Known (data_stat_of f)) (view Data t (path_of p))) (sym (tree_at_held h n is)) g
+given_read h is n (Exists p w) (Found f) g =
+    subst (λ (t : Tree). Suits (Known (data_stat_of f)) (view Data t (path_of p))) (sym (tree_at_held h n is)) g
 given_read h is n (GetData p w) NoNode g = subst (λ (t : Tree). Suits Absent (view Data t (path_of p))) (sym (tree_at_held h n is)) g
-given_read h is n (GetData p w) (Read b f) g = subst (λ (t : Tree). Suits (Full b (data_stat_of f)) (view Data t (path_of p))) (sym (tree_at_held h n is)) g
+given_read h is n (GetData p w) (Read b f) g =
+    subst (λ (t : Tree). Suits (Full b (data_stat_of f)) (view Data t (path_of p))) (sym (tree_at_held h n is)) g
 given_read h is n (GetChildren p w) NoNode g = subst (λ (t : Tree). Suits Absent (view Child t (path_of p))) (sym (tree_at_held h n is)) g
-given_read h is n (GetChildren p w) (Listing ns z) g = subst (λ (t : Tree). FitsNames (names_of ns z) (view Child t (path_of p)) × Suits (Known (data_stat_of z)) (view Data t (path_of p))) (sym (tree_at_held h n is)) g
+given_read h is n (GetChildren p w) (Listing ns z) g =
+    subst (λ (t : Tree). FitsNames (names_of ns z) (view Child t (path_of p)) × Suits (Known (data_stat_of z)) (view Data t (path_of p)))
+    (sym (tree_at_held h n is)) g
 given_read h is n _ _ g = tt
 
-last_at : (low : ℕ) (earlier : List Transaction) (one : Transaction) → Among one (earlier ++ one ∷ []) × (one.zxid ≡ newest low (earlier ++ one ∷ []))
+last_at : (low : ℕ) (earlier : List Transaction) (one : Transaction)
+    → Among one (earlier ++ one ∷ []) × (one.zxid ≡ newest low (earlier ++ one ∷ []))
 last_at low [] one = (inl refl, refl)
 last_at low (x ∷ earlier) one = let r = last_at x.zxid earlier one in (inr r.0, r.1)
 
 -- the last of some transactions is one of them, with the newest zxid
-last_holds : (low : ℕ) (c : Change) (txs : List Transaction) → LastHolds c txs → (one : Transaction) × Among one txs × (one.zxid ≡ newest low txs) × Among c one.changes
+last_holds : (low : ℕ) (c : Change) (txs : List Transaction)
+    → LastHolds c txs → (one : Transaction) × Among one txs × (one.zxid ≡ newest low txs) × Among c one.changes
 last_holds low c txs l =
-    let r = last_at low l.0 l.1 in
-    (l.1, subst (λ (t : List Transaction). Among l.1 t) (sym l.2) r.0, subst (λ (t : List Transaction). l.1.zxid ≡ newest low t) (sym l.2) r.1, l.3)
+    let r = last_at low l.0 l.1 in (
+      l.1,
+      subst (λ (t : List Transaction). Among l.1 t) (sym l.2) r.0,
+      subst (λ (t : List Transaction). l.1.zxid ≡ newest low t) (sym l.2) r.1,
+      l.3,
+    )
 
 among_take : (n : ℕ) (x : Transaction) (txs : List Transaction) → Among x (take n txs) → Among x txs
 among_take zero x txs a = absurd a
@@ -217,13 +245,16 @@ given_write h n (Create p content s) (Made at) g = (g.0, g.1, holds_change h n (
 given_write h n (Delete p v) Done g = holds_change h n (Deletes (path_of p)) g
 given_write h n _ _ g = tt
 
-pub reads_true : (h : History) → IsHistory h → (saved : ℕ) (moves : List Move) → IsSchedule h moves (start saved) → (question : Question) (zxid : ℕ) (result : Result)
+pub reads_true : (h : History) → IsHistory h → (saved : ℕ) (moves : List Move) → IsSchedule h moves (start saved)
+    → (question : Question) (zxid : ℕ) (result : Result)
     → Among (Took (Replies question zxid result)) (run h moves (start saved)).log → Reads (tree_at h zxid) question result
 reads_true h is saved moves may q z r a =
     let k = honest_run h moves (start saved) may ((tt, tt), tt) in
     let g = taken_given h (Replies q z r) (run h moves (start saved)).log a k.0 in
-    subst (λ (x : Question). Reads (tree_at h z) x r) g.2 (subst (λ (y : ℕ). Reads (tree_at h y) (question_of g.1) r) (sym g.3) (given_read h is g.0 g.1 r g.4))
+    subst (λ (x : Question). Reads (tree_at h z) x r) g.2
+    (subst (λ (y : ℕ). Reads (tree_at h y) (question_of g.1) r) (sym g.3) (given_read h is g.0 g.1 r g.4))
 
 -- a write that a server answers with 0 is a change of its last transaction
-pub writes_true : (h : History) (step : Step) (c : Connection) (log : List Item) (call : Call) (result : Result) → step ≡ By_server (Answers call result) → MayStep h step c log → IsTrueWrite h call (zxid_held h c.place) result
+pub writes_true : (h : History) (step : Step) (c : Connection) (log : List Item) (call : Call) (result : Result)
+    → step ≡ By_server (Answers call result) → MayStep h step c log → IsTrueWrite h call (zxid_held h c.place) result
 writes_true h step c log call result e may = given_write h c.place call result (subst (λ (s : Step). MayStep h s c log) e may).2

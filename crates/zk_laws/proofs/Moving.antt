@@ -3,7 +3,8 @@ use Rattle.zk_laws.proofs.More.{given_write}
 use Rattle.zk_turns.specs.Rule.{AllAsked}
 use Rattle.zk_turns.specs.Turns.{IsAsked, Fault, Start, Turned, Forgets as Forgets_now, Halts as Halts_here}
 use Rattle.zk_turns.specs.Past.{Asking, Dropped, Past, is_talking, state_of, held_of}
-use Rattle.std.proofs.Common.{◌≡◌, ℕ, ◌+◌, ◌≤◌, ℤ, Bool, true, List, [], ◌∷◌, ◌++◌, map, drop, length, refl, sym, ap, subst, ◌∙◌, arith, append_assoc, inl, inr}
+use Rattle.std.proofs.Common.{◌≡◌, ℕ, ◌+◌, ◌≤◌, ℤ, Bool, true, List, [], ◌∷◌, ◌++◌, map, drop, length, refl, sym, ap, subst, ◌∙◌, arith}
+use Rattle.std.proofs.Common.{append_assoc, inl, inr}
 use Rattle.std.specs.List.{flat_map, AllByRecursion}
 use Rattle.std.proofs.lemmas.List.{append-nil, map-append}
 use Rattle.zk_conversation.specs.Questions.{question_of}
@@ -15,13 +16,16 @@ use Rattle.zk_nodes.specs.History.{History, IsHistory}
 use Rattle.zk_laws.specs.Invariant.{IsKeptUp, IsTalking}
 use Rattle.zk_turns.specs.Meaning.{Among}
 use Rattle.zk_laws.specs.Server.{Notice, Gives, IsOther, zxid_held}
-use Rattle.zk_laws.specs.Messages.{Message, Accepted, Replies, Watches_set, Notifies, Pong, Request, Connect, Restore, Ask, Ping, Expired as Expires, from_zero}
+use Rattle.zk_laws.specs.Messages.{Message, Accepted, Replies, Watches_set, Notifies, Pong, Request, Connect, Restore, Ask, Ping}
+use Rattle.zk_laws.specs.Messages.{Expired as Expires, from_zero}
 use Rattle.zk_laws.specs.Steps.{Connection, Link, Up, Step, MayStep, stepped, rest_of, By_server}
 use Rattle.zk_laws.specs.ServerSteps.{ServerStep, MayDo, messages_by, Waiting, Advances, Admits, Refuses, Answers, Restores, Pongs, IsNext}
 use Rattle.zk_laws.specs.Run.{Goes}
 use Rattle.zk_laws.specs.Seen.{seen}
-use Rattle.zk_laws.specs.Served.{WasSent, Sent, requests, unread, Wire, ArePayloads, first_xid, wire_on, Entry, Goes_on, Serves, items_in, wire_of, MayEnter, IsServing}
-use Rattle.zk_laws.specs.Flight.{DropsAreDue, IsDue, HasCode, Reached, Letter, IsFor, AreLetters, frames, messages, answers, AreLater, WaitsFor, Owes, connection, InFlight, Matches}
+use Rattle.zk_laws.specs.Served.{WasSent, Sent, requests, unread, Wire, ArePayloads, first_xid, wire_on, Entry, Goes_on, Serves, items_in}
+use Rattle.zk_laws.specs.Served.{wire_of, MayEnter, IsServing}
+use Rattle.zk_laws.specs.Flight.{DropsAreDue, IsDue, HasCode, Reached, Letter, IsFor, AreLetters, frames, messages, answers, AreLater}
+use Rattle.zk_laws.specs.Flight.{WaitsFor, Owes, connection, InFlight, Matches}
 use Rattle.zk_laws.proofs.Reaching.{reach, reached_kept}
 use Rattle.zk_laws.proofs.Flight.{drop_one}
 use Rattle.zk_laws.proofs.Taking.{up_reached, forgot, halted}
@@ -44,23 +48,28 @@ abbrev AllFor : History → ℤ → List Asking → List Message → Type 0
 AllFor h xid mine [] = Unit {0}
 AllFor h xid mine (m ∷ ms) = IsFor h xid m (mine_of mine m) × AllFor h xid mine ms
 
-lo_messages : (xid : ℤ) (mine : List Asking) (ms : List Message) (ps : List (List ℕ)) → ArePayloads xid ms ps → messages (letters_of xid mine ms ps) ≡ ms
+lo_messages : (xid : ℤ) (mine : List Asking) (ms : List Message) (ps : List (List ℕ))
+    → ArePayloads xid ms ps → messages (letters_of xid mine ms ps) ≡ ms
 lo_messages xid mine [] ps a = refl
 lo_messages xid mine (m ∷ ms) [] a = absurd a
 lo_messages xid mine (m ∷ ms) (p ∷ ps) a = ap (λ l. m ∷ l) (lo_messages xid mine ms ps a.2)
 
-lo_are : (h : History) (Was : List ℕ → Type 0) (xid : ℤ) (mine : List Asking) (ms : List Message) (ps : List (List ℕ)) → AllByRecursion Was ps → ArePayloads xid ms ps → AllFor h xid mine ms → AreLetters h Was (letters_of xid mine ms ps)
+lo_are : (h : History) (Was : List ℕ → Type 0) (xid : ℤ) (mine : List Asking) (ms : List Message) (ps : List (List ℕ))
+    → AllByRecursion Was ps → ArePayloads xid ms ps → AllFor h xid mine ms → AreLetters h Was (letters_of xid mine ms ps)
 lo_are h Was xid mine [] ps w a f = tt
 lo_are h Was xid mine (m ∷ ms) [] w a f = absurd a
-lo_are h Was xid mine (m ∷ ms) (p ∷ ps) w a f = (record { was_sent = w.0; short = a.0; spelt = a.1; is_for = f.0 }, lo_are h Was xid mine ms ps w.1 a.2 f.1)
+lo_are h Was xid mine (m ∷ ms) (p ∷ ps) w a f =
+    (record { was_sent = w.0; short = a.0; spelt = a.1; is_for = f.0 }, lo_are h Was xid mine ms ps w.1 a.2 f.1)
 
-lo_frames : (xid : ℤ) (mine : List Asking) (ms : List Message) (ps : List (List ℕ)) → ArePayloads xid ms ps → frames (letters_of xid mine ms ps) ≡ flat_map frame ps
+lo_frames : (xid : ℤ) (mine : List Asking) (ms : List Message) (ps : List (List ℕ))
+    → ArePayloads xid ms ps → frames (letters_of xid mine ms ps) ≡ flat_map frame ps
 lo_frames xid mine [] [] a = refl
 lo_frames xid mine [] (p ∷ ps) a = absurd a
 lo_frames xid mine (m ∷ ms) [] a = absurd a
 lo_frames xid mine (m ∷ ms) (p ∷ ps) a = ap (λ l. frame p ++ l) (lo_frames xid mine ms ps a.2)
 
-lo_answers : (xid : ℤ) (mine : List Asking) (ms : List Message) (ps : List (List ℕ)) → ArePayloads xid ms ps → answers (letters_of xid mine ms ps) ≡ flat_map (mine_of mine) ms
+lo_answers : (xid : ℤ) (mine : List Asking) (ms : List Message) (ps : List (List ℕ))
+    → ArePayloads xid ms ps → answers (letters_of xid mine ms ps) ≡ flat_map (mine_of mine) ms
 lo_answers xid mine [] ps a = refl
 lo_answers xid mine (m ∷ ms) [] a = absurd a
 lo_answers xid mine (m ∷ ms) (p ∷ ps) a = ap (λ l. mine_of mine m ++ l) (lo_answers xid mine ms ps a.2)
@@ -82,7 +91,8 @@ later_append (Watches_set x z ∷ a) b p q = later_append a b p q
 later_append (Notifies n ∷ a) b p q = later_append a b p q
 later_append (Pong ∷ a) b p q = later_append a b p q
 
-all_append : (h : History) (xid : ℤ) (mine : List Asking) (a b : List Message) → AllFor h xid mine a → AllFor h xid mine b → AllFor h xid mine (a ++ b)
+all_append : (h : History) (xid : ℤ) (mine : List Asking) (a b : List Message)
+    → AllFor h xid mine a → AllFor h xid mine b → AllFor h xid mine (a ++ b)
 all_append h xid mine [] b p q = q
 all_append h xid mine (m ∷ a) b p q = (p.0, all_append h xid mine a b p.1 q)
 
@@ -99,7 +109,8 @@ notices_later [] = tt
 notices_later (n ∷ ns) = notices_later ns
 
 -- each call is refused with every code that means no other thing
-pub refusal : (h : History) (place : ℕ) (q : Call) (code : ℤ) → (Gives h place q (Refused code) → IsOther code) × (IsOther code → Gives h place q (Refused code))
+pub refusal : (h : History) (place : ℕ) (q : Call) (code : ℤ)
+    → (Gives h place q (Refused code) → IsOther code) × (IsOther code → Gives h place q (Refused code))
 refusal h place (Exists a b) code = (λ g. g, λ g. g)
 refusal h place (GetData a b) code = (λ g. g, λ g. g)
 refusal h place (GetChildren a b) code = (λ g. g, λ g. g)
@@ -113,7 +124,8 @@ coded h place q (Refused code) g = (refusal h place q code).0 g
 coded h place q _ g = tt
 
 -- the request that is next
-next_sent : (r : Request) (us : List Sent) → IsNext r (map (λ s. s.request) us) → (s : Sent) × (ss : List Sent) × (us ≡ s ∷ ss) × (r ≡ s.request)
+next_sent : (r : Request) (us : List Sent) → IsNext r (map (λ s. s.request) us)
+    → (s : Sent) × (ss : List Sent) × (us ≡ s ∷ ss) × (r ≡ s.request)
 next_sent r [] n = absurd n
 next_sent r (s ∷ ss) n = (s, ss, refl, n)
 
@@ -130,33 +142,62 @@ Asks_paths _ = Unit {0}
 module _ (h : History) (is : IsHistory h) (start : Start) (Was : List ℕ → Type 0) where
   -- ---- a server's move
 
-  serve_going : (past : Past) (wire other : Wire) (link link' : Link) (letters : List Letter) (xid : ℤ) (mine owed : List Asking) (ms : List Message) (payloads : List (List ℕ))
-      → (g : InFlight h start Was past wire link letters) → AllByRecursion Was payloads → ArePayloads xid ms payloads → AllFor h xid mine ms → other.coming ≡ wire.coming ++ flat_map frame payloads
-      → link' ≡ Up (record { requests = map (λ s. s.request) (unread start past other); messages = messages letters ++ ms; place = other.server.place; watches = other.server.watches; stage = other.server.stage; talking = is_talking (state_of past) })
-      → other.processed ≤ length (requests start past) → Owes (unread start past other) owed → g.owed ≡ flat_map (mine_of mine) ms ++ owed → (is_talking (state_of past) ≡ true → AreLater ms)
+  serve_going : (past : Past) (wire other : Wire) (link link' : Link) (letters : List Letter) (xid : ℤ) (mine owed : List Asking)
+      (ms : List Message) (payloads : List (List ℕ))
+      → (g : InFlight h start Was past wire link letters) → AllByRecursion Was payloads → ArePayloads xid ms payloads → AllFor h xid mine ms
+      → other.coming ≡ wire.coming ++ flat_map frame payloads
+      → link' ≡ Up (record {
+        requests = map (λ s. s.request) (unread start past other);
+        messages = messages letters ++ ms;
+        place = other.server.place;
+        watches = other.server.watches;
+        stage = other.server.stage;
+        talking = is_talking (state_of past);
+      })
+      → other.processed ≤ length (requests start past) → Owes (unread start past other) owed → g.owed ≡ flat_map (mine_of mine) ms ++ owed
+      → (is_talking (state_of past) ≡ true → AreLater ms)
       → InFlight h start Was past other link' (letters ++ letters_of xid mine ms payloads)
   serve_going past wire other link link' letters xid mine owed ms payloads g was a f coming up enough owes split later =
       let new : List Letter = letters_of xid mine ms payloads in
-      let told : messages (letters ++ new) ≡ messages letters ++ ms = map-append (λ l. l.message) letters new ∙ ap (λ l. messages letters ++ l) (lo_messages xid mine ms payloads a) in
+      let told : messages (letters ++ new) ≡ messages letters ++ ms =
+      map-append (λ l. l.message) letters new ∙ ap (λ l. messages letters ++ l) (lo_messages xid mine ms payloads a) in
       record {
-        up = up ∙ ap (λ l. Up (record { requests = map (λ s. s.request) (unread start past other); messages = l; place = other.server.place; watches = other.server.watches; stage = other.server.stage; talking = is_talking (state_of past) })) (sym told);
+        up = up ∙ ap (λ l. Up (record {
+          requests = map (λ s. s.request) (unread start past other);
+          messages = l;
+          place = other.server.place;
+          watches = other.server.watches;
+          stage = other.server.stage;
+          talking = is_talking (state_of past);
+        })) (sym told);
         enough = enough;
         are = are_append h Was letters new g.are (lo_are h Was xid mine ms payloads was a f);
-        bytes = ap (λ l. held_of past ++ l) coming ∙ sym (append_assoc (held_of past) wire.coming (flat_map frame payloads)) ∙ ap (λ l. l ++ flat_map frame payloads) g.bytes
+        bytes = ap (λ l. held_of past ++ l) coming ∙ sym (append_assoc (held_of past) wire.coming (flat_map frame payloads))
+            ∙ ap (λ l. l ++ flat_map frame payloads) g.bytes
             ∙ ap (λ l. frames letters ++ l) (sym (lo_frames xid mine ms payloads a)) ∙ sym (flat-more (λ l. frame l.payload) letters new);
         owed = owed;
         owes = owes;
         pending = g.pending ∙ ap (λ l. answers letters ++ l) split ∙ sym (append_assoc (answers letters) (flat_map (mine_of mine) ms) owed)
-            ∙ ap (λ l. answers letters ++ l ++ owed) (sym (lo_answers xid mine ms payloads a)) ∙ ap (λ l. l ++ owed) (sym (flat-more (λ l. l.asked) letters new));
+            ∙ ap (λ l. answers letters ++ l ++ owed) (sym (lo_answers xid mine ms payloads a))
+            ∙ ap (λ l. l ++ owed) (sym (flat-more (λ l. l.asked) letters new));
         later = λ t. subst AreLater (sym told) (later_append (messages letters) ms (g.later t) (later t));
       }
 
   -- one request is processed
-  serve_one : (past : Past) (wire other : Wire) (link link' : Link) (letters : List Letter) (r : Request) (ms : List Message) (payloads : List (List ℕ))
-      → (g : InFlight h start Was past wire link letters) → AllByRecursion Was payloads → IsNext r (map (λ s. s.request) (unread start past wire)) → ArePayloads (first_xid (unread start past wire)) ms payloads
+  serve_one : (past : Past) (wire other : Wire) (link link' : Link) (letters : List Letter) (r : Request) (ms : List Message)
+      (payloads : List (List ℕ))
+      → (g : InFlight h start Was past wire link letters) → AllByRecursion Was payloads
+      → IsNext r (map (λ s. s.request) (unread start past wire)) → ArePayloads (first_xid (unread start past wire)) ms payloads
       → ((xid : ℤ) (mine : List Asking) → WaitsFor xid r mine → AllFor h xid mine ms × (flat_map (mine_of mine) ms ≡ mine))
       → other.processed ≡ wire.processed + 1 → other.coming ≡ wire.coming ++ flat_map frame payloads
-      → link' ≡ Up (record { requests = rest_of (map (λ s. s.request) (unread start past wire)); messages = messages letters ++ ms; place = other.server.place; watches = other.server.watches; stage = other.server.stage; talking = is_talking (state_of past) })
+      → link' ≡ Up (record {
+        requests = rest_of (map (λ s. s.request) (unread start past wire));
+        messages = messages letters ++ ms;
+        place = other.server.place;
+        watches = other.server.watches;
+        stage = other.server.stage;
+        talking = is_talking (state_of past);
+      })
       → (is_talking (state_of past) ≡ true → AreLater ms)
       → (letters' : List Letter) × InFlight h start Was past other link' letters'
   serve_one past wire other link link' letters r ms payloads g was next a for processed coming up later =
@@ -172,7 +213,14 @@ module _ (h : History) (is : IsHistory h) (start : Start) (Was : List ℕ → Ty
       let a' : ArePayloads s.xid ms payloads = subst (λ l. ArePayloads (first_xid l) ms payloads) n.2 a in (
         letters ++ letters_of s.xid o.0 ms payloads,
         serve_going past wire other link link' letters s.xid o.0 o.1 ms payloads g was a' f.0 coming
-            (up ∙ ap (λ l. Up (record { requests = l; messages = messages letters ++ ms; place = other.server.place; watches = other.server.watches; stage = other.server.stage; talking = is_talking (state_of past) }))
+            (up ∙ ap (λ l. Up (record {
+              requests = l;
+              messages = messages letters ++ ms;
+              place = other.server.place;
+              watches = other.server.watches;
+              stage = other.server.stage;
+              talking = is_talking (state_of past);
+            }))
             (ap (λ l. rest_of (map (λ s. s.request) l)) n.2 ∙ ap (λ l. map (λ s. s.request) l) (sym here)))
             (subst (λ m. m ≤ length (requests start past)) (sym processed) le)
             (subst (λ l. Owes l o.1) (sym here) o.4)
@@ -181,26 +229,34 @@ module _ (h : History) (is : IsHistory h) (start : Start) (Was : List ℕ → Ty
       )
 
   -- while the client talks, no ConnectRequest is to be processed
-  past_waiting : (past : Past) (wire : Wire) (s : Matches h start Was past wire) (letters : List Letter) → InFlight h start Was past wire s.link letters → is_talking (state_of past) ≡ true → wire.server.stage ≡ Waiting → ⊥
+  past_waiting : (past : Past) (wire : Wire) (s : Matches h start Was past wire) (letters : List Letter)
+      → InFlight h start Was past wire s.link letters → is_talking (state_of past) ≡ true → wire.server.stage ≡ Waiting → ⊥
   past_waiting past wire s letters g talks waits =
       let c : Connection = connection start past wire letters in
-      let k : IsKeptUp h (seen start past) c (is_talking (state_of past)) = reached_kept h (from_zero start.last) (record { log = seen start past; link = Up c }) is (up_reached h start Was past wire s.link letters g s.reached) in
+      let k : IsKeptUp h (seen start past) c (is_talking (state_of past)) = reached_kept h (from_zero start.last)
+      (record { log = seen start past; link = Up c }) is (up_reached h start Was past wire s.link letters g s.reached) in
       let t : IsTalking h (seen start past) c = subst (λ (b : Bool). IsKeptUp h (seen start past) c b) talks k in
       t.stage waits
 
-  served_world : (step : Step) (past : Past) (wire other : Wire) (s : Matches h start Was past wire) (link' : Link) (letters : List Letter) → InFlight h start Was past wire s.link letters
-      → MayStep h step (connection start past wire letters) (seen start past) → stepped h step (connection start past wire letters) (seen start past) ≡ record { log = seen start past; link = link' }
+  served_world : (step : Step) (past : Past) (wire other : Wire) (s : Matches h start Was past wire) (link' : Link) (letters : List Letter)
+      → InFlight h start Was past wire s.link letters
+      → MayStep h step (connection start past wire letters) (seen start past)
+      → stepped h step (connection start past wire letters) (seen start past) ≡ record { log = seen start past; link = link' }
       → (letters' : List Letter) × InFlight h start Was past other link' letters' → Matches h start Was past other
   served_world step past wire other s link' letters g may same new = record {
     link = link';
-    reached = subst (λ w. Reached h (from_zero start.last) w) same (reach h (from_zero start.last) (record { log = seen start past; link = Up (connection start past wire letters) }) (Goes step) (up_reached h start Was past wire s.link letters g s.reached) may);
+    reached = subst (λ w. Reached h (from_zero start.last) w) same
+        (reach h (from_zero start.last) (record { log = seen start past; link = Up (connection start past wire letters) }) (Goes step)
+        (up_reached h start Was past wire s.link letters g s.reached) may);
     going = λ e. new;
     calm = s.calm;
     counted = s.counted;
   }
 
-  serve_by : (step : ServerStep) (payloads : List (List ℕ)) (past : Past) (wire : Wire) (s : Matches h start Was past wire) (letters : List Letter) → InFlight h start Was past wire s.link letters
-      → AllByRecursion Was payloads → MayDo h step wire.server (map (λ s. s.request) (unread start past wire)) → ArePayloads (first_xid (unread start past wire)) (messages_by h step wire.server.place) payloads
+  serve_by : (step : ServerStep) (payloads : List (List ℕ)) (past : Past) (wire : Wire) (s : Matches h start Was past wire)
+      (letters : List Letter) → InFlight h start Was past wire s.link letters
+      → AllByRecursion Was payloads → MayDo h step wire.server (map (λ s. s.request) (unread start past wire))
+      → ArePayloads (first_xid (unread start past wire)) (messages_by h step wire.server.place) payloads
       → Matches h start Was past (wire_on h step payloads wire)
   serve_by (Advances sent) payloads past wire s letters g was may a =
       let other : Wire = wire_on h (Advances sent) payloads wire in
@@ -208,8 +264,18 @@ module _ (h : History) (is : IsHistory h) (start : Start) (Was : List ℕ → Ty
       let back : unread start past other ≡ unread start past wire = ap (λ m. drop m (requests start past)) same in
       served_world (By_server (Advances sent)) past wire other s _ letters g may refl (
         letters ++ letters_of (first_xid (unread start past wire)) [] (map Notifies sent) payloads,
-        serve_going past wire other s.link _ letters (first_xid (unread start past wire)) [] g.owed (map Notifies sent) payloads g was a (notices_for h (first_xid (unread start past wire)) [] sent) refl
-            (ap (λ l. Up (record { requests = map (λ s. s.request) l; messages = messages letters ++ map Notifies sent; place = other.server.place; watches = other.server.watches; stage = other.server.stage; talking = is_talking (state_of past) })) (sym back))
+        serve_going past wire other s.link _ letters (first_xid (unread start past wire)) [] g.owed (map Notifies sent) payloads g was a
+            (notices_for h (first_xid (unread start past wire)) [] sent) refl
+            (ap (λ l. Up (record {
+              requests = map (λ s. s.request) l;
+              messages = messages letters ++ map Notifies sent;
+              place =
+                  other.server.place;
+              watches = other.server.watches;
+              stage = other.server.stage;
+              talking = is_talking (state_of past);
+            }))
+            (sym back))
             (subst (λ m. m ≤ length (requests start past)) (sym same) g.enough)
             (subst (λ l. Owes l g.owed) (sym back) g.owes)
             (ap (λ l. l ++ g.owed) (sym (notices_mine [] sent)))
@@ -218,37 +284,49 @@ module _ (h : History) (is : IsHistory h) (start : Start) (Was : List ℕ → Ty
   serve_by (Admits z) payloads past wire s letters g was may a =
       let other : Wire = wire_on h (Admits z) payloads wire in
       served_world (By_server (Admits z)) past wire other s _ letters g may refl
-      (serve_one past wire other s.link _ letters (Connect z) (Accepted ∷ []) payloads g was may.1 a (λ xid mine w. ((refl, tt), sym w)) refl refl refl (λ t. absurd (past_waiting past wire s letters g t may.0)))
+      (serve_one past wire other s.link _ letters (Connect z) (Accepted ∷ []) payloads g was may.1 a
+      (λ xid mine w. ((refl, tt), sym w)) refl refl refl (λ t. absurd (past_waiting past wire s letters g t may.0)))
   serve_by (Refuses z) payloads past wire s letters g was may a =
       let other : Wire = wire_on h (Refuses z) payloads wire in
       served_world (By_server (Refuses z)) past wire other s _ letters g may refl
-      (serve_one past wire other s.link _ letters (Connect z) (Expires ∷ []) payloads g was may.1 a (λ xid mine w. ((refl, tt), sym w)) refl refl refl (λ t. absurd (past_waiting past wire s letters g t may.0)))
+      (serve_one past wire other s.link _ letters (Connect z) (Expires ∷ []) payloads g was may.1 a
+      (λ xid mine w. ((refl, tt), sym w)) refl refl refl (λ t. absurd (past_waiting past wire s letters g t may.0)))
   serve_by (Answers q r) payloads past wire s letters g was may a =
       let other : Wire = wire_on h (Answers q r) payloads wire in
       served_world (By_server (Answers q r)) past wire other s _ letters g may refl
-      (serve_one past wire other s.link _ letters (Ask q) (Replies (question_of q) (zxid_held h wire.server.place) r ∷ []) payloads g was may.1 a
-      (λ xid mine w. (((w.0, w.1, q, coded h wire.server.place q r may.2, w.2, refl, w.3, given_write h wire.server.place q r may.2), tt), append-nil mine)) refl refl refl (λ t. tt))
+      (serve_one past wire other s.link _ letters (Ask q)
+      (Replies (question_of q) (zxid_held h wire.server.place) r ∷ []) payloads g was may.1 a
+      (λ xid mine w. (
+        ((w.0, w.1, q, coded h wire.server.place q r may.2, w.2, refl, w.3, given_write h wire.server.place q r may.2), tt),
+        append-nil mine,
+      )) refl refl refl (λ t. tt))
   serve_by (Restores b z part sent) payloads past wire s letters g was may a =
       let other : Wire = wire_on h (Restores b z part sent) payloads wire in
       served_world (By_server (Restores b z part sent)) past wire other s _ letters g may refl
-      (serve_one past wire other s.link _ letters (Restore b z part) (map Notifies sent ++ Watches_set b (zxid_held h wire.server.place) ∷ []) payloads g was may.1 a
+      (serve_one past wire other s.link _ letters (Restore b z part)
+      (map Notifies sent ++ Watches_set b (zxid_held h wire.server.place) ∷ []) payloads g was may.1 a
       (λ xid mine w. (
-        all_append h xid mine (map Notifies sent) (Watches_set b (zxid_held h wire.server.place) ∷ []) (notices_for h xid mine sent) ((w.0, w.1), tt),
-        flat-more (mine_of mine) (map Notifies sent) (Watches_set b (zxid_held h wire.server.place) ∷ []) ∙ ap (λ l. l ++ (mine ++ [])) (notices_mine mine sent) ∙ append-nil mine,
+        all_append h xid mine (map Notifies sent) (Watches_set b (zxid_held h wire.server.place) ∷ [])
+            (notices_for h xid mine sent) ((w.0, w.1), tt),
+        flat-more (mine_of mine) (map Notifies sent) (Watches_set b (zxid_held h wire.server.place) ∷ [])
+            ∙ ap (λ l. l ++ (mine ++ [])) (notices_mine mine sent) ∙ append-nil mine,
       ))
       refl refl refl (λ t. later_append (map Notifies sent) (Watches_set b (zxid_held h wire.server.place) ∷ []) (notices_later sent) tt))
   serve_by Pongs payloads past wire s letters g was may a =
       let other : Wire = wire_on h Pongs payloads wire in
       served_world (By_server Pongs) past wire other s _ letters g may refl
-      (serve_one past wire other s.link _ letters Ping (Pong ∷ []) payloads g was may.1 a (λ xid mine w. ((refl, tt), sym w)) refl refl refl (λ t. tt))
+      (serve_one past wire other s.link _ letters Ping (Pong ∷ []) payloads g was may.1 a
+      (λ xid mine w. ((refl, tt), sym w)) refl refl refl (λ t. tt))
 
   -- ---- schedules
 
   -- one entry more
-  entered : (entry : Entry) (earlier : List Entry) → Sends Was entry → Asks_paths entry → MayEnter h start entry (past_of start (items_in earlier)) (wire_of h earlier)
+  entered : (entry : Entry) (earlier : List Entry)
+      → Sends Was entry → Asks_paths entry → MayEnter h start entry (past_of start (items_in earlier)) (wire_of h earlier)
       → Matches h start Was (past_of start (items_in earlier)) (wire_of h earlier)
       → Matches h start Was (past_of start (items_in (entry ∷ earlier))) (wire_of h (entry ∷ earlier))
-  entered (Goes_on place (Turned turn)) earlier was ask may s = turned_here h is start Was place turn (past_of start (items_in earlier)) (wire_of h earlier) ask may s
+  entered (Goes_on place (Turned turn)) earlier was ask may s =
+      turned_here h is start Was place turn (past_of start (items_in earlier)) (wire_of h earlier) ask may s
   entered (Goes_on place Forgets_now) earlier was ask may s = forgot h start Was (past_of start (items_in earlier)) (wire_of h earlier) s
   entered (Goes_on place Halts_here) earlier was ask may s = halted h start Was (past_of start (items_in earlier)) (wire_of h earlier) s
   entered (Serves step payloads) earlier was ask may s =
@@ -272,7 +350,8 @@ still_sent (Serves step payloads) earlier payload w = inr w
 module _ (h : History) (Was More : List ℕ → Type 0) (more : (payload : List ℕ) → Was payload → More payload) where
   letters_more : (ls : List Letter) → AreLetters h Was ls → AreLetters h More ls
   letters_more [] a = tt
-  letters_more (l ∷ ls) a = (record { was_sent = more l.payload a.0.was_sent; short = a.0.short; spelt = a.0.spelt; is_for = a.0.is_for }, letters_more ls a.1)
+  letters_more (l ∷ ls) a =
+      (record { was_sent = more l.payload a.0.was_sent; short = a.0.short; spelt = a.0.spelt; is_for = a.0.is_for }, letters_more ls a.1)
 
   due_more : (fault : Fault) (past : Past) → IsDue Was fault past → IsDue More fault past
   due_more fault past (inl e) = inl e
@@ -289,7 +368,16 @@ module _ (h : History) (Was More : List ℕ → Type 0) (more : (payload : List 
     reached = s.reached;
     going = λ e. let g = s.going e in (
       g.0,
-      record { up = g.1.up; enough = g.1.enough; are = letters_more g.0 g.1.are; bytes = g.1.bytes; owed = g.1.owed; owes = g.1.owes; pending = g.1.pending; later = g.1.later },
+      record {
+        up = g.1.up;
+        enough = g.1.enough;
+        are = letters_more g.0 g.1.are;
+        bytes = g.1.bytes;
+        owed = g.1.owed;
+        owes = g.1.owes;
+        pending = g.1.pending;
+        later = g.1.later;
+      },
     );
     calm = (drops_more past s.calm.0, s.calm.1, s.calm.2);
     counted = s.counted;
@@ -308,14 +396,18 @@ asked_before (Goes_on place Halts_here) earlier a = a
 asked_before (Serves step payloads) earlier a = a
 
 -- Each entry keeps the invariant.
-pub entry_here : (h : History) (is : IsHistory h) (start : Start) (entry : Entry) (earlier : List Entry) → AllAsked (items_in (entry ∷ earlier)) → MayEnter h start entry (past_of start (items_in earlier)) (wire_of h earlier)
+pub entry_here : (h : History) (is : IsHistory h) (start : Start) (entry : Entry) (earlier : List Entry)
+    → AllAsked (items_in (entry ∷ earlier)) → MayEnter h start entry (past_of start (items_in earlier)) (wire_of h earlier)
     → Matches h start (WasSent earlier) (past_of start (items_in earlier)) (wire_of h earlier)
     → Matches h start (WasSent (entry ∷ earlier)) (past_of start (items_in (entry ∷ earlier))) (wire_of h (entry ∷ earlier))
 entry_here h is start entry earlier ask may s =
     entered h is start (WasSent (entry ∷ earlier)) entry earlier (entry_sends entry earlier) (asked_now entry earlier ask) may
-    (matches_more h (WasSent earlier) (WasSent (entry ∷ earlier)) (still_sent entry earlier) start (past_of start (items_in earlier)) (wire_of h earlier) s)
+    (matches_more h (WasSent earlier) (WasSent (entry ∷ earlier)) (still_sent entry earlier) start
+    (past_of start (items_in earlier)) (wire_of h earlier) s)
 
 -- A schedule of turns and moves is a run.
-pub schedule_here : (h : History) (is : IsHistory h) (start : Start) (entries : List Entry) → AllAsked (items_in entries) → IsServing h start entries → Matches h start (WasSent entries) (past_of start (items_in entries)) (wire_of h entries)
+pub schedule_here : (h : History) (is : IsHistory h) (start : Start) (entries : List Entry) → AllAsked (items_in entries)
+    → IsServing h start entries → Matches h start (WasSent entries) (past_of start (items_in entries)) (wire_of h entries)
 schedule_here h is start [] ask may = first_here h is start (WasSent [])
-schedule_here h is start (entry ∷ earlier) ask may = entry_here h is start entry earlier ask may.0 (schedule_here h is start earlier (asked_before entry earlier ask) may.1)
+schedule_here h is start (entry ∷ earlier) ask may =
+    entry_here h is start entry earlier ask may.0 (schedule_here h is start earlier (asked_before entry earlier ask) may.1)

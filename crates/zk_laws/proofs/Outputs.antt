@@ -1,23 +1,28 @@
 -- What is given has its cause in what happened.
 use Rattle.zk_conversation.specs.Calls.{Call}
 use Rattle.zk_nodes.specs.Path.{Text}
-use Rattle.std.proofs.Common.{◌≡◌, ℕ, Option, Some, None, ap, ℤ, Bool, true, false, cond, List, [], ◌∷◌, ◌++◌, map, refl, sym, subst, inl, inr, ◌⊎◌}
+use Rattle.std.proofs.Common.{◌≡◌, ℕ, Option, Some, None, ap, ℤ, Bool, true, false, cond, List, [], ◌∷◌, ◌++◌, map, refl, sym, subst, inl}
+use Rattle.std.proofs.Common.{inr, ◌⊎◌}
 use Rattle.std.specs.Prelude.{◌&&◌, if◌then◌else◌, nat_le, ◌*◌, ◌-◌}
 use Rattle.std.specs.List.{flat_map}
 use Rattle.zk_session.specs.declared.states.State.{State}
 use Rattle.zk_conversation.specs.Results.{Result}
-use Rattle.zk_turns.specs.Turns.{Outcome, Replied, SessionClosed, TooManyWatches, TooLarge, TooManyPending, Answer, Start, Fault, Output, Report, Enters, Drop, Item, Turned, Forgets, Halts, Signal, Forget, Halt, Opens, Comes, Cuts, Ticks, Calls, signals_of, Silent}
+use Rattle.zk_turns.specs.Turns.{Outcome, Replied, SessionClosed, TooManyWatches, TooLarge, TooManyPending, Answer, Start, Fault, Output}
+use Rattle.zk_turns.specs.Turns.{Report, Enters, Drop, Item, Turned, Forgets, Halts, Signal, Forget, Halt, Opens, Comes, Cuts, Ticks, Calls}
+use Rattle.zk_turns.specs.Turns.{signals_of, Silent}
 use Rattle.zk_conversation.specs.Questions.{Question, Close}
 use Rattle.zk_nodes.specs.declared.side.Side.{Side}
 use Rattle.zk_nodes.specs.declared.side.Side.TheVariants.{Data, Child}
 use Rattle.zk_records.specs.declared.event.Event.{Event}
 use Rattle.zk_session.specs.declared.states.State.TheVariants.{Idle, Connecting, Connected, Expired, Closed}
-use Rattle.zk_turns.specs.Past.{is_talking, Past, Happening, Began, Came, Took, Dropped, Lost, Asked, Denied, Pinged, Ticked, Forgot, Halted, Message, Accepted, Expiry, Replies, Watches_set, Notifies, Pong, Skipped}
+use Rattle.zk_turns.specs.Past.{is_talking, Past, Happening, Began, Came, Took, Dropped, Lost, Asked, Denied, Pinged, Ticked, Forgot}
+use Rattle.zk_turns.specs.Past.{Halted, Message, Accepted, Expiry, Replies, Watches_set, Notifies, Pong, Skipped}
 use Rattle.zk_watches.specs.Lists.{Lists}
 use Rattle.zk_watches.specs.Parts.{parts}
 use Rattle.zk_conversation.specs.Pending.{Pending, Waiting, Part_waits, Call_waits}
 use Rattle.zk_turns.specs.View.{View, view_at}
-use Rattle.zk_turns.specs.Taken.{Cutting, Unfinished, Bad, Payload, cut, of_cutting, comes, opens, if_open, due, timeout_of, refusal, caused, happenings, joined, past_after, past_of}
+use Rattle.zk_turns.specs.Taken.{Cutting, Unfinished, Bad, Payload, cut, of_cutting, comes, opens, if_open, due, timeout_of, refusal}
+use Rattle.zk_turns.specs.Taken.{caused, happenings, joined, past_after, past_of}
 use Rattle.zk_turns.specs.Rule.{says, loss, part_frame, report, due_happenings, due_signals, AllSaid, Stands}
 use Rattle.zk_turns.specs.Sent.{outputs_of}
 use Rattle.zk_turns.proofs.Sending.{onto, outputs_onto}
@@ -40,7 +45,8 @@ among_onto o (x ∷ xs) ys a = by (among_onto o xs (x ∷ ys) a)
     by (inr (inl e)) = inl (inl e)
     by (inr (inr b)) = inr b
 
-module _ (start : Start) (o : Output) (P : Happening → Type 0) (caused : (past : Past) (signal : Signal) (x : Happening) → Among x (happenings (view_at start past) signal) → (view : View) → Among o (says view x) → P x) where
+module _ (start : Start) (o : Output) (P : Happening → Type 0) (caused : (past : Past) (signal : Signal) (x : Happening)
+    → Among x (happenings (view_at start past) signal) → (view : View) → Among o (says view x) → P x) where
   abbrev Has : Past → Type 0
   Has past = (x : Happening) × Among x past × P x
 
@@ -50,9 +56,11 @@ module _ (start : Start) (o : Output) (P : Happening → Type 0) (caused : (past
 
   has_signals : (ss : List Signal) (past : Past) → Has past → Has (past_after start past ss)
   has_signals [] past h = h
-  has_signals (s ∷ ss) past h = has_signals ss (joined past (happenings (view_at start past) s)) (has_more (happenings (view_at start past) s) past h)
+  has_signals (s ∷ ss) past h =
+      has_signals ss (joined past (happenings (view_at start past) s)) (has_more (happenings (view_at start past) s) past h)
 
-  in_due : (hs : List Happening) (past : Past) → ((x : Happening) → Among x hs → (view : View) → Among o (says view x) → P x) → Among o (due_happenings start past hs) → Has (joined past hs)
+  in_due : (hs : List Happening) (past : Past) → ((x : Happening) → Among x hs → (view : View) → Among o (says view x) → P x)
+      → Among o (due_happenings start past hs) → Has (joined past hs)
   in_due [] past f a = absurd a
   in_due (x ∷ hs) past f a = elim (among_split o (says (view_at start past) x) (due_happenings start (x ∷ past) hs) a) [
     | inl b ↦ has_more hs (x ∷ past) (x, inl refl, f x (inl refl) (view_at start past) b)
@@ -70,10 +78,11 @@ module _ (start : Start) (o : Output) (P : Happening → Type 0) (caused : (past
 
   pub in_items : (items : List Item) → AllSaid start items → Among o (outputs_of items) → Has (past_of start items)
   in_items [] said a = absurd a
-  in_items (Turned turn ∷ items) said a = elim (among_onto o turn.outputs (outputs_of items) (subst (λ l. Among o l) (outputs_onto turn items) a)) [
-    | inl b ↦ in_signals (signals_of turn.input) (past_of start items) (subst (λ t. Among o t) said.0 b)
-    | inr b ↦ has_signals (signals_of turn.input) (past_of start items) (in_items items said.1 b)
-  ]
+  in_items (Turned turn ∷ items) said a =
+      elim (among_onto o turn.outputs (outputs_of items) (subst (λ l. Among o l) (outputs_onto turn items) a)) [
+        | inl b ↦ in_signals (signals_of turn.input) (past_of start items) (subst (λ t. Among o t) said.0 b)
+        | inr b ↦ has_signals (signals_of turn.input) (past_of start items) (in_items items said.1 b)
+      ]
   in_items (Forgets ∷ items) said a = has_signals (Forget ∷ []) (past_of start items) (in_items items said a)
   in_items (Halts ∷ items) said a = has_signals (Halt ∷ []) (past_of start items) (in_items items said a)
 
@@ -93,10 +102,15 @@ module _ (fault : Fault) where
   no_losses [] (inr a) = a
   no_losses (p ∷ ps) a = by (among_split (Drop fault) (loss p ++ flat_map loss ps) (Enters Idle ∷ []) a) (λ b. no_losses ps b)
     where
-      by : Among (Drop fault) (loss p ++ flat_map loss ps) ⊎ Among (Drop fault) (Enters Idle ∷ []) → (Among (Drop fault) (flat_map loss ps ++ Enters Idle ∷ []) → ⊥) → ⊥
+      by : Among (Drop fault) (loss p ++ flat_map loss ps) ⊎ Among (Drop fault) (Enters Idle ∷ [])
+          → (Among (Drop fault) (flat_map loss ps ++ Enters Idle ∷ []) → ⊥) → ⊥
       by (inr (inl e)) more = cc
       by (inr (inr b)) more = b
-      by (inl b) more = elim (among_split (Drop fault) (loss p) (flat_map loss ps) b) [ inl c ↦ no_loss p c | inr c ↦ more (Among-left (Drop fault) (flat_map loss ps) (Enters Idle ∷ []) c) ]
+      by (inl b) more = elim (among_split (Drop fault) (loss p) (flat_map loss ps) b) [
+        | inl c ↦ no_loss p c
+        | inr c ↦
+            more (Among-left (Drop fault) (flat_map loss ps) (Enters Idle ∷ []) c)
+      ]
 
   no_part : (z : ℤ) (ps : List Lists) → Among (Drop fault) (map (part_frame z) ps) → ⊥
   no_part z [] a = a
@@ -148,7 +162,8 @@ module _ (fault : Fault) where
   drop_cause view Halted a = absurd a
 
   -- Each drop that was given is one that happened.
-  pub given_drops : (start : Start) (items : List Item) (view : View) → Stands start items view → Among (Drop fault) (outputs_of items) → Among (Dropped fault) (past_of start items)
+  pub given_drops : (start : Start) (items : List Item) (view : View) → Stands start items view → Among (Drop fault) (outputs_of items)
+      → Among (Dropped fault) (past_of start items)
   given_drops start items view s a =
       let h = in_items start (Drop fault) (λ x. Dropped fault ≡ x) (λ past signal x m view b. drop_cause view x b) items s.said a in
       subst (λ x. Among x (past_of start items)) (sym h.2) h.1
@@ -172,10 +187,15 @@ module _ (ticket : ℕ) (zxid : ℤ) (result : Result) where
   none_lost [] (inr a) = a
   none_lost (p ∷ ps) a = by (among_split the_answer (loss p ++ flat_map loss ps) (Enters Idle ∷ []) a) (λ b. none_lost ps b)
     where
-      by : Among the_answer (loss p ++ flat_map loss ps) ⊎ Among the_answer (Enters Idle ∷ []) → (Among the_answer (flat_map loss ps ++ Enters Idle ∷ []) → ⊥) → ⊥
+      by : Among the_answer (loss p ++ flat_map loss ps) ⊎ Among the_answer (Enters Idle ∷ [])
+          → (Among the_answer (flat_map loss ps ++ Enters Idle ∷ []) → ⊥) → ⊥
       by (inr (inl e)) more = cc
       by (inr (inr b)) more = b
-      by (inl b) more = elim (among_split the_answer (loss p) (flat_map loss ps) b) [ inl c ↦ not_lost p c | inr c ↦ more (Among-left the_answer (flat_map loss ps) (Enters Idle ∷ []) c) ]
+      by (inl b) more = elim (among_split the_answer (loss p) (flat_map loss ps) b) [
+        | inl c ↦ not_lost p c
+        | inr c ↦
+            more (Among-left the_answer (flat_map loss ps) (Enters Idle ∷ []) c)
+      ]
 
   not_part : (z : ℤ) (ps : List Lists) → Among the_answer (map (part_frame z) ps) → ⊥
   not_part z [] a = a
@@ -193,7 +213,8 @@ module _ (ticket : ℕ) (zxid : ℤ) (result : Result) where
   not_closing _ a = a
 
   -- isnt call is refused with a reply
-  by_tests : (a b c d : Bool) → cond a (Some SessionClosed) (cond b (Some TooManyPending) (cond c (Some TooManyWatches) (cond d (Some TooLarge) None))) ≡ Some (Replied zxid result) → ⊥
+  by_tests : (a b c d : Bool) → cond a (Some SessionClosed)
+      (cond b (Some TooManyPending) (cond c (Some TooManyWatches) (cond d (Some TooLarge) None))) ≡ Some (Replied zxid result) → ⊥
   by_tests true b c d e = cc
   by_tests false true c d e = cc
   by_tests false false true d e = cc
@@ -237,14 +258,16 @@ module _ (ticket : ℕ) (zxid : ℤ) (result : Result) where
   cutting_plain view Unfinished a = a
   cutting_plain view (Bad fault) (inl e) = cc
   cutting_plain view (Bad fault) (inr a) = a
-  cutting_plain view (Payload p) (inl e) = of_reading (λ x. the_denial ≡ x → ⊥) (λ m f. cc) (λ f g. cc) view.standing.state view.pending view.saved.last p e
+  cutting_plain view (Payload p) (inl e) =
+      of_reading (λ x. the_denial ≡ x → ⊥) (λ m f. cc) (λ f g. cc) view.standing.state view.pending view.saved.last p e
   cutting_plain view (Payload p) (inr a) = a
 
   comes_plain : (view : View) (byte : ℕ) → Among the_denial (comes view byte) → ⊥
   comes_plain view byte (inl e) = cc
   comes_plain view byte (inr a) = cutting_plain view (cut (view.held ++ byte ∷ [])) a
 
-  cond_plain : (b : Bool) (xs ys : List Happening) → (Among the_denial xs → ⊥) → (Among the_denial ys → ⊥) → Among the_denial (cond b xs ys) → ⊥
+  cond_plain : (b : Bool) (xs ys : List Happening) → (Among the_denial xs → ⊥) → (Among the_denial ys → ⊥)
+      → Among the_denial (cond b xs ys) → ⊥
   cond_plain true xs ys f g a = f a
   cond_plain false xs ys f g a = g a
 
@@ -253,10 +276,13 @@ module _ (ticket : ℕ) (zxid : ℤ) (result : Result) where
   one_plain x isnt (inr a) = a
 
   due_plain : (view : View) (now : ℕ) → Among the_denial (due view now) → ⊥
-  due_plain view now a = cond_plain (nat_le (2 * timeout_of view) (3 * (now - view.moments.heard))) (Dropped Silent ∷ []) _ (one_plain (Dropped Silent) (λ e. cc)) (by view.standing.state) a
+  due_plain view now a = cond_plain (nat_le (2 * timeout_of view) (3 * (now - view.moments.heard))) (Dropped Silent ∷ []) _
+      (one_plain (Dropped Silent) (λ e. cc)) (by view.standing.state) a
     where
-      by : (st : State) → Among the_denial (if is_talking st && nat_le (timeout_of view) (3 * (now - view.moments.sent)) then Pinged ∷ [] else []) → ⊥
-      by Connected b = cond_plain (nat_le (timeout_of view) (3 * (now - view.moments.sent))) (Pinged ∷ []) [] (one_plain Pinged (λ e. cc)) (λ c. c) b
+      by : (st : State)
+          → Among the_denial (if is_talking st && nat_le (timeout_of view) (3 * (now - view.moments.sent)) then Pinged ∷ [] else []) → ⊥
+      by Connected b =
+          cond_plain (nat_le (timeout_of view) (3 * (now - view.moments.sent))) (Pinged ∷ []) [] (one_plain Pinged (λ e. cc)) (λ c. c) b
       by _ b = b
 
   caused_plain : (view : View) (signal : Signal) → Among the_denial (caused view signal) → ⊥
@@ -287,14 +313,16 @@ module _ (ticket : ℕ) (zxid : ℤ) (result : Result) where
       (q, λ i. Took (Replies (u i) q (v i) (w i)))
   message_cause view (Replies t q z r) (inr a) = absurd (not_closing q a)
   message_cause view (Watches_set b z) a = absurd a
-  message_cause view (Notifies event path) a = elim (among_split the_answer (report view event path Data) (report view event path Child) a) [
-    | inl b ↦ absurd (not_report _ path Data event b)
-    | inr b ↦ absurd (not_report _ path Child event b)
-  ]
+  message_cause view (Notifies event path) a =
+      elim (among_split the_answer (report view event path Data) (report view event path Child) a) [
+        | inl b ↦ absurd (not_report _ path Data event b)
+        | inr b ↦ absurd (not_report _ path Child event b)
+      ]
   message_cause view Pong a = absurd a
   message_cause view Skipped a = absurd a
 
-  answer_cause : (start : Start) (past : Past) (signal : Signal) (x : Happening) → Among x (happenings (view_at start past) signal) → (view : View) → Among the_answer (says view x) → IsReply x
+  answer_cause : (start : Start) (past : Past) (signal : Signal) (x : Happening) → Among x (happenings (view_at start past) signal)
+      → (view : View) → Among the_answer (says view x) → IsReply x
   answer_cause start past signal Began m view (inl e) = absurd cc
   answer_cause start past signal Began m view (inr (inl e)) = absurd cc
   answer_cause start past signal Began m view (inr (inr a)) = absurd a
@@ -307,7 +335,8 @@ module _ (ticket : ℕ) (zxid : ℤ) (result : Result) where
   answer_cause start past signal (Asked t q) m view (inr a) = absurd a
   answer_cause start past signal (Denied t why) m view (inl e) =
       let u : t ≡ ticket = cc in let v : why ≡ Replied zxid result = cc in
-      absurd (happens_plain (view_at start past) signal (subst (λ x. Among x (happenings (view_at start past) signal)) (λ i. Denied (u i) (v i)) m))
+      absurd (happens_plain (view_at start past) signal
+      (subst (λ x. Among x (happenings (view_at start past) signal)) (λ i. Denied (u i) (v i)) m))
   answer_cause start past signal (Denied t why) m view (inr a) = absurd a
   answer_cause start past signal Pinged m view (inl e) = absurd cc
   answer_cause start past signal Pinged m view (inr a) = absurd a

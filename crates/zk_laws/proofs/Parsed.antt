@@ -28,7 +28,8 @@ frame_first p q x y lp lq e =
     (sym (drop-frame p) ∙ ap (λ l. drop 4 l) s.0 ∙ drop-frame q, s.1)
 
 -- Frames that begin a stream of frames are its first ones.
-begin_alike : (ps qs : List (List ℕ)) (rest : List ℕ) → AreTold ps → AreTold qs → joined ps ++ rest ≡ joined qs → (more : List (List ℕ)) × (qs ≡ ps ++ more) × (rest ≡ joined more)
+begin_alike : (ps qs : List (List ℕ)) (rest : List ℕ)
+    → AreTold ps → AreTold qs → joined ps ++ rest ≡ joined qs → (more : List (List ℕ)) × (qs ≡ ps ++ more) × (rest ≡ joined more)
 begin_alike [] qs rest a b e = (qs, refl, e)
 begin_alike (p ∷ ps) [] rest a b e =
     let n = length-frame p in
@@ -40,7 +41,8 @@ begin_alike (p ∷ ps) (q ∷ qs) rest a b e =
     (t.0, (λ i. sym r.0 i ∷ t.1 i), t.2)
 
 -- less than a whole frame begins no stream of frames but the empty one
-nothing_more : (more : List (List ℕ)) (rest : List ℕ) → AreTold more → (4 ≤ length rest → length rest < 4 + length_field rest) → rest ≡ joined more → more ≡ []
+nothing_more : (more : List (List ℕ)) (rest : List ℕ) → AreTold more → (4 ≤ length rest → length rest < 4 + length_field rest)
+    → rest ≡ joined more → more ≡ []
 nothing_more [] rest a short e = refl
 nothing_more (p ∷ more) rest a short e =
     let n = length-frame p in
@@ -61,16 +63,22 @@ stream_joined : (sent : List Sent) → flat_map (λ bytes. bytes) (map (λ s. fr
 stream_joined [] = refl
 stream_joined (s ∷ sent) = ap (λ l. frame s.payload ++ l) (stream_joined sent)
 
-stream_is : (start : Start) (items : List Item) (view : View) → Stands start items view → IsOpen view.standing.state → stream_of items ≡ joined (payloads_of start items)
-stream_is start items view s up = ap (flat_map (λ bytes. bytes)) (sends_are start items view s up) ∙ stream_joined (requests start (past_of start items))
+stream_is : (start : Start) (items : List Item) (view : View)
+    → Stands start items view → IsOpen view.standing.state → stream_of items ≡ joined (payloads_of start items)
+stream_is start items view s up =
+    ap (flat_map (λ bytes. bytes)) (sends_are start items view s up) ∙ stream_joined (requests start (past_of start items))
 
 -- A server that cuts a beginning of the bytes sent finds the payloads of the first requests.
-pub beginning_found : (start : Start) (items : List Item) (view : View) (found : List (List ℕ)) (rest : List ℕ) → Stands start items view → IsOpen view.standing.state
-    → AreTold (payloads_of start items) → AreTold found → joined found ++ rest ≡ stream_of items → (more : List (List ℕ)) × (payloads_of start items ≡ found ++ more) × (rest ≡ joined more)
-beginning_found start items view found rest s up a b e = begin_alike found (payloads_of start items) rest b a (e ∙ stream_is start items view s up)
+pub beginning_found : (start : Start) (items : List Item) (view : View) (found : List (List ℕ)) (rest : List ℕ)
+    → Stands start items view → IsOpen view.standing.state
+    → AreTold (payloads_of start items) → AreTold found → joined found ++ rest ≡ stream_of items
+    → (more : List (List ℕ)) × (payloads_of start items ≡ found ++ more) × (rest ≡ joined more)
+beginning_found start items view found rest s up a b e =
+    begin_alike found (payloads_of start items) rest b a (e ∙ stream_is start items view s up)
 
 -- And where it has them all it finds each of them, and nothing else.
-pub all_found : (start : Start) (items : List Item) (view : View) (found : List (List ℕ)) (rest : List ℕ) → Stands start items view → IsOpen view.standing.state
+pub all_found : (start : Start) (items : List Item) (view : View) (found : List (List ℕ)) (rest : List ℕ)
+    → Stands start items view → IsOpen view.standing.state
     → AreTold (payloads_of start items) → IsCutInto found rest (stream_of items) → (found ≡ payloads_of start items) × (rest ≡ [])
 all_found start items view found rest s up a c =
     let r = beginning_found start items view found rest s up a c.told (sym c.whole) in

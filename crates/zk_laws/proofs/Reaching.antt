@@ -7,7 +7,8 @@ use Rattle.zk_laws.specs.Run.{start, Move, May, moved, IsSchedule, run}
 use Rattle.zk_laws.proofs.Whole.{start_kept, run_kept}
 use Rattle.zk_laws.specs.Flight.{Reached}
 
-may_more : (h : History) (moves : List Move) (move : Move) (w : World) → IsSchedule h moves w → May h move (run h moves w) → IsSchedule h (moves ++ move ∷ []) w
+may_more : (h : History) (moves : List Move) (move : Move) (w : World) → IsSchedule h moves w → May h move (run h moves w)
+    → IsSchedule h (moves ++ move ∷ []) w
 may_more h [] move w s may = (may, tt)
 may_more h (one ∷ moves) move w s may = (s.0, may_more h moves move (moved h one w) s.1 may)
 

@@ -38,16 +38,19 @@ pub full : (bytes : Option (List ℕ)) (stat : Stat) (found : Option Node)
 full bytes stat None = (λ fits. absurd fits, λ there. absurd (no_node there.0 there.1))
 full bytes stat (Some node) = (
   λ fits. (node, refl, fits.0, fits.1),
-  λ there. subst (λ (n : Node). (bytes ≡ n.content) × (data_stat_of stat ≡ node_fields n)) (same_node node there.0 there.1) (there.2, there.3),
+  λ there. subst (λ (n : Node). (bytes ≡ n.content) × (data_stat_of stat ≡ node_fields n))
+      (same_node node there.0 there.1) (there.2, there.3),
 )
 
 pub listing : (names : List Name) (stat : Stat) (present : Name → Bool) (found : Option Node)
     → (FitsNames (names_of names stat) (children_of present found) × Fits (Known (data_stat_of stat)) (contents_of found))
-    ↔ ((node : Node) × (found ≡ Some node) × (stat.pzxid ≡ pos node.pzxid) × (data_stat_of stat ≡ node_fields node) × ((name : Name) → set.contains (names_of names stat).names name ≡ present name))
+    ↔ ((node : Node) × (found ≡ Some node) × (stat.pzxid ≡ pos node.pzxid) × (data_stat_of stat ≡ node_fields node)
+    × ((name : Name) → set.contains (names_of names stat).names name ≡ present name))
 listing names stat present None = (λ fits. absurd fits.0, λ there. absurd (no_node there.0 there.1))
 listing names stat present (Some node) = (
   λ fits. (node, refl, fits.0.0, fits.1, fits.0.1),
   λ there.
-      subst (λ (n : Node). ((stat.pzxid ≡ pos n.pzxid) × ((name : Name) → set.contains (names_of names stat).names name ≡ present name)) × (data_stat_of stat ≡ node_fields n))
+      subst (λ (n : Node). ((stat.pzxid ≡ pos n.pzxid) × ((name : Name) → set.contains (names_of names stat).names name ≡ present name))
+      × (data_stat_of stat ≡ node_fields n))
       (same_node node there.0 there.1) ((there.2, there.4), there.3),
 )

@@ -1,6 +1,7 @@
 -- What is good, and the last seen zxid, are the same by the look back over a past and by the items of a run.
 use Rattle.std.specs.FinSet as set
-use Rattle.std.proofs.Common.{◌≡◌, ℕ, ◌≤◌, ◌<◌, ℤ, pos, negsuc, Bool, true, false, cond, ◌&&◌, List, [], ◌∷◌, Option, Some, None, refl, sym, ap, ◌∙◌, arith, ◌⊎◌, inl, inr}
+use Rattle.std.proofs.Common.{◌≡◌, ℕ, ◌≤◌, ◌<◌, ℤ, pos, negsuc, Bool, true, false, cond, ◌&&◌, List, [], ◌∷◌, Option, Some, None, refl, sym}
+use Rattle.std.proofs.Common.{ap, ◌∙◌, arith, ◌⊎◌, inl, inr}
 use Rattle.std.specs.Prelude.{bytes_eq, if◌then◌else◌, max, int_lt}
 use Rattle.std.proofs.lemmas.Bool.{le-ltb, lt-ltb, cases_lt}
 use Rattle.zk_nodes.specs.Path.{Text}
@@ -10,10 +11,14 @@ use Rattle.zk_turns.specs.Turns.{Start}
 use Rattle.zk_conversation.specs.Questions.{Question, Exists, GetData, GetChildren, Close}
 use Rattle.zk_conversation.specs.Results.{Result, NoNode, Found, Read, Listing}
 use Rattle.zk_nodes.specs.DataStats.{data_stat_of}
-use Rattle.zk_turns.specs.Past.{Happening, Began, Dropped, Forgot, Past, Skipped, Expiry, last_of, Word, Says, Ends, Empties, Nothing, kept_by, kept_data, kept_names, good_answer, names_of, Took as Takes_in, Lost as Loses_it, Halted as Halts_now, Message as Reading, Accepted as Accepts, Replies as Answers_call, Watches_set as Sets_watches, Notifies as Tells, Pong as Echo}
+use Rattle.zk_turns.specs.Past.{Happening, Began, Dropped, Forgot, Past, Skipped, Expiry, last_of, Word, Says, Ends, Empties, Nothing}
+use Rattle.zk_turns.specs.Past.{kept_by, kept_data, kept_names, good_answer, names_of, Took as Takes_in, Lost as Loses_it}
+use Rattle.zk_turns.specs.Past.{Halted as Halts_now, Message as Reading, Accepted as Accepts, Replies as Answers_call}
+use Rattle.zk_turns.specs.Past.{Watches_set as Sets_watches, Notifies as Tells, Pong as Echo}
 use Rattle.std.specs.Int.{int_max}
 use Rattle.zk_cache.specs.declared.held.Mark.{Mark}
-use Rattle.zk_cache.specs.Kept.{same_fields, without_stale, Answer as Kept_answer, Absent as Kept_absent, Known as Kept_known, Full as Kept_full, Names as Kept_names, merged}
+use Rattle.zk_cache.specs.Kept.{same_fields, without_stale, Answer as Kept_answer, Absent as Kept_absent, Known as Kept_known}
+use Rattle.zk_cache.specs.Kept.{Full as Kept_full, Names as Kept_names, merged}
 use Rattle.zk_cache.specs.declared.held.Kept.{Kept}
 use Rattle.zk_cache.specs.declared.held.Mark.TheVariants.{Good, Stale}
 use Rattle.zk_records.specs.Events.{concerns}
@@ -62,10 +67,12 @@ from_later (negsuc m) (negsuc n) = by (int_lt (negsuc n) (negsuc m))
     by true = refl
     by false = refl
 
-last_more : (start : Start) (past : Past) → last (seen start past) ≡ from_zero (last_of start past) → max 0 (last (seen start past)) ≡ from_zero (last_of start past)
+last_more : (start : Start) (past : Past) → last (seen start past) ≡ from_zero (last_of start past)
+    → max 0 (last (seen start past)) ≡ from_zero (last_of start past)
 last_more start past ih = max_zero (last (seen start past)) ∙ ih
 
-last_later : (start : Start) (z : ℤ) (past : Past) → last (seen start past) ≡ from_zero (last_of start past) → max (from_zero z) (last (seen start past)) ≡ from_zero (int_max z (last_of start past))
+last_later : (start : Start) (z : ℤ) (past : Past) → last (seen start past) ≡ from_zero (last_of start past)
+    → max (from_zero z) (last (seen start past)) ≡ from_zero (int_max z (last_of start past))
 last_later start z past ih = ap (λ n. max (from_zero z) n) ih ∙ sym (from_later z (last_of start past))
 
 -- The last seen zxid of a run is that of the past.
@@ -94,7 +101,8 @@ fields_turned a b = bool_same (same_fields a b) (same_fields b a)
     (λ e. ap (λ t. same_fields a t) (fields_same b a e) ∙ fields_eq-refl a)
 
 refreshed_as : (old new : DataStat) (bytes : Option (List ℕ)) (b : Bool) → same_fields old new ≡ b
-    → (if same_fields new old then Full bytes new else Known new) ≡ node_answer (if same_fields old new then Kept_full bytes old else Kept_known new)
+    → (if same_fields new old then Full bytes new else Known new)
+    ≡ node_answer (if same_fields old new then Kept_full bytes old else Kept_known new)
 refreshed_as old new bytes true e =
     ap (λ t. cond t (Full bytes new) (Known new)) (fields_turned new old ∙ e)
     ∙ ap (Full bytes) (sym (fields_same old new e))
@@ -103,7 +111,8 @@ refreshed_as old new bytes false e =
     ap (λ t. cond t (Full bytes new) (Known new)) (fields_turned new old ∙ e)
     ∙ ap (λ t. node_answer (cond t (Kept_full bytes old) (Kept_known new))) (sym e)
 
-refreshed_is : (kept : Option (Kept Kept_answer)) (answer : Kept_answer) → refreshed (node_answer answer) (if_good node_answer kept) ≡ node_answer (merged kept answer)
+refreshed_is : (kept : Option (Kept Kept_answer)) (answer : Kept_answer)
+    → refreshed (node_answer answer) (if_good node_answer kept) ≡ node_answer (merged kept answer)
 refreshed_is None Kept_absent = refl
 refreshed_is None (Kept_known f) = refl
 refreshed_is None (Kept_full b f) = refl
@@ -111,7 +120,8 @@ refreshed_is (Some kept) Kept_absent = refl
 refreshed_is (Some kept) (Kept_full b f) = refl
 refreshed_is (Some kept) (Kept_known f) = by kept.answer kept.mark
   where
-    by : (a : Kept_answer) (m : Mark) → refreshed (Known f) (if_good node_answer (Some (record { answer = a; mark = m }))) ≡ node_answer (merged (Some (record { answer = a; mark = m })) (Kept_known f))
+    by : (a : Kept_answer) (m : Mark) → refreshed (Known f) (if_good node_answer (Some (record { answer = a; mark = m })))
+        ≡ node_answer (merged (Some (record { answer = a; mark = m })) (Kept_known f))
     by Kept_absent Good = refl
     by (Kept_known k) Good = refl
     by (Kept_full b k) Good = refreshed_as k f b (same_fields k f) refl
@@ -119,15 +129,19 @@ refreshed_is (Some kept) (Kept_known f) = by kept.answer kept.mark
     by (Kept_known k) Stale = refl
     by (Kept_full b k) Stale = refl
 
-good_after : (path : Text) (answer : Kept_answer) (happening : Happening) (past : Past) (k : Option Answer) (b c : Bool) → b ≡ c → k ≡ if_good node_answer (kept_data path past)
-    → (if b then Some (refreshed (node_answer answer) k) else k) ≡ if_good node_answer (kept_by (cond c (Says answer) Nothing) (λ a. good_answer path a past) Began (kept_data path past))
+good_after : (path : Text) (answer : Kept_answer) (happening : Happening) (past : Past) (k : Option Answer) (b c : Bool)
+    → b ≡ c → k ≡ if_good node_answer (kept_data path past)
+    → (if b then Some (refreshed (node_answer answer) k) else k)
+    ≡ if_good node_answer (kept_by (cond c (Says answer) Nothing) (λ a. good_answer path a past) Began (kept_data path past))
 good_after path answer happening past k true true e ih =
-    ap (λ t. Some (refreshed (node_answer answer) t)) ih ∙ ap Some (refreshed_is (kept_data path past) answer) ∙ ap (λ t. Some (node_answer t)) (merged_is path answer past)
+    ap (λ t. Some (refreshed (node_answer answer) t)) ih ∙ ap Some (refreshed_is (kept_data path past) answer)
+    ∙ ap (λ t. Some (node_answer t)) (merged_is path answer past)
 good_after path answer happening past k false false e ih = ih
 good_after path answer happening past k true false e ih = absurd cc
 good_after path answer happening past k false true e ih = absurd cc
 
-ended_after : {A : Type 0} (word : A → Answer) (kept : Option (Kept A)) (k : Option Answer) (b c : Bool) (known : A → A) → b ≡ c → k ≡ if_good word kept
+ended_after : {A : Type 0} (word : A → Answer) (kept : Option (Kept A)) (k : Option Answer) (b c : Bool) (known : A → A)
+    → b ≡ c → k ≡ if_good word kept
     → (if b then None else k) ≡ if_good word (kept_by (cond c Ends Nothing) known Began kept)
 ended_after word None k true true known e ih = refl
 ended_after word (Some kept) k true true known e ih = refl
@@ -135,7 +149,8 @@ ended_after word kept k false false known e ih = ih
 ended_after word kept k true false known e ih = absurd cc
 ended_after word kept k false true known e ih = absurd cc
 
-not_forgot : {A : Type 0} (word : A → Answer) (w : Word A) (known : A → A) (reading : Reading) (kept : Option (Kept A)) → if_good word (kept_by w known Began kept) ≡ if_good word (kept_by w known (Takes_in reading) kept)
+not_forgot : {A : Type 0} (word : A → Answer) (w : Word A) (known : A → A) (reading : Reading) (kept : Option (Kept A))
+    → if_good word (kept_by w known Began kept) ≡ if_good word (kept_by w known (Takes_in reading) kept)
 not_forgot word (Says a) known reading kept = refl
 not_forgot word Ends known reading kept = refl
 not_forgot word Empties known reading kept = refl
@@ -145,22 +160,31 @@ forgot_good : {A : Type 0} (word : A → Answer) (kept : Option (Kept A)) → if
 forgot_good word None = refl
 forgot_good {A} word (Some kept) = by kept.mark
   where
-    by : (m : Mark) → if_good word (Some (record { answer = kept.answer; mark = m })) ≡ if_good word (without_stale (Some (record { answer = kept.answer; mark = m })))
+    by : (m : Mark) → if_good word (Some (record { answer = kept.answer; mark = m }))
+        ≡ if_good word (without_stale (Some (record { answer = kept.answer; mark = m })))
     by Good = refl
     by Stale = refl
 
-reply_node : (start : Start) (path : Text) (ticket : ℕ) (q : Question) (z : ℤ) (r : Result) (past : Past) → good Data path (seen start past) ≡ if_good node_answer (kept_data path past)
-    → good Data path (Took (Replies q (from_zero z) r) ∷ seen start past) ≡ if_good node_answer (kept_data path (Takes_in (Answers_call ticket q z r) ∷ past))
+reply_node : (start : Start) (path : Text) (ticket : ℕ) (q : Question) (z : ℤ) (r : Result) (past : Past)
+    → good Data path (seen start past) ≡ if_good node_answer (kept_data path past)
+    → good Data path (Took (Replies q (from_zero z) r) ∷ seen start past)
+    ≡ if_good node_answer (kept_data path (Takes_in (Answers_call ticket q z r) ∷ past))
 reply_node start path ticket Close z r past ih = refl
 reply_node start path ticket (Exists at true) z NoNode past ih =
-    good_after path Kept_absent Halts_now past (good Data path (seen start past)) (bytes_eq path at) (bytes_eq at path) (text_same path at) ih
-    ∙ not_forgot node_answer (cond (bytes_eq at path) (Says Kept_absent) Nothing) (λ a. good_answer path a past) (Answers_call ticket (Exists at true) z NoNode) (kept_data path past)
+    good_after path Kept_absent Halts_now past (good Data path (seen start past)) (bytes_eq path at)
+    (bytes_eq at path) (text_same path at) ih
+    ∙ not_forgot node_answer (cond (bytes_eq at path) (Says Kept_absent) Nothing) (λ a. good_answer path a past)
+    (Answers_call ticket (Exists at true) z NoNode) (kept_data path past)
 reply_node start path ticket (Exists at true) z (Found stat) past ih =
-    good_after path (Kept_known (data_stat_of stat)) Halts_now past (good Data path (seen start past)) (bytes_eq path at) (bytes_eq at path) (text_same path at) ih
-    ∙ not_forgot node_answer (cond (bytes_eq at path) (Says (Kept_known (data_stat_of stat))) Nothing) (λ a. good_answer path a past) (Answers_call ticket (Exists at true) z (Found stat)) (kept_data path past)
+    good_after path (Kept_known (data_stat_of stat)) Halts_now past (good Data path (seen start past)) (bytes_eq path at)
+    (bytes_eq at path) (text_same path at) ih
+    ∙ not_forgot node_answer (cond (bytes_eq at path) (Says (Kept_known (data_stat_of stat))) Nothing) (λ a. good_answer path a past)
+    (Answers_call ticket (Exists at true) z (Found stat)) (kept_data path past)
 reply_node start path ticket (GetData at true) z (Read bytes stat) past ih =
-    good_after path (Kept_full bytes (data_stat_of stat)) Halts_now past (good Data path (seen start past)) (bytes_eq path at) (bytes_eq at path) (text_same path at) ih
-    ∙ not_forgot node_answer (cond (bytes_eq at path) (Says (Kept_full bytes (data_stat_of stat))) Nothing) (λ a. good_answer path a past) (Answers_call ticket (GetData at true) z (Read bytes stat)) (kept_data path past)
+    good_after path (Kept_full bytes (data_stat_of stat)) Halts_now past (good Data path (seen start past)) (bytes_eq path at)
+    (bytes_eq at path) (text_same path at) ih
+    ∙ not_forgot node_answer (cond (bytes_eq at path) (Says (Kept_full bytes (data_stat_of stat))) Nothing) (λ a. good_answer path a past)
+    (Answers_call ticket (GetData at true) z (Read bytes stat)) (kept_data path past)
 reply_node start path ticket (GetChildren at true) z (Listing names stat) past ih = ih
 reply_node start path ticket _ z _ past ih = ih
 
@@ -172,8 +196,11 @@ pub good_node : (start : Start) (path : Text) (past : Past) → good Data path (
 good_node start path [] = refl
 good_node start path (Takes_in (Answers_call ticket q z r) ∷ past) = reply_node start path ticket q z r past (good_node start path past)
 good_node start path (Takes_in (Tells event at) ∷ past) =
-    ended_after node_answer (kept_data path past) (good Data path (seen start past)) (concerns event Data && bytes_eq path at) (concerns event Data && bytes_eq at path) (λ a. good_answer path a past) (and_same (concerns event Data) _ _ (text_same path at)) (good_node start path past)
-    ∙ not_forgot node_answer (notice_word (concerns event Data) at path) (λ a. good_answer path a past) (Tells event at) (kept_data path past)
+    ended_after node_answer (kept_data path past) (good Data path (seen start past)) (concerns event Data && bytes_eq path at)
+    (concerns event Data && bytes_eq at path) (λ a. good_answer path a past) (and_same (concerns event Data) _ _ (text_same path at))
+    (good_node start path past)
+    ∙ not_forgot node_answer (notice_word (concerns event Data) at path) (λ a. good_answer path a past)
+    (Tells event at) (kept_data path past)
 good_node start path (Takes_in Expiry ∷ past) = refl
 good_node start path (Halts_now ∷ past) = refl
 good_node start path (Forgot ∷ past) = good_node start path past ∙ forgot_good node_answer (kept_data path past)
@@ -182,30 +209,39 @@ good_node start path (_ ∷ past) = good_node start path past
 
 -- ---- what is good of the children
 
-names_after : (path : Text) (names : List Text) (pzxid : ℤ) (kept : Option (Kept Kept_names)) (k : Option Answer) (b c : Bool) → b ≡ c → k ≡ if_good names_answer kept
-    → (if b then Some (refreshed (Names (set.from_list names) pzxid) k) else k) ≡ if_good names_answer (kept_by (cond c (Says (record { names = set.from_list names; pzxid = pzxid })) Nothing) (λ n. n) Began kept)
+names_after : (path : Text) (names : List Text) (pzxid : ℤ) (kept : Option (Kept Kept_names)) (k : Option Answer) (b c : Bool)
+    → b ≡ c → k ≡ if_good names_answer kept
+    → (if b then Some (refreshed (Names (set.from_list names) pzxid) k) else k)
+    ≡ if_good names_answer (kept_by (cond c (Says (record { names = set.from_list names; pzxid = pzxid })) Nothing) (λ n. n) Began kept)
 names_after path names pzxid kept k true true e ih = refl
 names_after path names pzxid kept k false false e ih = ih
 names_after path names pzxid kept k true false e ih = absurd cc
 names_after path names pzxid kept k false true e ih = absurd cc
 
-reply_names : (start : Start) (path : Text) (ticket : ℕ) (q : Question) (z : ℤ) (r : Result) (past : Past) → (good Child path (seen start past)) ≡ if_good names_answer (kept_names path past)
-    → (good Child path (Took (Replies q (from_zero z) r) ∷ seen start past)) ≡ if_good names_answer (kept_names path (Takes_in (Answers_call ticket q z r) ∷ past))
+reply_names : (start : Start) (path : Text) (ticket : ℕ) (q : Question) (z : ℤ) (r : Result) (past : Past)
+    → (good Child path (seen start past)) ≡ if_good names_answer (kept_names path past)
+    → (good Child path (Took (Replies q (from_zero z) r) ∷ seen start past))
+    ≡ if_good names_answer (kept_names path (Takes_in (Answers_call ticket q z r) ∷ past))
 reply_names start path ticket Close z r past ih = refl
 reply_names start path ticket (Exists at true) z NoNode past ih = ih
 reply_names start path ticket (Exists at true) z (Found stat) past ih = ih
 reply_names start path ticket (GetData at true) z (Read bytes stat) past ih = ih
 reply_names start path ticket (GetChildren at true) z (Listing names stat) past ih =
-    names_after path names stat.pzxid (kept_names path past) (good Child path (seen start past)) (bytes_eq path at) (bytes_eq at path) (text_same path at) ih
-    ∙ not_forgot names_answer (cond (bytes_eq at path) (Says (names_of names stat)) Nothing) (λ n. n) (Answers_call ticket (GetChildren at true) z (Listing names stat)) (kept_names path past)
+    names_after path names stat.pzxid (kept_names path past) (good Child path (seen start past)) (bytes_eq path at)
+    (bytes_eq at path) (text_same path at) ih
+    ∙ not_forgot names_answer (cond (bytes_eq at path) (Says (names_of names stat)) Nothing) (λ n. n)
+    (Answers_call ticket (GetChildren at true) z (Listing names stat)) (kept_names path past)
 reply_names start path ticket _ z _ past ih = ih
 
 -- What is good of the children in a run, in order and each once, is what is kept and marked good.
-pub good_names : (start : Start) (path : Text) (past : Past) → (good Child path (seen start past)) ≡ if_good names_answer (kept_names path past)
+pub good_names : (start : Start) (path : Text) (past : Past)
+    → (good Child path (seen start past)) ≡ if_good names_answer (kept_names path past)
 good_names start path [] = refl
 good_names start path (Takes_in (Answers_call ticket q z r) ∷ past) = reply_names start path ticket q z r past (good_names start path past)
 good_names start path (Takes_in (Tells event at) ∷ past) =
-    ended_after names_answer (kept_names path past) (good Child path (seen start past)) (concerns event Child && bytes_eq path at) (concerns event Child && bytes_eq at path) (λ n. n) (and_same (concerns event Child) _ _ (text_same path at)) (good_names start path past)
+    ended_after names_answer (kept_names path past) (good Child path (seen start past)) (concerns event Child && bytes_eq path at)
+    (concerns event Child && bytes_eq at path) (λ n. n) (and_same (concerns event Child) _ _ (text_same path at))
+    (good_names start path past)
     ∙ not_forgot names_answer (notice_word (concerns event Child) at path) (λ n. n) (Tells event at) (kept_names path past)
 good_names start path (Takes_in Expiry ∷ past) = refl
 good_names start path (Halts_now ∷ past) = refl

@@ -9,7 +9,8 @@ use Rattle.zk_laws.specs.Steps.{World, Joins, By_server}
 use Rattle.zk_watches.specs.Lists.{Lists}
 use Rattle.zk_laws.specs.Log.{AreParts, Opened, last, good, Full, Suits}
 use Rattle.zk_laws.specs.Run.{Move, Opens, Goes, moved, start, run, IsSchedule}
-use Rattle.zk_laws.specs.Example.{root_alone, two_changes, at_a, fields_at_five, just_a, just_b, until_restored, until_told, a_changed, two_nodes, at_b, until_first_part}
+use Rattle.zk_laws.specs.Example.{root_alone, two_changes, at_a, fields_at_five, just_a, just_b, until_restored, until_told, a_changed}
+use Rattle.zk_laws.specs.Example.{two_nodes, at_b, until_first_part}
 
 pub is_history : IsHistory two_changes
 is_history = record {
@@ -21,14 +22,17 @@ is_history = record {
 }
   where
     zeros : (path : NodePath) (node : Node) → root_alone path ≡ Some node → (node.czxid ≡ 0) × (node.mzxid ≡ 0) × (node.pzxid ≡ 0)
-    zeros [] node e = let c : 0 ≡ node.czxid = ap (λ (o : Option Node). elim o [ None ↦ 0 | Some n ↦ n.czxid ]) e in let m : 0 ≡ node.mzxid = ap (λ (o : Option Node). elim o [ None ↦ 0 | Some n ↦ n.mzxid ]) e in let p : 0 ≡ node.pzxid = ap (λ (o : Option Node). elim o [ None ↦ 0 | Some n ↦ n.pzxid ]) e in (sym c, sym m, sym p)
+    zeros [] node e = let c : 0 ≡ node.czxid = ap (λ (o : Option Node). elim o [ None ↦ 0 | Some n ↦ n.czxid ]) e in
+        let m : 0 ≡ node.mzxid = ap (λ (o : Option Node). elim o [ None ↦ 0 | Some n ↦ n.mzxid ]) e in
+        let p : 0 ≡ node.pzxid = ap (λ (o : Option Node). elim o [ None ↦ 0 | Some n ↦ n.pzxid ]) e in (sym c, sym m, sym p)
     zeros (name ∷ path) node e = absurd cc
 
 pub all_sent : (ns : List Notice) → AreSent ns ns
 all_sent ns n = (omega arith, λ h. h)
 
 -- a connection begins: its server admits the client, and what is watched is set again
-begins : (h : History) (place : ℕ) (parts : List Lists) (moves : List Move) (w : World) → place ≤ length h.transactions → last w.log ≤ zxid_held h place → AreParts (Opened ∷ w.log) parts
+begins : (h : History) (place : ℕ) (parts : List Lists) (moves : List Move) (w : World)
+    → place ≤ length h.transactions → last w.log ≤ zxid_held h place → AreParts (Opened ∷ w.log) parts
     → IsSchedule h moves (moved h (Goes (Joins parts)) (moved h (Goes (By_server (Admits (last w.log)))) (moved h (Opens place) w)))
     → IsSchedule h (Opens place ∷ Goes (By_server (Admits (last w.log))) ∷ Goes (Joins parts) ∷ moves) w
 begins h place parts moves w low seen are more = (low, ((refl, refl, seen), ((refl, refl, are), more)))
@@ -36,9 +40,11 @@ begins h place parts moves w low seen are more = (low, ((refl, refl, seen), ((re
 pub restored : IsSchedule two_changes until_restored (start 0)
 restored =
     let again : IsSchedule two_changes (drop 7 until_restored) (run two_changes (take 7 until_restored) (start 0)) =
-    begins two_changes 1 (just_a ∷ []) (drop 10 until_restored) (run two_changes (take 7 until_restored) (start 0)) (omega arith) (omega arith) (record { data_watches = refl; exist_watches = refl; child_watches = refl })
+    begins two_changes 1 (just_a ∷ []) (drop 10 until_restored) (run two_changes (take 7 until_restored) (start 0)) (omega arith)
+    (omega arith) (record { data_watches = refl; exist_watches = refl; child_watches = refl })
     ((refl, refl, all_sent []), ((λ e. cc, omega arith, all_sent (a_changed ∷ [])), ((refl, inl refl), tt))) in
-    begins two_changes 1 [] (drop 3 until_restored) (start 0) (omega arith) (omega arith) (record { data_watches = refl; exist_watches = refl; child_watches = refl })
+    begins two_changes 1 [] (drop 3 until_restored) (start 0) (omega arith) (omega arith)
+    (record { data_watches = refl; exist_watches = refl; child_watches = refl })
     ((refl, refl), ((refl, refl, (refl, refl)), ((refl, inl refl), (tt, again))))
 
 -- until the notice is taken the answer is good, and the last seen zxid is that of its reply
@@ -52,10 +58,14 @@ told_then = refl
 pub first_part : IsSchedule two_nodes until_first_part (start 0)
 first_part =
     let again : IsSchedule two_nodes (drop 10 until_first_part) (run two_nodes (take 10 until_first_part) (start 0)) =
-    begins two_nodes 2 (just_a ∷ just_b ∷ []) (drop 13 until_first_part) (run two_nodes (take 10 until_first_part) (start 0)) (omega arith) (omega arith) (record { data_watches = refl; exist_watches = refl; child_watches = refl })
+    begins two_nodes 2 (just_a ∷ just_b ∷ []) (drop 13 until_first_part) (run two_nodes (take 10 until_first_part) (start 0)) (omega arith)
+    (omega arith) (record { data_watches = refl; exist_watches = refl; child_watches = refl })
     ((refl, refl, all_sent []), ((refl, inl refl), tt)) in
-    begins two_nodes 1 [] (drop 3 until_first_part) (start 0) (omega arith) (omega arith) (record { data_watches = refl; exist_watches = refl; child_watches = refl })
-    ((refl, refl), ((refl, refl), ((refl, refl, (refl, refl)), ((refl, refl, (refl, refl)), ((refl, inl refl), ((refl, inl refl), (tt, again)))))))
+    begins two_nodes 1 [] (drop 3 until_first_part) (start 0) (omega arith) (omega arith)
+    (record { data_watches = refl; exist_watches = refl; child_watches = refl }) (
+      (refl, refl),
+      ((refl, refl), ((refl, refl, (refl, refl)), ((refl, refl, (refl, refl)), ((refl, inl refl), ((refl, inl refl), (tt, again)))))),
+    )
 
 pub b_good : good Data at_b (run two_nodes until_first_part (start 0)).log ≡ Some (Full (Some (104 ∷ 105 ∷ [])) fields_at_five)
 b_good = refl

@@ -9,15 +9,18 @@ use Rattle.zk_laws.specs.Server.{sets}
 use Rattle.zk_laws.specs.Laws.{sets_at}
 
 tables : (question : Question) (result : Result) (path : NodePath)
-    → (sets question result Data path ≡ sets_at (leaves_data question result) path) × (sets question result Child path ≡ sets_at (leaves_child question result) path)
+    → (sets question result Data path ≡ sets_at (leaves_data question result) path)
+    × (sets question result Child path ≡ sets_at (leaves_child question result) path)
 tables (Exists asked true) NoNode path = (refl, refl)
 tables (Exists asked true) (Found stat) path = (refl, refl)
 tables (GetData asked true) (Read bytes stat) path = (refl, refl)
 tables (GetChildren asked true) (Listing names stat) path = (refl, refl)
 tables _ _ path = (refl, refl)
 
-pub data_table : (question : Question) (result : Result) (path : NodePath) → sets question result Data path ≡ sets_at (leaves_data question result) path
+pub data_table : (question : Question) (result : Result) (path : NodePath)
+    → sets question result Data path ≡ sets_at (leaves_data question result) path
 data_table question result path = (tables question result path).0
 
-pub child_table : (question : Question) (result : Result) (path : NodePath) → sets question result Child path ≡ sets_at (leaves_child question result) path
+pub child_table : (question : Question) (result : Result) (path : NodePath)
+    → sets question result Child path ≡ sets_at (leaves_child question result) path
 child_table question result path = (tables question result path).1

@@ -2,7 +2,8 @@
 use Rattle.zk_laws.specs.Laws.{IsTrueWrite}
 use Rattle.zk_conversation.specs.Calls.{Call, part_xid}
 use Rattle.zk_conversation.specs.Questions.{Question, question_of}
-use Rattle.zk_turns.specs.Past.{Asking, For_part, For_call, awaited, Past, Dropped, is_talking, state_of, held_of, answered, questions, Took as Takes_in, Replies as Answers_call}
+use Rattle.zk_turns.specs.Past.{Asking, For_part, For_call, awaited, Past, Dropped, is_talking, state_of, held_of, answered, questions}
+use Rattle.zk_turns.specs.Past.{Took as Takes_in, Replies as Answers_call}
 use Rattle.std.specs.Prelude.{◌⊎◌, ⊤, ◌≡◌, ℕ, ℤ, pos, ◌^◌, ◌≤◌, ◌<◌, true, List, [], ◌∷◌, ◌++◌, map, length}
 use Rattle.std.specs.List.{flat_map}
 use Rattle.zk_turns.specs.Turns.{Silent, Framed, Fault, Start}
@@ -39,7 +40,8 @@ pub record Letter : Type 0 where
 -- what was asked for the message, under the xid of its request; a reply is true of the call
 abbrev pub IsFor : History → ℤ → Message → List Asking → Type 0
 IsFor h xid (Replies question zxid result) asked =
-    (ticket : ℕ) × (n : ℕ) × (call : Call) × HasCode result × (xid ≡ pos n) × (question_of call ≡ question) × (asked ≡ For_call n ticket call ∷ []) × IsTrueWrite h call zxid result
+    (ticket : ℕ) × (n : ℕ) × (call : Call) × HasCode result × (xid ≡ pos n) × (question_of call ≡ question)
+    × (asked ≡ For_call n ticket call ∷ []) × IsTrueWrite h call zxid result
 IsFor h xid (Watches_set is_last zxid) asked = (xid ≡ part_xid) × (asked ≡ For_part is_last ∷ [])
 IsFor h xid _ asked = asked ≡ []
 
@@ -97,7 +99,8 @@ connection start past wire letters = record {
 }
 
 -- an open connection, with these letters in flight
-pub record InFlight (h : History) (start : Start) (Was : List ℕ → Type 0) (past : Past) (wire : Wire) (link : Link) (letters : List Letter) : Type 0 where
+pub record InFlight (h : History) (start : Start) (Was : List ℕ → Type 0) (past : Past) (wire : Wire) (link : Link)
+    (letters : List Letter) : Type 0 where
   pub up : link ≡ Up (connection start past wire letters)
   pub enough : wire.processed ≤ length (requests start past)
   pub are : AreLetters h Was letters
@@ -110,13 +113,15 @@ pub record InFlight (h : History) (start : Start) (Was : List ℕ → Type 0) (p
 -- The reply is to the call that waits first, which has its ticket; a write that was answered with 0 is a change of the transaction
 -- with the reply's zxid.
 abbrev pub AnswersFirst : History → (ticket : ℕ) → Question → ℕ → Result → List Asking → Type 0
-AnswersFirst h ticket question zxid result (For_call xid other call ∷ more) = (other ≡ ticket) × (question_of call ≡ question) × IsTrueWrite h call zxid result
+AnswersFirst h ticket question zxid result (For_call xid other call ∷ more) =
+    (other ≡ ticket) × (question_of call ≡ question) × IsTrueWrite h call zxid result
 AnswersFirst h ticket question zxid result _ = ⊥
 
 -- So it is with each reply.
 abbrev pub WritesAreTrue : History → Past → Type 0
 WritesAreTrue h [] = ⊤
-WritesAreTrue h (Takes_in (Answers_call ticket question zxid result) ∷ past) = AnswersFirst h ticket question (from_zero zxid) result (awaited past) × WritesAreTrue h past
+WritesAreTrue h (Takes_in (Answers_call ticket question zxid result) ∷ past) =
+    AnswersFirst h ticket question (from_zero zxid) result (awaited past) × WritesAreTrue h past
 WritesAreTrue h (_ ∷ past) = WritesAreTrue h past
 
 -- No reply was taken with a zxid below 0.
@@ -129,7 +134,8 @@ NoneIsNegative (_ ∷ past) = NoneIsNegative past
 abbrev pub IsDue : (List ℕ → Type 0) → Fault → Past → Type 0
 IsDue Was fault past =
     (fault ≡ Silent)
-    ⊎ ((fault ≡ Framed TooLong) × ((payload : List ℕ) × Was payload × (LONGEST_INCOMING < length payload) × (length_field (held_of past) ≡ length payload)))
+    ⊎ ((fault ≡ Framed TooLong)
+    × ((payload : List ℕ) × Was payload × (LONGEST_INCOMING < length payload) × (length_field (held_of past) ≡ length payload)))
 
 -- A connection was given up for silence alone, or for a message longer than is admitted.
 abbrev pub DropsAreDue : (List ℕ → Type 0) → Past → Type 0

@@ -25,8 +25,10 @@ use Rattle.zk_limits.specs.declared.limits.TheConstants.{LONGEST_INCOMING}
 -- Each answer marked good is what there is to see in the tree: a node's absence, its seven fields, or these with its data;
 -- the set of its children's names with the pzxid.
 pub record IsTrueOf (tree : Tree) (cache : Cache) : Type 0 where
-  pub nodes : (path : Text) (kept : Kept Answer) → cache.nodes path ≡ Some kept → kept.mark ≡ Good → Fits kept.answer (to_see Data tree (path_of path))
-  pub children : (path : Text) (kept : Kept Names) → cache.children path ≡ Some kept → kept.mark ≡ Good → FitsNames kept.answer (to_see Child tree (path_of path))
+  pub nodes : (path : Text) (kept : Kept Answer) → cache.nodes path ≡ Some kept → kept.mark ≡ Good
+      → Fits kept.answer (to_see Data tree (path_of path))
+  pub children : (path : Text) (kept : Kept Names)
+      → cache.children path ≡ Some kept → kept.mark ≡ Good → FitsNames kept.answer (to_see Child tree (path_of path))
 
 -- Each answer marked good is the history's answer at the client's last seen zxid.
 abbrev pub IsCoherentWith : History → View → Type 0
@@ -51,6 +53,8 @@ tree_of h entries = tree_held h (wire_of h entries).server.place
 pub record Headline (h : History) (start : Start) (items : List Item) (view : View) (entries : List Entry) : Type 0 where
   pub coherent : IsCoherentWith h view
   pub answers : (ticket : ℕ) (zxid : ℤ) (result : Result) → Among (Answers ticket (Replied zxid result)) (outputs_of items)
-      → (call : Call) × Among (Asked ticket call) (past_of start items) × Among (Takes_in (Answers_call ticket (question_of call) zxid result)) (past_of start items)
+      → (call : Call) × Among (Asked ticket call) (past_of start items) × Among
+      (Takes_in (Answers_call ticket (question_of call) zxid result)) (past_of start items)
       × Reads (tree_at h (from_zero zxid)) (question_of call) result × IsTrueWrite h call (from_zero zxid) result × (from_zero start.last ≤ from_zero zxid) × (zxid ≡ pos (from_zero zxid))
-  pub drops : (fault : Fault) → Among (Drop fault) (outputs_of items) → (fault ≡ Silent) ⊎ ((fault ≡ Framed TooLong) × ((payload : List ℕ) × WasSent entries payload × (LONGEST_INCOMING < length payload)))
+  pub drops : (fault : Fault) → Among (Drop fault) (outputs_of items)
+      → (fault ≡ Silent) ⊎ ((fault ≡ Framed TooLong) × ((payload : List ℕ) × WasSent entries payload × (LONGEST_INCOMING < length payload)))

@@ -25,12 +25,14 @@ IsThere Child seen = is_seen seen ≡ true
 
 -- what is good of one side of one path is right at the last seen zxid
 abbrev pub IsRight : History → Side → Text → List Item → Type 0
-IsRight h side path log = (answer : Answer) → good side path log ≡ Some answer → Suits answer (view side (tree_at h (last log)) (path_of path)) × (text_of (path_of path) ≡ path)
+IsRight h side path log = (answer : Answer) → good side path log ≡ Some answer
+    → Suits answer (view side (tree_at h (last log)) (path_of path)) × (text_of (path_of path) ≡ path)
 
 -- As the messages are taken in turn, what is good is right after each, no reply is behind, and at the end End holds.
 abbrev pub Ahead : History → Side → Text → List Message → List Item → (List Item → Type 0) → Type 0
 Ahead h side path [] log End = IsRight h side path log × End log
-Ahead h side path (message ∷ messages) log End = IsRight h side path log × (is_behind log message ≡ false) × Ahead h side path messages (Took message ∷ log) End
+Ahead h side path (message ∷ messages) log End =
+    IsRight h side path log × (is_behind log message ≡ false) × Ahead h side path messages (Took message ∷ log) End
 
 -- the list of a part where this answer puts its path
 abbrev pub list_in : Side → Answer → Lists → List Text
@@ -62,11 +64,13 @@ pub record IsCovered (h : History) (side : Side) (path : NodePath) (place : ℕ)
 -- what is good is covered or awaited
 abbrev pub IsSure : History → Side → Text → List Request → ℕ → Watches → ℕ → Option Answer → Type 0
 IsSure h side path requests place watches seen None = ⊤
-IsSure h side path requests place watches seen (Some answer) = IsCovered h side (path_of path) place watches answer ⊎ IsAwaited side path answer seen requests
+IsSure h side path requests place watches seen (Some answer) =
+    IsCovered h side (path_of path) place watches answer ⊎ IsAwaited side path answer seen requests
 
 -- once all messages in flight are taken
 abbrev pub IsSettled : History → Side → Text → List Request → ℕ → Watches → List Item → Type 0
-IsSettled h side path requests place watches log = (last log ≤ zxid_held h place) × IsSure h side path requests place watches (last log) (good side path log)
+IsSettled h side path requests place watches log =
+    (last log ≤ zxid_held h place) × IsSure h side path requests place watches (last log) (good side path log)
 
 -- no watch is set
 abbrev pub IsUnwatched : Watches → Type 0

@@ -17,7 +17,8 @@ HasChange h zxid change = (one : Transaction) × Among one h.transactions × (on
 -- A write that is answered with 0 is a change of the transaction with its reply's zxid.
 abbrev pub IsTrueWrite : History → Call → ℕ → Result → Type 0
 IsTrueWrite h (call.SetData path content version) zxid (Found stat) = HasChange h zxid (Sets (path_of path) content)
-IsTrueWrite h (call.Create path content mode) zxid (Made at) = (owner : ℤ) × IsMadeOf path (is_sequential mode) at × HasChange h zxid (Creates (path_of at) content owner)
+IsTrueWrite h (call.Create path content mode) zxid (Made at) =
+    (owner : ℤ) × IsMadeOf path (is_sequential mode) at × HasChange h zxid (Creates (path_of at) content owner)
 IsTrueWrite h (call.Delete path version) zxid Done = HasChange h zxid (Deletes (path_of path))
 IsTrueWrite h _ zxid _ = ⊤
 

@@ -6,13 +6,15 @@ use Rattle.zk_conversation.specs.Questions.{Question, Exists, GetData, GetChildr
 use Rattle.zk_nodes.specs.Path.{Text, path_of}
 use Rattle.zk_nodes.specs.History.{History, tree_at, View, view}
 use Rattle.zk_watches.specs.Lists.{Lists}
-use Rattle.zk_cache.specs.Kept.{same_fields, Answer as Kept_answer, Names as Kept_names, Absent as Kept_absent, Known as Kept_known, Full as Kept_full}
+use Rattle.zk_cache.specs.Kept.{same_fields, Answer as Kept_answer, Names as Kept_names, Absent as Kept_absent, Known as Kept_known}
+use Rattle.zk_cache.specs.Kept.{Full as Kept_full}
 use Rattle.zk_turns.specs.Past.{Left, leaves_data, leaves_child}
 use Rattle.zk_records.specs.Events.{concerns}
 use Rattle.zk_nodes.specs.Names.{Names as NameSet}
 use Rattle.zk_nodes.specs.declared.data_stat.DataStat.{DataStat}
 use Rattle.zk_watches.specs.Lists.{has}
-use Rattle.std.specs.Prelude.{ℕ, ℤ, bytes_eq, ◌≡◌, max, Bool, true, false, ◌&&◌, not, if◌then◌else◌, List, [], ◌∷◌, ◌++◌, filter, flat_map, Option, Some, None}
+use Rattle.std.specs.Prelude.{ℕ, ℤ, bytes_eq, ◌≡◌, max, Bool, true, false, ◌&&◌, not, if◌then◌else◌, List, [], ◌∷◌, ◌++◌, filter, flat_map}
+use Rattle.std.specs.Prelude.{Option, Some, None}
 use Rattle.zk_nodes.specs.DataStats.{data_stat_of}
 use Rattle.zk_nodes.specs.declared.side.Side.{Side}
 use Rattle.zk_nodes.specs.declared.side.Side.TheVariants.{Data, Child}
@@ -30,8 +32,8 @@ pub data Item : Type 0 where
   Forgets : Item
   Took : Message → Item
 
--- The zxid that an item brings. The last seen zxid is the greatest of 0, a saved one, and those of the replies taken (Guide, "Consistency Guarantees").
--- Of the replies to the parts of a setWatches only the last one counts; notices and pongs don't.
+-- The zxid that an item brings. The last seen zxid is the greatest of 0, a saved one, and those of the replies taken (Guide, "Consistency
+-- Guarantees"). Of the replies to the parts of a setWatches only the last one counts; notices and pongs don't.
 abbrev pub zxid_in : Item → ℕ
 zxid_in (Starts saved) = saved
 zxid_in (Took (Replies question zxid result)) = zxid
@@ -115,7 +117,8 @@ good side path (item ∷ older) = kept_after side path item (good side path olde
 
 -- Each answer marked good is what there is to see at the last seen zxid.
 abbrev pub IsCoherent : History → List Item → Type 0
-IsCoherent h log = (side : Side) (path : Text) (answer : Answer) → good side path log ≡ Some answer → Suits answer (view side (tree_at h (last log)) (path_of path))
+IsCoherent h log = (side : Side) (path : Text) (answer : Answer) → good side path log ≡ Some answer
+    → Suits answer (view side (tree_at h (last log)) (path_of path))
 
 -- What is listed for setWatches
 

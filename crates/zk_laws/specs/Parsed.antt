@@ -44,9 +44,11 @@ IsRequest xid operation body payload = IsRecord (request_layout operation) (xid,
 -- What a server reads in the payload of a request is what was asked.
 abbrev pub IsReadAs : Request → ℤ → List ℕ → Type 0
 IsReadAs (Connect seen) xid payload =
-    (timeout : ℤ) × (session : ℤ) × (password : List ℕ) × IsRecord connect_request (pos 0, (pos seen, (timeout, (session, (Some password, false))))) payload
+    (timeout : ℤ) × (session : ℤ) × (password : List ℕ)
+    × IsRecord connect_request (pos 0, (pos seen, (timeout, (session, (Some password, false))))) payload
 IsReadAs (Restore is_last relative part) xid payload =
-    IsRequest xid operation.SetWatches (pos relative, (texts_value part.data_watches, (texts_value part.exist_watches, texts_value part.child_watches))) payload
+    IsRequest xid operation.SetWatches
+    (pos relative, (texts_value part.data_watches, (texts_value part.exist_watches, texts_value part.child_watches))) payload
 IsReadAs (Ask call) xid payload = IsRequest xid (call_operation call) (call_body call) payload
 IsReadAs Ping xid payload = IsRequest xid operation.Ping tt payload
 

@@ -43,7 +43,8 @@ May h (Goes step) w = MayGo h step w.link w.log
 
 -- a new connection: the ConnectRequest carries the last seen zxid
 abbrev pub opened : ℕ → ℕ → Connection
-opened seen place = record { requests = Connect seen ∷ []; messages = []; place = place; watches = no_watches; stage = Waiting; talking = false }
+opened seen place =
+    record { requests = Connect seen ∷ []; messages = []; place = place; watches = no_watches; stage = Waiting; talking = false }
 
 -- The world after a move.
 abbrev pub moved : History → Move → World → World
@@ -73,4 +74,5 @@ NoneBehind w = (c : Connection) (message : Message) → w.link ≡ Up c → IsNe
 -- server would answer where it stands.
 abbrev pub AgreesWhenQuiet : History → World → Type 0
 AgreesWhenQuiet h w = (c : Connection) → w.link ≡ Up c → IsTrue c.talking → c.messages ≡ [] → AreRestored c.requests
-    → (side : Side) (path : Text) (answer : Answer) → good side path w.log ≡ Some answer → Suits answer (view side (tree_held h c.place) (path_of path))
+    → (side : Side) (path : Text) (answer : Answer) → good side path w.log ≡ Some answer
+    → Suits answer (view side (tree_held h c.place) (path_of path))

@@ -1,7 +1,9 @@
 -- What happened to a client, in the words of a run: the same list of items, whatever the bytes were.
 use Rattle.std.specs.Prelude.{List, [], ◌∷◌, ◌++◌, Option, Some, None}
 use Rattle.zk_turns.specs.Turns.{Start}
-use Rattle.zk_turns.specs.Past.{Happening, Began, Dropped, Forgot, Past, Skipped, Expiry, Took as Takes_in, Lost as Loses_it, Halted as Halts_now, Message as Reading, Accepted as Accepts, Replies as Answers_call, Watches_set as Sets_watches, Notifies as Tells, Pong as Echo}
+use Rattle.zk_turns.specs.Past.{Happening, Began, Dropped, Forgot, Past, Skipped, Expiry, Took as Takes_in, Lost as Loses_it}
+use Rattle.zk_turns.specs.Past.{Halted as Halts_now, Message as Reading, Accepted as Accepts, Replies as Answers_call}
+use Rattle.zk_turns.specs.Past.{Watches_set as Sets_watches, Notifies as Tells, Pong as Echo}
 use Rattle.zk_cache.specs.declared.held.Mark.TheVariants.{Good, Stale}
 use Rattle.zk_cache.specs.declared.held.Kept.{Kept}
 use Rattle.zk_cache.specs.Kept.{Answer as Kept_answer, Absent as Kept_absent, Known as Kept_known, Full as Kept_full, Names as Kept_names}

@@ -7,18 +7,21 @@ use Rattle.zk_conversation.specs.Calls.{part_xid, ping_xid, call_payload, connec
 use Rattle.zk_records.specs.Events.{event_number}
 use Rattle.zk_records.specs.Response.{Response, IsPayload as IsResponse}
 use Rattle.zk_records.specs.Layouts.{watcher_event}
-use Rattle.std.specs.Prelude.{Option, ℕ, ℤ, pos, negsuc, ◌≡◌, ◌<◌, ◌≤◌, ◌+◌, ◌^◌, int_lt, Bool, true, false, not, ◌&&◌, List, [], ◌∷◌, ◌++◌, map, drop, length, ⊤, ◌⊎◌}
+use Rattle.std.specs.Prelude.{Option, ℕ, ℤ, pos, negsuc, ◌≡◌, ◌<◌, ◌≤◌, ◌+◌, ◌^◌, int_lt, Bool, true, false, not, ◌&&◌, List, [], ◌∷◌, ◌++◌}
+use Rattle.std.specs.Prelude.{map, drop, length, ⊤, ◌⊎◌}
 use Rattle.std.specs.List.{flat_map}
 use Rattle.zk_turns.specs.Turns.{Start, Item, Turned, Bytes, Opened as Opening}
 use Rattle.zk_frames.specs.Frame.{frame}
-use Rattle.zk_turns.specs.Past.{Past, Began, Asked, Pinged, last_of, session_of, lists_of, xid_of, state_of, is_open, has_halted, Took as Takes_in, Accepted as Accepts}
+use Rattle.zk_turns.specs.Past.{Past, Began, Asked, Pinged, last_of, session_of, lists_of, xid_of, state_of, is_open, has_halted}
+use Rattle.zk_turns.specs.Past.{Took as Takes_in, Accepted as Accepts}
 use Rattle.zk_watches.specs.Lists.{Lists}
 use Rattle.zk_watches.specs.Parts.{parts}
 use Rattle.zk_turns.specs.Taken.{past_of}
 use Rattle.zk_nodes.specs.History.{History}
 use Rattle.zk_turns.specs.Meaning.{Among}
 use Rattle.zk_laws.specs.Server.{no_watches}
-use Rattle.zk_laws.specs.Messages.{Message, Accepted, Expired, Replies, Watches_set, Notifies, Pong, Request, Connect, Restore, Ask, Ping, from_zero}
+use Rattle.zk_laws.specs.Messages.{Message, Accepted, Expired, Replies, Watches_set, Notifies, Pong, Request, Connect, Restore, Ask, Ping}
+use Rattle.zk_laws.specs.Messages.{from_zero}
 use Rattle.zk_laws.specs.ServerSteps.{ServerEnd, Waiting, Ended, ServerStep, Advances, MayDo, messages_by, end_after}
 
 -- What a client asked, as it is in the bytes that it sent
@@ -42,9 +45,15 @@ module _ (start : Start) where
   abbrev pub requests : Past → List Sent
   requests [] = []
   requests (Began ∷ past) =
-      record { payload = connect_payload (last_of start past) (pos start.timeout) (session_of start past).session (session_of start past).password; xid = pos 0; request = Connect (from_zero (last_of start past)) } ∷ []
+      record {
+        payload = connect_payload (last_of start past) (pos start.timeout) (session_of start past).session (session_of start
+            past).password;
+        xid = pos 0;
+        request = Connect (from_zero (last_of start past));
+      } ∷ []
   requests (Takes_in (Accepts welcome) ∷ past) = requests past ++ part_requests (last_of start past) (parts (lists_of past))
-  requests (Asked ticket call ∷ past) = requests past ++ record { payload = call_payload (pos (xid_of past)) call; xid = pos (xid_of past); request = Ask call } ∷ []
+  requests (Asked ticket call ∷ past) = requests past ++ record { payload = call_payload (pos (xid_of past)) call; xid = pos (xid_of past); request = Ask call }
+      ∷ []
   requests (Pinged ∷ past) = requests past ++ record { payload = ping_payload; xid = ping_xid; request = Ping } ∷ []
   requests (_ ∷ past) = requests past
 
@@ -59,19 +68,24 @@ code_of _ = pos 0
 -- The payload is the message's: the spelling of its header and of its record, and after it any bytes. A reply has the xid of
 -- its request; the zxid and the code of a notice or a pong may be any. An accepted response has a timeout above 0.
 abbrev pub IsPayload : ℤ → Message → List ℕ → Type 0
-IsPayload xid Accepted payload = (response : Response) × (ignored : List ℕ) × IsResponse payload response ignored × (int_lt (pos 0) (response_timeout response) ≡ true)
-IsPayload xid Expired payload = (response : Response) × (ignored : List ℕ) × IsResponse payload response ignored × (int_lt (pos 0) (response_timeout response) ≡ false)
-IsPayload xid (Replies question zxid result) payload = (behind : List ℕ) × IsHeaded xid (pos zxid) (code_of result) payload behind × HasResult question result behind
+IsPayload xid Accepted payload =
+    (response : Response) × (ignored : List ℕ) × IsResponse payload response ignored × (int_lt (pos 0) (response_timeout response) ≡ true)
+IsPayload xid Expired payload =
+    (response : Response) × (ignored : List ℕ) × IsResponse payload response ignored × (int_lt (pos 0) (response_timeout response) ≡ false)
+IsPayload xid (Replies question zxid result) payload = (behind : List ℕ) × IsHeaded xid (pos zxid)
+    (code_of result) payload behind × HasResult question result behind
 IsPayload xid (Watches_set is_last zxid) payload = (behind : List ℕ) × IsHeaded xid (pos zxid) (pos 0) payload behind
 IsPayload xid (Notifies notice) payload =
     (zxid : ℤ) × (err : ℤ) × (behind : List ℕ) × IsHeaded (negsuc 0) zxid err payload behind
-    × (state : ℤ) × (path : Option (List ℕ)) × HasRecord watcher_event (event_number notice.event, (state, path)) behind × (or_empty path ≡ notice.path)
+    × (state : ℤ) × (path : Option (List ℕ)) × HasRecord watcher_event (event_number notice.event, (state, path)) behind
+    × (or_empty path ≡ notice.path)
 IsPayload xid Pong payload = (zxid : ℤ) × (err : ℤ) × (behind : List ℕ) × IsHeaded ping_xid zxid err payload behind
 
 -- The payloads are those of the messages, each of a length that a frame can tell.
 abbrev pub ArePayloads : ℤ → List Message → List (List ℕ) → Type 0
 ArePayloads xid [] [] = ⊤
-ArePayloads xid (message ∷ messages) (payload ∷ payloads) = (length payload < 2 ^ 31) × IsPayload xid message payload × ArePayloads xid messages payloads
+ArePayloads xid (message ∷ messages) (payload ∷ payloads) =
+    (length payload < 2 ^ 31) × IsPayload xid message payload × ArePayloads xid messages payloads
 ArePayloads xid _ _ = ⊥
 
 -- A server on the open connection
@@ -131,7 +145,8 @@ items_in (Serves step payloads ∷ earlier) = items_in earlier
 
 -- the server after an item: a connection begins, or bytes are received
 abbrev pub wire_past : ℕ → Item → Wire → Wire
-wire_past place (Turned turn) wire = elim turn.input [ Opening ↦ new_wire place | Bytes bytes ↦ record wire { coming = drop (length bytes) wire.coming } | _ ↦ wire ]
+wire_past place (Turned turn) wire =
+    elim turn.input [ Opening ↦ new_wire place | Bytes bytes ↦ record wire { coming = drop (length bytes) wire.coming } | _ ↦ wire ]
 wire_past place _ wire = wire
 
 -- the server after these entries
@@ -156,7 +171,8 @@ MayEnter h start (Serves step payloads) past wire = MayServe h start step payloa
 -- A schedule has the newest entry first, as items have.
 abbrev pub IsServing : History → Start → List Entry → Type 0
 IsServing h start [] = ⊤
-IsServing h start (entry ∷ earlier) = MayEnter h start entry (past_of start (items_in earlier)) (wire_of h earlier) × IsServing h start earlier
+IsServing h start (entry ∷ earlier) = MayEnter h start entry (past_of start (items_in earlier))
+    (wire_of h earlier) × IsServing h start earlier
 
 -- The client was served by servers that hold beginnings of the history: there is a schedule of its items.
 pub record Served (h : History) (start : Start) (items : List Item) : Type 0 where

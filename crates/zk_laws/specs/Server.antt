@@ -3,12 +3,14 @@ use Rattle.zk_turns.specs.Past.{names_of}
 use Rattle.zk_cache.specs.Kept.{Answer, Absent, Known, Full, Names}
 use Rattle.std.specs.FinSet as set
 use Rattle.zk_turns.specs.Meaning.{Among}
-use Rattle.std.specs.Prelude.{ℕ, ℤ, pos, negsuc, ◌≡◌, ◌≢◌, ◌<◌, ◌≤◌, ◌+◌, nat_lt, Bool, true, false, ◌&&◌, ◌||◌, if◌then◌else◌, List, [], ◌∷◌, ◌++◌, take, map, flat_map, Option, Some, None, ⊤, bytes_eq, is_some, not}
+use Rattle.std.specs.Prelude.{ℕ, ℤ, pos, negsuc, ◌≡◌, ◌≢◌, ◌<◌, ◌≤◌, ◌+◌, nat_lt, Bool, true, false, ◌&&◌, ◌||◌, if◌then◌else◌, List, []}
+use Rattle.std.specs.Prelude.{◌∷◌, ◌++◌, take, map, flat_map, Option, Some, None, ⊤, bytes_eq, is_some, not}
 use Rattle.std.specs.List.{list_any}
 use Rattle.std.specs.Ordering.{int_eq}
 use mathlib.Core.List.{IsPrefix}
 use Rattle.zk_nodes.specs.Path.{Text, Name, NodePath, path_eq, text_of, path_of}
-use Rattle.zk_nodes.specs.History.{Node, Tree, Change, Creates, Sets, Deletes, Transaction, History, after, newest, View, Absence, Contents, Children, view}
+use Rattle.zk_nodes.specs.History.{Node, Tree, Change, Creates, Sets, Deletes, Transaction, History, after, newest, View, Absence, Contents}
+use Rattle.zk_nodes.specs.History.{Children, view}
 use Rattle.zk_conversation.specs.Calls.{Call}
 use Rattle.zk_conversation.specs.Calls as call
 use Rattle.zk_nodes.specs.declared.side.Side.{Side}
@@ -55,7 +57,8 @@ told side path event watches = if watches side path then record { event = event;
 abbrev pub fires : Change → Watches → List Notice
 fires (Creates (name ∷ path) content owner) watches = told Data (name ∷ path) Created watches ++ told Child path ChildrenChanged watches
 fires (Sets path content) watches = told Data path DataChanged watches
-fires (Deletes (name ∷ path)) watches = told Data (name ∷ path) Deleted watches ++ told Child (name ∷ path) Deleted watches ++ told Child path ChildrenChanged watches
+fires (Deletes (name ∷ path)) watches =
+    told Data (name ∷ path) Deleted watches ++ told Child (name ∷ path) Deleted watches ++ told Child path ChildrenChanged watches
 fires _ watches = []
 
 -- the watches that a change leaves
@@ -78,7 +81,8 @@ leaves_set_all (change ∷ changes) watches = leaves_set_all changes (leaves_set
 -- how often the notice is in the list
 abbrev pub times : Notice → List Notice → ℕ
 times notice [] = 0
-times notice (one ∷ more) = (if int_eq (event_number notice.event) (event_number one.event) && bytes_eq notice.path one.path then 1 else 0) + times notice more
+times notice (one ∷ more) =
+    (if int_eq (event_number notice.event) (event_number one.event) && bytes_eq notice.path one.path then 1 else 0) + times notice more
 
 -- What is fired is sent in any order. What two sides fire alike, a deletion, is sent once or twice.
 abbrev pub AreSent : List Notice → List Notice → Type 0
@@ -113,7 +117,8 @@ Reads tree (Exists path watch) (Found stat) = Fits (Known (data_stat_of stat)) (
 Reads tree (GetData path watch) NoNode = Fits Absent (view Data tree (path_of path))
 Reads tree (GetData path watch) (Read bytes stat) = Fits (Full bytes (data_stat_of stat)) (view Data tree (path_of path))
 Reads tree (GetChildren path watch) NoNode = Fits Absent (view Child tree (path_of path))
-Reads tree (GetChildren path watch) (Listing names stat) = FitsNames (names_of names stat) (view Child tree (path_of path)) × Fits (Known (data_stat_of stat)) (view Data tree (path_of path))
+Reads tree (GetChildren path watch) (Listing names stat) =
+    FitsNames (names_of names stat) (view Child tree (path_of path)) × Fits (Known (data_stat_of stat)) (view Data tree (path_of path))
 Reads tree _ _ = ⊤
 
 -- a code that is neither 0 nor -101
@@ -134,7 +139,8 @@ zxid_held h place = newest 0 (held h place)
 
 -- the change is one of the last of these transactions
 abbrev pub LastHolds : Change → List Transaction → Type 0
-LastHolds change transactions = (earlier : List Transaction) × (last : Transaction) × (transactions ≡ earlier ++ last ∷ []) × Among change last.changes
+LastHolds change transactions =
+    (earlier : List Transaction) × (last : Transaction) × (transactions ≡ earlier ++ last ∷ []) × Among change last.changes
 
 -- the modes 2 and 3 are sequential
 abbrev pub is_sequential : ℕ → Bool
@@ -149,8 +155,10 @@ IsMadeOf asked true at = IsPrefix asked at
 -- from the tree there. A write that succeeds is a change of the last transaction. Of a result of another kind than the call's
 -- nothing is said, since no payload spells it (`HasResult`).
 abbrev pub Gives : History → ℕ → Call → Result → Type 0
-Gives h place (call.SetData path content version) (Found stat) = LastHolds (Sets (path_of path) content) (held h place) × Fits (Known (data_stat_of stat)) (view Data (tree_held h place) (path_of path))
-Gives h place (call.Create path content mode) (Made at) = (owner : ℤ) × IsMadeOf path (is_sequential mode) at × LastHolds (Creates (path_of at) content owner) (held h place)
+Gives h place (call.SetData path content version) (Found stat) = LastHolds (Sets (path_of path) content) (held h place)
+    × Fits (Known (data_stat_of stat)) (view Data (tree_held h place) (path_of path))
+Gives h place (call.Create path content mode) (Made at) =
+    (owner : ℤ) × IsMadeOf path (is_sequential mode) at × LastHolds (Creates (path_of at) content owner) (held h place)
 Gives h place (call.Delete path version) Done = LastHolds (Deletes (path_of path)) (held h place)
 Gives h place asked (Refused code) = IsOther code
 Gives h place asked result = Reads (tree_held h place) (question_of asked) result
@@ -189,7 +197,8 @@ part_tells relative tree part =
 -- which watches the part sets
 abbrev pub part_sets : ℕ → Tree → Lists → Watches
 part_sets relative tree part Data path =
-    (list_any (path_eq path) (map path_of part.data_watches) && not (is_some (known_check relative (tree path)))) || (list_any (path_eq path) (map path_of part.exist_watches) && not (is_some (missing_check (tree path))))
+    (list_any (path_eq path) (map path_of part.data_watches) && not (is_some (known_check relative (tree path))))
+    || (list_any (path_eq path) (map path_of part.exist_watches) && not (is_some (missing_check (tree path))))
 part_sets relative tree part Child path = list_any (path_eq path) (map path_of part.child_watches) && not (is_some (parent_check relative (tree path)))
 
 -- these watches and those

@@ -1,5 +1,6 @@
 -- Texts and paths of good names are the same, and the last slash parts a path from its last name.
-use Rattle.std.proofs.Common.{◌≡◌, ℕ, zero, suc, ◌+◌, ◌-◌, ◌<◌, ◌==◌, Bool, true, false, ◌&&◌, not, cond, List, [], ◌∷◌, ◌++◌, length, get_or, take, drop, Option, Some, refl, sym, ap, ◌∙◌, arith, inl, inr, Decides, subst, option_map}
+use Rattle.std.proofs.Common.{◌≡◌, ℕ, zero, suc, ◌+◌, ◌-◌, ◌<◌, ◌==◌, Bool, true, false, ◌&&◌, not, cond, List, [], ◌∷◌, ◌++◌, length}
+use Rattle.std.proofs.Common.{get_or, take, drop, Option, Some, refl, sym, ap, ◌∙◌, arith, inl, inr, Decides, subst, option_map}
 use Rattle.std.proofs.lemmas.List.{length-append, append-nil}
 use Rattle.std.proofs.Common.{append_assoc}
 use Rattle.std.proofs.Math.ListN.{get_or-append}
@@ -10,12 +11,14 @@ use Rattle.std.proofs.lemmas.Slice.Eq.{bytes_eq-Decides}
 use Rattle.std.proofs.lemmas.Str.{chars-IsAscii}
 use Rattle.std.proofs.lemmas.List.Folds.{list_all_at}
 use Rattle.std.specs.Prelude.{fold, bytes_eq, IsUtf8, IsAscii}
-use Rattle.zk_nodes.specs.Path.{Name, NodePath, path_eq, text_of, byte_more, path_of, IsPathText, has_no_slash, is_empty, are_names, parent_of, parent_text, name_of, is_below}
+use Rattle.zk_nodes.specs.Path.{Name, NodePath, path_eq, text_of, byte_more, path_of, IsPathText, has_no_slash, is_empty, are_names}
+use Rattle.zk_nodes.specs.Path.{parent_of, parent_text, name_of, is_below}
 use Rattle.zk_nodes.specs.PathFault.{IsPath}
 use Rattle.zk_nodes.proofs.PathLemmas.{text_of-path_of, joined, text_of-joined, IsPath-parts, IsPath-text, IsPath-names, IsPath-front}
 
 -- names that are good, one by one
-name_good : (name : Name) (path : NodePath) → are_names (name ∷ path) ≡ true → (is_empty name ≡ false) × (has_no_slash name ≡ true) × (are_names path ≡ true)
+name_good : (name : Name) (path : NodePath)
+    → are_names (name ∷ path) ≡ true → (is_empty name ≡ false) × (has_no_slash name ≡ true) × (are_names path ≡ true)
 name_good name path e = (grind (arith, e), grind (arith, e), grind (arith, e))
 
 -- a name goes to the last one
@@ -59,7 +62,8 @@ long (b ∷ bs) path e = omega (arith, length-append (joined path) (47 ∷ b ∷
 pub path_of-text_of : (path : NodePath) → are_names path ≡ true → path_of (text_of path) ≡ path
 path_of-text_of [] e = refl
 path_of-text_of (name ∷ path) e =
-    ap path_of (text_of-joined name path) ∙ path_of-long (joined (name ∷ path)) (long name path (name_good name path e).0) ∙ fold-joined (name ∷ path) e
+    ap path_of (text_of-joined name path) ∙ path_of-long (joined (name ∷ path)) (long name path (name_good name path e).0)
+    ∙ fold-joined (name ∷ path) e
 
 -- equal paths
 pub path_eq-true : (p q : NodePath) → path_eq p q ≡ true → p ≡ q
@@ -81,7 +85,8 @@ pub path_eq-Decides : (p q : NodePath) → Decides (path_eq p q) (p ≡ q)
 path_eq-Decides p q = (path_eq-true p q, λ e. rw (← e) (path_eq-refl p))
 
 -- paths are the same where their texts are
-pub path_eq-text : (t text u : List ℕ) → IsPath text → IsPath t → u ≡ t → (b : Bool) → b ≡ bytes_eq u text → b ≡ path_eq (path_of text) (path_of t)
+pub path_eq-text : (t text u : List ℕ) → IsPath text → IsPath t → u ≡ t → (b : Bool)
+    → b ≡ bytes_eq u text → b ≡ path_eq (path_of text) (path_of t)
 path_eq-text t text u good is e b h =
     same_from_decides _ (path_eq (path_of text) (path_of t)) (
       λ r. ap path_of (sym ((bytes_eq-Decides u text).0 (sym h ∙ r)) ∙ e),
@@ -89,7 +94,8 @@ path_eq-text t text u good is e b h =
     )
     (path_eq-Decides (path_of text) (path_of t))
 
-slash_in_name : (xs name : List ℕ) (i j : ℕ) → has_no_slash name ≡ true → i ≡ length xs + suc j → j < length name → get_or (xs ++ 47 ∷ name) i 0 ≡ 47 → ⊥
+slash_in_name : (xs name : List ℕ) (i j : ℕ)
+    → has_no_slash name ≡ true → i ≡ length xs + suc j → j < length name → get_or (xs ++ 47 ∷ name) i 0 ≡ 47 → ⊥
 slash_in_name xs name i j good at l e =
     let k : i - length xs ≡ suc j = omega arith in
     let f : get_or name j 0 ≡ 47 = sym (get_or-append_right xs (47 ∷ name) i 0 (omega arith) ∙ ap (λ k. get_or (47 ∷ name) k 0) k) ∙ e in
@@ -115,16 +121,20 @@ pub slash_first : (path : NodePath) → (get_or (text_of path) 0 0 ≡ 47) × (0
 slash_first [] = (refl, omega arith)
 slash_first (name ∷ []) = (refl, omega arith)
 slash_first (name ∷ other ∷ path) =
-    let h = slash_first (other ∷ path) in
-    (get_or-append (text_of (other ∷ path)) (47 ∷ name) 0 0 h.1 ∙ h.0, omega (arith, length-append (text_of (other ∷ path)) (47 ∷ name), h.1))
+    let h = slash_first (other ∷ path) in (
+      get_or-append (text_of (other ∷ path)) (47 ∷ name) 0 0 h.1 ∙ h.0,
+      omega (arith, length-append (text_of (other ∷ path)) (47 ∷ name), h.1),
+    )
 
 pub slash_of_text : (path : NodePath) (text : List ℕ) → text ≡ text_of path → (get_or text 0 0 ≡ 47) × (0 < length text)
 slash_of_text path text e = let P : List ℕ → Type 0 = λ t. (get_or t 0 0 ≡ 47) × (0 < length t) in subst P (sym e) (slash_first path)
 
 -- what the last slash parts
-pub parted : (path : NodePath) (text : List ℕ) (i : ℕ) → text_of path ≡ text → are_names path ≡ true → (length text ≡ 1 → ⊥) → i < length text → get_or text i 0 ≡ 47
+pub parted : (path : NodePath) (text : List ℕ) (i : ℕ) → text_of path ≡ text → are_names path ≡ true → (length text ≡ 1 → ⊥)
+    → i < length text → get_or text i 0 ≡ 47
     → ((k : ℕ) → i < k → k < length text → get_or text k 0 ≡ 47 → ⊥)
-    → (i ≡ 0 → Some (47 ∷ []) ≡ option_map text_of (parent_of path)) × ((i ≡ 0 → ⊥) → Some (take i text) ≡ option_map text_of (parent_of path)) × (Some (drop (i + 1) text) ≡ name_of path)
+    → (i ≡ 0 → Some (47 ∷ []) ≡ option_map text_of (parent_of path))
+    × ((i ≡ 0 → ⊥) → Some (take i text) ≡ option_map text_of (parent_of path)) × (Some (drop (i + 1) text) ≡ name_of path)
 parted [] text i t good n l e after = absurd (n (ap length (sym t)))
 parted (name ∷ []) text i t good n l e after =
     let P : List ℕ → Type 0 = λ x. i < length x → get_or x i 0 ≡ 47 → ((k : ℕ) → i < k → k < length x → get_or x k 0 ≡ 47 → ⊥) → i ≡ 0 in
@@ -132,11 +142,15 @@ parted (name ∷ []) text i t good n l e after =
     (λ _. refl, λ m. absurd (m z), ap (λ k. Some (drop (k + 1) text)) z ∙ ap (λ x. Some (drop 1 x)) (sym t))
 parted (name ∷ other ∷ path) text i t good n l e after =
     let xs = text_of (other ∷ path) in
-    let P : List ℕ → Type 0 = λ x. i < length x → get_or x i 0 ≡ 47 → ((k : ℕ) → i < k → k < length x → get_or x k 0 ≡ 47 → ⊥) → i ≡ length (text_of (other ∷ path)) in
-    let z : i ≡ length (text_of (other ∷ path)) = subst P t (last_slash_at (text_of (other ∷ path)) name i (name_good name (other ∷ path) good).1) l e after in (
+    let P : List ℕ → Type 0 = λ x. i < length x → get_or x i 0 ≡ 47 → ((k : ℕ) → i < k → k < length x → get_or x k 0 ≡ 47 → ⊥)
+    → i ≡ length (text_of (other ∷ path)) in
+    let z : i ≡ length (text_of (other ∷ path)) =
+    subst P t (last_slash_at (text_of (other ∷ path)) name i (name_good name (other ∷ path) good).1) l e after in (
       λ m. absurd (omega (arith, (slash_first (other ∷ path)).1, z, m)),
-      λ _. ap Some (ap (λ k. take k text) z ∙ ap (take (length (text_of (other ∷ path)))) (sym t) ∙ take-append_seam (text_of (other ∷ path)) (47 ∷ name)),
-      ap (λ k. Some (drop (k + 1) text)) z ∙ ap (λ x. Some (drop (length (text_of (other ∷ path)) + 1) x)) (sym t) ∙ ap Some (drop-append-add (text_of (other ∷ path)) (47 ∷ name) 1),
+      λ _. ap Some (ap (λ k. take k text) z ∙ ap (take (length (text_of (other ∷ path)))) (sym t)
+          ∙ take-append_seam (text_of (other ∷ path)) (47 ∷ name)),
+      ap (λ k. Some (drop (k + 1) text)) z ∙ ap (λ x. Some (drop (length (text_of (other ∷ path)) + 1) x)) (sym t)
+          ∙ ap Some (drop-append-add (text_of (other ∷ path)) (47 ∷ name) 1),
     )
 
 -- the root's text has one byte
@@ -155,11 +169,13 @@ pub is_below-path : (p q r : NodePath) → Some q ≡ parent_of p → is_below r
 is_below-path [] q r e = cc
 is_below-path (name ∷ path) q r e = let same : q ≡ path = cc in ap (path_eq r) (sym same)
 
-pub is_below-text : (t text u : List ℕ) → IsPath text → IsPath u → Some (path_of u) ≡ parent_of (path_of t) → (b : Bool) → b ≡ bytes_eq u text → b ≡ is_below (path_of text) (path_of t)
+pub is_below-text : (t text u : List ℕ) → IsPath text → IsPath u → Some (path_of u) ≡ parent_of (path_of t) → (b : Bool)
+    → b ≡ bytes_eq u text → b ≡ is_below (path_of text) (path_of t)
 is_below-text t text u good is p b h = path_eq-text u text u good is refl b h ∙ sym (is_below-path (path_of t) (path_of u) (path_of text) p)
 
 -- the same of the parent, as a call gives its text
-pub parent_path : (path : NodePath) → are_names path ≡ true → (o : Option (List ℕ)) → o ≡ option_map text_of (parent_of path) → option_map path_of o ≡ parent_of path
+pub parent_path : (path : NodePath) → are_names path ≡ true → (o : Option (List ℕ)) → o ≡ option_map text_of (parent_of path)
+    → option_map path_of o ≡ parent_of path
 parent_path [] e o h = ap (option_map path_of) h
 parent_path (name ∷ path) e o h = ap (option_map path_of) h ∙ ap Some (path_of-text_of path (name_good name path e).2)
 

@@ -1,5 +1,6 @@
 -- From the mask of bytes that are looked at together to each of them.
-use Rattle.std.proofs.Common.{◌≡◌, ℕ, zero, suc, ◌+◌, ◌-◌, ◌%◌, ◌^◌, ◌<◌, ◌≤◌, Bool, true, false, ◌&&◌, ◌||◌, cond, eqb, ltb, bit_and, bit_or, List, [], ◌∷◌, map, length, get_or, replicate, refl, sym, ap, ap₂, ◌∙◌, arith}
+use Rattle.std.proofs.Common.{◌≡◌, ℕ, zero, suc, ◌+◌, ◌-◌, ◌%◌, ◌^◌, ◌<◌, ◌≤◌, Bool, true, false, ◌&&◌, ◌||◌, cond, eqb, ltb, bit_and}
+use Rattle.std.proofs.Common.{bit_or, List, [], ◌∷◌, map, length, get_or, replicate, refl, sym, ap, ap₂, ◌∙◌, arith}
 use Rattle.std.proofs.lemmas.Bool.Decides.{nat_tests}
 use Rattle.std.proofs.lemmas.Simd.{mask_l-mod, length-chunk, get_or-chunk, length-zip2}
 use Rattle.std.proofs.lemmas.List.{length-map}
@@ -33,14 +34,18 @@ top_set false = refl
 abbrev pub lanes : List ℕ → List ℕ → ℕ → List ℕ
 lanes bytes before n =
     zip2 bit_or (zip2 bit_or (zip2 (λ a b. set (ltb a b)) bytes (replicate n 32)) (zip2 (λ a b. set (ltb a b)) (replicate n 126) bytes))
-    (zip2 bit_and (zip2 bit_or (zip2 (λ a b. set (eqb a b)) bytes (replicate n 46)) (zip2 (λ a b. set (eqb a b)) bytes (replicate n 47))) (zip2 (λ a b. set (eqb a b)) before (replicate n 47)))
+    (zip2 bit_and (zip2 bit_or (zip2 (λ a b. set (eqb a b)) bytes (replicate n 46)) (zip2 (λ a b. set (eqb a b)) bytes (replicate n 47)))
+    (zip2 (λ a b. set (eqb a b)) before (replicate n 47)))
 
-lane : (x y : ℕ) → bit_or (bit_or (set (ltb x 32)) (set (ltb 126 x))) (bit_and (bit_or (set (eqb x 46)) (set (eqb x 47))) (set (eqb y 47))) ≡ set (stops x y)
+lane : (x y : ℕ) → bit_or (bit_or (set (ltb x 32)) (set (ltb 126 x)))
+    (bit_and (bit_or (set (eqb x 46)) (set (eqb x 47))) (set (eqb y 47))) ≡ set (stops x y)
 lane x y =
-    ap₂ bit_or (either (ltb x 32) (ltb 126 x)) (ap (λ v. bit_and v (set (eqb y 47))) (either (eqb x 46) (eqb x 47)) ∙ both (eqb x 46 || eqb x 47) (eqb y 47))
+    ap₂ bit_or (either (ltb x 32) (ltb 126 x))
+    (ap (λ v. bit_and v (set (eqb y 47))) (either (eqb x 46) (eqb x 47)) ∙ both (eqb x 46 || eqb x 47) (eqb y 47))
     ∙ either (ltb x 32 || ltb 126 x) ((eqb x 46 || eqb x 47) && eqb y 47)
 
-lanes_are : (bytes before : List ℕ) (n : ℕ) → length bytes ≡ n → length before ≡ n → lanes bytes before n ≡ zip2 (λ x y. set (stops x y)) bytes before
+lanes_are : (bytes before : List ℕ) (n : ℕ)
+    → length bytes ≡ n → length before ≡ n → lanes bytes before n ≡ zip2 (λ x y. set (stops x y)) bytes before
 lanes_are [] before n p q = refl
 lanes_are (x ∷ xs) [] n p q = absurd (omega (arith, p, q))
 lanes_are (x ∷ xs) (y ∷ ys) zero p q = absurd (omega (arith, p))
@@ -71,9 +76,18 @@ unset_are_plain text at n some room few none = λ k from to.
     let p : length bytes ≡ n = length-chunk at n text room in
     let q : length before ≡ n = length-chunk (at - 1) n text (omega arith) in
     let ms = map (top 7) (zip2 (λ x y. set (stops x y)) bytes before) in
-    let long : length ms ≤ 64 = omega (arith, length-map (zip2 (λ x y. set (stops x y)) bytes before) (top 7), length-zip2 (λ x y. set (stops x y)) bytes before (p ∙ sym q), p, few) in
-    let empty : mask_l ms ≡ 0 = sym (mask_l-mod ms 64 long) ∙ ap (λ l. mask_l (map (top 7) l) % 2 ^ 64) (sym (lanes_are bytes before n p q)) ∙ none in
+    let long : length ms ≤ 64 = omega (
+      arith,
+      length-map (zip2 (λ x y. set (stops x y)) bytes before) (top 7),
+      length-zip2 (λ x y. set (stops x y)) bytes before (p ∙ sym q),
+      p,
+      few,
+    ) in
+    let empty : mask_l ms ≡ 0 =
+    sym (mask_l-mod ms 64 long) ∙ ap (λ l. mask_l (map (top 7) l) % 2 ^ 64) (sym (lanes_are bytes before n p q)) ∙ none in
     let off = sym (lane_at bytes before (k - at) (omega (arith, p)) (omega (arith, q))) ∙ none_set ms empty (k - at) in
-    let byte : get_or bytes (k - at) 0 ≡ get_or text k 0 = get_or-chunk at n text (k - at) 0 (omega arith) ∙ ap (λ j. get_or text j 0) (omega arith) in
-    let last : get_or before (k - at) 0 ≡ get_or text (k - 1) 0 = get_or-chunk (at - 1) n text (k - at) 0 (omega arith) ∙ ap (λ j. get_or text j 0) (omega arith) in
+    let byte : get_or bytes (k - at) 0 ≡ get_or text k 0 =
+    get_or-chunk at n text (k - at) 0 (omega arith) ∙ ap (λ j. get_or text j 0) (omega arith) in
+    let last : get_or before (k - at) 0 ≡ get_or text (k - 1) 0 =
+    get_or-chunk (at - 1) n text (k - at) 0 (omega arith) ∙ ap (λ j. get_or text j 0) (omega arith) in
     goes_on (get_or text k 0) (get_or text (k - 1) 0) (ap₂ stops (sym byte) (sym last) ∙ off)

@@ -1,6 +1,7 @@
 -- The data model: nodes and trees, and the history of transactions of which each server holds a beginning.
 -- The sections named are those of the ZooKeeper Programmer's Guide.
-use Rattle.std.specs.Prelude.{ℕ, ℤ, pos, ◌≡◌, ◌==◌, ◌<◌, ◌+◌, ◌^◌, nat_le, Bool, true, false, ◌&&◌, if◌then◌else◌, List, [], ◌∷◌, length, filter, Option, Some, None, is_some, option_map, IsTrue, ⊤}
+use Rattle.std.specs.Prelude.{ℕ, ℤ, pos, ◌≡◌, ◌==◌, ◌<◌, ◌+◌, ◌^◌, nat_le, Bool, true, false, ◌&&◌, if◌then◌else◌, List, [], ◌∷◌, length}
+use Rattle.std.specs.Prelude.{filter, Option, Some, None, is_some, option_map, IsTrue, ⊤}
 use Rattle.zk_nodes.specs.Path.{Name, NodePath, path_eq}
 use Rattle.zk_nodes.specs.declared.data_stat.DataStat.{DataStat}
 use Rattle.zk_nodes.specs.declared.side.Side.{Side}
@@ -61,7 +62,8 @@ regrouped zxid node = record node { pzxid = zxid }
 -- the parent's children too, and all other nodes stay ("ZooKeeper Stat Structure").
 abbrev pub apply : ℕ → ℤ → Change → Tree → Tree
 apply zxid time (Creates (name ∷ path) content owner) tree =
-    λ p. if path_eq p (name ∷ path) then Some (made zxid time content owner) else (if path_eq p path then option_map (regrouped zxid) (tree p) else tree p)
+    λ p. if path_eq p (name ∷ path) then Some (made zxid time content owner)
+    else (if path_eq p path then option_map (regrouped zxid) (tree p) else tree p)
 apply zxid time (Sets path content) tree = λ p. if path_eq p path then option_map (written zxid time content) (tree p) else tree p
 apply zxid time (Deletes (name ∷ path)) tree =
     λ p. if path_eq p (name ∷ path) then None else (if path_eq p path then option_map (regrouped zxid) (tree p) else tree p)

@@ -1,6 +1,7 @@
 -- Names and paths: what a text is the path of, what the names of a path tell, and which paths have good names.
 -- The sections named are those of the ZooKeeper Programmer's Guide.
-use Rattle.std.specs.Prelude.{ℕ, ◌≡◌, ◌==◌, Bool, true, false, ◌&&◌, not, if◌then◌else◌, List, [], ◌∷◌, ◌++◌, fold, bytes_eq, Option, Some, None, option_map}
+use Rattle.std.specs.Prelude.{ℕ, ◌≡◌, ◌==◌, Bool, true, false, ◌&&◌, not, if◌then◌else◌, List, [], ◌∷◌, ◌++◌, fold, bytes_eq, Option, Some}
+use Rattle.std.specs.Prelude.{None, option_map}
 use Rattle.std.specs.List.{list_all}
 
 -- A text is the list of its bytes.

@@ -1,9 +1,11 @@
 -- Why a text is no path, by the first of six faults, and why a path has no child of a name.
-use Rattle.std.specs.Prelude.{ℕ, ◌==◌, ◌≡◌, Bool, ◌||◌, ◌&&◌, not, nat_lt, nat_le, if◌then◌else◌, [], ◌∷◌, length, Option, Some, None, slice_index, chars, bytes_eq}
+use Rattle.std.specs.Prelude.{ℕ, ◌==◌, ◌≡◌, Bool, ◌||◌, ◌&&◌, not, nat_lt, nat_le, if◌then◌else◌, [], ◌∷◌, length, Option, Some, None}
+use Rattle.std.specs.Prelude.{slice_index, chars, bytes_eq}
 use Rattle.std.specs.List.{list_any}
 use Rattle.zk_nodes.specs.Path.{Text, Name, NodePath, path_of, is_empty, has_no_slash, child_text}
 use Rattle.zk_nodes.specs.declared.path_fault.PathFault.{PathFault}
-use Rattle.zk_nodes.specs.declared.path_fault.PathFault.TheVariants.{Empty, TooLong, NoSlashFirst, BadCharacter, EmptyName, DotName, SlashInName, Memory}
+use Rattle.zk_nodes.specs.declared.path_fault.PathFault.TheVariants.{Empty, TooLong, NoSlashFirst, BadCharacter, EmptyName, DotName}
+use Rattle.zk_nodes.specs.declared.path_fault.PathFault.TheVariants.{SlashInName, Memory}
 use Rattle.zk_limits.specs.declared.limits.TheConstants.{LONGEST_PATH}
 
 -- U+0000 to U+001F, U+007F to U+009F, U+E000 to U+F8FF, U+FFF0 to U+FFFF, and all above

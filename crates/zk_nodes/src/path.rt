@@ -1,6 +1,7 @@
 //! Paths of the data tree, from their texts.
 
-ghost use Rattle.std.specs.Prelude.{◌≡◌, ◌≢◌, ◌≤◌, ◌<◌, ◌↔◌, ℕ, [], ◌∷◌, IsTrue, IfOk, IfErr, IfSome, OnOk, Some, None, length, not, slice_index, string_bytes};
+ghost use Rattle.std.specs.Prelude.{◌≡◌, ◌≢◌, ◌≤◌, ◌<◌, ◌↔◌, ℕ, [], ◌∷◌, IsTrue, IfOk, IfErr, IfSome, OnOk, Some, None, length, not};
+ghost use Rattle.std.specs.Prelude.{slice_index, string_bytes};
 ghost use Rattle.std.specs.Option.{option_copied, option_map};
 ghost use Rattle.std.specs.Str.{IsAscii, IsUtf8};
 ghost use Rattle.zk_nodes.specs.Path.{path_eq, path_of, IsPathText, child_text, has_no_slash, parent_of, parent_text, name_of, is_below};

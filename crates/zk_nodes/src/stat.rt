@@ -25,7 +25,13 @@ pub struct Stat {
 impl<A: Allocator + Copy> Record<A> for Stat {
     ghost layout = { stat };
 
-    ghost view = { λ s. (s.czxid, (s.mzxid, (s.ctime, (s.mtime, (s.version, (s.cversion, (s.aversion, (s.ephemeral_owner, (s.data_length, (s.num_children, s.pzxid)))))))))) };
+    ghost view = { λ s. (
+      s.czxid,
+      (
+        s.mzxid,
+        (s.ctime, (s.mtime, (s.version, (s.cversion, (s.aversion, (s.ephemeral_owner, (s.data_length, (s.num_children, s.pzxid)))))))),
+      ),
+    ) };
 
     fn write(&self, out: &mut Vec<u8, A>) -> Result<(), PutError> {
         let last = Then(self.data_length, Then(self.num_children, self.pzxid));

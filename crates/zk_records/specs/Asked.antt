@@ -24,7 +24,8 @@ asked_of xid r = record { xid = xid; operation = operation_of r; body = body_of 
 abbrev pub asked_value : (asked : Asked) → Value (request_layout asked.operation)
 asked_value asked = (asked.xid, (operation_number asked.operation, asked.body))
 
-abbrev pub with_body : ℤ → (operation : Operation) → Result (Value (body_layout operation) × List ℕ) TakeError → Result (Asked × List ℕ) RequestFault
+abbrev pub with_body : ℤ → (operation : Operation)
+    → Result (Value (body_layout operation) × List ℕ) TakeError → Result (Asked × List ℕ) RequestFault
 with_body xid operation (Ok found) = Ok (record { xid = xid; operation = operation; body = found.0 }, found.1)
 with_body xid operation (Err fault) = Err (Unread fault)
 

@@ -2,7 +2,8 @@
 use Rattle.std.specs.Prelude.{ℤ, pos, negsuc, Option, Some, None, ◌==◌, if◌then◌else◌}
 use Rattle.zk_jute.specs.Layout.{Layout, nothing, int, ◌⨾◌}
 use Rattle.zk_records.specs.declared.operation.Operation.{Operation}
-use Rattle.zk_records.specs.declared.operation.Operation.TheVariants.{Create, Delete, Exists, GetData, SetData, GetChildren, Ping, GetChildren2, SetWatches, CloseSession}
+use Rattle.zk_records.specs.declared.operation.Operation.TheVariants.{Create, Delete, Exists, GetData, SetData, GetChildren, Ping}
+use Rattle.zk_records.specs.declared.operation.Operation.TheVariants.{GetChildren2, SetWatches, CloseSession}
 use Rattle.zk_records.specs.Layouts.{read_request, set_data_request, create_request, delete_request, set_watches}
 
 abbrev pub operation_number : Operation → ℤ

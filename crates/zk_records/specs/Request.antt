@@ -37,6 +37,12 @@ body_of (request.GetChildren2 r) = read_of r
 body_of (request.SetData r) = (r.path, (r.bytes, r.version))
 body_of (request.Create r) = (r.path, (r.bytes, (option_map (λ v. map acl_of v.items) r.acl.elements, r.flags)))
 body_of (request.Delete r) = (r.path, r.version)
-body_of (request.SetWatches r) = (r.relative_zxid, (option_map (λ v. map (λ t. t) v.items) r.data_watches.elements, (option_map (λ v. map (λ t. t) v.items) r.exist_watches.elements, option_map (λ v. map (λ t. t) v.items) r.child_watches.elements)))
+body_of (request.SetWatches r) = (
+  r.relative_zxid,
+  (
+    option_map (λ v. map (λ t. t) v.items) r.data_watches.elements,
+    (option_map (λ v. map (λ t. t) v.items) r.exist_watches.elements, option_map (λ v. map (λ t. t) v.items) r.child_watches.elements),
+  ),
+)
 body_of request.Ping = tt
 body_of request.CloseSession = tt

@@ -14,4 +14,5 @@ abbrev pub response_of : {A : Type 0} → ConnectResponse A → Response
 response_of r = record { front = (r.protocol_version, (r.time_out, (r.session_id, r.passwd))); read_only = r.read_only }
 
 abbrev pub lent_response_of : ConnectResponseRef → Response
-lent_response_of r = record { front = (r.protocol_version, (r.time_out, (r.session_id, option_map (λ s. s.now) r.passwd.bytes))); read_only = r.read_only }
+lent_response_of r =
+    record { front = (r.protocol_version, (r.time_out, (r.session_id, option_map (λ s. s.now) r.passwd.bytes))); read_only = r.read_only }

@@ -74,9 +74,11 @@ pub fn take_reply<'a, A: Allocator + Copy, R: Readable<'a, A>>(
     at: &mut Cursor<'a>,
 ) -> Result<Reply<R>, TakeError>
     // What is read is spelled so.
-    ensures found { IfOk result (λ x. ReplyFits R.layout (reply_of R.view x) × (bytes_left at.old ≡ reply_spelling R.layout (reply_of R.view x) ++ bytes_left at.new)) }
+    ensures found { IfOk result (λ x. ReplyFits R.layout (reply_of R.view x)
+        × (bytes_left at.old ≡ reply_spelling R.layout (reply_of R.view x) ++ bytes_left at.new)) }
     // What is spelled so is read, unless memory runs out.
-    ensures only { (value : ReplyValue R.layout) (rest : List ℕ) → ReplyFits R.layout value → bytes_left at.old ≡ reply_spelling R.layout value ++ rest
+    ensures only { (value : ReplyValue R.layout) (rest : List ℕ) → ReplyFits R.layout value
+        → bytes_left at.old ≡ reply_spelling R.layout value ++ rest
         → MatchResult result (λ x. (reply_of R.view x ≡ value) × (bytes_left at.new ≡ rest)) (λ e. e ≡ TakeError.Memory) }
     // There is a result exactly where err is 0.
     ensures answered { IfOk result (λ x. is_some x.result ≡ has_result x.header.err) }

@@ -66,9 +66,11 @@ impl<A: Allocator + Copy> Request<A> {
     /// `TooLong` where a length or a count in it is above 2,147,483,647, `Memory` where `out` could not grow. Both
     /// leave `out` as it was.
     pub fn put(&self, xid: i32, out: &mut Vec<u8, A>) -> Result<(), PutError>
-        ensures ok { OnOk result (out.new.items ≡ out.old.items ++ spelling (request_layout (operation_of self.now)) (asked_value (asked_of xid self.now))) }
+        ensures ok { OnOk result
+            (out.new.items ≡ out.old.items ++ spelling (request_layout (operation_of self.now)) (asked_value (asked_of xid self.now))) }
         ensures fits { OnOk result (Fits (request_layout (operation_of self.now)) (asked_value (asked_of xid self.now))) }
-        ensures too_long { IsErrOf result PutError.TooLong → Fits (request_layout (operation_of self.now)) (asked_value (asked_of xid self.now)) → ⊥ }
+        ensures too_long { IsErrOf result PutError.TooLong
+            → Fits (request_layout (operation_of self.now)) (asked_value (asked_of xid self.now)) → ⊥ }
         ensures err { OnErr result (out.new.items ≡ out.old.items) }
     {
         let start = out.len();
@@ -78,9 +80,11 @@ impl<A: Allocator + Copy> Request<A> {
 
     /// Writes the header and the record. An `Err` may leave a part of them.
     fn write(&self, xid: i32, out: &mut Vec<u8, A>) -> Result<(), PutError>
-        ensures ok { OnOk result (out.new.items ≡ out.old.items ++ spelling (request_layout (operation_of self.now)) (asked_value (asked_of xid self.now))) }
+        ensures ok { OnOk result
+            (out.new.items ≡ out.old.items ++ spelling (request_layout (operation_of self.now)) (asked_value (asked_of xid self.now))) }
         ensures fits { OnOk result (Fits (request_layout (operation_of self.now)) (asked_value (asked_of xid self.now))) }
-        ensures too_long { IsErrOf result PutError.TooLong → Fits (request_layout (operation_of self.now)) (asked_value (asked_of xid self.now)) → ⊥ }
+        ensures too_long { IsErrOf result PutError.TooLong
+            → Fits (request_layout (operation_of self.now)) (asked_value (asked_of xid self.now)) → ⊥ }
         ensures begun { take (length out.old.items) out.new.items ≡ out.old.items }
     {
         let operation = self.operation().number();

@@ -37,7 +37,8 @@ impl<A: Allocator + Copy> Request<A> {
         // What is spelled so is read, unless memory runs out.
         ensures only { (asked : Asked) (rest : List ℕ) → Fits (request_layout asked.operation) (asked_value asked)
             → bytes_left at.old ≡ spelling (request_layout asked.operation) (asked_value asked) ++ rest
-            → MatchResult result (λ r. (asked_of r.0 r.1 ≡ asked) × (bytes_left at.new ≡ rest)) (λ e. e ≡ faults.Unread take_errors.Memory) }
+            → MatchResult result (λ r. (asked_of r.0 r.1 ≡ asked) × (bytes_left at.new ≡ rest))
+            (λ e. e ≡ faults.Unread take_errors.Memory) }
         // Which fault it is.
         ensures exact { MatchResult result
             (λ r. request_at (payload_len at.old) (bytes_left at.old) ≡ Ok (asked_of r.0 r.1, bytes_left at.new))

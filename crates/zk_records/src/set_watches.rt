@@ -24,7 +24,13 @@ pub struct SetWatches<A: Allocator> {
 impl<A: Allocator + Copy> Record<A> for SetWatches<A> {
     ghost layout = { set_watches };
 
-    ghost view = { λ r. (r.relative_zxid, (⟦<List<Text<A>, A> as Record<A>>⟧.view r.data_watches, (⟦<List<Text<A>, A> as Record<A>>⟧.view r.exist_watches, ⟦<List<Text<A>, A> as Record<A>>⟧.view r.child_watches))) };
+    ghost view = { λ r. (
+      r.relative_zxid,
+      (
+        ⟦<List<Text<A>, A> as Record<A>>⟧.view r.data_watches,
+        (⟦<List<Text<A>, A> as Record<A>>⟧.view r.exist_watches, ⟦<List<Text<A>, A> as Record<A>>⟧.view r.child_watches),
+      ),
+    ) };
 
     fn write(&self, out: &mut Vec<u8, A>) -> Result<(), PutError> {
         let after = Then(&self.exist_watches, &self.child_watches);
@@ -60,7 +66,13 @@ pub struct SetWatchesRef<'a> {
 impl<'a, A: Allocator + Copy> Record<A> for SetWatchesRef<'a> {
     ghost layout = { set_watches };
 
-    ghost view = { λ r. (r.relative_zxid, (Some (map (λ s. Some s.now) r.data_watches.now), (Some (map (λ s. Some s.now) r.exist_watches.now), Some (map (λ s. Some s.now) r.child_watches.now)))) };
+    ghost view = { λ r. (
+      r.relative_zxid,
+      (
+        Some (map (λ s. Some s.now) r.data_watches.now),
+        (Some (map (λ s. Some s.now) r.exist_watches.now), Some (map (λ s. Some s.now) r.child_watches.now)),
+      ),
+    ) };
 
     fn write(&self, out: &mut Vec<u8, A>) -> Result<(), PutError> {
         let data = ListRef {

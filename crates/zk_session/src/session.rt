@@ -1,7 +1,9 @@
 //! The session.
-ghost use Rattle.std.specs.Prelude.{◌≡◌, ℕ, pos, ◌+◌, ◌*◌, ◌^◌, ◌<◌, ◌≤◌, ◌<ℤ◌, ◌≤ℤ◌, ◌++◌, ◌||◌, max, Bool, length, unsigned_abs, nat_le, IfOk, IsOk, OnOk, OnErr, vec_len, vec_capacity};
+ghost use Rattle.std.specs.Prelude.{◌≡◌, ℕ, pos, ◌+◌, ◌*◌, ◌^◌, ◌<◌, ◌≤◌, ◌<ℤ◌, ◌≤ℤ◌, ◌++◌, ◌||◌, max, Bool, length, unsigned_abs, nat_le};
+ghost use Rattle.std.specs.Prelude.{IfOk, IsOk, OnOk, OnErr, vec_len, vec_capacity};
 ghost use Rattle.zk_session.specs.SessionView.{new_start};
-ghost use Rattle.zk_session.specs.Table.{next, due, has_passed as is_past, is_due_at, IsFirst, Opens, Hears, Sends, Ticks, Sees, Cuts, Closes};
+ghost use Rattle.zk_session.specs.Table.{next, due, has_passed as is_past, is_due_at, IsFirst, Opens, Hears, Sends, Ticks, Sees, Cuts};
+ghost use Rattle.zk_session.specs.Table.{Closes};
 ghost use Rattle.zk_session.specs.Fields.{event_of, answer_of, start_of, Asks, Saves};
 ghost use Rattle.zk_session.specs.Taken_back.{put_back};
 
@@ -320,7 +322,8 @@ fn first_past(limit: u64, since: u64, latest: u64) -> Option<u64>
 
 // The earlier of two moments, if there is one.
 fn earlier(one: Option<u64>, other: Option<u64>) -> Option<u64>
-    ensures { (is_so is_other : ℕ → Bool) → IsFirst is_so one → IsFirst is_other other → IsFirst (λ moment. is_so moment || is_other moment) result }
+    ensures { (is_so is_other : ℕ → Bool) → IsFirst is_so one → IsFirst is_other other
+        → IsFirst (λ moment. is_so moment || is_other moment) result }
 {
     match (one, other) {
         (Some(one), Some(other)) => Some(one.min(other)),

@@ -17,7 +17,8 @@ use Rattle.zk_nodes.specs.Path.{Text}
 use Rattle.zk_conversation.specs.Questions.{Question}
 use Rattle.zk_conversation.specs.Results.{Result, result_of}
 use Rattle.zk_conversation.specs.Pending.{Pending, Waiting, Part_waits, Call_waits}
-use Rattle.zk_conversation.specs.Arriving.{Arrived, Connected, Replied, Watches_set, header_of, first_arriving, noticed, notice_arriving, call_arriving, reply_arriving, oldest_arriving, header_arriving, later_arriving, arriving}
+use Rattle.zk_conversation.specs.Arriving.{Arrived, Connected, Replied, Watches_set, header_of, first_arriving, noticed, notice_arriving}
+use Rattle.zk_conversation.specs.Arriving.{call_arriving, reply_arriving, oldest_arriving, header_arriving, later_arriving, arriving}
 use Rattle.zk_records.specs.declared.reply_header.ReplyHeader.{ReplyHeader}
 use Rattle.zk_turns.proofs.Cases.{by_cond, by_header}
 
@@ -49,21 +50,26 @@ module _ (phase : Phase) (ps : List Pending) where
   of_notice (Ok found) = of_event (event_of found.0.0) _
   of_notice (Err fault) = tt
 
-  of_call : (ticket : ℕ) (question : Question) (zxid : ℤ) (r : Reading Result TakeError) → First (Call_waits ticket question) ps → AreOf phase ps (call_arriving ticket question zxid r)
+  of_call : (ticket : ℕ) (question : Question) (zxid : ℤ) (r : Reading Result TakeError)
+      → First (Call_waits ticket question) ps → AreOf phase ps (call_arriving ticket question zxid r)
   of_call ticket question zxid (Ok result) f = f
   of_call ticket question zxid (Err fault) f = tt
 
-  of_reply : (waiting : Waiting) (header : ReplyHeader) (end : ℕ) (bytes : List ℕ) → First waiting ps → AreOf phase ps (reply_arriving waiting header end bytes)
+  of_reply : (waiting : Waiting) (header : ReplyHeader) (end : ℕ) (bytes : List ℕ)
+      → First waiting ps → AreOf phase ps (reply_arriving waiting header end bytes)
   of_reply (Part_waits last) header end bytes f = f
   of_reply (Call_waits ticket question) header end bytes f = of_call ticket question header.zxid (result_of question header.err end bytes) f
 
-  of_oldest : (qs : List Pending) → ps ≡ qs → (header : ReplyHeader) (end : ℕ) (bytes : List ℕ) → AreOf phase ps (oldest_arriving qs header end bytes)
+  of_oldest : (qs : List Pending) → ps ≡ qs → (header : ReplyHeader) (end : ℕ) (bytes : List ℕ)
+      → AreOf phase ps (oldest_arriving qs header end bytes)
   of_oldest [] e header end bytes = tt
   of_oldest (oldest ∷ more) e header end bytes =
-      by_cond (AreOf phase ps) (int_eq oldest.xid header.xid) (reply_arriving oldest.waiting header end bytes) (Err (OtherXid oldest.xid header.xid)) (of_reply oldest.waiting header end bytes (oldest.xid, more, e)) tt
+      by_cond (AreOf phase ps) (int_eq oldest.xid header.xid) (reply_arriving oldest.waiting header end bytes)
+      (Err (OtherXid oldest.xid header.xid)) (of_reply oldest.waiting header end bytes (oldest.xid, more, e)) tt
 
   of_header : (header : ReplyHeader) (end : ℕ) (bytes : List ℕ) → AreOf phase ps (header_arriving ps header end bytes)
-  of_header header end bytes = by_header (AreOf phase ps) ps header end bytes (of_notice (reading watcher_event end bytes)) tt tt (of_oldest ps refl header end bytes)
+  of_header header end bytes = by_header (AreOf phase ps) ps header end bytes (of_notice (reading watcher_event end bytes)) tt tt
+      (of_oldest ps refl header end bytes)
 
   of_later : (end : ℕ) (r : Reading (Value reply_header × List ℕ) TakeError) → AreOf phase ps (later_arriving ps end r)
   of_later end (Ok found) = of_header (header_of found.0) end found.1

@@ -10,7 +10,9 @@ use Rattle.zk_records.specs.declared.event.Event.{Event}
 use Rattle.zk_conversation.specs.Questions.{Question, Close}
 use Rattle.zk_conversation.specs.Results.{Result}
 use Rattle.zk_turns.specs.Turns.{Start}
-use Rattle.zk_turns.specs.Past.{Past, Happening, Began, Took, Forgot, Replies, Notifies, Left, Word, Says, Ends, Empties, Nothing, if_at, word_data, leaves_data, leaves_child, data_by, data_with, kept_by, Message, good_answer, kept_data, kept_names}
+use Rattle.zk_turns.specs.Past.{Past, Happening, Began, Took, Forgot, Replies, Notifies, Left, Word, Says, Ends, Empties, Nothing, if_at}
+use Rattle.zk_turns.specs.Past.{word_data, leaves_data, leaves_child, data_by, data_with, kept_by, Message, good_answer, kept_data}
+use Rattle.zk_turns.specs.Past.{kept_names}
 use Rattle.zk_cache.specs.Kept.{Answer, Absent, Known, Full, Names, same_fields, good, stale, without_stale, merged}
 use Rattle.zk_cache.specs.declared.held.Kept.{Kept}
 use Rattle.zk_cache.specs.declared.held.Mark.{Mark}
@@ -80,13 +82,15 @@ merged_forgot : (kept : Option (Kept Answer)) (fields : DataStat) → merged (wi
 merged_forgot None fields = refl
 merged_forgot (Some kept) fields = by kept.answer kept.mark
   where
-    by : (a : Answer) (m : Mark) → merged (without_stale (Some (record { answer = a; mark = m }))) (Known fields) ≡ merged (Some (record { answer = a; mark = m })) (Known fields)
+    by : (a : Answer) (m : Mark) → merged (without_stale (Some (record { answer = a; mark = m })))
+        (Known fields) ≡ merged (Some (record { answer = a; mark = m })) (Known fields)
     by a Good = refl
     by Absent Stale = refl
     by (Known old) Stale = refl
     by (Full bytes old) Stale = refl
 
-merged_again : (old new : DataStat) (before after : Option (Option (List ℕ))) (same : Bool) → same_fields old new ≡ same → (same ≡ true → (old ≡ new) × (before ≡ after))
+merged_again : (old new : DataStat) (before after : Option (Option (List ℕ))) (same : Bool)
+    → same_fields old new ≡ same → (same ≡ true → (old ≡ new) × (before ≡ after))
     → merged (good (with_data old before)) (Known new) ≡ with_data new (cond same after None)
 merged_again old new None after true e with_same = ap (with_data new) (with_same refl).1
 merged_again old new None after false e with_same = refl
@@ -105,7 +109,8 @@ both_known fields kept bytes = merged kept (Known fields) ≡ with_data fields b
 -- what a happening leaves of the data of a path, by its word
 known_step : (path : Text) (fields : DataStat) (happening : Happening) (past : Past) (word : Word Answer)
     → ((others : DataStat) → both_known others (kept_data path past) (data_with path others past))
-    → both_known fields (kept_by word (λ answer. good_answer path answer past) happening (kept_data path past)) (data_by word fields (data_with path fields past))
+    → both_known fields (kept_by word (λ answer. good_answer path answer past) happening (kept_data path past))
+    (data_by word fields (data_with path fields past))
 known_step path fields happening past (Says Absent) ih = refl
 known_step path fields happening past (Says (Known others)) ih =
     merged_again others fields (data_with path others past) (data_with path fields past) (same_fields others fields) refl
@@ -118,7 +123,8 @@ known_step path fields Forgot past Nothing ih = merged_forgot (kept_data path pa
 known_step path fields _ past Nothing ih = ih fields
 
 -- what is kept where seven fields come
-pub known_is : (path : Text) (past : Past) (fields : DataStat) → merged (kept_data path past) (Known fields) ≡ with_data fields (data_with path fields past)
+pub known_is : (path : Text) (past : Past) (fields : DataStat)
+    → merged (kept_data path past) (Known fields) ≡ with_data fields (data_with path fields past)
 known_is path [] fields = refl
 known_is path (happening ∷ past) fields = known_step path fields happening past (word_data path happening) (known_is path past)
 
@@ -126,7 +132,8 @@ merged_absent : (kept : Option (Kept Answer)) → merged kept Absent ≡ Absent
 merged_absent None = refl
 merged_absent (Some kept) = refl
 
-merged_data : (kept : Option (Kept Answer)) (bytes : Option (List ℕ)) (fields : DataStat) → merged kept (Full bytes fields) ≡ Full bytes fields
+merged_data : (kept : Option (Kept Answer)) (bytes : Option (List ℕ)) (fields : DataStat)
+    → merged kept (Full bytes fields) ≡ Full bytes fields
 merged_data None bytes fields = refl
 merged_data (Some kept) bytes fields = refl
 
@@ -137,15 +144,18 @@ merged_is path (Full bytes fields) past = merged_data (kept_data path past) byte
 
 -- ---- after a reply
 
-keep_said : {A : Type 0} (b : Bool) (a x : A) (known : A → A) (kept : Option (Kept A)) → x ≡ known a → cond b (good x) kept ≡ kept_by (cond b (Says a) Nothing) known Began kept
+keep_said : {A : Type 0} (b : Bool) (a x : A) (known : A → A) (kept : Option (Kept A))
+    → x ≡ known a → cond b (good x) kept ≡ kept_by (cond b (Says a) Nothing) known Began kept
 keep_said true a x known kept e = ap good e
 keep_said false a x known kept e = refl
 
 node_by : (left : Option (Left Answer)) (path : Text) (past : Past)
-    → keep_node left path (kept_data path past) ≡ kept_by (if_at left path) (λ answer. good_answer path answer past) Began (kept_data path past)
+    → keep_node left path (kept_data path past)
+    ≡ kept_by (if_at left path) (λ answer. good_answer path answer past) Began (kept_data path past)
 node_by None path past = refl
 node_by (Some left) path past =
-    keep_said (bytes_eq left.path path) left.says (merged (kept_data path past) left.says) (λ answer. good_answer path answer past) (kept_data path past) (merged_is path left.says past)
+    keep_said (bytes_eq left.path path) left.says (merged (kept_data path past) left.says) (λ answer. good_answer path answer past)
+    (kept_data path past) (merged_is path left.says past)
 
 children_by : (left : Option (Left Names)) (path : Text) (past : Past)
     → keep_children left path (kept_names path past) ≡ kept_by (if_at left path) (λ names. names) Began (kept_names path past)
@@ -153,7 +163,8 @@ children_by None path past = refl
 children_by (Some left) path past = keep_said (bytes_eq left.path path) left.says left.says (λ names. names) (kept_names path past) refl
 
 -- a happening that is no forget leaves what it says nothing of
-plain : {A : Type 0} (word : Word A) (known : A → A) (message : Message) (kept : Option (Kept A)) → kept_by word known Began kept ≡ kept_by word known (Took message) kept
+plain : {A : Type 0} (word : Word A) (known : A → A) (message : Message) (kept : Option (Kept A))
+    → kept_by word known Began kept ≡ kept_by word known (Took message) kept
 plain (Says a) known message kept = refl
 plain Ends known message kept = refl
 plain Empties known message kept = refl
@@ -165,18 +176,23 @@ module _ (start : Start) where
   reply_cache ticket Close zxid result past n = absurd (n tt)
   reply_cache ticket question zxid result past n =
       cache_ext _ _
-      (λ path. node_by (leaves_data question result) path past ∙ plain (if_at (leaves_data question result) path) (λ answer. good_answer path answer past) (Replies ticket question zxid result) (kept_data path past))
-      (λ path. children_by (leaves_child question result) path past ∙ plain (if_at (leaves_child question result) path) (λ names. names) (Replies ticket question zxid result) (kept_names path past))
+      (λ path. node_by (leaves_data question result) path past ∙ plain (if_at (leaves_data question result) path)
+      (λ answer. good_answer path answer past) (Replies ticket question zxid result) (kept_data path past))
+      (λ path. children_by (leaves_child question result) path past
+      ∙ plain (if_at (leaves_child question result) path) (λ names. names) (Replies ticket question zxid result) (kept_names path past))
 
 -- ---- after a notice
 
-notice_by : {A : Type 0} (b : Bool) (known : A → A) (message : Message) (kept : Option (Kept A)) → cond b (stale kept) kept ≡ kept_by (cond b Ends Nothing) known (Took message) kept
+notice_by : {A : Type 0} (b : Bool) (known : A → A) (message : Message) (kept : Option (Kept A))
+    → cond b (stale kept) kept ≡ kept_by (cond b Ends Nothing) known (Took message) kept
 notice_by true known message kept = refl
 notice_by false known message kept = refl
 
 module _ (start : Start) where
-  pub notice_cache : (event : Event) (at : Text) (past : Past) → spoilt event at (view_at start past).cache ≡ (view_at start (Took (Notifies event at) ∷ past)).cache
+  pub notice_cache : (event : Event) (at : Text) (past : Past)
+      → spoilt event at (view_at start past).cache ≡ (view_at start (Took (Notifies event at) ∷ past)).cache
   notice_cache event at past =
       cache_ext _ _
-      (λ path. notice_by (concerns event Data && bytes_eq at path) (λ answer. good_answer path answer past) (Notifies event at) (kept_data path past))
+      (λ path. notice_by (concerns event Data && bytes_eq at path) (λ answer. good_answer path answer past)
+      (Notifies event at) (kept_data path past))
       (λ path. notice_by (concerns event Child && bytes_eq at path) (λ names. names) (Notifies event at) (kept_names path past))

@@ -21,12 +21,14 @@ by_cond P false x y p q = q
 
 -- what is read after a header
 pub by_header : (P : Reading Arrived TalkFault → Type 0) (ps : List Pending) (header : ReplyHeader) (end : ℕ) (bytes : List ℕ)
-    → P (notice_arriving (reading watcher_event end bytes)) → P (Ok Pong) → P (Ok Skipped) → P (oldest_arriving ps header end bytes) → P (header_arriving ps header end bytes)
+    → P (notice_arriving (reading watcher_event end bytes)) → P (Ok Pong) → P (Ok Skipped) → P (oldest_arriving ps header end bytes)
+    → P (header_arriving ps header end bytes)
 by_header P ps header end bytes notice pong skipped oldest =
     let by_oldest : Reading Arrived TalkFault = if int_eq header.xid (negsuc 3) then Ok Skipped else oldest_arriving ps header end bytes in
     let by_pong : Reading Arrived TalkFault = if int_eq header.xid (negsuc 1) then Ok Pong else by_oldest in
     by_cond P (int_eq header.xid (negsuc 0)) (notice_arriving (reading watcher_event end bytes)) by_pong notice
-    (by_cond P (int_eq header.xid (negsuc 1)) (Ok Pong) by_oldest pong (by_cond P (int_eq header.xid (negsuc 3)) (Ok Skipped) (oldest_arriving ps header end bytes) skipped oldest))
+    (by_cond P (int_eq header.xid (negsuc 1)) (Ok Pong) by_oldest pong
+    (by_cond P (int_eq header.xid (negsuc 3)) (Ok Skipped) (oldest_arriving ps header end bytes) skipped oldest))
 
 module _ (P : List Happening → Type 0) where
   -- what happens on an open connection alone
@@ -37,7 +39,8 @@ module _ (P : List Happening → Type 0) where
 
   -- what falls due
   pub by_due : (view : View) (now : ℕ) → P (Dropped Silent ∷ []) → P (Pinged ∷ []) → P [] → P (due view now)
-  by_due view now silent pinged none = by_cond P (nat_le (2 * timeout_of view) (3 * (now - view.moments.heard))) _ _ silent (by view.standing.state)
+  by_due view now silent pinged none =
+      by_cond P (nat_le (2 * timeout_of view) (3 * (now - view.moments.heard))) _ _ silent (by view.standing.state)
     where
       by : (state : State) → P (if is_talking state && nat_le (timeout_of view) (3 * (now - view.moments.sent)) then Pinged ∷ [] else [])
       by Connected = by_cond P (nat_le (timeout_of view) (3 * (now - view.moments.sent))) (Pinged ∷ []) [] pinged none

@@ -50,7 +50,8 @@ one_more true x xs = omega arith
 one_more false x xs = omega arith
 
 -- one more is counted, as much as it adds
-counted_more : {A : Type 0} (test : A → Bool) (x : A) (xs : List A) (n m : ℕ) → cond (test x) 1 0 ≡ n → length (filter test xs) ≡ m → length (filter test (x ∷ xs)) ≡ n + m
+counted_more : {A : Type 0} (test : A → Bool) (x : A) (xs : List A) (n m : ℕ)
+    → cond (test x) 1 0 ≡ n → length (filter test xs) ≡ m → length (filter test (x ∷ xs)) ≡ n + m
 counted_more test x xs n m e f = one_more (test x) x (filter test xs) ∙ ap (λ k. k + length (filter test xs)) e ∙ ap (λ k. n + k) f
 
 answers_one : (t : ℕ) (output : Output) → cond (answers_to t output) 1 0 ≡ is_answer t output
@@ -68,7 +69,8 @@ answers_onto t (x ∷ xs) ys = let h = answers_onto t xs (x ∷ ys) in omega ari
 answers_all : (t : ℕ) (items : List Item) → answers_with t (outputs_of items) ≡ answers_over t items
 answers_all t [] = refl
 answers_all t (Turned turn ∷ items) =
-    let o : answers_with t (outputs_of (Turned turn ∷ items)) ≡ answers_with t (onto turn.outputs (outputs_of items)) = ap (answers_with t) (outputs_onto turn items) in
+    let o : answers_with t (outputs_of (Turned turn ∷ items)) ≡ answers_with t (onto turn.outputs (outputs_of items)) =
+    ap (answers_with t) (outputs_onto turn items) in
     let h = answers_all t items in
     let a = answers_onto t turn.outputs (outputs_of items) in
     omega arith
@@ -88,7 +90,8 @@ calls_are t (Turned turn ∷ items) = counted_more (asks_by t) (Turned turn) ite
 calls_are t (Forgets ∷ items) = calls_are t items
 calls_are t (Halts ∷ items) = calls_are t items
 
-waits_one : (t : ℕ) (waiting : Waiting) → cond (elim waiting [ Call_waits other question ↦ t == other | _ ↦ false ]) 1 0 ≡ waits_with t waiting
+waits_one : (t : ℕ) (waiting : Waiting)
+    → cond (elim waiting [ Call_waits other question ↦ t == other | _ ↦ false ]) 1 0 ≡ waits_with t waiting
 waits_one t (Part_waits last) = refl
 waits_one t (Call_waits other question) = refl
 

@@ -1,5 +1,6 @@
 -- What is read of a payload is in the range of its fields, whatever its bytes are, and no longer than the payload.
-use Rattle.std.proofs.Common.{◌≡◌, ℕ, ℤ, pos, negsuc, suc, ◌-◌, ◌<◌, ◌≤◌, ◌^◌, Bool, true, false, cond, ltb, List, length, take, drop, Option, Some, None, Ok, Err, refl, subst, arith, length-drop, length-take, ltb-false, ltb-true}
+use Rattle.std.proofs.Common.{◌≡◌, ℕ, ℤ, pos, negsuc, suc, ◌-◌, ◌<◌, ◌≤◌, ◌^◌, Bool, true, false, cond, ltb, List, length, take, drop}
+use Rattle.std.proofs.Common.{Option, Some, None, Ok, Err, refl, subst, arith, length-drop, length-take, ltb-false, ltb-true}
 use Rattle.std.specs.Prelude.{FitsSigned}
 use Rattle.std.specs.Int.{w32, w64, from_be_bytes, cast_signed}
 use mir.Val.{sel}
@@ -29,7 +30,8 @@ guard_ok : {A : Type 0} (b : Bool) (d : TakeError) (x y : A) → cond b (Err d) 
 guard_ok true d x y e = absurd cc
 guard_ok false d x y e = cc
 
-bytes_ok : (count end : ℕ) (bytes : List ℕ) (found : List ℕ × List ℕ) → bytes_at count end bytes ≡ Ok found → (length found.0 ≤ length bytes) × (length found.1 ≤ length bytes)
+bytes_ok : (count end : ℕ) (bytes : List ℕ) (found : List ℕ × List ℕ)
+    → bytes_at count end bytes ≡ Ok found → (length found.0 ≤ length bytes) × (length found.1 ≤ length bytes)
 unfolding bytes_at
 bytes_ok count end bytes found e =
     let g = guard_ok (ltb (length bytes) count) (Short (place_of end bytes)) (take count bytes, drop count bytes) found e in
@@ -43,12 +45,14 @@ int_ok end bytes found e =
     let b = bytes_ok 4 end bytes a.0 a.1 in
     subst (λ (p : ℤ × List ℕ). length p.1 ≤ length bytes) (ok_is (cast_signed w32 (from_be_bytes w32 a.0.0), a.0.1) found a.2) b.1
 
-long_ok : (end : ℕ) (bytes : List ℕ) (found : ℤ × List ℕ) → long_at end bytes ≡ Ok found → FitsSigned w64 found.0 × (length found.1 ≤ length bytes)
+long_ok : (end : ℕ) (bytes : List ℕ) (found : ℤ × List ℕ)
+    → long_at end bytes ≡ Ok found → FitsSigned w64 found.0 × (length found.1 ≤ length bytes)
 unfolding long_at
 long_ok end bytes found e =
     let a = bind_ok (bytes_at 8 end bytes) (λ eight. Ok (cast_signed w64 (from_be_bytes w64 eight.0), eight.1)) found e in
     let b = bytes_ok 8 end bytes a.0 a.1 in
-    subst (λ (p : ℤ × List ℕ). FitsSigned w64 p.0 × (length p.1 ≤ length bytes)) (ok_is (cast_signed w64 (from_be_bytes w64 a.0.0), a.0.1) found a.2)
+    subst (λ (p : ℤ × List ℕ). FitsSigned w64 p.0 × (length p.1 ≤ length bytes))
+    (ok_is (cast_signed w64 (from_be_bytes w64 a.0.0), a.0.1) found a.2)
     (signed_fits (from_be_bytes w64 a.0.0), b.1)
 
 length_ok : (end : ℕ) (bytes : List ℕ) (found : Option ℕ × List ℕ) → length_at end bytes ≡ Ok found → length found.1 ≤ length bytes
@@ -58,14 +62,17 @@ length_ok end bytes found e =
     let b = bind_ok (length_of (place_of end bytes) a.0.0) (λ count. Ok (count, a.0.1)) found a.2 in
     subst (λ (p : Option ℕ × List ℕ). length p.1 ≤ length bytes) (ok_is (b.0, a.0.1) found b.2) (int_ok end bytes a.0 a.1)
 
-null_ok : (end : ℕ) (count : Option ℕ) (bytes : List ℕ) (found : Option (List ℕ) × List ℕ) → unless_null (λ n rest. bytes_at n end rest) count bytes ≡ Ok found → length (or_empty found.0) ≤ length bytes
-null_ok end None bytes found e = subst (λ (p : Option (List ℕ) × List ℕ). length (or_empty p.0) ≤ length bytes) (ok_is (None, bytes) found e) (omega arith)
+null_ok : (end : ℕ) (count : Option ℕ) (bytes : List ℕ) (found : Option (List ℕ) × List ℕ)
+    → unless_null (λ n rest. bytes_at n end rest) count bytes ≡ Ok found → length (or_empty found.0) ≤ length bytes
+null_ok end None bytes found e =
+    subst (λ (p : Option (List ℕ) × List ℕ). length (or_empty p.0) ≤ length bytes) (ok_is (None, bytes) found e) (omega arith)
 null_ok end (Some n) bytes found e =
     let a = bind_ok (bytes_at n end bytes) (λ text. Ok (Some text.0, text.1)) found e in
     let b = bytes_ok n end bytes a.0 a.1 in
     subst (λ (p : Option (List ℕ) × List ℕ). length (or_empty p.0) ≤ length bytes) (ok_is (Some a.0.0, a.0.1) found a.2) b.0
 
-buffer_ok : (end : ℕ) (bytes : List ℕ) (found : Option (List ℕ) × List ℕ) → reading buffer end bytes ≡ Ok found → length (or_empty found.0) ≤ length bytes
+buffer_ok : (end : ℕ) (bytes : List ℕ) (found : Option (List ℕ) × List ℕ)
+    → reading buffer end bytes ≡ Ok found → length (or_empty found.0) ≤ length bytes
 unfolding counted_at
 buffer_ok end bytes found e =
     let a = bind_ok (length_at end bytes) (λ count. unless_null (λ n rest. bytes_at n end rest) count.0 count.1) found e in
@@ -81,7 +88,8 @@ record AreBoth (first second : Layout) (end : ℕ) (bytes : List ℕ) (found : V
   front : reading first end bytes ≡ Ok (found.0.0, between)
   back : reading second end between ≡ Ok (found.0.1, found.1)
 
-both_ok : (first second : Layout) (end : ℕ) (bytes : List ℕ) (found : Value (first ⨾ second) × List ℕ) → reading (first ⨾ second) end bytes ≡ Ok found → AreBoth first second end bytes found
+both_ok : (first second : Layout) (end : ℕ) (bytes : List ℕ) (found : Value (first ⨾ second) × List ℕ)
+    → reading (first ⨾ second) end bytes ≡ Ok found → AreBoth first second end bytes found
 both_ok first second end bytes found e =
     let a = bind_ok (reading first end bytes) (λ front. reading second end front.1 >>= λ back. Ok ((front.0, back.0), back.1)) found e in
     let b = bind_ok (reading second end a.0.1) (λ back. Ok ((a.0.0, back.0), back.1)) found a.2 in
@@ -89,17 +97,20 @@ both_ok first second end bytes found e =
     (record { between = a.0.1; front = a.1; back = b.1 })
 
 -- the zxid of a header
-pub header_ok : (end : ℕ) (payload : List ℕ) (found : Value reply_header × List ℕ) → reading reply_header end payload ≡ Ok found → FitsSigned w64 found.0.1.0
+pub header_ok : (end : ℕ) (payload : List ℕ) (found : Value reply_header × List ℕ)
+    → reading reply_header end payload ≡ Ok found → FitsSigned w64 found.0.1.0
 header_ok end payload found e =
     let a = both_ok int (long ⨾ int) end payload found e in
     let b = both_ok long int end a.between (found.0.1, found.1) a.back in
     (long_ok end a.between (found.0.1.0, b.between) b.front).0
 
 -- the session and the password of a response
-pub response_ok : (end : ℕ) (payload : List ℕ) (found : Response × List ℕ) → response_at end payload ≡ Ok found → FitsSigned w64 (response_session found.0) × (length (response_password found.0) ≤ length payload)
+pub response_ok : (end : ℕ) (payload : List ℕ) (found : Response × List ℕ)
+    → response_at end payload ≡ Ok found → FitsSigned w64 (response_session found.0) × (length (response_password found.0) ≤ length payload)
 unfolding response_at
 response_ok end payload found e =
-    let r = bind_ok (reading connect_response_front end payload) (λ front. flag_at end front.1 >>= λ flag. Ok (record { front = front.0; read_only = flag.0 }, flag.1)) found e in
+    let r = bind_ok (reading connect_response_front end payload)
+    (λ front. flag_at end front.1 >>= λ flag. Ok (record { front = front.0; read_only = flag.0 }, flag.1)) found e in
     let f = bind_ok (flag_at end r.0.1) (λ flag. Ok (record { front = r.0.0; read_only = flag.0 }, flag.1)) found r.2 in
     let a = both_ok int (int ⨾ (long ⨾ buffer)) end payload r.0 r.1 in
     let b = both_ok int (long ⨾ buffer) end a.between (r.0.0.1, r.0.1) a.back in
@@ -109,5 +120,6 @@ response_ok end payload found e =
     let n = long_ok end b.between (r.0.0.1.1.0, c.between) c.front in
     let p = buffer_ok end c.between (r.0.0.1.1.1, r.0.1) c.back in
     let made : Response × List ℕ = (record { front = r.0.0; read_only = f.0.0 }, f.0.1) in
-    subst (λ (x : Response × List ℕ). FitsSigned w64 (response_session x.0) × (length (response_password x.0) ≤ length payload)) (ok_is made found f.2)
+    subst (λ (x : Response × List ℕ). FitsSigned w64 (response_session x.0) × (length (response_password x.0) ≤ length payload))
+    (ok_is made found f.2)
     (n.0, let q = n.1 in omega arith)

@@ -1,6 +1,9 @@
 -- After each happening the view is what the look back gives.
-use Rattle.zk_turns.specs.Past.{Asking, For_call, pending_for, Past, Happening, Began, Came, Took, Dropped, Lost, Asked, Denied, Pinged, Ticked, Forgot, Halted, Accepted, Expiry, Replies, Watches_set, Notifies, Pong, Skipped, is_talking, state_of, now_of, heard_of, sent_of, calls_sent, xid_of, questions, answered, lists_of}
-use Rattle.std.proofs.Common.{◌≡◌, ℕ, zero, suc, ◌+◌, ◌%◌, ◌≤◌, ◌<◌, ◌≢◌, ℤ, Bool, true, false, cond, eqb, List, [], ◌∷◌, ◌++◌, map, drop, length, refl, sym, ap, ◌∙◌, arith}
+use Rattle.zk_turns.specs.Past.{Asking, For_call, pending_for, Past, Happening, Began, Came, Took, Dropped, Lost, Asked, Denied, Pinged}
+use Rattle.zk_turns.specs.Past.{Ticked, Forgot, Halted, Accepted, Expiry, Replies, Watches_set, Notifies, Pong, Skipped, is_talking}
+use Rattle.zk_turns.specs.Past.{state_of, now_of, heard_of, sent_of, calls_sent, xid_of, questions, answered, lists_of}
+use Rattle.std.proofs.Common.{◌≡◌, ℕ, zero, suc, ◌+◌, ◌%◌, ◌≤◌, ◌<◌, ◌≢◌, ℤ, Bool, true, false, cond, eqb, List, [], ◌∷◌, ◌++◌, map, drop}
+use Rattle.std.proofs.Common.{length, refl, sym, ap, ◌∙◌, arith}
 use Rattle.std.proofs.lemmas.List.{drop-append-le, map-append}
 use Rattle.std.proofs.lemmas.Bool.Decides.{Decides-eqb}
 use Rattle.zk_turns.specs.Turns.{Start}
@@ -14,8 +17,10 @@ use Rattle.zk_turns.specs.Rule.{if_any, next, sent_now}
 use Rattle.zk_turns.proofs.Registered.{reply_lists, notice_lists, empty_lists}
 use Rattle.zk_turns.proofs.Cached.{reply_cache, notice_cache}
 
-pub view_ext : (a b : View) → a.standing ≡ b.standing → a.saved ≡ b.saved → a.moments ≡ b.moments → a.pending ≡ b.pending → a.held ≡ b.held → a.xid ≡ b.xid → a.lists ≡ b.lists → a.cache ≡ b.cache → a ≡ b
-view_ext a b p q r s t u v w = λ i. record { standing = p i; saved = q i; moments = r i; pending = s i; held = t i; xid = u i; lists = v i; cache = w i }
+pub view_ext : (a b : View) → a.standing ≡ b.standing → a.saved ≡ b.saved → a.moments ≡ b.moments → a.pending ≡ b.pending → a.held ≡ b.held
+    → a.xid ≡ b.xid → a.lists ≡ b.lists → a.cache ≡ b.cache → a ≡ b
+view_ext a b p q r s t u v w =
+    λ i. record { standing = p i; saved = q i; moments = r i; pending = s i; held = t i; xid = u i; lists = v i; cache = w i }
 
 -- ---- questions
 
@@ -32,13 +37,15 @@ drop_one zero (x ∷ xs) = refl
 drop_one (suc n) [] = refl
 drop_one (suc n) (x ∷ xs) = drop_one n xs
 
-one_answered : (talks : Bool) (n : ℕ) (xs : List Asking) → drop 1 (map pending_for (cond talks (drop n xs) [])) ≡ map pending_for (cond talks (drop (suc n) xs) [])
+one_answered : (talks : Bool) (n : ℕ) (xs : List Asking)
+    → drop 1 (map pending_for (cond talks (drop n xs) [])) ≡ map pending_for (cond talks (drop (suc n) xs) [])
 one_answered true n xs = drop_one n xs
 one_answered false n xs = refl
 
 one_asked : (talks : Bool) (n : ℕ) (xs : List Asking) (x : Asking) → talks ≡ true → n ≤ length xs
     → map pending_for (cond talks (drop n xs) []) ++ pending_for x ∷ [] ≡ map pending_for (cond talks (drop n (xs ++ x ∷ [])) [])
-one_asked true n xs x e le = sym (map-append pending_for (drop n xs) (x ∷ [])) ∙ ap (map pending_for) (sym (drop-append-le n xs (x ∷ []) le))
+one_asked true n xs x e le =
+    sym (map-append pending_for (drop n xs) (x ∷ [])) ∙ ap (map pending_for) (sym (drop-append-le n xs (x ∷ []) le))
 one_asked false n xs x e le = absurd cc
 
 -- ---- xids
@@ -57,12 +64,14 @@ next_xid_is n = by (eqb (n % 2147483647 + 1) 2147483647) refl
 -- ---- the theorem
 
 module _ (start : Start) where
-  any_moments : (ps : List Lists) (past : Past) → if_any ps (view_at start past).moments (sent_now (view_at start past)) ≡ record { now = now_of past; heard = heard_of past; sent = if_any ps (sent_of past) (now_of past) }
+  any_moments : (ps : List Lists) (past : Past) → if_any ps (view_at start past).moments (sent_now (view_at start past))
+      ≡ record { now = now_of past; heard = heard_of past; sent = if_any ps (sent_of past) (now_of past) }
   any_moments [] past = refl
   any_moments (p ∷ ps) past = refl
 
   reply_next : (ticket : ℕ) (question : Question) (zxid : ℤ) (result : Result) (past : Past)
-      → next (view_at start past) (Took (Replies ticket question zxid result)) ≡ view_at start (Took (Replies ticket question zxid result) ∷ past)
+      → next (view_at start past) (Took (Replies ticket question zxid result))
+      ≡ view_at start (Took (Replies ticket question zxid result) ∷ past)
   reply_next ticket Close zxid result past =
       view_ext _ _ refl refl refl refl refl refl
       (empty_lists (Took (Replies ticket Close zxid result)) past (λ q. refl) (λ q. refl))
@@ -72,7 +81,8 @@ module _ (start : Start) where
       (reply_lists ticket question zxid result past (λ n. n))
       (reply_cache start ticket question zxid result past (λ n. n))
 
-  pub one_happening : (happening : Happening) (past : Past) → MayHappen happening past → next (view_at start past) happening ≡ view_at start (happening ∷ past)
+  pub one_happening : (happening : Happening) (past : Past)
+      → MayHappen happening past → next (view_at start past) happening ≡ view_at start (happening ∷ past)
   one_happening Began past may = refl
   one_happening (Came byte) past may = refl
   one_happening (Dropped fault) past may = refl

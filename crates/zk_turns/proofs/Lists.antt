@@ -34,7 +34,8 @@ filter_none : (xs : List Text) → filter (λ path. false) xs ≡ []
 filter_none [] = refl
 filter_none (x ∷ xs) = filter_none xs
 
-both_cond : (f : Text → Bool) (a b : Bool) (x : Text) (ys zs : List Text) → f x ≡ b → filter f ys ≡ zs → filter f (cond a (x ∷ ys) ys) ≡ cond (a && b) (x ∷ zs) zs
+both_cond : (f : Text → Bool) (a b : Bool) (x : Text) (ys zs : List Text)
+    → f x ≡ b → filter f ys ≡ zs → filter f (cond a (x ∷ ys) ys) ≡ cond (a && b) (x ∷ zs) zs
 both_cond f true true x ys zs e ih = filter_in f x ys e ∙ ap (λ t. x ∷ t) ih
 both_cond f true false x ys zs e ih = filter_out f x ys e ∙ ih
 both_cond f false b x ys zs e ih = ih
@@ -97,7 +98,8 @@ has-reverse (x ∷ xs) p =
     ∙ ap (λ b. has xs p || b) (or_false (bytes_eq p x))
     ∙ or_comm (has xs p) (bytes_eq p x)
 
-has_cond : (a b c h : Bool) (x : Text) (ys : List Text) (p : Text) → bytes_eq p x ≡ b → has ys p ≡ (h && c) → (b ≡ true → a ≡ c) → has (cond a (x ∷ ys) ys) p ≡ ((b || h) && c)
+has_cond : (a b c h : Bool) (x : Text) (ys : List Text) (p : Text) → bytes_eq p x ≡ b → has ys p ≡ (h && c) → (b ≡ true → a ≡ c)
+    → has (cond a (x ∷ ys) ys) p ≡ ((b || h) && c)
 has_cond true true c h x ys p e ih same = ap (λ t. t || has ys p) e ∙ same refl
 has_cond true false c h x ys p e ih same = ap (λ t. t || has ys p) e ∙ ih
 has_cond false true c h x ys p e ih same = ih ∙ ap (λ t. h && t) (sym (same refl)) ∙ and_false h ∙ same refl
@@ -133,17 +135,20 @@ and_and_not : (a b : Bool) → ((a && b) && not a) ≡ false
 and_and_not true b = and_false b
 and_and_not false b = refl
 
-no_new : (f g : Text → Bool) (ps older : List Text) → ((q : Text) → (g q && not (f q)) ≡ false) → filter (λ q. g q && not (f q)) ps ++ older ≡ older
+no_new : (f g : Text → Bool) (ps older : List Text) → ((q : Text) → (g q && not (f q)) ≡ false)
+    → filter (λ q. g q && not (f q)) ps ++ older ≡ older
 no_new f g ps older none = ap (λ t. t ++ older) (filter_agree (λ q. g q && not (f q)) (λ q. false) none ps ∙ filter_none ps)
 
 -- nothing changes
-pub stays : (f g : Text → Bool) (ps older : List Text) → ((q : Text) → g q ≡ f q) → shown g (filter (λ q. g q && not (f q)) ps ++ older) ≡ shown f older
+pub stays : (f g : Text → Bool) (ps older : List Text) → ((q : Text) → g q ≡ f q)
+    → shown g (filter (λ q. g q && not (f q)) ps ++ older) ≡ shown f older
 stays f g ps older same =
     ap (shown g) (no_new f g ps older (λ q. ap (λ t. t && not (f q)) (same q) ∙ and_not (f q)))
     ∙ ap reverse (filter_agree g f same (firsts older))
 
 -- one path leaves
-pub leaves : (f g : Text → Bool) (ps older : List Text) (p : Text) → ((q : Text) → g q ≡ (f q && not (bytes_eq p q))) → shown g (filter (λ q. g q && not (f q)) ps ++ older) ≡ without (shown f older) p
+pub leaves : (f g : Text → Bool) (ps older : List Text) (p : Text) → ((q : Text) → g q ≡ (f q && not (bytes_eq p q)))
+    → shown g (filter (λ q. g q && not (f q)) ps ++ older) ≡ without (shown f older) p
 leaves f g ps older p other =
     ap (shown g) (no_new f g ps older (λ q. ap (λ t. t && not (f q)) (other q) ∙ and_and_not (f q) (not (bytes_eq p q))))
     ∙ ap reverse (filter_agree g (λ q. f q && not (bytes_eq p q)) other (firsts older))
@@ -155,7 +160,8 @@ pub empties : (g : Text → Bool) (paths : List Text) → ((q : Text) → g q �
 empties g paths none = ap reverse (filter_agree g (λ q. false) none (firsts paths) ∙ filter_none (firsts paths))
 
 -- one path comes
-comes_old : (f g : Text → Bool) (older : List Text) (p : Text) → ((q : Text) → g q ≡ (bytes_eq p q || f q)) → has (shown f older) p ≡ f p → f p ≡ true
+comes_old : (f g : Text → Bool) (older : List Text) (p : Text) → ((q : Text) → g q ≡ (bytes_eq p q || f q))
+    → has (shown f older) p ≡ f p → f p ≡ true
     → shown g (filter (λ q. g q && not (f q)) (p ∷ []) ++ older) ≡ with_path (shown f older) p
 comes_old f g older p more found e =
     stays f g (p ∷ []) older (λ q. more q ∙ old q (bytes_eq p q) refl)
@@ -168,16 +174,19 @@ comes_old f g older p more found e =
 new_test : (f g : Text → Bool) (p : Text) → ((q : Text) → g q ≡ (bytes_eq p q || f q)) → f p ≡ false → (g p && not (f p)) ≡ true
 new_test f g p more e = ap (λ t. t && not (f p)) (more p ∙ ap (λ t. t || f p) (bytes_eq-refl p)) ∙ ap not e
 
-newest : (f g : Text → Bool) (p : Text) → ((q : Text) → g q ≡ (bytes_eq p q || f q)) → f p ≡ false → (q : Text) (b : Bool) → bytes_eq p q ≡ b → (not b && g q) ≡ f q
+newest : (f g : Text → Bool) (p : Text) → ((q : Text) → g q ≡ (bytes_eq p q || f q)) → f p ≡ false → (q : Text) (b : Bool)
+    → bytes_eq p q ≡ b → (not b && g q) ≡ f q
 newest f g p more e q true is = sym (ap f (sym (same_text p q is)) ∙ e)
 newest f g p more e q false is = more q ∙ ap (λ t. t || f q) is
 
-comes_new : (f g : Text → Bool) (older : List Text) (p : Text) → ((q : Text) → g q ≡ (bytes_eq p q || f q)) → has (shown f older) p ≡ f p → f p ≡ false
+comes_new : (f g : Text → Bool) (older : List Text) (p : Text) → ((q : Text) → g q ≡ (bytes_eq p q || f q))
+    → has (shown f older) p ≡ f p → f p ≡ false
     → shown g (filter (λ q. g q && not (f q)) (p ∷ []) ++ older) ≡ with_path (shown f older) p
 comes_new f g older p more found e =
     ap (λ t. shown g (t ++ older)) (filter_in (λ q. g q && not (f q)) p [] (new_test f g p more e))
     ∙ ap reverse (filter_in g p (without (firsts older) p) (more p ∙ ap (λ t. t || f p) (bytes_eq-refl p)))
-    ∙ ap (λ t. reverse (p ∷ t)) (filter_filter g (λ q. not (bytes_eq p q)) (firsts older) ∙ filter_agree (λ q. not (bytes_eq p q) && g q) f (λ q. newest f g p more e q (bytes_eq p q) refl) (firsts older))
+    ∙ ap (λ t. reverse (p ∷ t)) (filter_filter g (λ q. not (bytes_eq p q)) (firsts older)
+    ∙ filter_agree (λ q. not (bytes_eq p q) && g q) f (λ q. newest f g p more e q (bytes_eq p q) refl) (firsts older))
     ∙ reverse-cons p (filter f (firsts older))
     ∙ ap (λ b. cond b (shown f older) (shown f older ++ p ∷ [])) (sym (found ∙ e))
 
@@ -238,18 +247,23 @@ grows f g (p ∷ []) older one new = by (g p) (f p) refl refl
         on false false false e h k = refl
         on false false true e h k = absurd (let s = ap (λ t. bytes_eq p t) (sym (same_head q (new q k h))) in let r = bytes_eq-refl p in cc)
 
-    left : (b : Bool) → (g p && not (f p)) ≡ b → (b ≡ false → (q : Text) → g q ≡ true → f q ≡ true) → (b ≡ true → (g p ≡ true) × (f p ≡ false))
+    left : (b : Bool) → (g p && not (f p)) ≡ b → (b ≡ false → (q : Text) → g q ≡ true → f q ≡ true)
+        → (b ≡ true → (g p ≡ true) × (f p ≡ false))
         → shown g (cond b (p ∷ []) [] ++ older) ≡ filter g (shown f older) ++ cond b (p ∷ []) []
     left false e none some = none_new f g older (none refl) ∙ sym (append-nil (filter g (shown f older)))
     left true e none some =
         ap reverse (filter_in g p (without (firsts older) p) (some refl).0)
         ∙ reverse-cons p (filter g (without (firsts older) p))
-        ∙ ap (λ l. reverse l ++ p ∷ []) (filter_filter g (λ q. not (bytes_eq p q)) (firsts older) ∙ filter_agree (λ q. not (bytes_eq p q) && g q) (λ q. f q && g q) (kept (some refl).1) (firsts older) ∙ sym (filter_filter g f (firsts older)))
+        ∙ ap (λ l. reverse l ++ p ∷ []) (filter_filter g (λ q. not (bytes_eq p q)) (firsts older) ∙ filter_agree
+        (λ q. not (bytes_eq p q) && g q) (λ q. f q && g q) (kept (some refl).1) (firsts older) ∙ sym (filter_filter g f (firsts older)))
         ∙ ap (λ l. l ++ p ∷ []) (reverse_filter g (filter f (firsts older)))
 
-    by : (b c : Bool) → g p ≡ b → f p ≡ c → shown g (cond (g p && not (f p)) (p ∷ []) [] ++ older) ≡ filter g (shown f older) ++ cond (g p && not (f p)) (p ∷ []) []
-    by true true e h = left (g p && not (f p)) refl (λ z. old (λ w. h)) (λ z. absurd (let t = ap (λ t. t && not (f p)) e in let v = ap not h in cc))
-    by true false e h = left (g p && not (f p)) refl (λ z. absurd (let t = ap (λ t. t && not (f p)) e in let v = ap not h in cc)) (λ z. (e, h))
+    by : (b c : Bool) → g p ≡ b → f p ≡ c
+        → shown g (cond (g p && not (f p)) (p ∷ []) [] ++ older) ≡ filter g (shown f older) ++ cond (g p && not (f p)) (p ∷ []) []
+    by true true e h =
+        left (g p && not (f p)) refl (λ z. old (λ w. h)) (λ z. absurd (let t = ap (λ t. t && not (f p)) e in let v = ap not h in cc))
+    by true false e h =
+        left (g p && not (f p)) refl (λ z. absurd (let t = ap (λ t. t && not (f p)) e in let v = ap not h in cc)) (λ z. (e, h))
     by false c e h = left (g p && not (f p)) refl (λ z. old (λ w. absurd cc)) (λ z. absurd (let t = ap (λ t. t && not (f p)) e in cc))
 
 -- ---- a list has the paths that are in it
@@ -257,22 +271,26 @@ grows f g (p ∷ []) older one new = by (g p) (f p) refl refl
 -- a path comes into a list by a reply about it alone
 pub record Tracks (is_in : Text → Past → Bool) : Type 0 where
   pub none : (p : Text) → is_in p [] ≡ false
-  pub by_reply : (p : Text) (happening : Happening) (past : Past) → is_in p (happening ∷ past) ≡ true → is_in p past ≡ false → path_of_reply happening ≡ p ∷ []
+  pub by_reply : (p : Text) (happening : Happening) (past : Past)
+      → is_in p (happening ∷ past) ≡ true → is_in p past ≡ false → path_of_reply happening ≡ p ∷ []
 
-has_arrivals : (is_in : Text → Past → Bool) → Tracks is_in → (p : Text) (past : Past) → is_in p past ≡ true → has (arrivals is_in past) p ≡ true
+has_arrivals : (is_in : Text → Past → Bool) → Tracks is_in → (p : Text) (past : Past)
+    → is_in p past ≡ true → has (arrivals is_in past) p ≡ true
 has_arrivals is_in t p [] e = absurd (let n = t.none p in cc)
 has_arrivals is_in t p (happening ∷ past) e = by (is_in p past) refl (has_arrivals is_in t p past)
   where
     new : List Text
     new = filter (λ path. is_in path (happening ∷ past) && not (is_in path past)) (path_of_reply happening)
 
-    by : (b : Bool) → is_in p past ≡ b → (is_in p past ≡ true → has (arrivals is_in past) p ≡ true) → has (arrivals is_in (happening ∷ past)) p ≡ true
+    by : (b : Bool) → is_in p past ≡ b → (is_in p past ≡ true → has (arrivals is_in past) p ≡ true)
+        → has (arrivals is_in (happening ∷ past)) p ≡ true
     by true was ih = has-append new (arrivals is_in past) p ∙ ap (λ b. has new p || b) (ih was) ∙ or_true (has new p)
     by false was ih =
         has-append new (arrivals is_in past) p
         ∙ ap (λ b. b || has (arrivals is_in past) p) (
         ap (λ ps. has (filter (λ path. is_in path (happening ∷ past) && not (is_in path past)) ps) p) (t.by_reply p happening past e was)
-        ∙ ap (λ ps. has ps p) (filter_in (λ path. is_in path (happening ∷ past) && not (is_in path past)) p [] (ap (λ b. b && not (is_in p past)) e ∙ ap not was))
+        ∙ ap (λ ps. has ps p) (filter_in (λ path. is_in path (happening ∷ past) && not (is_in path past)) p []
+        (ap (λ b. b && not (is_in p past)) e ∙ ap not was))
         ∙ ap (λ b. b || false) (bytes_eq-refl p)
         )
 

@@ -7,11 +7,13 @@ use Rattle.zk_turns.specs.Turns.{Start, Outcome, Signal, Opens, Comes, Cuts, Tic
 use Rattle.zk_conversation.specs.Questions.{Close}
 use Rattle.zk_session.specs.declared.states.State.{State}
 use Rattle.zk_session.specs.declared.states.State.TheVariants.{Idle, Connecting, Connected, Expired, Closed}
-use Rattle.zk_turns.specs.Past.{Past, Happening, Began, Came, Took, Dropped, Lost, Denied, Ticked, Forgot, Halted, Accepted, Expiry, Replies, Watches_set, is_final, is_over, has_halted, state_of, KeepsNothing, last_of, held_of}
+use Rattle.zk_turns.specs.Past.{Past, Happening, Began, Came, Took, Dropped, Lost, Denied, Ticked, Forgot, Halted, Accepted, Expiry}
+use Rattle.zk_turns.specs.Past.{Replies, Watches_set, is_final, is_over, has_halted, state_of, KeepsNothing, last_of, held_of}
 use Rattle.std.specs.Int.{int_max}
 use Rattle.zk_cache.specs.Kept.{without_stale}
 use Rattle.zk_turns.specs.View.{View, view_at}
-use Rattle.zk_turns.specs.Taken.{happenings, caused, opens, if_open, of_cutting, cut, Cutting, Unfinished, Bad, Payload, due, refusal_when_connected, joined, past_after, past_of}
+use Rattle.zk_turns.specs.Taken.{happenings, caused, opens, if_open, of_cutting, cut, Cutting, Unfinished, Bad, Payload, due}
+use Rattle.zk_turns.specs.Taken.{refusal_when_connected, joined, past_after, past_of}
 use Rattle.zk_turns.proofs.Cases.{by_due}
 use Rattle.zk_turns.proofs.Registered.{empty_lists}
 use Rattle.zk_turns.proofs.Words.{calls, refusal_in}
@@ -26,8 +28,10 @@ IsQuiet _ = ⊥
 quiet_keeps : (happening : Happening) (past : Past) → IsQuiet happening → KeepsNothing past → KeepsNothing (happening ∷ past)
 quiet_keeps (Ticked moment) past q k = record { nodes = k.nodes; children = k.children; lists = k.lists }
 quiet_keeps (Denied ticket why) past q k = record { nodes = k.nodes; children = k.children; lists = k.lists }
-quiet_keeps Forgot past q k = record { nodes = λ p. ap without_stale (k.nodes p); children = λ p. ap without_stale (k.children p); lists = k.lists }
-quiet_keeps Halted past q k = record { nodes = λ p. refl; children = λ p. refl; lists = sym (empty_lists Halted past (λ p. refl) (λ p. refl)) }
+quiet_keeps Forgot past q k =
+    record { nodes = λ p. ap without_stale (k.nodes p); children = λ p. ap without_stale (k.children p); lists = k.lists }
+quiet_keeps Halted past q k =
+    record { nodes = λ p. refl; children = λ p. refl; lists = sym (empty_lists Halted past (λ p. refl) (λ p. refl)) }
 quiet_keeps _ past q k = elim q [ ]
 
 -- what was not over is over by an end
@@ -35,11 +39,18 @@ not_yet : (a b : Bool) (X : Type 0) → (a || b) ≡ false → (a || false) ≡ 
 not_yet true b X e f = absurd cc
 not_yet false b X e f = absurd cc
 
-ends_here : (happening : Happening) (past : Past) → is_over past ≡ false → is_over (happening ∷ past) ≡ true → KeepsNothing (happening ∷ past)
-ends_here Halted past e f = record { nodes = λ p. refl; children = λ p. refl; lists = sym (empty_lists Halted past (λ p. refl) (λ p. refl)) }
-ends_here (Took Expiry) past e f = record { nodes = λ p. refl; children = λ p. refl; lists = sym (empty_lists (Took Expiry) past (λ p. refl) (λ p. refl)) }
+ends_here : (happening : Happening) (past : Past)
+    → is_over past ≡ false → is_over (happening ∷ past) ≡ true → KeepsNothing (happening ∷ past)
+ends_here Halted past e f =
+    record { nodes = λ p. refl; children = λ p. refl; lists = sym (empty_lists Halted past (λ p. refl) (λ p. refl)) }
+ends_here (Took Expiry) past e f =
+    record { nodes = λ p. refl; children = λ p. refl; lists = sym (empty_lists (Took Expiry) past (λ p. refl) (λ p. refl)) }
 ends_here (Took (Replies ticket Close zxid result)) past e f =
-    record { nodes = λ p. refl; children = λ p. refl; lists = sym (empty_lists (Took (Replies ticket Close zxid result)) past (λ p. refl) (λ p. refl)) }
+    record {
+      nodes = λ p. refl;
+      children = λ p. refl;
+      lists = sym (empty_lists (Took (Replies ticket Close zxid result)) past (λ p. refl) (λ p. refl));
+    }
 ends_here Began past e f = not_yet (has_halted past) (is_final (state_of past)) _ e f
 ends_here (Dropped fault) past e f = not_yet (has_halted past) (is_final (state_of past)) _ e f
 ends_here Lost past e f = not_yet (has_halted past) (is_final (state_of past)) _ e f
@@ -49,7 +60,8 @@ ends_here _ past e f = absurd cc
 abbrev KeepsIfOver : Past → Type 0
 KeepsIfOver past = is_over past ≡ true → KeepsNothing past
 
-over_step : (happening : Happening) (past : Past) → (is_over past ≡ true → IsQuiet happening) → KeepsIfOver past → KeepsIfOver (happening ∷ past)
+over_step : (happening : Happening) (past : Past) → (is_over past ≡ true → IsQuiet happening)
+    → KeepsIfOver past → KeepsIfOver (happening ∷ past)
 over_step happening past quiet keeps f = by (is_over past) refl
   where
     by : (b : Bool) → is_over past ≡ b → KeepsNothing (happening ∷ past)
@@ -75,12 +87,14 @@ not_over past X h e f = by (has_halted past) (is_final (state_of past)) h e f
     by false b h e f = absurd cc
 
 module _ (start : Start) where
-  open_quiet : (state : State) (first : Happening) (rest : List Happening) (past : Past) → (is_final state ≡ false → AllQuiet (first ∷ rest) past) → AllQuiet (if_open state (first ∷ rest)) past
+  open_quiet : (state : State) (first : Happening) (rest : List Happening) (past : Past)
+      → (is_final state ≡ false → AllQuiet (first ∷ rest) past) → AllQuiet (if_open state (first ∷ rest)) past
   open_quiet Connecting first rest past q = q refl
   open_quiet Connected first rest past q = q refl
   open_quiet _ first rest past q = tt
 
-  cutting_quiet : (cutting : Cutting) (byte : ℕ) (past : Past) → (is_over past ≡ true → ⊥) → AllQuiet (of_cutting (view_at start past) cutting) (Came byte ∷ past)
+  cutting_quiet : (cutting : Cutting) (byte : ℕ) (past : Past) → (is_over past ≡ true → ⊥)
+      → AllQuiet (of_cutting (view_at start past) cutting) (Came byte ∷ past)
   cutting_quiet Unfinished byte past n = tt
   cutting_quiet (Bad fault) byte past n = (λ f. absurd (n f), tt)
   cutting_quiet (Payload payload) byte past n = (λ f. absurd (n f), tt)
@@ -88,18 +102,24 @@ module _ (start : Start) where
   due_quiet : (view : View) (now moment : ℕ) (past : Past) → (is_over past ≡ true → ⊥) → AllQuiet (due view now) (Ticked moment ∷ past)
   due_quiet view now moment past n = by_due (QuietBehind (Ticked moment ∷ past)) view now (λ f. absurd (n f), tt) (λ f. absurd (n f), tt) tt
 
-  due_open_quiet : (state : State) (view : View) (now moment : ℕ) (past : Past) → (is_final state ≡ false → is_over past ≡ true → ⊥) → AllQuiet (if_open state (due view now)) (Ticked moment ∷ past)
+  due_open_quiet : (state : State) (view : View) (now moment : ℕ) (past : Past) → (is_final state ≡ false → is_over past ≡ true → ⊥)
+      → AllQuiet (if_open state (due view now)) (Ticked moment ∷ past)
   due_open_quiet Connecting view now moment past n = due_quiet view now moment past (n refl)
   due_open_quiet Connected view now moment past n = due_quiet view now moment past (n refl)
   due_open_quiet _ view now moment past n = tt
 
   opens_quiet : (state : State) (past : Past) → has_halted past ≡ false → state_of past ≡ state → AllQuiet (opens state) past
   opens_quiet Idle past h e = (not_over past _ h (ap is_final e), tt)
-  opens_quiet Connecting past h e = (not_over past _ h (ap is_final e), (λ f. not_over past _ h (ap is_final e) (absurd (not_yet (has_halted past) false _ (ap (λ b. b || false) h) f)), tt))
-  opens_quiet Connected past h e = (not_over past _ h (ap is_final e), (λ f. absurd (not_yet (has_halted past) false _ (ap (λ b. b || false) h) f), tt))
+  opens_quiet Connecting past h e = (
+    not_over past _ h (ap is_final e),
+    (λ f. not_over past _ h (ap is_final e) (absurd (not_yet (has_halted past) false _ (ap (λ b. b || false) h) f)), tt),
+  )
+  opens_quiet Connected past h e =
+      (not_over past _ h (ap is_final e), (λ f. absurd (not_yet (has_halted past) false _ (ap (λ b. b || false) h) f), tt))
   opens_quiet _ past h e = tt
 
-  calls_quiet : (state : State) (ticket : ℕ) (question : Call) (past : Past) → (is_final state ≡ false → is_over past ≡ true → ⊥) → AllQuiet (calls ticket question (refusal_in state (view_at start past) question)) past
+  calls_quiet : (state : State) (ticket : ℕ) (question : Call) (past : Past) → (is_final state ≡ false → is_over past ≡ true → ⊥)
+      → AllQuiet (calls ticket question (refusal_in state (view_at start past) question)) past
   calls_quiet Idle ticket question past n = (λ f. tt, tt)
   calls_quiet Connecting ticket question past n = (λ f. tt, tt)
   calls_quiet Connected ticket question past n = by (refusal_when_connected (view_at start past) question)
@@ -116,7 +136,8 @@ module _ (start : Start) where
       open_quiet (state_of past) (Came byte) (of_cutting (view_at start past) (cut (held_of past ++ byte ∷ []))) past
       (λ e. (not_over past _ h e, cutting_quiet (cut (held_of past ++ byte ∷ [])) byte past (not_over past ⊥ h e)))
   caused_quiet Cuts past h = open_quiet (state_of past) Lost [] past (λ e. (not_over past _ h e, tt))
-  caused_quiet (Ticks moment) past h = (λ f. tt, due_open_quiet (state_of past) (view_at start past) _ moment past (λ e. not_over past ⊥ h e))
+  caused_quiet (Ticks moment) past h =
+      (λ f. tt, due_open_quiet (state_of past) (view_at start past) _ moment past (λ e. not_over past ⊥ h e))
   caused_quiet (Calls ticket question) past h = calls_quiet (state_of past) ticket question past (λ e. not_over past ⊥ h e)
   caused_quiet Forget past h = (λ f. tt, tt)
   caused_quiet Halt past h = (λ f. tt, tt)
@@ -136,7 +157,8 @@ module _ (start : Start) where
   over_signals : (more : List Signal) (past : Past) → KeepsIfOver past → KeepsIfOver (past_after start past more)
   over_signals [] past k = k
   over_signals (signal ∷ more) past k =
-      over_signals more (joined past (happenings (view_at start past) signal)) (over_all (happenings (view_at start past) signal) past (all_quiet signal past) k)
+      over_signals more (joined past (happenings (view_at start past) signal))
+      (over_all (happenings (view_at start past) signal) past (all_quiet signal past) k)
 
   pub nothing_kept : (items : List Item) → is_over (past_of start items) ≡ true → KeepsNothing (past_of start items)
   nothing_kept [] f = absurd cc
@@ -165,7 +187,8 @@ module _ (start : Start) where
 
   last_signals : (more : List Signal) (past : Past) → last_of start past ≤ℤ last_of start (past_after start past more)
   last_signals [] past = le_itself (last_of start past)
-  last_signals (signal ∷ more) past = le_through _ _ _ (last_all (happenings (view_at start past) signal) past) (last_signals more (joined past (happenings (view_at start past) signal)))
+  last_signals (signal ∷ more) past = le_through _ _ _ (last_all (happenings (view_at start past) signal) past)
+      (last_signals more (joined past (happenings (view_at start past) signal)))
 
   pub last_rises : (item : Item) (items : List Item) → last_of start (past_of start items) ≤ℤ last_of start (past_of start (item ∷ items))
   last_rises item items = last_signals (signals item) (past_of start items)

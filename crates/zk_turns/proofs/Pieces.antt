@@ -3,7 +3,8 @@ use Rattle.zk_turns.specs.Turns.{Framed}
 use Rattle.zk_frames.specs.Stream.{StandsNext}
 use Rattle.zk_frames.specs.declared.fault.FrameFault.TheVariants.{Memory}
 use Rattle.zk_frames.specs.declared.fault.FrameFault.{FrameFault}
-use Rattle.std.proofs.Common.{◌≡◌, ℕ, ◌+◌, ◌^◌, ◌≤◌, ◌<◌, ◌≢◌, Bool, true, false, cond, eqb, leb, ltb, List, [], ◌∷◌, ◌++◌, map, take, drop, length, refl, sym, ap, subst, ◌∙◌, append_assoc, arith, inl, inr}
+use Rattle.std.proofs.Common.{◌≡◌, ℕ, ◌+◌, ◌^◌, ◌≤◌, ◌<◌, ◌≢◌, Bool, true, false, cond, eqb, leb, ltb, List, [], ◌∷◌, ◌++◌, map, take, drop}
+use Rattle.std.proofs.Common.{length, refl, sym, ap, subst, ◌∙◌, append_assoc, arith, inl, inr}
 use Rattle.std.specs.Int.{w32, from_be_bytes}
 use Rattle.std.proofs.lemmas.List.{length-append, length-take-le, take-append-drop, map-append, take-append-le, append-nil}
 use Rattle.std.proofs.lemmas.Nat.{from_be_bytes-to_be_bytes_4}
@@ -48,9 +49,12 @@ leb_false a b h = elim (leb_tells a b) [ inl t ↦ absurd (let le = t.1 in omega
 eqb_false : (a b : ℕ) → a ≢ b → eqb a b ≡ false
 eqb_false a b h = elim (eqb_tells a b) [ inl t ↦ absurd (h t.1) | inr t ↦ t.0 ]
 
-cut_admitted : (n : ℕ) (bytes : List ℕ) → n ≤ LONGEST_INCOMING → cut_at n bytes ≡ cond (eqb (length bytes) (4 + n)) (Payload (drop 4 bytes)) Unfinished
+cut_admitted : (n : ℕ) (bytes : List ℕ)
+    → n ≤ LONGEST_INCOMING → cut_at n bytes ≡ cond (eqb (length bytes) (4 + n)) (Payload (drop 4 bytes)) Unfinished
 cut_admitted n bytes le =
-    ap (λ b. cond b (Bad Negative) (cond (ltb LONGEST_INCOMING n) (Bad TooLong) (cond (eqb (length bytes) (4 + n)) (Payload (drop 4 bytes)) Unfinished))) (leb_false (2 ^ 31) n (omega arith))
+    ap (λ b. cond b (Bad Negative)
+    (cond (ltb LONGEST_INCOMING n) (Bad TooLong) (cond (eqb (length bytes) (4 + n)) (Payload (drop 4 bytes)) Unfinished)))
+    (leb_false (2 ^ 31) n (omega arith))
     ∙ ap (λ b. cond b (Bad TooLong) (cond (eqb (length bytes) (4 + n)) (Payload (drop 4 bytes)) Unfinished)) (le-ltb LONGEST_INCOMING n le)
 
 -- the length is there
@@ -67,7 +71,8 @@ cut_unfinished bytes u = elim (cases_lt (length bytes) 4) [
   | inl short ↦ cut_short bytes short
   | inr there ↦
       cut_there bytes there ∙ cut_admitted (length_field bytes) bytes (u.admitted there)
-      ∙ ap (λ b. cond b (Payload (drop 4 bytes)) Unfinished) (eqb_false (length bytes) (4 + length_field bytes) (λ e. let s = u.short there in omega arith))
+      ∙ ap (λ b. cond b (Payload (drop 4 bytes)) Unfinished)
+      (eqb_false (length bytes) (4 + length_field bytes) (λ e. let s = u.short there in omega arith))
 ]
 
 field_of_frame : (payload : List ℕ) → length payload ≤ LONGEST_INCOMING → length_field (frame payload) ≡ length payload
@@ -84,19 +89,26 @@ cut_frame payload le =
     let f = field_of_frame payload le in
     let n = length-frame payload in
     cut_there (frame payload) (omega arith) ∙ cut_admitted (length_field (frame payload)) (frame payload) (omega arith)
-    ∙ ap (λ b. cond b (Payload (drop 4 (frame payload))) Unfinished) ((Decides-eqb (length (frame payload)) (4 + length_field (frame payload))).1 (omega arith))
+    ∙ ap (λ b. cond b (Payload (drop 4 (frame payload))) Unfinished)
+    ((Decides-eqb (length (frame payload)) (4 + length_field (frame payload))).1 (omega arith))
     ∙ ap Payload (drop-frame payload)
 
 pub cut_negative : (bytes : List ℕ) → 4 ≤ length bytes → 2 ^ 31 ≤ length_field bytes → cut bytes ≡ Bad Negative
 cut_negative bytes there low =
     cut_there bytes there
-    ∙ ap (λ b. cond b (Bad Negative) (cond (ltb LONGEST_INCOMING (length_field bytes)) (Bad TooLong) (cond (eqb (length bytes) (4 + length_field bytes)) (Payload (drop 4 bytes)) Unfinished))) (le-leb (2 ^ 31) (length_field bytes) low)
+    ∙ ap (λ b. cond b (Bad Negative) (cond (ltb LONGEST_INCOMING (length_field bytes)) (Bad TooLong)
+    (cond (eqb (length bytes) (4 + length_field bytes)) (Payload (drop 4 bytes)) Unfinished)))
+    (le-leb (2 ^ 31) (length_field bytes) low)
 
-pub cut_too_long : (bytes : List ℕ) → 4 ≤ length bytes → length_field bytes < 2 ^ 31 → LONGEST_INCOMING < length_field bytes → cut bytes ≡ Bad TooLong
+pub cut_too_long : (bytes : List ℕ)
+    → 4 ≤ length bytes → length_field bytes < 2 ^ 31 → LONGEST_INCOMING < length_field bytes → cut bytes ≡ Bad TooLong
 cut_too_long bytes there low high =
     cut_there bytes there
-    ∙ ap (λ b. cond b (Bad Negative) (cond (ltb LONGEST_INCOMING (length_field bytes)) (Bad TooLong) (cond (eqb (length bytes) (4 + length_field bytes)) (Payload (drop 4 bytes)) Unfinished))) (leb_false (2 ^ 31) (length_field bytes) low)
-    ∙ ap (λ b. cond b (Bad TooLong) (cond (eqb (length bytes) (4 + length_field bytes)) (Payload (drop 4 bytes)) Unfinished)) (lt-ltb LONGEST_INCOMING (length_field bytes) high)
+    ∙ ap (λ b. cond b (Bad Negative) (cond (ltb LONGEST_INCOMING (length_field bytes)) (Bad TooLong)
+    (cond (eqb (length bytes) (4 + length_field bytes)) (Payload (drop 4 bytes)) Unfinished)))
+    (leb_false (2 ^ 31) (length_field bytes) low)
+    ∙ ap (λ b. cond b (Bad TooLong) (cond (eqb (length bytes) (4 + length_field bytes)) (Payload (drop 4 bytes)) Unfinished))
+    (lt-ltb LONGEST_INCOMING (length_field bytes) high)
 
 -- ---- beginnings
 
@@ -132,7 +144,8 @@ if_open_is Idle more o = absurd cc
 if_open_is Expired more o = absurd cc
 if_open_is Closed more o = absurd cc
 
-pub byte_happens : (view : View) (byte : ℕ) (cutting : Cutting) → Hears view → cut (view.held ++ byte ∷ []) ≡ cutting → happenings view (Comes byte) ≡ Came byte ∷ of_cutting view cutting
+pub byte_happens : (view : View) (byte : ℕ) (cutting : Cutting)
+    → Hears view → cut (view.held ++ byte ∷ []) ≡ cutting → happenings view (Comes byte) ≡ Came byte ∷ of_cutting view cutting
 byte_happens view byte cutting h e =
     ap (λ b. cond b [] (caused view (Comes byte))) h.goes_on
     ∙ if_open_is view.standing.state (Came byte ∷ of_cutting view (cut (view.held ++ byte ∷ []))) h.up
@@ -150,7 +163,8 @@ fed_next view byte (b ∷ piece) = ap (λ t. record view { moments = heard_now v
 
 -- ---- bytes that make nothing whole
 
-pub unfinished_view : (piece : List ℕ) (view : View) → Hears view → IsUnfinished (view.held ++ piece) → after_signals view (map Comes piece) ≡ fed view piece
+pub unfinished_view : (piece : List ℕ) (view : View) → Hears view → IsUnfinished (view.held ++ piece)
+    → after_signals view (map Comes piece) ≡ fed view piece
 unfinished_view [] view h u = refl
 unfinished_view (byte ∷ piece) view h u =
     let one : IsUnfinished ((view.held ++ byte ∷ []) ++ piece) = subst IsUnfinished (sym (one_more view.held byte piece)) u in
@@ -159,7 +173,8 @@ unfinished_view (byte ∷ piece) view h u =
     ∙ unfinished_view piece (next view (Came byte)) (hears_next view byte h) one
     ∙ fed_next view byte piece
 
-pub unfinished_says : (piece : List ℕ) (view : View) → Hears view → IsUnfinished (view.held ++ piece) → says_signals view (map Comes piece) ≡ []
+pub unfinished_says : (piece : List ℕ) (view : View) → Hears view → IsUnfinished (view.held ++ piece)
+    → says_signals view (map Comes piece) ≡ []
 unfinished_says [] view h u = refl
 unfinished_says (byte ∷ piece) view h u =
     let one : IsUnfinished ((view.held ++ byte ∷ []) ++ piece) = subst IsUnfinished (sym (one_more view.held byte piece)) u in
@@ -175,25 +190,30 @@ Begin whole = (a b : List ℕ) → 0 < length b → a ++ b ≡ whole → cut a �
 begin_next : (held : List ℕ) (byte : ℕ) (piece : List ℕ) → Begin (held ++ byte ∷ piece) → Begin ((held ++ byte ∷ []) ++ piece)
 begin_next held byte piece f = subst Begin (sym (one_more held byte piece)) f
 
-whole_view : (piece : List ℕ) (view : View) (cutting : Cutting) → Hears view → 0 < length piece → cut (view.held ++ piece) ≡ cutting → Begin (view.held ++ piece)
+whole_view : (piece : List ℕ) (view : View) (cutting : Cutting)
+    → Hears view → 0 < length piece → cut (view.held ++ piece) ≡ cutting → Begin (view.held ++ piece)
     → after_signals view (map Comes piece) ≡ after_all (fed view piece) (of_cutting view cutting)
 whole_view [] view cutting h some e f = absurd (omega arith)
 whole_view (byte ∷ []) view cutting h some e f = ap (λ t. after_all view t) (byte_happens view byte cutting h e)
 whole_view (byte ∷ b ∷ piece) view cutting h some e f =
     let c = f (view.held ++ byte ∷ []) (b ∷ piece) (omega arith) (one_more view.held byte (b ∷ piece)) in
     ap (λ t. after_signals (after_all view t) (map Comes (b ∷ piece))) (byte_happens view byte Unfinished h c)
-    ∙ whole_view (b ∷ piece) (next view (Came byte)) cutting (hears_next view byte h) (omega arith) (ap cut (one_more view.held byte (b ∷ piece)) ∙ e) (begin_next view.held byte (b ∷ piece) f)
+    ∙ whole_view (b ∷ piece) (next view (Came byte)) cutting (hears_next view byte h) (omega arith)
+    (ap cut (one_more view.held byte (b ∷ piece)) ∙ e) (begin_next view.held byte (b ∷ piece) f)
     ∙ ap (λ v. after_all v (of_cutting view cutting)) (fed_next view byte (b ∷ piece))
 
-whole_says : (piece : List ℕ) (view : View) (cutting : Cutting) → Hears view → 0 < length piece → cut (view.held ++ piece) ≡ cutting → Begin (view.held ++ piece)
+whole_says : (piece : List ℕ) (view : View) (cutting : Cutting)
+    → Hears view → 0 < length piece → cut (view.held ++ piece) ≡ cutting → Begin (view.held ++ piece)
     → says_signals view (map Comes piece) ≡ says_all (fed view piece) (of_cutting view cutting)
 whole_says [] view cutting h some e f = absurd (omega arith)
 whole_says (byte ∷ []) view cutting h some e f =
-    ap (λ t. says_all view t ++ []) (byte_happens view byte cutting h e) ∙ append-nil (says_all (next view (Came byte)) (of_cutting view cutting))
+    ap (λ t. says_all view t ++ []) (byte_happens view byte cutting h e)
+    ∙ append-nil (says_all (next view (Came byte)) (of_cutting view cutting))
 whole_says (byte ∷ b ∷ piece) view cutting h some e f =
     let c = f (view.held ++ byte ∷ []) (b ∷ piece) (omega arith) (one_more view.held byte (b ∷ piece)) in
     ap (λ t. says_all view t ++ says_signals (after_all view t) (map Comes (b ∷ piece))) (byte_happens view byte Unfinished h c)
-    ∙ whole_says (b ∷ piece) (next view (Came byte)) cutting (hears_next view byte h) (omega arith) (ap cut (one_more view.held byte (b ∷ piece)) ∙ e) (begin_next view.held byte (b ∷ piece) f)
+    ∙ whole_says (b ∷ piece) (next view (Came byte)) cutting (hears_next view byte h) (omega arith)
+    (ap cut (one_more view.held byte (b ∷ piece)) ∙ e) (begin_next view.held byte (b ∷ piece) f)
     ∙ ap (λ v. says_all v (of_cutting view cutting)) (fed_next view byte (b ∷ piece))
 
 frame_begins : (payload whole : List ℕ) → length payload ≤ LONGEST_INCOMING → whole ≡ frame payload → Begin whole
@@ -205,12 +225,14 @@ length_begins whole n a b more is =
     let m : length (a ++ b) ≡ length whole = ap length is in
     cut_short a (omega arith)
 
-pub payload_view : (piece : List ℕ) (view : View) (payload : List ℕ) → Hears view → 0 < length piece → length payload ≤ LONGEST_INCOMING → view.held ++ piece ≡ frame payload
+pub payload_view : (piece : List ℕ) (view : View) (payload : List ℕ)
+    → Hears view → 0 < length piece → length payload ≤ LONGEST_INCOMING → view.held ++ piece ≡ frame payload
     → after_signals view (map Comes piece) ≡ next (fed view piece) (arrival view payload)
 payload_view piece view payload h some le e =
     whole_view piece view (Payload payload) h some (ap cut e ∙ cut_frame payload le) (frame_begins payload (view.held ++ piece) le e)
 
-pub payload_says : (piece : List ℕ) (view : View) (payload : List ℕ) → Hears view → 0 < length piece → length payload ≤ LONGEST_INCOMING → view.held ++ piece ≡ frame payload
+pub payload_says : (piece : List ℕ) (view : View) (payload : List ℕ)
+    → Hears view → 0 < length piece → length payload ≤ LONGEST_INCOMING → view.held ++ piece ≡ frame payload
     → says_signals view (map Comes piece) ≡ says (fed view piece) (arrival view payload)
 payload_says piece view payload h some le e =
     whole_says piece view (Payload payload) h some (ap cut e ∙ cut_frame payload le) (frame_begins payload (view.held ++ piece) le e)
@@ -230,12 +252,14 @@ bad_four bytes _ bad = elim bad [ ]
 pub bad_view : (piece : List ℕ) (view : View) (fault : FrameFault) → Hears view → 0 < length piece → IsBadLength (view.held ++ piece) fault
     → after_signals view (map Comes piece) ≡ next (fed view piece) (Dropped (Framed fault))
 bad_view piece view fault h some bad =
-    whole_view piece view (Bad fault) h some (cut_bad (view.held ++ piece) fault bad) (length_begins (view.held ++ piece) (bad_four (view.held ++ piece) fault bad))
+    whole_view piece view (Bad fault) h some (cut_bad (view.held ++ piece) fault bad)
+    (length_begins (view.held ++ piece) (bad_four (view.held ++ piece) fault bad))
 
 pub bad_says : (piece : List ℕ) (view : View) (fault : FrameFault) → Hears view → 0 < length piece → IsBadLength (view.held ++ piece) fault
     → says_signals view (map Comes piece) ≡ says (fed view piece) (Dropped (Framed fault))
 bad_says piece view fault h some bad =
-    whole_says piece view (Bad fault) h some (cut_bad (view.held ++ piece) fault bad) (length_begins (view.held ++ piece) (bad_four (view.held ++ piece) fault bad))
+    whole_says piece view (Bad fault) h some (cut_bad (view.held ++ piece) fault bad)
+    (length_begins (view.held ++ piece) (bad_four (view.held ++ piece) fault bad))
     ∙ append-nil (says (fed view piece) (Dropped (Framed fault)))
 
 -- ---- bytes that nobody hears
@@ -254,11 +278,13 @@ unheard_byte view byte n = ap (λ t. cond view.standing.halted [] t) (if_open_no
 
 pub unheard_view : (piece : List ℕ) (view : View) → ¬ (IsOpen view.standing.state) → after_signals view (map Comes piece) ≡ view
 unheard_view [] view n = refl
-unheard_view (byte ∷ piece) view n = ap (λ t. after_signals (after_all view t) (map Comes piece)) (unheard_byte view byte n) ∙ unheard_view piece view n
+unheard_view (byte ∷ piece) view n =
+    ap (λ t. after_signals (after_all view t) (map Comes piece)) (unheard_byte view byte n) ∙ unheard_view piece view n
 
 pub unheard_says : (piece : List ℕ) (view : View) → ¬ (IsOpen view.standing.state) → says_signals view (map Comes piece) ≡ []
 unheard_says [] view n = refl
-unheard_says (byte ∷ piece) view n = ap (λ t. says_all view t ++ says_signals (after_all view t) (map Comes piece)) (unheard_byte view byte n) ∙ unheard_says piece view n
+unheard_says (byte ∷ piece) view n =
+    ap (λ t. says_all view t ++ says_signals (after_all view t) (map Comes piece)) (unheard_byte view byte n) ∙ unheard_says piece view n
 
 -- ---- the first frame of what is held and came
 
@@ -273,7 +299,8 @@ append_split (x ∷ h) left (y ∷ f) rest e le =
     (s.0, ap (λ t. t ∷ f) (sym head) ∙ ap (λ t. x ∷ t) s.1, s.2)
 
 -- less than a whole frame is held
-shorter_than_frame : (held left payload rest : List ℕ) → length payload ≤ LONGEST_INCOMING → IsUnfinished held → held ++ left ≡ frame payload ++ rest → length held < length (frame payload)
+shorter_than_frame : (held left payload rest : List ℕ)
+    → length payload ≤ LONGEST_INCOMING → IsUnfinished held → held ++ left ≡ frame payload ++ rest → length held < length (frame payload)
 shorter_than_frame held left payload rest le u e = elim (cases_lt (length held) 4) [
   | inl short ↦ let n = length-frame payload in omega arith
   | inr there ↦
@@ -286,12 +313,14 @@ shorter_than_frame held left payload rest le u e = elim (cases_lt (length held) 
       omega arith
 ]
 
-fed_as : (piece : List ℕ) (view : View) → 0 < length piece → fed view piece ≡ record view { moments = heard_now view; held = view.held ++ piece }
+fed_as : (piece : List ℕ) (view : View)
+    → 0 < length piece → fed view piece ≡ record view { moments = heard_now view; held = view.held ++ piece }
 fed_as [] view some = absurd (omega arith)
 fed_as (byte ∷ piece) view some = refl
 
 -- what is taken or dropped does not depend on what was held
-same_message : (view : View) (held : List ℕ) (message : Message) → next (record view { moments = heard_now view; held = held }) (Took message) ≡ next (heard view) (Took message)
+same_message : (view : View) (held : List ℕ) (message : Message)
+    → next (record view { moments = heard_now view; held = held }) (Took message) ≡ next (heard view) (Took message)
 same_message view held (Accepted welcome) = refl
 same_message view held Expiry = refl
 same_message view held (Replies ticket Close zxid result) = refl
@@ -302,7 +331,8 @@ same_message view held (Notifies event path) = refl
 same_message view held Pong = refl
 same_message view held Skipped = refl
 
-same_words : (view : View) (held : List ℕ) (message : Message) → says (record view { moments = heard_now view; held = held }) (Took message) ≡ says (heard view) (Took message)
+same_words : (view : View) (held : List ℕ) (message : Message)
+    → says (record view { moments = heard_now view; held = held }) (Took message) ≡ says (heard view) (Took message)
 same_words view held (Accepted welcome) = refl
 same_words view held Expiry = refl
 same_words view held (Replies ticket question zxid result) = refl
@@ -311,43 +341,62 @@ same_words view held (Notifies event path) = refl
 same_words view held Pong = refl
 same_words view held Skipped = refl
 
-same_next : (view : View) (held payload : List ℕ) → next (record view { moments = heard_now view; held = held }) (arrival view payload) ≡ next (heard view) (arrival view payload)
+same_next : (view : View) (held payload : List ℕ)
+    → next (record view { moments = heard_now view; held = held }) (arrival view payload) ≡ next (heard view) (arrival view payload)
 same_next view held payload =
-    of_reading (λ h. next (record view { moments = heard_now view; held = held }) h ≡ next (heard view) h) (same_message view held) (λ fault. refl) view.standing.state view.pending view.saved.last payload
+    of_reading (λ h. next (record view { moments = heard_now view; held = held }) h ≡ next (heard view) h) (same_message view held)
+    (λ fault. refl) view.standing.state view.pending view.saved.last payload
 
-same_says : (view : View) (held payload : List ℕ) → says (record view { moments = heard_now view; held = held }) (arrival view payload) ≡ says (heard view) (arrival view payload)
+same_says : (view : View) (held payload : List ℕ)
+    → says (record view { moments = heard_now view; held = held }) (arrival view payload) ≡ says (heard view) (arrival view payload)
 same_says view held payload =
-    of_reading (λ h. says (record view { moments = heard_now view; held = held }) h ≡ says (heard view) h) (same_words view held) (λ fault. refl) view.standing.state view.pending view.saved.last payload
+    of_reading (λ h. says (record view { moments = heard_now view; held = held }) h ≡ says (heard view) h) (same_words view held)
+    (λ fault. refl) view.standing.state view.pending view.saved.last payload
 
 -- a whole frame stands first: the rest of it, and what it makes of the view
-frame_rest : (view : View) (left payload rest : List ℕ) → Hears view → IsUnfinished view.held → length payload ≤ LONGEST_INCOMING → view.held ++ left ≡ frame payload ++ rest
-    → (piece : List ℕ) × (left ≡ piece ++ rest) × (0 < length piece) × (view.held ++ piece ≡ frame payload) × (after_signals view (map Comes piece) ≡ next (heard view) (arrival view payload))
+frame_rest : (view : View) (left payload rest : List ℕ)
+    → Hears view → IsUnfinished view.held → length payload ≤ LONGEST_INCOMING → view.held ++ left ≡ frame payload ++ rest
+    → (piece : List ℕ) × (left ≡ piece ++ rest) × (0 < length piece) × (view.held ++ piece ≡ frame payload)
+    × (after_signals view (map Comes piece) ≡ next (heard view) (arrival view payload))
 frame_rest view left payload rest h u le e =
     let short = shorter_than_frame view.held left payload rest le u e in
     let s = append_split view.held left (frame payload) rest e (omega arith) in
     let n : length (frame payload) ≡ length (view.held ++ s.0) = ap length s.1 in
     let l = length-append view.held s.0 in
-    let some : 0 < length s.0 = omega arith in
-    (s.0, s.2, some, sym s.1, payload_view s.0 view payload h some le (sym s.1) ∙ ap (λ v. next v (arrival view payload)) (fed_as s.0 view some) ∙ same_next view (view.held ++ s.0) payload)
+    let some : 0 < length s.0 = omega arith in (
+      s.0,
+      s.2,
+      some,
+      sym s.1,
+      payload_view s.0 view payload h some le (sym s.1)
+          ∙ ap (λ v. next v (arrival view payload)) (fed_as s.0 view some) ∙ same_next view (view.held ++ s.0) payload,
+    )
 
 -- bytes that come in two parts
-pub parted_view : (view : View) (left first rest : List ℕ) → left ≡ first ++ rest → after_signals view (map Comes left) ≡ after_signals (after_signals view (map Comes first)) (map Comes rest)
+pub parted_view : (view : View) (left first rest : List ℕ)
+    → left ≡ first ++ rest → after_signals view (map Comes left) ≡ after_signals (after_signals view (map Comes first)) (map Comes rest)
 parted_view view left first rest e =
-    ap (λ t. after_signals view (map Comes t)) e ∙ ap (after_signals view) (map-append Comes first rest) ∙ after_append (map Comes first) (map Comes rest) view
+    ap (λ t. after_signals view (map Comes t)) e ∙ ap (after_signals view) (map-append Comes first rest)
+    ∙ after_append (map Comes first) (map Comes rest) view
 
 pub parted_says : (view : View) (left first rest : List ℕ) → left ≡ first ++ rest
-    → says_signals view (map Comes left) ≡ says_signals view (map Comes first) ++ says_signals (after_signals view (map Comes first)) (map Comes rest)
+    → says_signals view (map Comes left)
+    ≡ says_signals view (map Comes first) ++ says_signals (after_signals view (map Comes first)) (map Comes rest)
 parted_says view left first rest e =
-    ap (λ t. says_signals view (map Comes t)) e ∙ ap (says_signals view) (map-append Comes first rest) ∙ says_append (map Comes first) (map Comes rest) view
+    ap (λ t. says_signals view (map Comes t)) e ∙ ap (says_signals view) (map-append Comes first rest)
+    ∙ says_append (map Comes first) (map Comes rest) view
 
-pub frame_view : (view : View) (left payload rest : List ℕ) → Hears view → IsUnfinished view.held → length payload ≤ LONGEST_INCOMING → view.held ++ left ≡ frame payload ++ rest
+pub frame_view : (view : View) (left payload rest : List ℕ)
+    → Hears view → IsUnfinished view.held → length payload ≤ LONGEST_INCOMING → view.held ++ left ≡ frame payload ++ rest
     → after_signals view (map Comes left) ≡ after_signals (next (heard view) (arrival view payload)) (map Comes rest)
 frame_view view left payload rest h u le e =
     let s = frame_rest view left payload rest h u le e in
     parted_view view left s.0 rest s.1 ∙ ap (λ v. after_signals v (map Comes rest)) s.4
 
-pub frame_says : (view : View) (left payload rest : List ℕ) → Hears view → IsUnfinished view.held → length payload ≤ LONGEST_INCOMING → view.held ++ left ≡ frame payload ++ rest
-    → says_signals view (map Comes left) ≡ says (heard view) (arrival view payload) ++ says_signals (next (heard view) (arrival view payload)) (map Comes rest)
+pub frame_says : (view : View) (left payload rest : List ℕ)
+    → Hears view → IsUnfinished view.held → length payload ≤ LONGEST_INCOMING → view.held ++ left ≡ frame payload ++ rest
+    → says_signals view (map Comes left)
+    ≡ says (heard view) (arrival view payload) ++ says_signals (next (heard view) (arrival view payload)) (map Comes rest)
 frame_says view left payload rest h u le e =
     let s = frame_rest view left payload rest h u le e in
     parted_says view left s.0 rest s.1
@@ -375,7 +424,8 @@ bad_there bytes Negative bad = bad.0
 bad_there bytes TooLong bad = bad.0
 bad_there bytes _ bad = elim bad [ ]
 
-bad_of : (bytes four rest : List ℕ) (fault : FrameFault) → length four ≡ 4 → bytes ≡ four ++ rest → StandsBad bytes fault → IsBadLength four fault
+bad_of : (bytes four rest : List ℕ) (fault : FrameFault)
+    → length four ≡ 4 → bytes ≡ four ++ rest → StandsBad bytes fault → IsBadLength four fault
 bad_of bytes four rest Negative n e bad =
     let f : length_field bytes ≡ length_field (four ++ rest) = ap length_field e in
     let g = same_field four rest (omega arith) in (n, omega arith)
@@ -394,7 +444,8 @@ record Split (view : View) (left : List ℕ) (fault : FrameFault) : Type 0 where
   some : 0 < length first
   bad : IsBadLength (view.held ++ first) fault
 
-split_bad : (view : View) (left : List ℕ) (fault : FrameFault) → IsUnfinished view.held → StandsBad (view.held ++ left) fault → Split view left fault
+split_bad : (view : View) (left : List ℕ) (fault : FrameFault)
+    → IsUnfinished view.held → StandsBad (view.held ++ left) fault → Split view left fault
 split_bad view left fault u bad =
     let short = shorter_than_length view.held left fault u bad in
     let there = bad_there (view.held ++ left) fault bad in
@@ -408,23 +459,28 @@ split_bad view left fault u bad =
       rest = drop 4 (view.held ++ left);
       whole = s.2;
       some = omega arith;
-      bad = subst (λ t. IsBadLength t fault) s.1 (bad_of (view.held ++ left) (take 4 (view.held ++ left)) (drop 4 (view.held ++ left)) fault four e bad);
+      bad = subst (λ t. IsBadLength t fault) s.1
+          (bad_of (view.held ++ left) (take 4 (view.held ++ left)) (drop 4 (view.held ++ left)) fault four e bad);
     }
 
-pub bad_first_view : (view : View) (left : List ℕ) (fault : FrameFault) → Hears view → IsUnfinished view.held → StandsNext fault (view.held ++ left)
+pub bad_first_view : (view : View) (left : List ℕ) (fault : FrameFault)
+    → Hears view → IsUnfinished view.held → StandsNext fault (view.held ++ left)
     → after_signals view (map Comes left) ≡ next (heard view) (Dropped (Framed fault))
 bad_first_view view left fault h u bad =
     let s = split_bad view left fault u (stands_bad (view.held ++ left) fault bad) in
     parted_view view left s.first s.rest s.whole
-    ∙ ap (λ v. after_signals v (map Comes s.rest)) (bad_view s.first view fault h s.some s.bad ∙ ap (λ v. next v (Dropped (Framed fault))) (fed_as s.first view s.some))
+    ∙ ap (λ v. after_signals v (map Comes s.rest))
+    (bad_view s.first view fault h s.some s.bad ∙ ap (λ v. next v (Dropped (Framed fault))) (fed_as s.first view s.some))
     ∙ unheard_view s.rest (next (heard view) (Dropped (Framed fault))) not_idle
 
-pub bad_first_says : (view : View) (left : List ℕ) (fault : FrameFault) → Hears view → IsUnfinished view.held → StandsNext fault (view.held ++ left)
+pub bad_first_says : (view : View) (left : List ℕ) (fault : FrameFault)
+    → Hears view → IsUnfinished view.held → StandsNext fault (view.held ++ left)
     → says_signals view (map Comes left) ≡ says (heard view) (Dropped (Framed fault))
 bad_first_says view left fault h u bad =
     let s = split_bad view left fault u (stands_bad (view.held ++ left) fault bad) in
     parted_says view left s.first s.rest s.whole
-    ∙ ap (λ v. says_signals view (map Comes s.first) ++ says_signals v (map Comes s.rest)) (bad_view s.first view fault h s.some s.bad ∙ ap (λ v. next v (Dropped (Framed fault))) (fed_as s.first view s.some))
+    ∙ ap (λ v. says_signals view (map Comes s.first) ++ says_signals v (map Comes s.rest))
+    (bad_view s.first view fault h s.some s.bad ∙ ap (λ v. next v (Dropped (Framed fault))) (fed_as s.first view s.some))
     ∙ ap (λ t. says_signals view (map Comes s.first) ++ t) (unheard_says s.rest (next (heard view) (Dropped (Framed fault))) not_idle)
     ∙ append-nil (says_signals view (map Comes s.first))
     ∙ bad_says s.first view fault h s.some s.bad

@@ -1,10 +1,12 @@
 -- The paths of a list stand in the order in which they last came into it.
-use Rattle.std.proofs.Common.{◌≡◌, ◌<◌, Bool, true, false, cond, ◌&&◌, ◌||◌, List, [], ◌∷◌, ◌++◌, length, refl, sym, ap, subst, ◌∙◌, inl, inr, ◌⊎◌, arith}
+use Rattle.std.proofs.Common.{◌≡◌, ◌<◌, Bool, true, false, cond, ◌&&◌, ◌||◌, List, [], ◌∷◌, ◌++◌, length, refl, sym, ap, subst, ◌∙◌, inl}
+use Rattle.std.proofs.Common.{inr, ◌⊎◌, arith}
 use Rattle.std.specs.Prelude.{bytes_eq, not, filter, ◌↔◌}
 use Rattle.std.proofs.lemmas.List.{length-append}
 use Rattle.zk_nodes.specs.Path.{Text}
 use Rattle.zk_conversation.specs.Questions.{Question, Exists, GetData, GetChildren}
-use Rattle.zk_turns.specs.Past.{Past, Happening, Took, Replies, path_of_read, path_of_reply, arrivals, listed, in_known, in_missing, in_parents}
+use Rattle.zk_turns.specs.Past.{Past, Happening, Took, Replies, path_of_read, path_of_reply, arrivals, listed, in_known, in_missing}
+use Rattle.zk_turns.specs.Past.{in_parents}
 use Rattle.zk_watches.specs.Lists.{has}
 use Rattle.zk_turns.specs.Meaning.{Among, StaysIn, CameIn, StandsBefore}
 use Rattle.zk_turns.proofs.Lists.{same_text, bytes_eq-refl, Tracks, has_listed, grows}
@@ -12,7 +14,8 @@ use Rattle.zk_turns.proofs.Registered.{tracks_known, tracks_missing, tracks_pare
 
 -- ---- members
 
-among_or : (p x : Text) (xs : List Text) (b : Bool) → bytes_eq p x ≡ b → (b || has xs p) ≡ true → (has xs p ≡ true → Among p xs) → Among p (x ∷ xs)
+among_or : (p x : Text) (xs : List Text) (b : Bool)
+    → bytes_eq p x ≡ b → (b || has xs p) ≡ true → (has xs p ≡ true → Among p xs) → Among p (x ∷ xs)
 among_or p x xs true e h ih = inl (same_text p x e)
 among_or p x xs false e h ih = inr (ih h)
 
@@ -33,7 +36,8 @@ among_passes : (f : Text → Bool) (q : Text) (xs : List Text) → Among q (filt
 among_passes f q [] a = absurd a
 among_passes f q (x ∷ xs) a = by (f x) refl a (among_passes f q xs)
   where
-    by : (b : Bool) → f x ≡ b → Among q (cond b (x ∷ filter f xs) (filter f xs)) → (Among q (filter f xs) → (f q ≡ true) × Among q xs) → (f q ≡ true) × Among q (x ∷ xs)
+    by : (b : Bool) → f x ≡ b → Among q (cond b (x ∷ filter f xs) (filter f xs)) → (Among q (filter f xs) → (f q ≡ true) × Among q xs)
+        → (f q ≡ true) × Among q (x ∷ xs)
     by true e (inl i) ih = (ap f i ∙ e, inl i)
     by true e (inr a) ih = ((ih a).0, inr (ih a).1)
     by false e a ih = ((ih a).0, inr (ih a).1)
@@ -50,11 +54,13 @@ passes_among f q (x ∷ xs) t a = by (f x) refl a (passes_among f q xs t)
 
 -- ---- before and after
 
-passes_before : (f : Text → Bool) (p q : Text) (xs : List Text) → f p ≡ true → f q ≡ true → StandsBefore p q xs → StandsBefore p q (filter f xs)
+passes_before : (f : Text → Bool) (p q : Text) (xs : List Text)
+    → f p ≡ true → f q ≡ true → StandsBefore p q xs → StandsBefore p q (filter f xs)
 passes_before f p q [] s t b = absurd b
 passes_before f p q (x ∷ xs) s t b = by (f x) refl b (passes_before f p q xs s t)
   where
-    by : (c : Bool) → f x ≡ c → StandsBefore p q (x ∷ xs) → (StandsBefore p q xs → StandsBefore p q (filter f xs)) → StandsBefore p q (cond c (x ∷ filter f xs) (filter f xs))
+    by : (c : Bool) → f x ≡ c → StandsBefore p q (x ∷ xs) → (StandsBefore p q xs → StandsBefore p q (filter f xs))
+        → StandsBefore p q (cond c (x ∷ filter f xs) (filter f xs))
     by true e (inl m) ih = inl (m.0, passes_among f q xs t m.1)
     by true e (inr m) ih = inr (ih m)
     by false e (inl m) ih = absurd (let r = ap f m.0 in cc)
@@ -64,7 +70,8 @@ before_passes : (f : Text → Bool) (p q : Text) (xs : List Text) → StandsBefo
 before_passes f p q [] b = absurd b
 before_passes f p q (x ∷ xs) b = by (f x) b (before_passes f p q xs)
   where
-    by : (c : Bool) → StandsBefore p q (cond c (x ∷ filter f xs) (filter f xs)) → (StandsBefore p q (filter f xs) → StandsBefore p q xs) → StandsBefore p q (x ∷ xs)
+    by : (c : Bool) → StandsBefore p q (cond c (x ∷ filter f xs) (filter f xs)) → (StandsBefore p q (filter f xs) → StandsBefore p q xs)
+        → StandsBefore p q (x ∷ xs)
     by true (inl m) ih = inl (m.0, (among_passes f q xs m.1).1)
     by true (inr m) ih = inr (ih m)
     by false m ih = inr (ih m)
@@ -125,8 +132,10 @@ module _ (is_in : Text → Past → Bool) (tracks : Tracks is_in) where
   come x past = filter (λ q. is_in q (x ∷ past) && not (is_in q past)) (path_of_reply x)
 
   -- What is still in the list keeps its order, and what comes in goes last.
-  listed_step : (x : Happening) (past : Past) → listed is_in (x ∷ past) ≡ filter (λ q. is_in q (x ∷ past)) (listed is_in past) ++ come x past
-  listed_step x past = grows (λ q. is_in q past) (λ q. is_in q (x ∷ past)) (path_of_reply x) (arrivals is_in past) (one_reply x) (λ q h e. tracks.by_reply q x past h e)
+  listed_step : (x : Happening) (past : Past)
+      → listed is_in (x ∷ past) ≡ filter (λ q. is_in q (x ∷ past)) (listed is_in past) ++ come x past
+  listed_step x past = grows (λ q. is_in q past) (λ q. is_in q (x ∷ past)) (path_of_reply x) (arrivals is_in past) (one_reply x)
+      (λ q h e. tracks.by_reply q x past h e)
 
   listed_in : (p : Text) (past : Past) → Among p (listed is_in past) → is_in p past ≡ true
   listed_in p past a = sym (has_listed is_in tracks p past) ∙ has_among p (listed is_in past) a
@@ -148,18 +157,28 @@ module _ (is_in : Text → Past → Bool) (tracks : Tracks is_in) where
       on : (b : Bool) → is_in p past ≡ b → (is_in p past ≡ true → CameIn is_in p past) → CameIn is_in p (x ∷ past)
       on true was ih =
           let c = ih was in
-          record { since = x ∷ c.since; by = c.by; before = c.before; whole = ap (λ l. x ∷ l) c.whole; was_out = c.was_out; stays = (ap (λ l. is_in p (x ∷ l)) (sym c.whole) ∙ e, c.stays) }
+          record {
+            since = x ∷ c.since;
+            by = c.by;
+            before = c.before;
+            whole = ap (λ l. x ∷ l) c.whole;
+            was_out = c.was_out;
+            stays = (ap (λ l. is_in p (x ∷ l)) (sym c.whole) ∙ e, c.stays);
+          }
       on false was ih = record { since = []; by = x; before = past; whole = refl; was_out = was; stays = e }
 
   -- A list has the paths that came into it and stayed.
-  pub members : (p : Text) (past : Past) → (Among p (listed is_in past) → CameIn is_in p past) × (CameIn is_in p past → Among p (listed is_in past))
+  pub members : (p : Text) (past : Past)
+      → (Among p (listed is_in past) → CameIn is_in p past) × (CameIn is_in p past → Among p (listed is_in past))
   members p past = (λ a. came p past (listed_in p past a), λ c. in_listed p past (came_in p past c))
 
   among_new : (p : Text) (x : Happening) (past : Past) → is_in p (x ∷ past) ≡ true → is_in p past ≡ false → Among p (come x past)
-  among_new p x past e was = passes_among (λ q. is_in q (x ∷ past) && not (is_in q past)) p (path_of_reply x) (ap (λ b. b && not (is_in p past)) e ∙ ap not was) (subst (λ l. Among p l) (sym (tracks.by_reply p x past e was)) (inl refl))
+  among_new p x past e was = passes_among (λ q. is_in q (x ∷ past) && not (is_in q past)) p (path_of_reply x)
+      (ap (λ b. b && not (is_in p past)) e ∙ ap not was) (subst (λ l. Among p l) (sym (tracks.by_reply p x past e was)) (inl refl))
 
   new_out : (p : Text) (x : Happening) (past : Past) → Among p (come x past) → is_in p past ≡ false
-  new_out p x past a = by (is_in p (x ∷ past)) (is_in p past) (among_passes (λ q. is_in q (x ∷ past) && not (is_in q past)) p (path_of_reply x) a).0
+  new_out p x past a =
+      by (is_in p (x ∷ past)) (is_in p past) (among_passes (λ q. is_in q (x ∷ past) && not (is_in q past)) p (path_of_reply x) a).0
     where
       by : (b c : Bool) → (b && not c) ≡ true → c ≡ false
       by true true e = absurd cc
@@ -176,10 +195,13 @@ module _ (is_in : Text → Past → Bool) (tracks : Tracks is_in) where
       let l = ap length e in
       omega arith
 
-  abbrev came_rest : (p : Text) (x : Happening) (past : Past) (y : Happening) (since : List Happening) (by : Happening) (before : Past) → x ∷ past ≡ y ∷ (since ++ by ∷ before) → is_in p before ≡ false → StaysIn is_in p since (by ∷ before) → CameIn is_in p past
-  came_rest p x past y since by before e o s = record { since = since; by = by; before = before; whole = head_of x y past (since ++ by ∷ before) e; was_out = o; stays = s }
+  abbrev came_rest : (p : Text) (x : Happening) (past : Past) (y : Happening) (since : List Happening) (by : Happening) (before : Past)
+      → x ∷ past ≡ y ∷ (since ++ by ∷ before) → is_in p before ≡ false → StaysIn is_in p since (by ∷ before) → CameIn is_in p past
+  came_rest p x past y since by before e o s =
+      record { since = since; by = by; before = before; whole = head_of x y past (since ++ by ∷ before) e; was_out = o; stays = s }
 
-  order_by : (p q : Text) (x : Happening) (past : Past) (a : CameIn is_in p (x ∷ past)) (b : CameIn is_in q (x ∷ past)) → length a.before < length b.before
+  order_by : (p q : Text) (x : Happening) (past : Past) (a : CameIn is_in p (x ∷ past)) (b : CameIn is_in q (x ∷ past))
+      → length a.before < length b.before
       → ((a : CameIn is_in p past) (b : CameIn is_in q past) → length a.before < length b.before → StandsBefore p q (listed is_in past))
       → StandsBefore p q (filter (λ q. is_in q (x ∷ past)) (listed is_in past) ++ come x past)
   order_by p q x past a b less ih = by a.since b.since a.whole b.whole a.stays b.stays
@@ -190,7 +212,8 @@ module _ (is_in : Text → Past → Bool) (tracks : Tracks is_in) where
       q_in : is_in q (x ∷ past) ≡ true
       q_in = came_in q (x ∷ past) b
 
-      by : (s t : List Happening) → x ∷ past ≡ s ++ a.by ∷ a.before → x ∷ past ≡ t ++ b.by ∷ b.before → StaysIn is_in p s (a.by ∷ a.before) → StaysIn is_in q t (b.by ∷ b.before)
+      by : (s t : List Happening) → x ∷ past ≡ s ++ a.by ∷ a.before → x ∷ past ≡ t ++ b.by ∷ b.before → StaysIn is_in p s (a.by ∷ a.before)
+          → StaysIn is_in q t (b.by ∷ b.before)
           → StandsBefore p q (filter (λ q. is_in q (x ∷ past)) (listed is_in past) ++ come x past)
       by [] t e f k l =
           let same = ap length (head_of x a.by past a.before e) in
@@ -208,11 +231,14 @@ module _ (is_in : Text → Past → Bool) (tracks : Tracks is_in) where
           (ih (came_rest p x past y s a.by a.before e a.was_out k.1) (came_rest q x past z t b.by b.before f b.was_out l.1) less))
 
   -- What came in earlier stands before what came in later.
-  pub in_order : (p q : Text) (past : Past) (a : CameIn is_in p past) (b : CameIn is_in q past) → length a.before < length b.before → StandsBefore p q (listed is_in past)
+  pub in_order : (p q : Text) (past : Past) (a : CameIn is_in p past) (b : CameIn is_in q past)
+      → length a.before < length b.before → StandsBefore p q (listed is_in past)
   in_order p q [] a b less = absurd (let l = longer b.since b.by b.before [] b.whole in omega arith)
-  in_order p q (x ∷ past) a b less = subst (λ l. StandsBefore p q l) (sym (listed_step x past)) (order_by p q x past a b less (in_order p q past))
+  in_order p q (x ∷ past) a b less =
+      subst (λ l. StandsBefore p q l) (sym (listed_step x past)) (order_by p q x past a b less (in_order p q past))
 
-  one_new : (f : Text → Bool) (p : Text) (xs : List Text) → ((a b : Text) (more : List Text) → xs ≡ a ∷ b ∷ more → ⊥) → StandsBefore p p (filter f xs) → ⊥
+  one_new : (f : Text → Bool) (p : Text) (xs : List Text) → ((a b : Text) (more : List Text) → xs ≡ a ∷ b ∷ more → ⊥)
+      → StandsBefore p p (filter f xs) → ⊥
   one_new f p xs one b = by xs one (before_passes f p p xs b)
     where
       by : (ys : List Text) → ((a b : Text) (more : List Text) → ys ≡ a ∷ b ∷ more → ⊥) → StandsBefore p p ys → ⊥
@@ -225,7 +251,8 @@ module _ (is_in : Text → Past → Bool) (tracks : Tracks is_in) where
   pub each_once : (p : Text) (past : Past) → StandsBefore p p (listed is_in past) → ⊥
   each_once p [] b = b
   each_once p (x ∷ past) b =
-      by (before_split p p (filter (λ q. is_in q (x ∷ past)) (listed is_in past)) (come x past) (subst (λ l. StandsBefore p p l) (listed_step x past) b)) (each_once p past)
+      by (before_split p p (filter (λ q. is_in q (x ∷ past)) (listed is_in past)) (come x past)
+      (subst (λ l. StandsBefore p p l) (listed_step x past) b)) (each_once p past)
     where
       by : Across p p (filter (λ q. is_in q (x ∷ past)) (listed is_in past)) (come x past) → (StandsBefore p p (listed is_in past) → ⊥) → ⊥
       by (inl m) ih = ih (before_passes (λ q. is_in q (x ∷ past)) p p (listed is_in past) m)
@@ -238,7 +265,8 @@ module _ (is_in : Text → Past → Bool) (tracks : Tracks is_in) where
 -- what a list is, by the test of being in it
 pub record IsPlaced (is_in : Text → Past → Bool) : Type 0 where
   pub members : (path : Text) (past : Past) → Among path (listed is_in past) ↔ CameIn is_in path past
-  pub order : (first second : Text) (past : Past) (a : CameIn is_in first past) (b : CameIn is_in second past) → length a.before < length b.before → StandsBefore first second (listed is_in past)
+  pub order : (first second : Text) (past : Past) (a : CameIn is_in first past) (b : CameIn is_in second past)
+      → length a.before < length b.before → StandsBefore first second (listed is_in past)
   pub once : (path : Text) (past : Past) → ¬ StandsBefore path path (listed is_in past)
 
 placed : (is_in : Text → Past → Bool) → Tracks is_in → IsPlaced is_in

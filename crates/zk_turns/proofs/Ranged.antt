@@ -1,5 +1,7 @@
 -- What happens to a client is in range: what it takes is read of a payload, and what it sends was not refused.
-use Rattle.std.proofs.Common.{◌≡◌, ℕ, zero, suc, ℤ, pos, negsuc, ◌+◌, ◌≤◌, ◌^◌, Bool, true, false, cond, eqb, leb, ltb, ◌&&◌, List, [], ◌∷◌, ◌++◌, map, reverse, drop, length, Option, Some, None, Ok, Err, refl, sym, subst, ◌∙◌, arith, length-drop, ltb-false, ltb-true}
+use Rattle.std.proofs.Common.{◌≡◌, ℕ, zero, suc, ℤ, pos, negsuc, ◌+◌, ◌≤◌, ◌^◌, Bool, true, false, cond, eqb, leb, ltb, ◌&&◌, List, [], ◌∷◌}
+use Rattle.std.proofs.Common.{◌++◌, map, reverse, drop, length, Option, Some, None, Ok, Err, refl, sym, subst, ◌∙◌, arith, length-drop}
+use Rattle.std.proofs.Common.{ltb-false, ltb-true}
 use Rattle.std.specs.Prelude.{FitsSigned, int_lt, nat_le, ◌==◌, filter, not, Result as Reading}
 use Rattle.std.specs.List.{AllByRecursion}
 use Rattle.std.specs.Int.{w64}
@@ -26,14 +28,22 @@ use Rattle.zk_conversation.specs.Calls.{Call, call_payload}
 use Rattle.zk_conversation.specs.Questions.{Question, question_of, watched_side}
 use Rattle.zk_conversation.specs.Results.{Result, result_of, response_timeout, response_session, response_password}
 use Rattle.zk_conversation.specs.Pending.{Pending, Waiting, Part_waits, Call_waits, calls_pending, is_close_pending}
-use Rattle.zk_conversation.specs.Arriving.{Arrived, Connected as Welcomed, Replied, Watches_set as Part_set, Notice, Pong as Ponged, Skipped as Passed, header_of, first_arriving, noticed, notice_arriving, call_arriving, reply_arriving, oldest_arriving, header_arriving, later_arriving, arriving}
+use Rattle.zk_conversation.specs.Arriving.{Arrived, Connected as Welcomed, Replied, Watches_set as Part_set, Notice, Pong as Ponged}
+use Rattle.zk_conversation.specs.Arriving.{Skipped as Passed, header_of, first_arriving, noticed, notice_arriving, call_arriving}
+use Rattle.zk_conversation.specs.Arriving.{reply_arriving, oldest_arriving, header_arriving, later_arriving, arriving}
 use Rattle.zk_watches.specs.Lists.{Lists}
 use Rattle.zk_watches.specs.Parts.{parts}
-use Rattle.zk_turns.specs.Turns.{Start, Outcome, SessionClosed, TooManyWatches, TooLarge, TooManyPending, Behind, WatchesRefused, Input, Opened, Bytes, Cut, Now, Call as Asks, Signal, Opens, Comes, Cuts, Ticks, Calls, Forget, Halt, Item, Turned, Forgets, Halts, signals_of}
-use Rattle.zk_turns.specs.Past.{Past, Happening, Began, Came, Took, Dropped, Lost, Asked, Ticked, Message, Accepted, Expiry, Replies, Watches_set, Notifies, Pong, Skipped, Asking, For_part, For_call, pending_for, parts_asked, questions, answered, awaited, pending_of, is_talking, state_of, held_of, has_halted, xid_of, lists_of, last_of, session_of, path_of_read, path_of_reply, arrivals, firsts, listed}
+use Rattle.zk_turns.specs.Turns.{Start, Outcome, SessionClosed, TooManyWatches, TooLarge, TooManyPending, Behind, WatchesRefused, Input}
+use Rattle.zk_turns.specs.Turns.{Opened, Bytes, Cut, Now, Call as Asks, Signal, Opens, Comes, Cuts, Ticks, Calls, Forget, Halt, Item}
+use Rattle.zk_turns.specs.Turns.{Turned, Forgets, Halts, signals_of}
+use Rattle.zk_turns.specs.Past.{Past, Happening, Began, Came, Took, Dropped, Lost, Asked, Ticked, Message, Accepted, Expiry, Replies}
+use Rattle.zk_turns.specs.Past.{Watches_set, Notifies, Pong, Skipped, Asking, For_part, For_call, pending_for, parts_asked, questions}
+use Rattle.zk_turns.specs.Past.{answered, awaited, pending_of, is_talking, state_of, held_of, has_halted, xid_of, lists_of, last_of}
+use Rattle.zk_turns.specs.Past.{session_of, path_of_read, path_of_reply, arrivals, firsts, listed}
 use Rattle.std.specs.Int.{int_max}
 use Rattle.zk_turns.specs.View.{View, view_at}
-use Rattle.zk_turns.specs.Taken.{cut, cut_at, Cutting, Unfinished, Bad, Payload, of_cutting, comes, phase_of, welcome_by, leaves_watch, taken_of, is_full_on, refusal, opens, caused, happenings, joined, past_after, past_of}
+use Rattle.zk_turns.specs.Taken.{cut, cut_at, Cutting, Unfinished, Bad, Payload, of_cutting, comes, phase_of, welcome_by, leaves_watch}
+use Rattle.zk_turns.specs.Taken.{taken_of, is_full_on, refusal, opens, caused, happenings, joined, past_after, past_of}
 use Rattle.zk_turns.specs.Ranges.{AsksOf, AllAskOf, IsResumable}
 use Rattle.zk_turns.proofs.Cases.{by_cond, by_header, by_open, by_due}
 use Rattle.zk_turns.proofs.Fields.{header_ok, response_ok}
@@ -70,7 +80,8 @@ module _ (Q : Text → Type 0) where
 
   all_reverse : (xs : List Text) → AllByRecursion Q xs → AllByRecursion Q (reverse xs)
   all_reverse [] a = tt
-  all_reverse (x ∷ xs) a = subst (AllByRecursion Q) (sym (reverse-cons x xs)) (all_append Q (reverse xs) (x ∷ []) (all_reverse xs a.1) (a.0, tt))
+  all_reverse (x ∷ xs) a =
+      subst (AllByRecursion Q) (sym (reverse-cons x xs)) (all_append Q (reverse xs) (x ∷ []) (all_reverse xs a.1) (a.0, tt))
 
 -- ---- what is in range
 
@@ -120,7 +131,8 @@ module _ (P : Call → Type 0) where
   asked_of [] r = tt
   asked_of (Began ∷ past) r = tt
   asked_of (Took (Accepted welcome) ∷ past) r = parts_of (parts (lists_of past))
-  asked_of (Asked ticket call ∷ past) r = all_append OfAsked (questions past) (For_call (xid_of past) ticket call ∷ []) (asked_of past r.1) (r.0, tt)
+  asked_of (Asked ticket call ∷ past) r =
+      all_append OfAsked (questions past) (For_call (xid_of past) ticket call ∷ []) (asked_of past r.1) (r.0, tt)
   asked_of (Took Expiry ∷ past) r = asked_of past r.1
   asked_of (Took (Replies ticket question zxid result) ∷ past) r = asked_of past r.1
   asked_of (Took (Watches_set last zxid) ∷ past) r = asked_of past r.1
@@ -132,7 +144,8 @@ module _ (P : Call → Type 0) where
   waits_of : (asked : List Asking) → AllByRecursion OfAsked asked → AllByRecursion OfPending (map pending_for asked)
   waits_of [] a = tt
   waits_of (For_part last ∷ asked) a = (tt, waits_of asked a.1)
-  waits_of (For_call xid ticket call ∷ asked) a = (record { xid = pos xid; call = call; of = a.0.0; short = a.0.1; is = refl }, waits_of asked a.1)
+  waits_of (For_call xid ticket call ∷ asked) a =
+      (record { xid = pos xid; call = call; of = a.0.0; short = a.0.1; is = refl }, waits_of asked a.1)
 
   pending_ranged : (past : Past) → AreRanged past → AllByRecursion OfPending (pending_of past)
   pending_ranged past r = waits_of (awaited past) (by (is_talking (state_of past)))
@@ -162,31 +175,41 @@ module _ (P : Call → Type 0) where
     of_notice (Ok found) = of_event (event_of found.0.0) _
     of_notice (Err fault) = tt
 
-    of_call : (ticket : ℕ) (question : Question) (zxid : ℤ) (r : Reading Result TakeError) → FitsSigned w64 zxid → IsOfCall P question → OfReading (call_arriving ticket question zxid r)
+    of_call : (ticket : ℕ) (question : Question) (zxid : ℤ) (r : Reading Result TakeError)
+        → FitsSigned w64 zxid → IsOfCall P question → OfReading (call_arriving ticket question zxid r)
     of_call ticket question zxid (Ok result) z q = (z, q)
     of_call ticket question zxid (Err fault) z q = tt
 
-    of_reply : (waiting : Waiting) (header : ReplyHeader) (end : ℕ) (bytes : List ℕ) → FitsSigned w64 header.zxid → OfWaiting waiting → OfReading (reply_arriving waiting header end bytes)
+    of_reply : (waiting : Waiting) (header : ReplyHeader) (end : ℕ) (bytes : List ℕ)
+        → FitsSigned w64 header.zxid → OfWaiting waiting → OfReading (reply_arriving waiting header end bytes)
     of_reply (Part_waits last) header end bytes z w = z
-    of_reply (Call_waits ticket question) header end bytes z w = of_call ticket question header.zxid (result_of question header.err end bytes) z w
+    of_reply (Call_waits ticket question) header end bytes z w =
+        of_call ticket question header.zxid (result_of question header.err end bytes) z w
 
-    of_oldest : (ps : List Pending) (header : ReplyHeader) (end : ℕ) (bytes : List ℕ) → FitsSigned w64 header.zxid → AllByRecursion OfPending ps → OfReading (oldest_arriving ps header end bytes)
+    of_oldest : (ps : List Pending) (header : ReplyHeader) (end : ℕ) (bytes : List ℕ)
+        → FitsSigned w64 header.zxid → AllByRecursion OfPending ps → OfReading (oldest_arriving ps header end bytes)
     of_oldest [] header end bytes z w = tt
     of_oldest (oldest ∷ more) header end bytes z w =
-        by_cond OfReading (int_eq oldest.xid header.xid) (reply_arriving oldest.waiting header end bytes) (Err (OtherXid oldest.xid header.xid)) (of_reply oldest.waiting header end bytes z w.0) tt
+        by_cond OfReading (int_eq oldest.xid header.xid) (reply_arriving oldest.waiting header end bytes)
+        (Err (OtherXid oldest.xid header.xid)) (of_reply oldest.waiting header end bytes z w.0) tt
 
-    of_header : (ps : List Pending) (header : ReplyHeader) (end : ℕ) (bytes : List ℕ) → FitsSigned w64 header.zxid → AllByRecursion OfPending ps → OfReading (header_arriving ps header end bytes)
-    of_header ps header end bytes z w = by_header OfReading ps header end bytes (of_notice (reading watcher_event end bytes)) tt tt (of_oldest ps header end bytes z w)
+    of_header : (ps : List Pending) (header : ReplyHeader) (end : ℕ) (bytes : List ℕ)
+        → FitsSigned w64 header.zxid → AllByRecursion OfPending ps → OfReading (header_arriving ps header end bytes)
+    of_header ps header end bytes z w =
+        by_header OfReading ps header end bytes (of_notice (reading watcher_event end bytes)) tt tt (of_oldest ps header end bytes z w)
 
-    of_later : (ps : List Pending) (end : ℕ) (payload : List ℕ) (r : Reading (Value reply_header × List ℕ) TakeError) → reading reply_header end payload ≡ r → AllByRecursion OfPending ps → OfReading (later_arriving ps end r)
+    of_later : (ps : List Pending) (end : ℕ) (payload : List ℕ) (r : Reading (Value reply_header × List ℕ) TakeError)
+        → reading reply_header end payload ≡ r → AllByRecursion OfPending ps → OfReading (later_arriving ps end r)
     of_later ps end payload (Ok found) e w = of_header ps (header_of found.0) end found.1 (header_ok end payload found e) w
     of_later ps end payload (Err fault) e w = tt
 
-    of_first : (end : ℕ) (payload : List ℕ) (r : Reading (Response × List ℕ) TakeError) → response_at end payload ≡ r → length payload ≤ n → OfReading (first_arriving r)
+    of_first : (end : ℕ) (payload : List ℕ) (r : Reading (Response × List ℕ) TakeError)
+        → response_at end payload ≡ r → length payload ≤ n → OfReading (first_arriving r)
     of_first end payload (Ok found) e l = let s = response_ok end payload found e in let k = s.1 in (s.0, omega arith)
     of_first end payload (Err fault) e l = tt
 
-    of_arriving : (phase : Phase) (ps : List Pending) (payload : List ℕ) → length payload ≤ n → AllByRecursion OfPending ps → OfReading (arriving phase ps payload)
+    of_arriving : (phase : Phase) (ps : List Pending) (payload : List ℕ)
+        → length payload ≤ n → AllByRecursion OfPending ps → OfReading (arriving phase ps payload)
     unfolding arriving
     of_arriving Talking ps payload l w = of_later ps (length payload) payload (reading reply_header (length payload) payload) refl w
     of_arriving Opening ps payload l w = of_first (length payload) payload (response_at (length payload) payload) refl l
@@ -195,7 +218,8 @@ module _ (P : Call → Type 0) where
   -- ---- what is taken
 
   module _ (past : Past) where
-    welcome_ranged : (timeout session : ℤ) (password : List ℕ) → FitsSigned w64 session → length password ≤ LONGEST_INCOMING → IsRanged (Took (welcome_by timeout session password)) past
+    welcome_ranged : (timeout session : ℤ) (password : List ℕ)
+        → FitsSigned w64 session → length password ≤ LONGEST_INCOMING → IsRanged (Took (welcome_by timeout session password)) past
     welcome_ranged (pos n) session password s p = by (n == 0)
       where
         by : (b : Bool) → IsRanged (Took (cond b Expiry (Accepted (record { timeout = n; session = session; password = password })))) past
@@ -204,10 +228,13 @@ module _ (P : Call → Type 0) where
     welcome_ranged (negsuc n) session password s p = tt
 
     taken_ranged : (last : ℤ) (arrived : Arrived) → OfArrived LONGEST_INCOMING arrived → IsRanged (taken_of last arrived) past
-    taken_ranged last (Welcomed response) a = welcome_ranged (response_timeout response) (response_session response) (response_password response) a.0 a.1
+    taken_ranged last (Welcomed response) a =
+        welcome_ranged (response_timeout response) (response_session response) (response_password response) a.0 a.1
     taken_ranged last (Replied ticket question zxid result) a =
-        by_cond (λ h. IsRanged h past) (leaves_watch question result && int_lt zxid last) (Dropped (Behind last zxid)) (Took (Replies ticket question zxid result)) tt a
-    taken_ranged last (Part_set final zxid err) a = by_cond (λ h. IsRanged h past) (int_eq err (pos 0)) (Took (Watches_set final zxid)) (Dropped (WatchesRefused err)) a tt
+        by_cond (λ h. IsRanged h past) (leaves_watch question result && int_lt zxid last) (Dropped (Behind last zxid))
+        (Took (Replies ticket question zxid result)) tt a
+    taken_ranged last (Part_set final zxid err) a =
+        by_cond (λ h. IsRanged h past) (int_eq err (pos 0)) (Took (Watches_set final zxid)) (Dropped (WatchesRefused err)) a tt
     taken_ranged last (Notice event path) a = tt
     taken_ranged last Ponged a = tt
     taken_ranged last Passed a = tt
@@ -219,7 +246,8 @@ module _ (P : Call → Type 0) where
   -- ---- what happens
 
   short_by : (bytes payload : List ℕ) (n : ℕ) (a b c : Bool) → ltb LONGEST_INCOMING n ≡ b → eqb (length bytes) (4 + n) ≡ c
-      → cond a (Bad Negative) (cond b (Bad TooLong) (cond c (Payload (drop 4 bytes)) Unfinished)) ≡ Payload payload → length payload ≤ LONGEST_INCOMING
+      → cond a (Bad Negative) (cond b (Bad TooLong) (cond c (Payload (drop 4 bytes)) Unfinished)) ≡ Payload payload
+      → length payload ≤ LONGEST_INCOMING
   short_by bytes payload n true b c e f g = absurd cc
   short_by bytes payload n false true c e f g = absurd cc
   short_by bytes payload n false false true e f g =
@@ -239,7 +267,8 @@ module _ (P : Call → Type 0) where
       by : (b : Bool) → ltb (length bytes) 4 ≡ b → length payload ≤ LONGEST_INCOMING
       by true short = let f = cut_short bytes (ltb-true (length bytes) 4 short) in absurd cc
       by false there =
-          short_by bytes payload (length_field bytes) (leb (2 ^ 31) (length_field bytes)) (ltb LONGEST_INCOMING (length_field bytes)) (eqb (length bytes) (4 + length_field bytes)) refl refl
+          short_by bytes payload (length_field bytes) (leb (2 ^ 31) (length_field bytes)) (ltb LONGEST_INCOMING (length_field bytes))
+          (eqb (length bytes) (4 + length_field bytes)) refl refl
           (at (ltb-false (length bytes) 4 there))
 
   not_this : (b : Bool) (why : Outcome) (rest : Option Outcome) → cond b (Some why) rest ≡ None → rest ≡ None
@@ -251,7 +280,8 @@ module _ (P : Call → Type 0) where
   not_long false e = refl
 
   -- a call that is not refused is not too long
-  pub sent_short : (state : State) (view : View) (call : Call) → refusal_in state view call ≡ None → length (call_payload (pos view.xid) call) ≤ LONGEST_OUTGOING
+  pub sent_short : (state : State) (view : View) (call : Call)
+      → refusal_in state view call ≡ None → length (call_payload (pos view.xid) call) ≤ LONGEST_OUTGOING
   sent_short Connected view call e =
       let long = ltb LONGEST_OUTGOING (length (call_payload (pos view.xid) call)) in
       let third : Option Outcome = cond long (Some TooLarge) None in
@@ -268,12 +298,14 @@ module _ (P : Call → Type 0) where
   OfSignal _ = Unit {0}
 
   module _ (start : Start) where
-    cutting_ranged : (cutting : Cutting) (byte : ℕ) (past : Past) → AreRanged past → cut (held_of past ++ byte ∷ []) ≡ cutting → AreRanged (joined (Came byte ∷ past) (of_cutting (view_at start past) cutting))
+    cutting_ranged : (cutting : Cutting) (byte : ℕ) (past : Past) → AreRanged past → cut (held_of past ++ byte ∷ []) ≡ cutting
+        → AreRanged (joined (Came byte ∷ past) (of_cutting (view_at start past) cutting))
     cutting_ranged Unfinished byte past r e = (tt, r)
     cutting_ranged (Bad fault) byte past r e = (tt, (tt, r))
     cutting_ranged (Payload payload) byte past r e = (
       result_ranged (Came byte ∷ past) (last_of start past) (arriving (phase_of (state_of past)) (pending_of past) payload)
-          (of_arriving LONGEST_INCOMING (phase_of (state_of past)) (pending_of past) payload (payload_short (held_of past ++ byte ∷ []) payload e) (pending_ranged past r)),
+          (of_arriving LONGEST_INCOMING (phase_of (state_of past)) (pending_of past) payload
+          (payload_short (held_of past ++ byte ∷ []) payload e) (pending_ranged past r)),
       (tt, r),
     )
 
@@ -286,27 +318,37 @@ module _ (P : Call → Type 0) where
     opens_ranged Connected past r = (tt, (tt, r))
     opens_ranged _ past r = r
 
-    calls_ranged : (ticket : ℕ) (call : Call) (why : Option Outcome) (past : Past) → P call → (why ≡ None → length (call_payload (pos (xid_of past)) call) ≤ LONGEST_OUTGOING) → AreRanged past → AreRanged (joined past (calls ticket call why))
+    calls_ranged : (ticket : ℕ) (call : Call) (why : Option Outcome) (past : Past)
+        → P call → (why ≡ None → length (call_payload (pos (xid_of past)) call) ≤ LONGEST_OUTGOING)
+        → AreRanged past → AreRanged (joined past (calls ticket call why))
     calls_ranged ticket call None past p short r = ((p, short refl), r)
     calls_ranged ticket call (Some why) past p short r = (tt, r)
 
-    caused_ranged : (signal : Signal) (past : Past) → OfSignal signal → AreRanged past → AreRanged (joined past (caused (view_at start past) signal))
+    caused_ranged : (signal : Signal) (past : Past)
+        → OfSignal signal → AreRanged past → AreRanged (joined past (caused (view_at start past) signal))
     caused_ranged Opens past o r = opens_ranged (state_of past) past r
-    caused_ranged (Comes byte) past o r = by_open (RangedBehind past) (state_of past) (comes (view_at start past) byte) r (cutting_ranged (cut (held_of past ++ byte ∷ [])) byte past r refl)
+    caused_ranged (Comes byte) past o r = by_open (RangedBehind past) (state_of past) (comes (view_at start past) byte) r
+        (cutting_ranged (cut (held_of past ++ byte ∷ [])) byte past r refl)
     caused_ranged Cuts past o r = by_open (RangedBehind past) (state_of past) (Lost ∷ []) r (tt, r)
-    caused_ranged (Ticks moment) past o r = by_open (RangedBehind (Ticked moment ∷ past)) (state_of past) _ (tt, r) (by_due (RangedBehind (Ticked moment ∷ past)) (view_at start past) _ (tt, (tt, r)) (tt, (tt, r)) (tt, r))
-    caused_ranged (Calls ticket call) past o r = calls_ranged ticket call (refusal (view_at start past) call) past o (sent_short (state_of past) (view_at start past) call) r
+    caused_ranged (Ticks moment) past o r = by_open (RangedBehind (Ticked moment ∷ past)) (state_of past) _ (tt, r)
+        (by_due (RangedBehind (Ticked moment ∷ past)) (view_at start past) _ (tt, (tt, r)) (tt, (tt, r)) (tt, r))
+    caused_ranged (Calls ticket call) past o r =
+        calls_ranged ticket call (refusal (view_at start past) call) past o (sent_short (state_of past) (view_at start past) call) r
     caused_ranged Forget past o r = (tt, r)
     caused_ranged Halt past o r = (tt, r)
 
-    signal_ranged : (signal : Signal) (past : Past) → OfSignal signal → AreRanged past → AreRanged (joined past (happenings (view_at start past) signal))
+    signal_ranged : (signal : Signal) (past : Past)
+        → OfSignal signal → AreRanged past → AreRanged (joined past (happenings (view_at start past) signal))
     signal_ranged Forget past o r = (tt, r)
     signal_ranged Halt past o r = (tt, r)
-    signal_ranged signal past o r = by_cond (RangedBehind past) (has_halted past) [] (caused (view_at start past) signal) r (caused_ranged signal past o r)
+    signal_ranged signal past o r =
+        by_cond (RangedBehind past) (has_halted past) [] (caused (view_at start past) signal) r (caused_ranged signal past o r)
 
-    signals_ranged : (more : List Signal) (past : Past) → AllByRecursion OfSignal more → AreRanged past → AreRanged (past_after start past more)
+    signals_ranged : (more : List Signal) (past : Past)
+        → AllByRecursion OfSignal more → AreRanged past → AreRanged (past_after start past more)
     signals_ranged [] past o r = r
-    signals_ranged (signal ∷ more) past o r = signals_ranged more (joined past (happenings (view_at start past) signal)) o.1 (signal_ranged signal past o.0 r)
+    signals_ranged (signal ∷ more) past o r =
+        signals_ranged more (joined past (happenings (view_at start past) signal)) o.1 (signal_ranged signal past o.0 r)
 
     bytes_of : (bytes : List ℕ) → AllByRecursion OfSignal (map Comes bytes)
     bytes_of [] = tt
@@ -322,7 +364,8 @@ module _ (P : Call → Type 0) where
     -- Where each call is of these, all that happened is in range.
     pub items_ranged : (items : List Item) → AllAskOf P items → AreRanged (past_of start items)
     items_ranged [] a = tt
-    items_ranged (Turned turn ∷ items) a = signals_ranged (signals_of turn.input) (past_of start items) (input_of turn.input a.0) (items_ranged items a.1)
+    items_ranged (Turned turn ∷ items) a =
+        signals_ranged (signals_of turn.input) (past_of start items) (input_of turn.input a.0) (items_ranged items a.1)
     items_ranged (Forgets ∷ items) a = signals_ranged (Forget ∷ []) (past_of start items) (tt, tt) (items_ranged items a)
     items_ranged (Halts ∷ items) a = signals_ranged (Halt ∷ []) (past_of start items) (tt, tt) (items_ranged items a)
 
@@ -349,7 +392,8 @@ module _ (P : Call → Type 0) where
     last_fits (_ ∷ past) l r = last_fits past l r.1
 
     -- the session and its password
-    pub session_ranged : (past : Past) → IsResumable start → AreRanged past → FitsSigned w64 (session_of start past).session × (length (session_of start past).password ≤ LONGEST_INCOMING)
+    pub session_ranged : (past : Past) → IsResumable start → AreRanged past
+        → FitsSigned w64 (session_of start past).session × (length (session_of start past).password ≤ LONGEST_INCOMING)
     session_ranged [] s r = let p = s.password in (s.session, omega arith)
     session_ranged (Took (Accepted welcome) ∷ past) s r = r.0
     session_ranged (Took (Replies ticket question zxid result) ∷ past) s r = session_ranged past s r.1
@@ -364,7 +408,8 @@ module _ (P : Call → Type 0) where
 
   module _ (Q : Text → Type 0) (paths_of : (call : Call) → P call → AllByRecursion Q (path_of_read (question_of call))) where
     question_short : (question : Question) → IsOfCall P question → AllByRecursion (IsShort Q) (path_of_read question)
-    question_short question o = subst (λ q. AllByRecursion (IsShort Q) (path_of_read q)) o.is (read_short Q o.xid o.call o.short (paths_of o.call o.of))
+    question_short question o =
+        subst (λ q. AllByRecursion (IsShort Q) (path_of_read q)) o.is (read_short Q o.xid o.call o.short (paths_of o.call o.of))
 
     reply_short : (happening : Happening) (past : Past) → IsRanged happening past → AllByRecursion (IsShort Q) (path_of_reply happening)
     reply_short (Took (Replies ticket question zxid result)) past r = question_short question r.1
@@ -379,12 +424,15 @@ module _ (P : Call → Type 0) where
     arrivals_short : (is_in : Text → Past → Bool) (past : Past) → AreRanged past → AllByRecursion (IsShort Q) (arrivals is_in past)
     arrivals_short is_in [] r = tt
     arrivals_short is_in (happening ∷ past) r =
-        all_append (IsShort Q) (filter (λ path. is_in path (happening ∷ past) && not (is_in path past)) (path_of_reply happening)) (arrivals is_in past)
-        (all_filter (IsShort Q) (λ path. is_in path (happening ∷ past) && not (is_in path past)) (path_of_reply happening) (reply_short happening past r.0))
+        all_append (IsShort Q) (filter (λ path. is_in path (happening ∷ past) && not (is_in path past)) (path_of_reply happening))
+        (arrivals is_in past)
+        (all_filter (IsShort Q) (λ path. is_in path (happening ∷ past) && not (is_in path past)) (path_of_reply happening)
+        (reply_short happening past r.0))
         (arrivals_short is_in past r.1)
 
     -- The paths of a list were asked about, so they are short.
     pub listed_short : (is_in : Text → Past → Bool) (past : Past) → AreRanged past → AllByRecursion (IsShort Q) (listed is_in past)
     listed_short is_in past r =
         all_reverse (IsShort Q) (filter (λ path. is_in path past) (firsts (arrivals is_in past)))
-        (all_filter (IsShort Q) (λ path. is_in path past) (firsts (arrivals is_in past)) (all_firsts (IsShort Q) (arrivals is_in past) (arrivals_short is_in past r)))
+        (all_filter (IsShort Q) (λ path. is_in path past) (firsts (arrivals is_in past))
+        (all_firsts (IsShort Q) (arrivals is_in past) (arrivals_short is_in past r)))

@@ -1,5 +1,6 @@
 -- A call is refused by the first condition that applies.
-use Rattle.std.proofs.Common.{◌≡◌, ◌≤◌, ◌<◌, ◌+◌, ℕ, pos, length, Bool, true, false, cond, ◌||◌, List, [], ◌∷◌, Option, Some, None, refl, sym, ap, subst, ◌∙◌, inl, inr, ◌⊎◌, arith}
+use Rattle.std.proofs.Common.{◌≡◌, ◌≤◌, ◌<◌, ◌+◌, ℕ, pos, length, Bool, true, false, cond, ◌||◌, List, [], ◌∷◌, Option, Some, None, refl}
+use Rattle.std.proofs.Common.{sym, ap, subst, ◌∙◌, inl, inr, ◌⊎◌, arith}
 use Rattle.std.specs.Prelude.{nat_le, nat_lt}
 use Rattle.std.specs.List.{list_any}
 use Rattle.std.proofs.lemmas.Bool.Decides.{nat_tests}
@@ -22,7 +23,9 @@ any_close : (ps : List Pending) → list_any is_close ps ≡ true → (close : P
 any_close [] e = absurd cc
 any_close (p ∷ ps) e = by (is_close p) refl e (any_close ps)
   where
-    by : (b : Bool) → is_close p ≡ b → (b || list_any is_close ps) ≡ true → (list_any is_close ps ≡ true → (close : Pending) × Among close ps × (is_close close ≡ true)) → (close : Pending) × Among close (p ∷ ps) × (is_close close ≡ true)
+    by : (b : Bool) → is_close p ≡ b → (b || list_any is_close ps) ≡ true
+        → (list_any is_close ps ≡ true → (close : Pending) × Among close ps × (is_close close ≡ true))
+        → (close : Pending) × Among close (p ∷ ps) × (is_close close ≡ true)
     by true i e ih = (p, inl refl, i)
     by false i e ih = let r = ih e in (r.0, inr r.1, r.2)
 
@@ -54,27 +57,35 @@ module _ (view : View) (call : Call) where
   abbrev Full : Option Side → Type 0
   Full watched = (side : Side) × (watched ≡ Some side) × (MOST_PATHS ≤ count_of view.lists side + watches_pending side view.pending)
 
-  full_or : (watched : Option Side) → (Full watched × (is_full_on view watched ≡ true)) ⊎ ((Full watched → ⊥) × (is_full_on view watched ≡ false))
+  full_or : (watched : Option Side)
+      → (Full watched × (is_full_on view watched ≡ true)) ⊎ ((Full watched → ⊥) × (is_full_on view watched ≡ false))
   full_or None = inr (λ f. let e = f.1 in cc, refl)
   full_or (Some side) = elim (le_or MOST_PATHS (count_of view.lists side + watches_pending side view.pending)) [
     | inl t ↦ inl ((side, refl, t.0), t.1)
-    | inr t ↦ inr (λ f. t.0 (let s : side ≡ f.0 = let e = f.1 in cc in subst (λ x. MOST_PATHS ≤ count_of view.lists x + watches_pending x view.pending) (sym s) f.2), t.1)
+    | inr t ↦ inr (
+      λ f. t.0 (let s : side ≡ f.0 = let e = f.1 in cc in
+          subst (λ x. MOST_PATHS ≤ count_of view.lists x + watches_pending x view.pending) (sym s) f.2),
+      t.1,
+    )
   ]
 
   -- the tests of a connected client, one after the other
-  large : (why : Option Outcome) → why ≡ cond (nat_lt LONGEST_OUTGOING (length (call_payload (pos view.xid) call))) (Some TooLarge) None → IsFirstOf (TooLarge ∷ []) view call why
+  large : (why : Option Outcome) → why ≡ cond (nat_lt LONGEST_OUTGOING (length (call_payload (pos view.xid) call))) (Some TooLarge) None
+      → IsFirstOf (TooLarge ∷ []) view call why
   large why e = elim (lt_or LONGEST_OUTGOING (length (call_payload (pos view.xid) call))) [
     | inl t ↦ inl (t.0, e ∙ ap (λ b. cond b (Some TooLarge) None) t.1)
     | inr t ↦ inr (t.0, e ∙ ap (λ b. cond b (Some TooLarge) None) t.1)
   ]
 
-  watches : (why rest : Option Outcome) → why ≡ cond (is_full_on view (watched_side (question_of call))) (Some TooManyWatches) rest → (why ≡ rest → IsFirstOf (TooLarge ∷ []) view call why) → IsFirstOf (TooManyWatches ∷ TooLarge ∷ []) view call why
+  watches : (why rest : Option Outcome) → why ≡ cond (is_full_on view (watched_side (question_of call))) (Some TooManyWatches) rest
+      → (why ≡ rest → IsFirstOf (TooLarge ∷ []) view call why) → IsFirstOf (TooManyWatches ∷ TooLarge ∷ []) view call why
   watches why rest e more = elim (full_or (watched_side (question_of call))) [
     | inl t ↦ inl (t.0, e ∙ ap (λ b. cond b (Some TooManyWatches) rest) t.1)
     | inr t ↦ inr (t.0, more (e ∙ ap (λ b. cond b (Some TooManyWatches) rest) t.1))
   ]
 
-  many : (why rest : Option Outcome) → why ≡ cond (nat_le MOST_PENDING (calls_pending view.pending)) (Some TooManyPending) rest → (why ≡ rest → IsFirstOf (TooManyWatches ∷ TooLarge ∷ []) view call why)
+  many : (why rest : Option Outcome) → why ≡ cond (nat_le MOST_PENDING (calls_pending view.pending)) (Some TooManyPending) rest
+      → (why ≡ rest → IsFirstOf (TooManyWatches ∷ TooLarge ∷ []) view call why)
       → IsFirstOf (TooManyPending ∷ TooManyWatches ∷ TooLarge ∷ []) view call why
   many why rest e more = elim (le_or MOST_PENDING (calls_pending view.pending)) [
     | inl t ↦ inl (t.0, e ∙ ap (λ b. cond b (Some TooManyPending) rest) t.1)
@@ -87,7 +98,8 @@ module _ (view : View) (call : Call) where
   not_closed : (s : State) → s ≡ Connected → s ≡ Closed → ⊥
   not_closed s e f = let g : Connected ≡ Closed = sym e ∙ f in cc
 
-  connected : (b : Bool) → list_any is_close view.pending ≡ b → (s : view.standing.state ≡ Connected) (why rest : Option Outcome) → why ≡ cond b (Some SessionClosed) rest
+  connected : (b : Bool) → list_any is_close view.pending ≡ b → (s : view.standing.state ≡ Connected) (why rest : Option Outcome)
+      → why ≡ cond b (Some SessionClosed) rest
       → (why ≡ rest → IsFirstOf (TooManyPending ∷ TooManyWatches ∷ TooLarge ∷ []) view call why) → IsFirstOf in_turn view call why
   connected true c s why rest e more = inr (not_expired view.standing.state s, inl (inr (s, any_close view.pending c), e))
   connected false c s why rest e more =
@@ -99,13 +111,16 @@ module _ (view : View) (call : Call) where
         ),
       )
 
-  elsewhere : (s : State) → view.standing.state ≡ s → (s ≡ Connected → ⊥) → (s ≡ Expired → ⊥) → (s ≡ Closed → ⊥) → (why : Option Outcome) → why ≡ Some NotConnected → IsFirstOf in_turn view call why
-  elsewhere s e c x z why w = inr (λ f. x (sym e ∙ f), inr (λ a. elim a [ inl f ↦ z (sym e ∙ f) | inr f ↦ c (sym e ∙ f.0) ], inl (λ f. c (sym e ∙ f), w)))
+  elsewhere : (s : State) → view.standing.state ≡ s → (s ≡ Connected → ⊥) → (s ≡ Expired → ⊥) → (s ≡ Closed → ⊥) → (why : Option Outcome)
+      → why ≡ Some NotConnected → IsFirstOf in_turn view call why
+  elsewhere s e c x z why w =
+      inr (λ f. x (sym e ∙ f), inr (λ a. elim a [ inl f ↦ z (sym e ∙ f) | inr f ↦ c (sym e ∙ f.0) ], inl (λ f. c (sym e ∙ f), w)))
 
   by_state : (s : State) → view.standing.state ≡ s → (why : Option Outcome) → why ≡ refusal_in s view call → IsFirstOf in_turn view call why
   by_state Expired e why w = inl (e, w)
   by_state Closed e why w = inr (λ f. let g : Closed ≡ Expired = sym e ∙ f in cc, inl (inl e, w))
-  by_state Connected e why w = connected (list_any is_close view.pending) refl e why _ w (λ w. many why _ w (λ w. watches why _ w (λ w. large why w)))
+  by_state Connected e why w =
+      connected (list_any is_close view.pending) refl e why _ w (λ w. many why _ w (λ w. watches why _ w (λ w. large why w)))
   by_state Idle e why w = elsewhere Idle e (λ f. cc) (λ f. cc) (λ f. cc) why w
   by_state Connecting e why w = elsewhere Connecting e (λ f. cc) (λ f. cc) (λ f. cc) why w
 

@@ -15,7 +15,9 @@ use Rattle.zk_jute.specs.Spelling.{int_bytes, long_bytes, counted_bytes}
 use Rattle.zk_jute.specs.Reading.{bytes_at, int_at, long_at, boolean_at, length_of, length_at, counted_at, text_bytes_at, elements_at}
 use Rattle.zk_records.specs.Response.{flag_at, response_at}
 use Rattle.zk_conversation.specs.Results.{NoNode, Found, Made, Read, Listing, Done}
-use Rattle.zk_turns.specs.Turns.{Fault, Framed, Talked, Replied, ConnectionLoss, SessionExpired, SessionClosed, NotConnected, WatchesRefused, Silent, Behind, Input, Opened, Bytes, Cut, Now, Call, Output, Send, Answer, Report, Enters, Drop, new_start, signals_of}
+use Rattle.zk_turns.specs.Turns.{Fault, Framed, Talked, Replied, ConnectionLoss, SessionExpired, SessionClosed, NotConnected}
+use Rattle.zk_turns.specs.Turns.{WatchesRefused, Silent, Behind, Input, Opened, Bytes, Cut, Now, Call, Output, Send, Answer, Report, Enters}
+use Rattle.zk_turns.specs.Turns.{Drop, new_start, signals_of}
 use Rattle.zk_jute.specs.declared.fault.TakeError.TheVariants.{Short, BadLength, NotUtf8, BadBool}
 use Rattle.zk_frames.specs.declared.fault.FrameFault.TheVariants.{Negative, TooLong}
 use Rattle.zk_conversation.specs.declared.fault.TalkFault.TheVariants.{BadHeader, BadNotice, NobodyAsked, OtherXid, BadRecord}
@@ -38,7 +40,8 @@ abbrev hex : String → List ℕ
 hex text = bytes_of (codes text)
 
 -- each digit in each place of a byte
-pub digits_in_turn : hex "0123456789abcdef1032547698badcfe" ≡ 1 ∷ 35 ∷ 69 ∷ 103 ∷ 137 ∷ 171 ∷ 205 ∷ 239 ∷ 16 ∷ 50 ∷ 84 ∷ 118 ∷ 152 ∷ 186 ∷ 220 ∷ 254 ∷ []
+pub digits_in_turn : hex "0123456789abcdef1032547698badcfe"
+    ≡ 1 ∷ 35 ∷ 69 ∷ 103 ∷ 137 ∷ 171 ∷ 205 ∷ 239 ∷ 16 ∷ 50 ∷ 84 ∷ 118 ∷ 152 ∷ 186 ∷ 220 ∷ 254 ∷ []
 digits_in_turn = refl
 
 -- the frame of the first bytes of a payload, as many as are told and fewer than 256
@@ -46,11 +49,24 @@ abbrev cut_to : ℕ → List ℕ → List ℕ
 cut_to count payload = 0 ∷ 0 ∷ 0 ∷ count ∷ take count payload
 
 abbrev Sa : Stat
-Sa = record { czxid = pos 3; mzxid = pos 5; ctime = pos 1000; mtime = pos 2000; version = pos 1; cversion = pos 0; aversion = pos 0; ephemeral_owner = pos 0; data_length = pos 2; num_children = pos 0; pzxid = pos 3 }
+Sa = record {
+  czxid = pos 3;
+  mzxid = pos 5;
+  ctime = pos 1000;
+  mtime = pos 2000;
+  version = pos 1;
+  cversion = pos 0;
+  aversion = pos 0;
+  ephemeral_owner = pos 0;
+  data_length = pos 2;
+  num_children = pos 0;
+  pzxid = pos 3;
+}
 
 -- the fields of Sa as bytes
 abbrev stat : List ℕ
-stat = hex "0000000000000003000000000000000500000000000003e800000000000007d0000000010000000000000000000000000000000000000002000000000000000000000003"
+stat =
+    hex "0000000000000003000000000000000500000000000003e800000000000007d0000000010000000000000000000000000000000000000002000000000000000000000003"
 
 -- payloads: the data and the Stat of /a, with xid 1 and zxid 5; the notice that /a was changed
 abbrev replied : List ℕ
@@ -150,11 +166,13 @@ asking_ends fault = began (Send asks_a ∷ Drop fault ∷ Answer 7 ConnectionLos
 -- inputs of more than one row: an absent path over a cut, two changed paths, a deletion on both sides, an expiry, and a reply
 -- behind the last seen zxid
 abbrev over_a_cut : List Input
-over_a_cut = Opened ∷ Bytes welcome ∷ Call 1 (Exists (codes "/b") true) ∷ Bytes no_node ∷ Cut ∷ Opened ∷ Bytes welcome ∷ Bytes watches_set ∷ []
+over_a_cut = Opened ∷ Bytes welcome ∷ Call 1 (Exists (codes "/b") true) ∷ Bytes no_node ∷ Cut ∷ Opened ∷ Bytes welcome
+    ∷ Bytes watches_set ∷ []
 
 abbrev two_changes : List Input
 two_changes =
-    Opened ∷ Bytes welcome ∷ Call 1 (GetData (codes "/a") true) ∷ Call 2 (GetData (codes "/b") true) ∷ Bytes reply ∷ Bytes second_reply ∷ Bytes a_changed
+    Opened ∷ Bytes welcome ∷ Call 1 (GetData (codes "/a") true) ∷ Call 2 (GetData (codes "/b") true) ∷ Bytes reply
+    ∷ Bytes second_reply ∷ Bytes a_changed
     ∷ Cut ∷ Opened ∷ Bytes welcome ∷ Bytes b_changed ∷ []
 
 abbrev two_deletions : List Input
@@ -163,10 +181,12 @@ two_deletions =
     ∷ Cut ∷ Opened ∷ Bytes welcome ∷ Bytes deletion ∷ Bytes deletion ∷ []
 
 abbrev expiring : List Input
-expiring = Opened ∷ Bytes welcome ∷ Call 1 (Exists (codes "/b") true) ∷ Bytes no_node ∷ Cut ∷ Opened ∷ Bytes expiry_and_notice ∷ Call 3 Close ∷ Opened ∷ []
+expiring = Opened ∷ Bytes welcome ∷ Call 1 (Exists (codes "/b") true) ∷ Bytes no_node ∷ Cut ∷ Opened ∷ Bytes expiry_and_notice
+    ∷ Call 3 Close ∷ Opened ∷ []
 
 abbrev falling_behind : List Input
-falling_behind = Opened ∷ Bytes welcome ∷ Call 1 (Delete (codes "/c") (negsuc 0)) ∷ Bytes done ∷ Call 2 (GetData (codes "/a") true) ∷ Bytes later_reply ∷ []
+falling_behind = Opened ∷ Bytes welcome ∷ Call 1 (Delete (codes "/c") (negsuc 0)) ∷ Bytes done ∷ Call 2 (GetData (codes "/a") true)
+    ∷ Bytes later_reply ∷ []
 
 -- what the rows compute with
 definitions : Unit {0}
@@ -185,13 +205,15 @@ unfolding definitions
 accepted = refl
 
 -- with a readOnly byte too
-pub accepted_with_flag : outputs (Opened ∷ Bytes (hex "0000002500000000000075300000000000000abc00000010000102030405060708090a0b0c0d0e0f00") ∷ [])
+pub accepted_with_flag : outputs
+    (Opened ∷ Bytes (hex "0000002500000000000075300000000000000abc00000010000102030405060708090a0b0c0d0e0f00") ∷ [])
     ≡ began []
 unfolding definitions
 accepted_with_flag = refl
 
 -- and with another byte it is dropped
-pub accepted_with_bad_flag : outputs (Opened ∷ Bytes (hex "0000002500000000000075300000000000000abc00000010000102030405060708090a0b0c0d0e0f02") ∷ [])
+pub accepted_with_bad_flag : outputs
+    (Opened ∷ Bytes (hex "0000002500000000000075300000000000000abc00000010000102030405060708090a0b0c0d0e0f02") ∷ [])
     ≡ Send hello ∷ Enters Connecting ∷ Drop (Talked (BadRecord (BadBool 36))) ∷ Enters Idle ∷ []
 unfolding definitions
 accepted_with_bad_flag = refl
@@ -209,14 +231,16 @@ read_and_notice = refl
 
 -- an absent path is watched again after a cut
 pub absent_over_a_cut : outputs over_a_cut
-    ≡ began (Send asks_b ∷ Answer 1 (Replied (pos 5) NoNode) ∷ Enters Idle ∷ Send hello_again ∷ Enters Connecting ∷ Enters Connected ∷ Send sets_b ∷ [])
+    ≡ began (Send asks_b ∷ Answer 1 (Replied (pos 5) NoNode) ∷ Enters Idle ∷ Send hello_again ∷ Enters Connecting
+    ∷ Enters Connected ∷ Send sets_b ∷ [])
 unfolding definitions
 absent_over_a_cut = refl
 
 -- of two changed paths the second is told after a reconnect
 pub two_paths_over_a_cut : outputs two_changes
     ≡ began (Send asks_a ∷ Send (hex "0000000f0000000200000004000000022f6201") ∷ Answer 1 (Replied (pos 5) (Read (Some (codes "hi")) Sa))
-    ∷ Answer 2 (Replied (pos 5) (Read (Some (codes "hi")) Sa)) ∷ Report (codes "/a") Data DataChanged ∷ Enters Idle ∷ Send hello_again ∷ Enters Connecting ∷ Enters Connected
+    ∷ Answer 2 (Replied (pos 5) (Read (Some (codes "hi")) Sa)) ∷ Report (codes "/a") Data DataChanged ∷ Enters Idle ∷ Send hello_again
+    ∷ Enters Connecting ∷ Enters Connected
     ∷ Send (hex "00000022fffffff800000065000000000000000500000001000000022f620000000000000000") ∷ Report (codes "/b") Data DataChanged ∷ [])
 unfolding definitions
 two_paths_over_a_cut = refl
@@ -225,28 +249,33 @@ two_paths_over_a_cut = refl
 pub both_sides : outputs two_deletions
     ≡ began (Send asks_a ∷ Send (hex "0000000f000000020000000c000000022f6101") ∷ Answer 7 (Replied (pos 5) (Read (Some (codes "hi")) Sa))
     ∷ Answer 8 (Replied (pos 5) (Listing (codes "x" ∷ []) Sa)) ∷ Enters Idle ∷ Send hello_again ∷ Enters Connecting ∷ Enters Connected
-    ∷ Send (hex "00000028fffffff800000065000000000000000500000001000000022f610000000000000001000000022f61") ∷ Report (codes "/a") Data Deleted
+    ∷ Send (hex "00000028fffffff800000065000000000000000500000001000000022f610000000000000001000000022f61")
+    ∷ Report (codes "/a") Data Deleted
     ∷ Report (codes "/a") Child Deleted ∷ [])
 unfolding definitions
 both_sides = refl
 
 -- a reply with another xid is dropped
-pub other_xid : outputs (Opened ∷ Bytes welcome ∷ Call 1 (Exists (codes "/b") true) ∷ Bytes (hex "00000010000000020000000000000005ffffff9b") ∷ [])
+pub other_xid : outputs
+    (Opened ∷ Bytes welcome ∷ Call 1 (Exists (codes "/b") true) ∷ Bytes (hex "00000010000000020000000000000005ffffff9b") ∷ [])
     ≡ began (Send asks_b ∷ Drop (Talked (OtherXid (pos 1) (pos 2))) ∷ Answer 1 ConnectionLoss ∷ Enters Idle ∷ [])
 unfolding definitions
 other_xid = refl
 
 -- a watched read behind the last seen zxid is dropped
 pub behind : outputs falling_behind
-    ≡ began (Send (hex "000000120000000100000002000000022f63ffffffff") ∷ Answer 1 (Replied (pos 8) Done) ∷ Send (hex "0000000f0000000200000004000000022f6101")
+    ≡ began (Send (hex "000000120000000100000002000000022f63ffffffff") ∷ Answer 1 (Replied (pos 8) Done)
+    ∷ Send (hex "0000000f0000000200000004000000022f6101")
     ∷ Drop (Behind (pos 8) (pos 7)) ∷ Answer 2 ConnectionLoss ∷ Enters Idle ∷ [])
 unfolding definitions
 behind = refl
 
 -- an unfinished reply is lost with its connection
-pub cut_in_a_reply : outputs (Opened ∷ Bytes welcome ∷ Call 7 (GetData (codes "/a") true) ∷ Bytes (take 50 reply) ∷ Cut ∷ Opened ∷ Bytes welcome ∷ [])
+pub cut_in_a_reply : outputs
+    (Opened ∷ Bytes welcome ∷ Call 7 (GetData (codes "/a") true) ∷ Bytes (take 50 reply) ∷ Cut ∷ Opened ∷ Bytes welcome ∷ [])
     ≡ began (Send asks_a ∷ Answer 7 ConnectionLoss ∷ Enters Idle
-    ∷ Send (hex "0000002d000000000000000000000000000075300000000000000abc00000010000102030405060708090a0b0c0d0e0f00") ∷ Enters Connecting ∷ Enters Connected ∷ [])
+    ∷ Send (hex "0000002d000000000000000000000000000075300000000000000abc00000010000102030405060708090a0b0c0d0e0f00") ∷ Enters Connecting
+    ∷ Enters Connected ∷ [])
 unfolding definitions
 cut_in_a_reply = refl
 
@@ -257,7 +286,8 @@ response_twice = refl
 
 -- an expired session
 pub expired : outputs expiring
-    ≡ began (Send asks_b ∷ Answer 1 (Replied (pos 5) NoNode) ∷ Enters Idle ∷ Send hello_again ∷ Enters Connecting ∷ Enters Expired ∷ Answer 3 SessionExpired ∷ [])
+    ≡ began (Send asks_b ∷ Answer 1 (Replied (pos 5) NoNode) ∷ Enters Idle ∷ Send hello_again ∷ Enters Connecting ∷ Enters Expired
+    ∷ Answer 3 SessionExpired ∷ [])
 unfolding definitions
 expired = refl
 
@@ -286,7 +316,8 @@ unfolding definitions
 empty_data = refl
 
 -- a length below -1
-pub bad_data : outputs (asking (hex "0000005800000001000000000000000500000000fffffffe" ++ stat)) ≡ asking_ends (Talked (BadRecord (BadLength 16)))
+pub bad_data : outputs (asking (hex "0000005800000001000000000000000500000000fffffffe" ++ stat))
+    ≡ asking_ends (Talked (BadRecord (BadLength 16)))
 unfolding definitions
 bad_data = refl
 
@@ -339,7 +370,8 @@ unfolding definitions
 skipped = refl
 
 -- a reply below the first zxid
-pub behind_by_one : outputs (Opened ∷ Bytes welcome ∷ Call 1 (Exists (codes "/b") true) ∷ Bytes (hex "0000001000000001ffffffffffffffffffffff9b") ∷ [])
+pub behind_by_one : outputs
+    (Opened ∷ Bytes welcome ∷ Call 1 (Exists (codes "/b") true) ∷ Bytes (hex "0000001000000001ffffffffffffffffffffff9b") ∷ [])
     ≡ began (Send asks_b ∷ Drop (Behind (pos 0) (negsuc 0)) ∷ Answer 1 ConnectionLoss ∷ Enters Idle ∷ [])
 unfolding definitions
 behind_by_one = refl
@@ -354,7 +386,8 @@ other_type = refl
 -- setWatches that are refused
 pub refused_watches : outputs (Opened ∷ Bytes welcome ∷ Call 1 (Exists (codes "/b") true) ∷ Bytes no_node ∷ Cut ∷ Opened ∷ Bytes welcome
     ∷ Bytes (hex "00000010fffffff80000000000000008fffffffc") ∷ Opened ∷ Bytes welcome ∷ [])
-    ≡ began (Send asks_b ∷ Answer 1 (Replied (pos 5) NoNode) ∷ Enters Idle ∷ Send hello_again ∷ Enters Connecting ∷ Enters Connected ∷ Send sets_b
+    ≡ began (Send asks_b ∷ Answer 1 (Replied (pos 5) NoNode) ∷ Enters Idle ∷ Send hello_again ∷ Enters Connecting
+    ∷ Enters Connected ∷ Send sets_b
     ∷ Drop (WatchesRefused (negsuc 3)) ∷ Enters Idle ∷ Send hello_again ∷ Enters Connecting ∷ Enters Connected ∷ Send sets_b ∷ [])
 unfolding definitions
 refused_watches = refl
@@ -381,8 +414,10 @@ unfolding definitions
 not_connected = refl
 
 -- a name that is no text
-pub bad_text : outputs (Opened ∷ Bytes welcome ∷ Call 1 (GetChildren (codes "/") false) ∷ Bytes (hex "00000019000000010000000000000005000000000000000100000001ff") ∷ [])
-    ≡ began (Send (hex "0000000e000000010000000c000000012f00") ∷ Drop (Talked (BadRecord (NotUtf8 24))) ∷ Answer 1 ConnectionLoss ∷ Enters Idle ∷ [])
+pub bad_text : outputs (Opened ∷ Bytes welcome ∷ Call 1 (GetChildren (codes "/") false)
+    ∷ Bytes (hex "00000019000000010000000000000005000000000000000100000001ff") ∷ [])
+    ≡ began (Send (hex "0000000e000000010000000c000000012f00") ∷ Drop (Talked (BadRecord (NotUtf8 24)))
+    ∷ Answer 1 ConnectionLoss ∷ Enters Idle ∷ [])
 unfolding definitions
 bad_text = refl
 
@@ -577,7 +612,8 @@ unfolding definitions
 read_lists = refl
 
 -- a notice makes the answer stale
-pub notice_spoils : shown (λ v. v.cache.nodes (codes "/a")) (asking reply_and_notice) ≡ stale (good (Full (Some (codes "hi")) (data_stat_of Sa)))
+pub notice_spoils : shown (λ v. v.cache.nodes (codes "/a"))
+    (asking reply_and_notice) ≡ stale (good (Full (Some (codes "hi")) (data_stat_of Sa)))
 unfolding definitions
 notice_spoils = refl
 
@@ -618,12 +654,14 @@ unfolding definitions
 both_stale = refl
 
 -- nothing is kept
-pub unwatched_keeps : shown (λ v. v.cache.nodes (codes "/a")) (Opened ∷ Bytes welcome ∷ Call 1 (GetData (codes "/a") false) ∷ Bytes reply ∷ []) ≡ None
+pub unwatched_keeps : shown (λ v. v.cache.nodes (codes "/a"))
+    (Opened ∷ Bytes welcome ∷ Call 1 (GetData (codes "/a") false) ∷ Bytes reply ∷ []) ≡ None
 unfolding definitions
 unwatched_keeps = refl
 
 -- nothing is kept
-pub absent_data_keeps : shown (λ v. v.cache.nodes (codes "/b")) (Opened ∷ Bytes welcome ∷ Call 1 (GetData (codes "/b") true) ∷ Bytes no_node ∷ [])
+pub absent_data_keeps : shown (λ v. v.cache.nodes (codes "/b"))
+    (Opened ∷ Bytes welcome ∷ Call 1 (GetData (codes "/b") true) ∷ Bytes no_node ∷ [])
     ≡ None
 unfolding definitions
 absent_data_keeps = refl

@@ -1,5 +1,6 @@
 -- When a call is refused and when a connection is given up, each condition said by itself.
-use Rattle.std.specs.Prelude.{◌≡◌, ◌≢◌, ◌≤◌, ◌<◌, ◌+◌, ◌*◌, ◌-◌, ℕ, ℤ, pos, length, drop, max, int_lt, Bool, true, List, [], ◌∷◌, ◌++◌, Option, Some, None, Ok, Err, ◌⊎◌}
+use Rattle.std.specs.Prelude.{◌≡◌, ◌≢◌, ◌≤◌, ◌<◌, ◌+◌, ◌*◌, ◌-◌, ℕ, ℤ, pos, length, drop, max, int_lt, Bool, true, List, [], ◌∷◌, ◌++◌}
+use Rattle.std.specs.Prelude.{Option, Some, None, Ok, Err, ◌⊎◌}
 use Rattle.zk_nodes.specs.declared.side.Side.{Side}
 use Rattle.zk_frames.specs.Frame.{length_field}
 use Rattle.zk_frames.specs.Stream.{StandsNext}
@@ -10,7 +11,8 @@ use Rattle.zk_conversation.specs.Questions.{Question, question_of, watched_side}
 use Rattle.zk_conversation.specs.Results.{Result}
 use Rattle.zk_conversation.specs.Pending.{Pending, is_close, calls_pending, watches_pending}
 use Rattle.zk_conversation.specs.Arriving.{arriving, Replied, Watches_set}
-use Rattle.zk_turns.specs.Turns.{Outcome, SessionExpired, SessionClosed, NotConnected, TooManyPending, TooManyWatches, TooLarge, Fault, Framed, Talked, Silent, Behind, WatchesRefused, Signal, Comes, Ticks}
+use Rattle.zk_turns.specs.Turns.{Outcome, SessionExpired, SessionClosed, NotConnected, TooManyPending, TooManyWatches, TooLarge, Fault}
+use Rattle.zk_turns.specs.Turns.{Framed, Talked, Silent, Behind, WatchesRefused, Signal, Comes, Ticks}
 use Rattle.zk_turns.specs.View.{View}
 use Rattle.zk_turns.specs.Taken.{phase_of, timeout_of, leaves_watch}
 use Rattle.zk_turns.specs.Rule.{IsOpen}
@@ -23,10 +25,12 @@ use Rattle.zk_limits.specs.declared.limits.TheConstants.{LONGEST_INCOMING, LONGE
 -- calls are pending; it is to leave a watch on a side with 65,536 paths, pending ones counted; its request is too long.
 abbrev pub Applies : Outcome → View → Call → Type 0
 Applies SessionExpired view call = view.standing.state ≡ Expired
-Applies SessionClosed view call = (view.standing.state ≡ Closed) ⊎ ((view.standing.state ≡ Connected) × ((close : Pending) × Among close view.pending × (is_close close ≡ true)))
+Applies SessionClosed view call = (view.standing.state ≡ Closed) ⊎ ((view.standing.state ≡ Connected)
+    × ((close : Pending) × Among close view.pending × (is_close close ≡ true)))
 Applies NotConnected view call = view.standing.state ≢ Connected
 Applies TooManyPending view call = MOST_PENDING ≤ calls_pending view.pending
-Applies TooManyWatches view call = (side : Side) × (watched_side (question_of call) ≡ Some side) × (MOST_PATHS ≤ count_of view.lists side + watches_pending side view.pending)
+Applies TooManyWatches view call = (side : Side) × (watched_side (question_of call) ≡ Some side)
+    × (MOST_PATHS ≤ count_of view.lists side + watches_pending side view.pending)
 Applies TooLarge view call = LONGEST_OUTGOING < length (call_payload (pos view.xid) call)
 Applies _ view call = ⊥
 
@@ -37,7 +41,8 @@ in_turn = SessionExpired ∷ SessionClosed ∷ NotConnected ∷ TooManyPending �
 -- the first of these that applies, if one does
 abbrev pub IsFirstOf : List Outcome → View → Call → Option Outcome → Type 0
 IsFirstOf [] view call why = why ≡ None
-IsFirstOf (outcome ∷ more) view call why = (Applies outcome view call × (why ≡ Some outcome)) ⊎ ((¬ Applies outcome view call) × IsFirstOf more view call why)
+IsFirstOf (outcome ∷ more) view call why =
+    (Applies outcome view call × (why ≡ Some outcome)) ⊎ ((¬ Applies outcome view call) × IsFirstOf more view call why)
 
 -- Drops
 
@@ -56,7 +61,8 @@ EndsBy view payload (Behind seen came) =
     × (arriving (phase_of view.standing.state) view.pending payload ≡ Ok (Replied ticket question came result))
     × (leaves_watch question result ≡ true) × (int_lt came view.saved.last ≡ true) × (seen ≡ view.saved.last)
 EndsBy view payload (WatchesRefused code) =
-    (last : Bool) × (zxid : ℤ) × (arriving (phase_of view.standing.state) view.pending payload ≡ Ok (Watches_set last zxid code)) × (code ≢ pos 0)
+    (last : Bool) × (zxid : ℤ)
+    × (arriving (phase_of view.standing.state) view.pending payload ≡ Ok (Watches_set last zxid code)) × (code ≢ pos 0)
 EndsBy view payload _ = ⊥
 
 -- Why a byte does: with it a length stands next that is not admitted, or a payload is whole that ends the connection.
@@ -68,5 +74,6 @@ ByteEnds view bytes fault = (payload : List ℕ) × IsFrameOf payload bytes × E
 -- with nothing heard.
 abbrev pub IsGivenUp : View → Signal → Fault → Type 0
 IsGivenUp view (Comes byte) fault = IsOpen view.standing.state × ByteEnds view (view.held ++ byte ∷ []) fault
-IsGivenUp view (Ticks moment) fault = IsOpen view.standing.state × (fault ≡ Silent) × (2 * timeout_of view ≤ 3 * (max moment view.moments.now - view.moments.heard))
+IsGivenUp view (Ticks moment) fault =
+    IsOpen view.standing.state × (fault ≡ Silent) × (2 * timeout_of view ≤ 3 * (max moment view.moments.now - view.moments.heard))
 IsGivenUp view _ fault = ⊥

@@ -52,7 +52,8 @@ pub record IsGoodSince (side : Side) (path : Text) (past : Past) : Type 0 where
 -- A getData gave these data with these seven fields and left a watch, nothing has ended it since, and each later reply that left
 -- a watch there gave the same seven fields and no data.
 abbrev pub SaysSame : Text → DataStat → Happening → Type 0
-SaysSame path fields (Took (Replies ticket question zxid result)) = LeavesWatch Data path question result → (stat : Stat) × (result ≡ Found stat) × (data_stat_of stat ≡ fields)
+SaysSame path fields (Took (Replies ticket question zxid result)) =
+    LeavesWatch Data path question result → (stat : Stat) × (result ≡ Found stat) × (data_stat_of stat ≡ fields)
 SaysSame path fields _ = ⊤
 
 pub record HasData (path : Text) (bytes : Option (List ℕ)) (fields : DataStat) (past : Past) : Type 0 where

@@ -9,7 +9,8 @@ use Rattle.zk_conversation.specs.Pending.{Pending, part_waits, call_waits}
 use Rattle.zk_conversation.specs.Calls.{Call}
 use Rattle.zk_nodes.specs.Path.{Text}
 use Rattle.zk_session.specs.SessionView.{Welcome}
-use Rattle.std.specs.Prelude.{◌≡◌, ℕ, suc, ℤ, ◌+◌, ◌%◌, max, Bool, true, false, not, ◌&&◌, ◌||◌, List, [], ◌∷◌, ◌++◌, map, reverse, drop, filter, Option, Some, None, is_some, bytes_eq, if◌then◌else◌}
+use Rattle.std.specs.Prelude.{◌≡◌, ℕ, suc, ℤ, ◌+◌, ◌%◌, max, Bool, true, false, not, ◌&&◌, ◌||◌, List, [], ◌∷◌, ◌++◌, map, reverse, drop}
+use Rattle.std.specs.Prelude.{filter, Option, Some, None, is_some, bytes_eq, if◌then◌else◌}
 use Rattle.std.specs.List.{AllByRecursion}
 use Rattle.std.specs.Int.{int_max}
 use Rattle.zk_nodes.specs.declared.side.Side.{Side}
@@ -202,7 +203,8 @@ kept_by Nothing known happening before = elim happening [ Forgot ↦ without_sta
 
 abbrev pub kept_data : Text → Past → Option (Kept Answer)
 kept_data path [] = None
-kept_data path (happening ∷ past) = kept_by (word_data path happening) (λ answer. good_answer path answer past) happening (kept_data path past)
+kept_data path (happening ∷ past) =
+    kept_by (word_data path happening) (λ answer. good_answer path answer past) happening (kept_data path past)
 
 abbrev pub kept_names : Text → Past → Option (Kept Names)
 kept_names path [] = None
@@ -245,7 +247,8 @@ path_of_reply _ = []
 -- the paths that ever came into a list, by the test of being in it, the newest first
 abbrev pub arrivals : (Text → Past → Bool) → Past → List Text
 arrivals is_in [] = []
-arrivals is_in (happening ∷ past) = filter (λ path. is_in path (happening ∷ past) && not (is_in path past)) (path_of_reply happening) ++ arrivals is_in past
+arrivals is_in (happening ∷ past) =
+    filter (λ path. is_in path (happening ∷ past) && not (is_in path past)) (path_of_reply happening) ++ arrivals is_in past
 
 -- each path once, where it stands first
 abbrev pub firsts : List Text → List Text
@@ -257,7 +260,8 @@ abbrev pub listed : (Text → Past → Bool) → Past → List Text
 listed is_in past = reverse (filter (λ path. is_in path past) (firsts (arrivals is_in past)))
 
 abbrev pub lists_of : Past → Lists
-lists_of past = record { data_watches = listed in_known past; exist_watches = listed in_missing past; child_watches = listed in_parents past }
+lists_of past =
+    record { data_watches = listed in_known past; exist_watches = listed in_missing past; child_watches = listed in_parents past }
 
 pub record KeepsNothing (past : Past) : Type 0 where
   pub nodes : (path : Text) → kept_data path past ≡ None

@@ -3,13 +3,17 @@
 use Rattle.zk_cache.specs.Kept.{merged, Absent, Known, Full, Names, good, stale, without_stale, Answer as Kept_answer}
 use Rattle.zk_cache.specs.declared.held.Kept.{Kept}
 use Rattle.zk_watches.specs.Lists.{Lists, registered, fired, fires, no_lists}
-use Rattle.zk_turns.specs.Turns.{IsAskable, AllAskOf, IsAsked, Replied, ConnectionLoss, Output, Send, Answer, Report, Enters, Drop, Now, Turn, Item, Turned, Start, Signal, signals_of}
+use Rattle.zk_turns.specs.Turns.{IsAskable, AllAskOf, IsAsked, Replied, ConnectionLoss, Output, Send, Answer, Report, Enters, Drop, Now}
+use Rattle.zk_turns.specs.Turns.{Turn, Item, Turned, Start, Signal, signals_of}
 use Rattle.zk_records.specs.Events.{concerns}
-use Rattle.zk_turns.specs.Past.{pending_for, Happening, Began, Came, Took, Dropped, Lost, Asked, Denied, Pinged, Ticked, Forgot, Halted, Past, Message, Accepted, Expiry, Replies, Watches_set, Notifies, Pong, Skipped, Left, leaves_data, leaves_child, parts_asked, has_halted, is_open}
+use Rattle.zk_turns.specs.Past.{pending_for, Happening, Began, Came, Took, Dropped, Lost, Asked, Denied, Pinged, Ticked, Forgot, Halted}
+use Rattle.zk_turns.specs.Past.{Past, Message, Accepted, Expiry, Replies, Watches_set, Notifies, Pong, Skipped, Left, leaves_data}
+use Rattle.zk_turns.specs.Past.{leaves_child, parts_asked, has_halted, is_open}
 use Rattle.std.specs.Int.{int_max}
 use Rattle.zk_watches.specs.Parts.{parts}
 use Rattle.zk_conversation.specs.Pending.{next_xid, call_waits, Pending, Part_waits, Call_waits}
-use Rattle.std.specs.Prelude.{◌≡◌, ◌⊎◌, ℕ, ℤ, pos, max, Bool, true, false, ◌&&◌, List, [], ◌∷◌, ◌++◌, map, drop, Option, Some, None, bytes_eq, if◌then◌else◌}
+use Rattle.std.specs.Prelude.{◌≡◌, ◌⊎◌, ℕ, ℤ, pos, max, Bool, true, false, ◌&&◌, List, [], ◌∷◌, ◌++◌, map, drop, Option, Some, None}
+use Rattle.std.specs.Prelude.{bytes_eq, if◌then◌else◌}
 use Rattle.std.specs.List.{flat_map}
 use Rattle.zk_nodes.specs.Path.{Text}
 use Rattle.zk_conversation.specs.Calls.{connect_payload, call_payload, ping_payload, part_payload}
@@ -93,10 +97,13 @@ report view event path side = if fires view.lists event side path then Report pa
 
 -- the outputs of one happening
 abbrev pub says : View → Happening → List Output
-says view Began = Send (frame (connect_payload view.saved.last (pos view.saved.asked) view.saved.session.session view.saved.session.password)) ∷ Enters Connecting ∷ []
+says view Began =
+    Send (frame (connect_payload view.saved.last (pos view.saved.asked) view.saved.session.session view.saved.session.password))
+    ∷ Enters Connecting ∷ []
 says view (Took (Accepted welcome)) = Enters Connected ∷ map (part_frame view.saved.last) (parts view.lists)
 says view (Took Expiry) = Enters Expired ∷ []
-says view (Took (Replies ticket question zxid result)) = Answer ticket (Replied zxid result) ∷ (elim question [ Close ↦ Enters Closed ∷ [] | _ ↦ [] ])
+says view (Took (Replies ticket question zxid result)) =
+    Answer ticket (Replied zxid result) ∷ (elim question [ Close ↦ Enters Closed ∷ [] | _ ↦ [] ])
 says view (Took (Notifies event path)) = report view event path Data ++ report view event path Child
 says view (Dropped fault) = Drop fault ∷ losses view
 says view Lost = losses view
@@ -129,7 +136,8 @@ cut_off view = record view { standing = enters Idle view; pending = []; held = [
 
 -- a reply to a call
 abbrev pub next_reply : View → Question → ℤ → Result → View
-next_reply view Close zxid result = record view { standing = enters Closed view; saved = seen zxid view; pending = []; held = []; lists = no_lists; cache = empty_cache }
+next_reply view Close zxid result =
+    record view { standing = enters Closed view; saved = seen zxid view; pending = []; held = []; lists = no_lists; cache = empty_cache }
 next_reply view question zxid result = record view {
   saved = seen zxid view;
   pending = drop 1 view.pending;
@@ -173,7 +181,8 @@ next view (Asked ticket call) = record view {
 }
 next view (Denied ticket why) = view
 next view Pinged = record view { moments = sent_now view }
-next view (Ticked moment) = record view { moments = record { now = max moment view.moments.now; heard = view.moments.heard; sent = view.moments.sent } }
+next view (Ticked moment) =
+    record view { moments = record { now = max moment view.moments.now; heard = view.moments.heard; sent = view.moments.sent } }
 next view Forgot = record view { cache = forgotten view.cache }
 next view Halted = record view { standing = record { halted = true; state = view.standing.state }; lists = no_lists; cache = empty_cache }
 
@@ -272,7 +281,8 @@ pub record StandsAt (start : Start) (items : List Item) (moment : ℕ) (turn : T
   pub first : List Output
   pub second : List Output
   pub outputs : turn.outputs ≡ first ++ second
-  pub stands : Stands start (Turned (record { input = turn.input; outputs = second }) ∷ Turned (record { input = Now moment; outputs = first }) ∷ items) view
+  pub stands : Stands start
+      (Turned (record { input = turn.input; outputs = second }) ∷ Turned (record { input = Now moment; outputs = first }) ∷ items) view
 
 -- what a halt leaves of a view: of its connection nothing is said
 pub record HaltsAs (view after : View) : Type 0 where
@@ -284,4 +294,5 @@ pub record HaltsAs (view after : View) : Type 0 where
 -- what a halt at a moment, or at the input after it, leaves of a view: the turn of the moment may have been
 abbrev pub HaltsAt : (moment : ℕ) → (view after : View) → Type 0
 HaltsAt moment view after =
-    HaltsAs view after ⊎ ((first : List Output) × (between : View) × Rule view (record { input = Now moment; outputs = first }) between × HaltsAs between after)
+    HaltsAs view after ⊎ ((first : List Output) × (between : View) × Rule view (record { input = Now moment; outputs = first }) between
+    × HaltsAs between after)

@@ -19,7 +19,8 @@ pub record HasRecord (layout : Layout) (value : Value layout) (bytes : List ℕ)
 
 -- these bytes begin with the record of the question, which has this result
 abbrev pub BeginsWith : Question → Result → List ℕ → Type 0
-BeginsWith question result bytes = (value : Value (result_layout question)) × HasRecord (result_layout question) value bytes × (result_from question value ≡ result)
+BeginsWith question result bytes =
+    (value : Value (result_layout question)) × HasRecord (result_layout question) value bytes × (result_from question value ≡ result)
 
 -- what stands after the header of a reply: with err 0 the record of its question, with another any bytes
 abbrev pub HasResult : Question → Result → List ℕ → Type 0

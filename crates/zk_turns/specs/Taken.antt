@@ -1,17 +1,21 @@
 -- What each signal makes happen: what is taken from the bytes that come, when a connection ends and why, which calls
 -- are refused. It depends on the view alone.
 use Rattle.zk_watches.specs.Lists.{count_of}
-use Rattle.zk_turns.specs.Turns.{Framed, Talked, Outcome, SessionExpired, SessionClosed, NotConnected, TooManyWatches, TooLarge, TooManyPending, Silent, Behind, WatchesRefused, Start, Item, signals, Signal, Opens, Comes, Cuts, Ticks, Calls, Forget, Halt}
+use Rattle.zk_turns.specs.Turns.{Framed, Talked, Outcome, SessionExpired, SessionClosed, NotConnected, TooManyWatches, TooLarge}
+use Rattle.zk_turns.specs.Turns.{TooManyPending, Silent, Behind, WatchesRefused, Start, Item, signals, Signal, Opens, Comes, Cuts, Ticks}
+use Rattle.zk_turns.specs.Turns.{Calls, Forget, Halt}
 use Rattle.zk_frames.specs.declared.fault.FrameFault.{FrameFault}
 use Rattle.zk_conversation.specs.declared.phase.Phase.TheVariants.{Opening, Talking, Closed as Nowhere}
 use Rattle.zk_conversation.specs.declared.phase.Phase.{Phase}
-use Rattle.zk_conversation.specs.Arriving.{Arrived, Connected as Welcomed, Replied, Watches_set as Part_set, Notice, Pong as Ponged, Skipped as Passed, arriving}
+use Rattle.zk_conversation.specs.Arriving.{Arrived, Connected as Welcomed, Replied, Watches_set as Part_set, Notice, Pong as Ponged}
+use Rattle.zk_conversation.specs.Arriving.{Skipped as Passed, arriving}
 use Rattle.zk_conversation.specs.Results.{response_timeout, response_session, response_password, Result}
 use Rattle.zk_conversation.specs.Questions.{question_of, watched_side, Question}
 use Rattle.zk_conversation.specs.Pending.{calls_pending, watches_pending, is_close_pending, Pending}
 use Rattle.zk_conversation.specs.Calls.{Call, call_payload}
 use Rattle.zk_frames.specs.Frame.{length_field}
-use Rattle.std.specs.Prelude.{◌≡◌, ℕ, ℤ, pos, negsuc, ◌+◌, ◌-◌, ◌*◌, ◌^◌, Bool, false, ◌&&◌, ◌||◌, ◌==◌, nat_lt, nat_le, int_lt, max, List, [], ◌∷◌, ◌++◌, length, drop, Option, Some, None, Ok, Err, is_some, if◌then◌else◌}
+use Rattle.std.specs.Prelude.{◌≡◌, ℕ, ℤ, pos, negsuc, ◌+◌, ◌-◌, ◌*◌, ◌^◌, Bool, false, ◌&&◌, ◌||◌, ◌==◌, nat_lt, nat_le, int_lt, max, List}
+use Rattle.std.specs.Prelude.{[], ◌∷◌, ◌++◌, length, drop, Option, Some, None, Ok, Err, is_some, if◌then◌else◌}
 use Rattle.std.specs.List.{flat_map, AllByRecursion}
 use Rattle.std.specs.Ordering.{int_eq}
 use Rattle.zk_nodes.specs.declared.side.Side.{Side}
@@ -19,7 +23,9 @@ use Rattle.zk_frames.specs.declared.fault.FrameFault.TheVariants.{Negative, TooL
 use Rattle.zk_session.specs.declared.states.State.{State}
 use Rattle.zk_session.specs.declared.states.State.TheVariants.{Idle, Connecting, Connected, Expired, Closed}
 use Rattle.zk_records.specs.Response.{Response}
-use Rattle.zk_turns.specs.Past.{Happening, Began, Came, Took, Dropped, Lost, Asked, Denied, Pinged, Ticked, Forgot, Halted, Past, Message, Accepted, Expiry, Replies, Watches_set, Notifies, Pong, Skipped, is_talking, is_open, leaves_data, leaves_child, held_of}
+use Rattle.zk_turns.specs.Past.{Happening, Began, Came, Took, Dropped, Lost, Asked, Denied, Pinged, Ticked, Forgot, Halted, Past, Message}
+use Rattle.zk_turns.specs.Past.{Accepted, Expiry, Replies, Watches_set, Notifies, Pong, Skipped, is_talking, is_open, leaves_data}
+use Rattle.zk_turns.specs.Past.{leaves_child, held_of}
 use Rattle.zk_turns.specs.View.{View, view_at}
 use Rattle.zk_limits.specs.declared.limits.TheConstants.{LONGEST_INCOMING, LONGEST_OUTGOING, MOST_PATHS, MOST_PENDING}
 

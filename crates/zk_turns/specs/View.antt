@@ -4,7 +4,8 @@ use Rattle.std.specs.Prelude.{ℕ, Bool, List, Option}
 use Rattle.zk_nodes.specs.Path.{Text}
 use Rattle.zk_session.specs.declared.states.State.{State}
 use Rattle.zk_turns.specs.Turns.{Start}
-use Rattle.zk_turns.specs.Past.{Past, state_of, has_halted, session_of, last_of, now_of, heard_of, sent_of, pending_of, held_of, xid_of, lists_of, kept_data, kept_names}
+use Rattle.zk_turns.specs.Past.{Past, state_of, has_halted, session_of, last_of, now_of, heard_of, sent_of, pending_of, held_of, xid_of}
+use Rattle.zk_turns.specs.Past.{lists_of, kept_data, kept_names}
 use Rattle.zk_cache.specs.Kept.{Answer, Names}
 use Rattle.zk_cache.specs.declared.held.Kept.{Kept}
 use Rattle.zk_watches.specs.Lists.{Lists}

@@ -10,7 +10,8 @@ ghost use Rattle.zk_records.specs.declared.operation.Operation.TheVariants.{Ping
 ghost use Rattle.zk_records.specs.Layouts.{connect_request};
 ghost use Rattle.zk_records.specs.Response.{Response, IsPayload};
 ghost use Rattle.zk_conversation.specs.declared.phase.Phase.TheVariants.{Opening};
-ghost use Rattle.zk_conversation.specs.Calls.{Call, call_operation, call_body, call_payload, connect_payload, part_xid, part_payload, ping_payload, ping_xid, texts_value};
+ghost use Rattle.zk_conversation.specs.Calls.{Call, call_operation, call_body, call_payload, connect_payload, part_xid, part_payload};
+ghost use Rattle.zk_conversation.specs.Calls.{ping_payload, ping_xid, texts_value};
 ghost use Rattle.zk_conversation.specs.Questions.{Question};
 ghost use Rattle.zk_conversation.specs.Results.{Result, record_of};
 ghost use Rattle.zk_conversation.specs.Pending.{Pending};
@@ -23,7 +24,8 @@ ghost use Rattle.std.specs.List.{AllByRecursion};
 ghost use Rattle.zk_turns.specs.Taken.{refusal};
 ghost use Rattle.zk_turns.specs.Spelled.{BeginsWith};
 ghost use Rattle.zk_turns.specs.Causes.{in_turn, IsFirstOf, IsGivenUp};
-ghost use Rattle.std.specs.Prelude.{◌≡◌, ◌≤◌, ℕ, List, [], ◌∷◌, ◌++◌, length, map, Option, ◌<◌, ◌≤ℤ◌, ◌+◌, ◌^◌, ◌&&◌, ◌↔◌, true, false, Some, if◌then◌else◌};
+ghost use Rattle.std.specs.Prelude.{◌≡◌, ◌≤◌, ℕ, List, [], ◌∷◌, ◌++◌, length, map, Option, ◌<◌, ◌≤ℤ◌, ◌+◌, ◌^◌, ◌&&◌, ◌↔◌, true, false};
+ghost use Rattle.std.specs.Prelude.{Some, if◌then◌else◌};
 ghost use Rattle.zk_nodes.specs.Path.{Text};
 ghost use Rattle.zk_nodes.specs.declared.side.Side.{Side};
 ghost use Rattle.zk_nodes.specs.declared.side.Side.TheVariants.{Data, Child};
@@ -33,12 +35,15 @@ ghost use Rattle.zk_turns.specs.Turns.{Report, Start, Item, Turned, Forgets, Hal
 ghost use Rattle.zk_frames.specs.Frame.{frame, IsUnfinished};
 ghost use Rattle.zk_cache.specs.Kept.{Full, is_marked_good, Answer, Names};
 ghost use Rattle.zk_cache.specs.declared.held.Mark.TheVariants.{Good};
-ghost use Rattle.zk_turns.specs.Past.{Past, Happening, Began, Asked, Took, Accepted, Notifies, Dropped, session_of, state_of, is_talking, is_over, is_good, kept_data, kept_names, still_said, word_data, word_child, IsMarked, AgreesWith, in_known, in_missing, in_parents, KeepsNothing, last_of, xid_of, lists_of};
+ghost use Rattle.zk_turns.specs.Past.{Past, Happening, Began, Asked, Took, Accepted, Notifies, Dropped, session_of, state_of, is_talking};
+ghost use Rattle.zk_turns.specs.Past.{is_over, is_good, kept_data, kept_names, still_said, word_data, word_child, IsMarked, AgreesWith};
+ghost use Rattle.zk_turns.specs.Past.{in_known, in_missing, in_parents, KeepsNothing, last_of, xid_of, lists_of};
 ghost use Rattle.zk_records.specs.Events.{concerns};
 ghost use Rattle.zk_turns.specs.View.{View, view_at};
 ghost use Rattle.zk_limits.specs.declared.limits.TheConstants.{LONGEST_INCOMING};
 ghost use Rattle.zk_turns.specs.Taken.{IsStream, happenings, past_of};
-ghost use Rattle.zk_turns.specs.Rule.{Rule, Stands, HaltsAs, forgotten, report, Hears, IsOpen, heard, fed, arrival, next, says, after_all, says_all, after_signals, says_signals};
+ghost use Rattle.zk_turns.specs.Rule.{Rule, Stands, HaltsAs, forgotten, report, Hears, IsOpen, heard, fed, arrival, next, says, after_all};
+ghost use Rattle.zk_turns.specs.Rule.{says_all, after_signals, says_signals};
 ghost use Rattle.zk_watches.specs.Lists.{has};
 ghost use Rattle.zk_turns.specs.Reported.{reports_in, reports_of};
 ghost use Rattle.zk_turns.specs.Meaning.{Among, CameIn, HasData, IsGoodSince, IsLastSeen, LeavesAt, StandsBefore};
@@ -105,14 +110,17 @@ pub fn whole_payload()
         after_signals view (map Comes piece) ≡ after_signals (next (heard view) (arrival view payload)) (map Comes rest) }
     ensures says { (view : View) (piece payload rest : List ℕ) → Hears view → IsUnfinished view.held → length payload ≤ LONGEST_INCOMING →
         view.held ++ piece ≡ frame payload ++ rest →
-        says_signals view (map Comes piece) ≡ says (heard view) (arrival view payload) ++ says_signals (next (heard view) (arrival view payload)) (map Comes rest) }
+        says_signals view (map Comes piece)
+        ≡ says (heard view) (arrival view payload) ++ says_signals (next (heard view) (arrival view payload)) (map Comes rest) }
 {}
 
 /// Where a length that is not admitted stands first, the connection ends.
 pub fn bad_length()
-    ensures view { (view : View) (piece : List ℕ) (fault : FrameFault) → Hears view → IsUnfinished view.held → StandsNext fault (view.held ++ piece) →
+    ensures view { (view : View) (piece : List ℕ) (fault : FrameFault) → Hears view → IsUnfinished view.held
+        → StandsNext fault (view.held ++ piece) →
         after_signals view (map Comes piece) ≡ next (heard view) (Dropped (Framed fault)) }
-    ensures says { (view : View) (piece : List ℕ) (fault : FrameFault) → Hears view → IsUnfinished view.held → StandsNext fault (view.held ++ piece) →
+    ensures says { (view : View) (piece : List ℕ) (fault : FrameFault) → Hears view → IsUnfinished view.held
+        → StandsNext fault (view.held ++ piece) →
         says_signals view (map Comes piece) ≡ says (heard view) (Dropped (Framed fault)) }
 {}
 
@@ -132,8 +140,10 @@ pub fn good_marks()
 
 /// An answer stands exactly where a reply that leaves a watch said it and nothing since then concerns its path and side.
 pub fn standing_answers()
-    ensures nodes { (path : Text) (past : Past) (answer : Answer) → still_said (word_data path) past ≡ Some answer ↔ IsMarked (word_data path) past answer }
-    ensures children { (path : Text) (past : Past) (names : Names) → still_said (word_child path) past ≡ Some names ↔ IsMarked (word_child path) past names }
+    ensures nodes { (path : Text) (past : Past) (answer : Answer)
+        → still_said (word_data path) past ≡ Some answer ↔ IsMarked (word_data path) past answer }
+    ensures children { (path : Text) (past : Past) (names : Names)
+        → still_said (word_child path) past ≡ Some names ↔ IsMarked (word_child path) past names }
 {}
 
 /// An answer is good exactly where a reply that left a watch was taken and no notice about that side of its path, no expiry,
@@ -182,7 +192,8 @@ pub fn listed_paths()
 /// outputs have these reports, in order, and no others. Between two of one side of a path a watched read of it was answered.
 pub fn reports()
     ensures report { (start : Start) (event : Event) (path : Text) (side : Side) (past : Past) →
-        report (view_at start past) event path side ≡ (if concerns event side && is_good side path past then Report path side event ∷ [] else []) }
+        report (view_at start past) event path side
+        ≡ (if concerns event side && is_good side path past then Report path side event ∷ [] else []) }
     ensures ended { (event : Event) (path : Text) (side : Side) (past : Past) →
         concerns event side ≡ true → is_good side path (Took (Notifies event path) ∷ past) ≡ false }
     ensures all { (start : Start) (items : List Item) (view : View) → Stands start items view →
@@ -208,9 +219,11 @@ pub fn last_never_falls()
 pub fn each_call_once()
     ensures at_most { (start : Start) (ticket : ℕ) (items : List Item) (view : View) → Stands start items view →
         answers_in ticket items ≤ calls_in ticket items }
-    ensures exactly { (start : Start) (ticket : ℕ) (items : List Item) (view : View) → Stands start items view → view.standing.halted ≡ false →
+    ensures exactly { (start : Start) (ticket : ℕ) (items : List Item) (view : View) → Stands start items view
+        → view.standing.halted ≡ false →
         calls_in ticket items ≡ answers_in ticket items + waiting_with ticket view.pending }
-    ensures ended { (start : Start) (ticket : ℕ) (items : List Item) (view : View) → Stands start items view → view.standing.halted ≡ false →
+    ensures ended { (start : Start) (ticket : ℕ) (items : List Item) (view : View) → Stands start items view
+        → view.standing.halted ≡ false →
         is_talking view.standing.state ≡ false → calls_in ticket items ≡ answers_in ticket items }
 {}
 
@@ -228,7 +241,8 @@ pub fn sent_frames()
 
 /// The client's state is the one that was told last.
 pub fn told_states()
-    ensures { (start : Start) (items : List Item) (view : View) → Stands start items view → told_state (outputs_of items) ≡ view.standing.state }
+    ensures { (start : Start) (items : List Item) (view : View) → Stands start items view
+        → told_state (outputs_of items) ≡ view.standing.state }
 {}
 
 /// A call is refused by the first of the conditions that applies, and sent where none does.
@@ -258,14 +272,18 @@ pub fn readings()
 pub fn requests_read()
     ensures call { (xid : ℤ) (call : Call) (end : ℕ) (rest : List ℕ) →
         Fits (request_layout (call_operation call)) (xid, (operation_number (call_operation call), call_body call)) →
-        read_at (request_layout (call_operation call)) end (call_payload xid call ++ rest) ≡ Ok ((xid, (operation_number (call_operation call), call_body call)), rest) }
+        read_at (request_layout (call_operation call)) end (call_payload xid call ++ rest)
+        ≡ Ok ((xid, (operation_number (call_operation call), call_body call)), rest) }
     ensures part { (relative : ℤ) (known missing parents : List Text) (end : ℕ) (rest : List ℕ) →
-        Fits (request_layout SetWatches) (part_xid, (operation_number SetWatches, (relative, (texts_value known, (texts_value missing, texts_value parents))))) →
+        Fits (request_layout SetWatches)
+        (part_xid, (operation_number SetWatches, (relative, (texts_value known, (texts_value missing, texts_value parents))))) →
         read_at (request_layout SetWatches) end (part_payload relative known missing parents ++ rest)
-        ≡ Ok ((part_xid, (operation_number SetWatches, (relative, (texts_value known, (texts_value missing, texts_value parents))))), rest) }
+        ≡ Ok
+        ((part_xid, (operation_number SetWatches, (relative, (texts_value known, (texts_value missing, texts_value parents))))), rest) }
     ensures connect { (last timeout session : ℤ) (password : List ℕ) (end : ℕ) (rest : List ℕ) →
         Fits connect_request (pos 0, (last, (timeout, (session, (Some password, false))))) →
-        read_at connect_request end (connect_payload last timeout session password ++ rest) ≡ Ok ((pos 0, (last, (timeout, (session, (Some password, false))))), rest) }
+        read_at connect_request end (connect_payload last timeout session password ++ rest)
+        ≡ Ok ((pos 0, (last, (timeout, (session, (Some password, false))))), rest) }
     ensures ping { (end : ℕ) (rest : List ℕ) → Fits (request_layout Ping) (ping_xid, (operation_number Ping, tt)) →
         read_at (request_layout Ping) end (ping_payload ++ rest) ≡ Ok ((ping_xid, (operation_number Ping, tt)), rest) }
 {}
@@ -283,15 +301,30 @@ pub fn requests_fit()
         past_of start items ≡ since ++ Asked ticket call ∷ before → length (call_payload (pos (xid_of before)) call) < 2 ^ 31 }
     ensures parts { (start : Start) (items : List Item) (since : List Happening) (welcome : Welcome) (before : Past) →
         IsResumable start → AllAskOf IsTyped items → past_of start items ≡ since ++ Took (Accepted welcome) ∷ before →
-        AllByRecursion (λ part. Fits (request_layout SetWatches) (part_xid, (operation_number SetWatches, (last_of start before, (texts_value part.data_watches, (texts_value part.exist_watches, texts_value part.child_watches)))))) (parts (lists_of before)) }
+        AllByRecursion (λ part. Fits (request_layout SetWatches) (
+          part_xid,
+          (
+            operation_number SetWatches,
+            (last_of start before, (texts_value part.data_watches, (texts_value part.exist_watches, texts_value part.child_watches))),
+          ),
+        ))
+        (parts (lists_of before)) }
     ensures parts_told { (start : Start) (items : List Item) (since : List Happening) (welcome : Welcome) (before : Past) →
         past_of start items ≡ since ++ Took (Accepted welcome) ∷ before →
-        AllByRecursion (λ part. length (part_payload (last_of start before) part.data_watches part.exist_watches part.child_watches) < 2 ^ 31) (parts (lists_of before)) }
+        AllByRecursion (λ part. length (part_payload (last_of start before) part.data_watches part.exist_watches part.child_watches)
+        < 2 ^ 31) (parts (lists_of before)) }
     ensures connect { (start : Start) (items : List Item) (since : List Happening) (before : Past) →
         IsResumable start → past_of start items ≡ since ++ Began ∷ before →
-        Fits connect_request (pos 0, (last_of start before, (pos start.timeout, ((session_of start before).session, (Some (session_of start before).password, false))))) }
+        Fits connect_request (
+          pos 0,
+          (
+            last_of start before,
+            (pos start.timeout, ((session_of start before).session, (Some (session_of start before).password, false))),
+          ),
+        ) }
     ensures connect_told { (start : Start) (items : List Item) (since : List Happening) (before : Past) →
         IsResumable start → past_of start items ≡ since ++ Began ∷ before →
-        length (connect_payload (last_of start before) (pos start.timeout) (session_of start before).session (session_of start before).password) < 2 ^ 31 }
+        length (connect_payload (last_of start before) (pos start.timeout)
+        (session_of start before).session (session_of start before).password) < 2 ^ 31 }
     ensures ping { Fits (request_layout Ping) (ping_xid, (operation_number Ping, tt)) }
 {}

@@ -1,5 +1,6 @@
 -- What a caller cites of the lists of a registry.
-use Rattle.std.proofs.Common.{◌≡◌, ℕ, Bool, true, false, not, cond, ◌&&◌, ◌||◌, List, [], ◌∷◌, ◌++◌, bytes_eq, refl, sym, ap, ◌∙◌, if◌then◌else◌}
+use Rattle.std.proofs.Common.{◌≡◌, ℕ, Bool, true, false, not, cond, ◌&&◌, ◌||◌, List, [], ◌∷◌, ◌++◌, bytes_eq, refl, sym, ap, ◌∙◌}
+use Rattle.std.proofs.Common.{if◌then◌else◌}
 use Rattle.std.proofs.lemmas.Slice.Eq.{bytes_eq-Decides}
 use Rattle.std.proofs.lemmas.Cmp.{nat_list_eq_equiv}
 use Rattle.std.proofs.lemmas.List.Folds.{list_any-append}
@@ -7,7 +8,8 @@ use Rattle.zk_watches.specs.Lists.{has, with_path, without}
 use Rattle.zk_watches.proofs.SoundLemmas.{has-without_same}
 
 -- what is in a list that a path left: all else that was
-pub has-without : (paths : List (List ℕ)) (path other : List ℕ) → has (without paths path) other ≡ (not (bytes_eq path other) && has paths other)
+pub has-without : (paths : List (List ℕ)) (path other : List ℕ)
+    → has (without paths path) other ≡ (not (bytes_eq path other) && has paths other)
 has-without paths path other = by (bytes_eq path other) refl
   where
     rest : (xs : List (List ℕ)) → bytes_eq path other ≡ false → has (without xs path) other ≡ has xs other
@@ -18,7 +20,8 @@ has-without paths path other = by (bytes_eq path other) refl
         differs true p q = sym (ap (bytes_eq path) ((bytes_eq-Decides other x).0 q) ∙ p) ∙ e
         differs false p q = refl
 
-        step : (b : Bool) → bytes_eq path x ≡ b → has (without xs path) other ≡ has xs other → has (cond (not b) (x ∷ without xs path) (without xs path)) other ≡ (bytes_eq other x || has xs other)
+        step : (b : Bool) → bytes_eq path x ≡ b → has (without xs path) other ≡ has xs other
+            → has (cond (not b) (x ∷ without xs path) (without xs path)) other ≡ (bytes_eq other x || has xs other)
         step true p below = below ∙ sym (ap (λ o. o || has xs other) (differs (bytes_eq other x) p refl))
         step false p below = ap (λ h. bytes_eq other x || h) below
 
@@ -27,7 +30,8 @@ has-without paths path other = by (bytes_eq path other) refl
     by false e = rest paths e
 
 -- what is in a list into which a path came: the path, and all that was
-pub has-with_path : (paths : List (List ℕ)) (path other : List ℕ) → has (with_path paths path) other ≡ (bytes_eq path other || has paths other)
+pub has-with_path : (paths : List (List ℕ)) (path other : List ℕ)
+    → has (with_path paths path) other ≡ (bytes_eq path other || has paths other)
 has-with_path paths path other = by (has paths path) refl
   where
     same : (b : Bool) → (b ≡ true → path ≡ other) → has paths path ≡ true → has paths other ≡ (b || has paths other)

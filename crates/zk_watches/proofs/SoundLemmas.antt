@@ -1,5 +1,6 @@
 -- Each call keeps the lists of a registry sound.
-use Rattle.std.proofs.Common.{◌≡◌, ℕ, ◌+◌, ◌<◌, ◌≤◌, Bool, true, false, not, cond, ◌||◌, List, [], ◌∷◌, ◌++◌, length, filter, All, ◌⊎◌, inl, inr, bytes_eq, refl, sym, ap, subst, ◌∙◌, if◌then◌else◌, true≢false, arith, length-append}
+use Rattle.std.proofs.Common.{◌≡◌, ℕ, ◌+◌, ◌<◌, ◌≤◌, Bool, true, false, not, cond, ◌||◌, List, [], ◌∷◌, ◌++◌, length, filter, All, ◌⊎◌, inl}
+use Rattle.std.proofs.Common.{inr, bytes_eq, refl, sym, ap, subst, ◌∙◌, if◌then◌else◌, true≢false, arith, length-append}
 use Rattle.std.specs.List.{IsDistinct, AllByRecursion}
 use Rattle.std.proofs.lemmas.Slice.Eq.{bytes_eq-Decides}
 use Rattle.std.proofs.lemmas.Map.Keys.{IsDistinct-head, IsDistinct-tail, IsDistinct-cons, IsDistinct-push}
@@ -26,7 +27,8 @@ distinct-filter test [] d = d
 distinct-filter test (x ∷ xs) d = by (test x) (distinct-filter test xs (IsDistinct-tail bytes_eq x xs d))
   where
     by : (b : Bool) → IsDistinct bytes_eq (filter test xs) → IsDistinct bytes_eq (cond b (x ∷ filter test xs) (filter test xs))
-    by true below = IsDistinct-cons bytes_eq x (filter test xs) (apart-filter (λ y. bytes_eq x y ≡ false) test xs (IsDistinct-head bytes_eq x xs d)) below
+    by true below = IsDistinct-cons bytes_eq x (filter test xs)
+        (apart-filter (λ y. bytes_eq x y ≡ false) test xs (IsDistinct-head bytes_eq x xs d)) below
     by false below = below
 
 length-without-le : (paths : List (List ℕ)) (path : List ℕ) → length (without paths path) ≤ length paths
@@ -41,7 +43,8 @@ length-without-less : (paths : List (List ℕ)) (path : List ℕ) → has paths 
 length-without-less [] path h = absurd (true≢false (sym h))
 length-without-less (x ∷ xs) path h = by (bytes_eq path x) h (length-without-less xs path) (length-without-le xs path)
   where
-    by : (b : Bool) → (b || has xs path) ≡ true → (has xs path ≡ true → length (without xs path) < length xs) → length (without xs path) ≤ length xs
+    by : (b : Bool) → (b || has xs path) ≡ true → (has xs path ≡ true → length (without xs path) < length xs)
+        → length (without xs path) ≤ length xs
         → length (cond (not b) (x ∷ without xs path) (without xs path)) < length (x ∷ xs)
     by true there below le = omega arith
     by false there below le = let less = below there in omega arith
@@ -61,14 +64,17 @@ or_right false b h = h
 -- and no other comes in
 pub has-without_less : (paths : List (List ℕ)) (path other : List ℕ) → has paths other ≡ false → has (without paths path) other ≡ false
 has-without_less [] path other h = h
-has-without_less (x ∷ xs) path other h = by (bytes_eq path x) (or_left (bytes_eq other x) (has xs other) h) (has-without_less xs path other (or_right (bytes_eq other x) (has xs other) h))
+has-without_less (x ∷ xs) path other h = by (bytes_eq path x) (or_left (bytes_eq other x) (has xs other) h)
+    (has-without_less xs path other (or_right (bytes_eq other x) (has xs other) h))
   where
-    by : (b : Bool) → bytes_eq other x ≡ false → has (without xs path) other ≡ false → has (cond (not b) (x ∷ without xs path) (without xs path)) other ≡ false
+    by : (b : Bool) → bytes_eq other x ≡ false → has (without xs path) other ≡ false
+        → has (cond (not b) (x ∷ without xs path) (without xs path)) other ≡ false
     by true e f = f
     by false e f = ap (λ c. c || has (without xs path) other) e ∙ f
 
 -- what is in a list with one more path
-pub has-with_path_cases : (paths : List (List ℕ)) (path other : List ℕ) → has (with_path paths path) other ≡ true → (has paths other ≡ true) ⊎ (other ≡ path)
+pub has-with_path_cases : (paths : List (List ℕ)) (path other : List ℕ)
+    → has (with_path paths path) other ≡ true → (has paths other ≡ true) ⊎ (other ≡ path)
 has-with_path_cases paths path other = by (has paths path)
   where
     split : (a b : Bool) → (b ≡ true → other ≡ path) → (a || (b || false)) ≡ true → (a ≡ true) ⊎ (other ≡ path)
@@ -78,7 +84,8 @@ has-with_path_cases paths path other = by (has paths path)
 
     by : (b : Bool) → has (if b then paths else paths ++ path ∷ []) other ≡ true → (has paths other ≡ true) ⊎ (other ≡ path)
     by true h = inl h
-    by false h = split (has paths other) (bytes_eq other path) (bytes_eq-Decides other path).0 (sym (list_any-append (bytes_eq other) paths (path ∷ [])) ∙ h)
+    by false h = split (has paths other) (bytes_eq other path)
+        (bytes_eq-Decides other path).0 (sym (list_any-append (bytes_eq other) paths (path ∷ [])) ∙ h)
 
 module _ (path : List ℕ) where
   distinct-with_path : (paths : List (List ℕ)) → IsDistinct bytes_eq paths → IsDistinct bytes_eq (with_path paths path)
@@ -88,7 +95,8 @@ module _ (path : List ℕ) where
       by true e = d
       by false e = IsDistinct-push nat_list_eq_equiv paths path d e
 
-  short-with_path : (paths : List (List ℕ)) → length path ≤ LONGEST_PATH → All (λ p. length p ≤ LONGEST_PATH) paths → All (λ p. length p ≤ LONGEST_PATH) (with_path paths path)
+  short-with_path : (paths : List (List ℕ))
+      → length path ≤ LONGEST_PATH → All (λ p. length p ≤ LONGEST_PATH) paths → All (λ p. length p ≤ LONGEST_PATH) (with_path paths path)
   short-with_path paths short all = by (has paths path)
     where
       by : (b : Bool) → All (λ p. length p ≤ LONGEST_PATH) (if b then paths else paths ++ path ∷ [])
@@ -102,16 +110,20 @@ module _ (path : List ℕ) where
       by true = omega arith
       by false = omega (arith, length-append paths (path ∷ []))
 
-  room : (xs ys : List (List ℕ)) → length xs + length ys ≤ MOST_PATHS → ((has xs path || has ys path) ≡ false → length xs + length ys < MOST_PATHS) → length (with_path xs path) + length (without ys path) ≤ MOST_PATHS
+  room : (xs ys : List (List ℕ))
+      → length xs + length ys ≤ MOST_PATHS → ((has xs path || has ys path) ≡ false → length xs + length ys < MOST_PATHS)
+      → length (with_path xs path) + length (without ys path) ≤ MOST_PATHS
   room xs ys most some = by (has xs path) (has ys path) refl refl (length-with_path xs)
     where
-      by : (a b : Bool) → has xs path ≡ a → has ys path ≡ b → length (with_path xs path) ≡ length xs + (if a then 0 else 1) → length (with_path xs path) + length (without ys path) ≤ MOST_PATHS
+      by : (a b : Bool) → has xs path ≡ a → has ys path ≡ b → length (with_path xs path) ≡ length xs + (if a then 0 else 1)
+          → length (with_path xs path) + length (without ys path) ≤ MOST_PATHS
       by true b p q e = omega (arith, length-without-le ys path)
       by false true p q e = omega (arith, length-without-less ys path q)
       by false false p q e = let less = some (ap (λ a. a || has ys path) p ∙ q) in omega (arith, length-without-le ys path)
 
 -- the two lists of side Data have no path in common after a path comes into the one and leaves the other
-apart-moved : (xs ys : List (List ℕ)) (path : List ℕ) → ((p : List ℕ) → has xs p ≡ true → has ys p ≡ false) → (p : List ℕ) → has (with_path xs path) p ≡ true → has (without ys path) p ≡ false
+apart-moved : (xs ys : List (List ℕ)) (path : List ℕ) → ((p : List ℕ) → has xs p ≡ true → has ys p ≡ false) → (p : List ℕ)
+    → has (with_path xs path) p ≡ true → has (without ys path) p ≡ false
 apart-moved xs ys path apart p h =
     elim (has-with_path_cases xs path p h) as (λ _. has (without ys path) p ≡ false) [
       | inl e ↦ has-without_less ys path p (apart p e)
@@ -119,7 +131,8 @@ apart-moved xs ys path apart p h =
     ]
 
 -- `apart` reads both ways
-apart-swap : (xs ys : List (List ℕ)) → ((p : List ℕ) → has xs p ≡ true → has ys p ≡ false) → (p : List ℕ) → has ys p ≡ true → has xs p ≡ false
+apart-swap : (xs ys : List (List ℕ)) → ((p : List ℕ) → has xs p ≡ true → has ys p ≡ false) → (p : List ℕ)
+    → has ys p ≡ true → has xs p ≡ false
 apart-swap xs ys apart p h = by (has xs p) refl
   where
     by : (b : Bool) → has xs p ≡ b → b ≡ false
@@ -141,7 +154,8 @@ module _ (l : Lists) (path : List ℕ) (s : IsSound l) where
   data-same h = without-none l.data_watches path (apart-swap l.data_watches l.exist_watches s.apart path h)
 
   -- a path that was found there comes to side Data
-  pub sound-there : (side_has l Data path ≡ false → count_of l Data < MOST_PATHS) → length path ≤ LONGEST_PATH → IsSound (registered l Data true path)
+  pub sound-there : (side_has l Data path ≡ false → count_of l Data < MOST_PATHS)
+      → length path ≤ LONGEST_PATH → IsSound (registered l Data true path)
   sound-there some short = record {
     data_distinct = distinct-with_path path l.data_watches s.data_distinct;
     exist_distinct = distinct-filter (λ other. not (bytes_eq path other)) l.exist_watches s.exist_distinct;
@@ -155,15 +169,18 @@ module _ (l : Lists) (path : List ℕ) (s : IsSound l) where
   }
 
   -- one that was found absent
-  pub sound-absent : (side_has l Data path ≡ false → count_of l Data < MOST_PATHS) → length path ≤ LONGEST_PATH → IsSound (registered l Data false path)
+  pub sound-absent : (side_has l Data path ≡ false → count_of l Data < MOST_PATHS)
+      → length path ≤ LONGEST_PATH → IsSound (registered l Data false path)
   sound-absent some short = record {
     data_distinct = distinct-filter (λ other. not (bytes_eq path other)) l.data_watches s.data_distinct;
     exist_distinct = distinct-with_path path l.exist_watches s.exist_distinct;
     child_distinct = s.child_distinct;
-    apart = apart-swap (with_path l.exist_watches path) (without l.data_watches path) (apart-moved l.exist_watches l.data_watches path (apart-swap l.data_watches l.exist_watches s.apart));
+    apart = apart-swap (with_path l.exist_watches path) (without l.data_watches path)
+        (apart-moved l.exist_watches l.data_watches path (apart-swap l.data_watches l.exist_watches s.apart));
     data_room =
         let turned : length (with_path l.exist_watches path) + length (without l.data_watches path) ≤ MOST_PATHS =
-        room path l.exist_watches l.data_watches (let h = s.data_room in omega arith) (λ e. let less = some (or_swap (has l.data_watches path) (has l.exist_watches path) ∙ e) in omega arith) in
+        room path l.exist_watches l.data_watches (let h = s.data_room in omega arith)
+        (λ e. let less = some (or_swap (has l.data_watches path) (has l.exist_watches path) ∙ e) in omega arith) in
         omega arith;
     child_room = s.child_room;
     data_short = All-filter (λ other. not (bytes_eq path other)) (λ p. length p ≤ LONGEST_PATH) l.data_watches s.data_short;
@@ -172,7 +189,8 @@ module _ (l : Lists) (path : List ℕ) (s : IsSound l) where
   }
 
   -- one that comes to side Child
-  pub sound-child : (has l.child_watches path ≡ false → length l.child_watches < MOST_PATHS) → length path ≤ LONGEST_PATH → (b : Bool) → IsSound (registered l Child b path)
+  pub sound-child : (has l.child_watches path ≡ false → length l.child_watches < MOST_PATHS) → length path ≤ LONGEST_PATH → (b : Bool)
+      → IsSound (registered l Child b path)
   sound-child some short b = record {
     data_distinct = s.data_distinct;
     exist_distinct = s.exist_distinct;
@@ -180,7 +198,8 @@ module _ (l : Lists) (path : List ℕ) (s : IsSound l) where
     apart = s.apart;
     data_room = s.data_room;
     child_room =
-        let most = room path l.child_watches [] (let h = s.child_room in omega arith) (λ e. let less = some (or_left (has l.child_watches path) false e) in omega arith) in
+        let most = room path l.child_watches [] (let h = s.child_room in omega arith)
+        (λ e. let less = some (or_left (has l.child_watches path) false e) in omega arith) in
         omega arith;
     data_short = s.data_short;
     exist_short = s.exist_short;
@@ -188,7 +207,8 @@ module _ (l : Lists) (path : List ℕ) (s : IsSound l) where
   }
 
   -- side Data fires
-  pub sound-data_fired : IsSound (record { data_watches = without l.data_watches path; exist_watches = without l.exist_watches path; child_watches = l.child_watches })
+  pub sound-data_fired : IsSound
+      (record { data_watches = without l.data_watches path; exist_watches = without l.exist_watches path; child_watches = l.child_watches })
   sound-data_fired = record {
     data_distinct = distinct-filter (λ other. not (bytes_eq path other)) l.data_watches s.data_distinct;
     exist_distinct = distinct-filter (λ other. not (bytes_eq path other)) l.exist_watches s.exist_distinct;
@@ -206,7 +226,8 @@ module _ (l : Lists) (path : List ℕ) (s : IsSound l) where
       stays false p e h = absurd (true≢false (sym h ∙ has-without_less l.data_watches path p e))
 
   -- side Child fires
-  pub sound-child_fired : IsSound (record { data_watches = l.data_watches; exist_watches = l.exist_watches; child_watches = without l.child_watches path })
+  pub sound-child_fired : IsSound
+      (record { data_watches = l.data_watches; exist_watches = l.exist_watches; child_watches = without l.child_watches path })
   sound-child_fired = record {
     data_distinct = s.data_distinct;
     exist_distinct = s.exist_distinct;

@@ -25,9 +25,17 @@ impl<'a, A: Allocator + Copy> Model for InOrder<'a, A> {
 
     ghost Value = { Lists };
 
-    ghost view = { λ r. record { data_watches = map (λ text. text.now) r.data_watches.items; exist_watches = map (λ text. text.now) r.exist_watches.items; child_watches = map (λ text. text.now) r.child_watches.items } };
+    ghost view = { λ r. record {
+      data_watches = map (λ text. text.now) r.data_watches.items;
+      exist_watches = map (λ text. text.now) r.exist_watches.items;
+      child_watches = map (λ text. text.now) r.child_watches.items;
+    } };
 
-    ghost invariant = { λ r. IsSound (record { data_watches = map (λ text. text.now) r.data_watches.items; exist_watches = map (λ text. text.now) r.exist_watches.items; child_watches = map (λ text. text.now) r.child_watches.items }) };
+    ghost invariant = { λ r. IsSound (record {
+      data_watches = map (λ text. text.now) r.data_watches.items;
+      exist_watches = map (λ text. text.now) r.exist_watches.items;
+      child_watches = map (λ text. text.now) r.child_watches.items;
+    }) };
 }
 
 impl<'a, A: Allocator + Copy> InOrder<'a, A> {

@@ -30,7 +30,8 @@ impl<A: Allocator + Copy> Model for Registry<A> {
 
     ghost view = { λ r. record { data_watches = r.data_watches; exist_watches = r.exist_watches; child_watches = r.child_watches } };
 
-    ghost invariant = { λ r. IsSound (record { data_watches = r.data_watches; exist_watches = r.exist_watches; child_watches = r.child_watches }) };
+    ghost invariant = { λ r.
+        IsSound (record { data_watches = r.data_watches; exist_watches = r.exist_watches; child_watches = r.child_watches }) };
 }
 
 /// The sides on which an event ended a watch. A watch is one-time (ZooKeeper Programmer's Guide, "ZooKeeper Watches").
@@ -86,7 +87,8 @@ impl<A: Allocator + Copy> Registry<A> {
     ) -> Result<(), RegisterFault>
         ensures ok { OnOk result (self.new ≡ registered self.old side present path.now) }
         ensures there { list_has self.old side present path.now ≡ true → IsOk result }
-        ensures full { IsErrOf result RegisterFault.Full ↔ ((side_has self.old side path.now ≡ false) × (count_of self.old side ≡ MOST_PATHS)) }
+        ensures full { IsErrOf result RegisterFault.Full
+            ↔ ((side_has self.old side path.now ≡ false) × (count_of self.old side ≡ MOST_PATHS)) }
         ensures err { OnErr result (self.new ≡ self.old) }
     {
         if self.len(side) == MOST_PATHS && !self.contains(side, path.as_str()) {
@@ -154,7 +156,11 @@ impl<A: Allocator + Copy> Registry<A> {
 
     fn fire_data(&mut self, path: &str) -> bool
         ensures was { result ≡ side_has self.old Side.Data path.now }
-        ensures lists { self.new ≡ record { data_watches = without self.old.data_watches path.now; exist_watches = without self.old.exist_watches path.now; child_watches = self.old.child_watches } }
+        ensures lists { self.new ≡ record {
+          data_watches = without self.old.data_watches path.now;
+          exist_watches = without self.old.exist_watches path.now;
+          child_watches = self.old.child_watches;
+        } }
     {
         // A path is in at most one of the two.
         if self.data_watches.take_out(path) {
@@ -165,7 +171,11 @@ impl<A: Allocator + Copy> Registry<A> {
 
     fn fire_child(&mut self, path: &str) -> bool
         ensures was { result ≡ side_has self.old Side.Child path.now }
-        ensures lists { self.new ≡ record { data_watches = self.old.data_watches; exist_watches = self.old.exist_watches; child_watches = without self.old.child_watches path.now } }
+        ensures lists { self.new ≡ record {
+          data_watches = self.old.data_watches;
+          exist_watches = self.old.exist_watches;
+          child_watches = without self.old.child_watches path.now;
+        } }
     {
         self.child_watches.take_out(path)
     }

@@ -19,4 +19,5 @@ pub returns-clause-data : goal.returns-clause-data
 returns-clause-data c tree path watch bytes stat = full bytes stat (tree (path_of path))
 
 pub returns-clause-children : goal.returns-clause-children
-returns-clause-children c tree path watch names stat = listing names stat (λ name. is_some (tree (name ∷ path_of path))) (tree (path_of path))
+returns-clause-children c tree path watch names stat =
+    listing names stat (λ name. is_some (tree (name ∷ path_of path))) (tree (path_of path))

@@ -20,4 +20,5 @@ pub returns-clause-part : goal.returns-clause-part
 returns-clause-part c pending last is_last zxid payload is = reads_part pending last is_last zxid payload is
 
 pub returns-clause-reply : goal.returns-clause-reply
-returns-clause-reply c pending last n ticket question zxid result payload code is behind = reads_reply pending last n ticket question zxid result payload code is behind
+returns-clause-reply c pending last n ticket question zxid result payload code is behind =
+    reads_reply pending last n ticket question zxid result payload code is behind

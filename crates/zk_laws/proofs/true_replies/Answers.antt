@@ -8,4 +8,5 @@ pub returns-clause-reads : goal.returns-clause-reads
 returns-clause-reads c h is saved moves may question zxid result among = reads_true h is saved moves may question zxid result among
 
 pub returns-clause-writes : goal.returns-clause-writes
-returns-clause-writes c h call result connection log may = writes_true h (By_server (Answers call result)) connection log call result refl may
+returns-clause-writes c h call result connection log may =
+    writes_true h (By_server (Answers call result)) connection log call result refl may

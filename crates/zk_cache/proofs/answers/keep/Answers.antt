@@ -7,6 +7,8 @@ use Rattle.zk_cache.proofs.answers.keep.Goals as goal
 pub returns-in-Some-clause-ok : goal.returns-in-Some-clause-ok
 returns-in-Some-clause-ok g c =
     λ other.
-    hash_map_updates_text c.args.path.now c.args.map.now (c.get_mut.follows.lender c.renew.new.kept) _ ((c.get_mut.follows.holds _).3 (subst IsSome c.in-Some.ensures.value refl)) other
+    hash_map_updates_text c.args.path.now c.args.map.now (c.get_mut.follows.lender c.renew.new.kept) _
+    ((c.get_mut.follows.holds _).3 (subst IsSome c.in-Some.ensures.value refl)) other
     ∙ (λ i. if bytes_eq c.args.path.now other then Some (c.renew.ensures i) else get_by_text c.args.map.now other)
-    ∙ ap (λ o. if bytes_eq c.args.path.now other then with_answer o c.args.answer else get_by_text c.args.map.now other) c.in-Some.ensures.value
+    ∙ ap (λ o. if bytes_eq c.args.path.now other then with_answer o c.args.answer else get_by_text c.args.map.now other)
+    c.in-Some.ensures.value

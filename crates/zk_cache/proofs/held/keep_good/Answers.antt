@@ -7,5 +7,6 @@ use Rattle.zk_cache.proofs.held.keep_good.Goals as goal
 
 pub returns : goal.returns
 returns g c =
-    let kept : c.retain.new.self.entries ≡ filter (λ e. is_good e.1.mark) c.args.map.now.entries = filter-RetainsPairs _ _ _ (λ k v b w f call. search rules) _ _ c.retain.ensures.filtered in
+    let kept : c.retain.new.self.entries ≡ filter (λ e. is_good e.1.mark) c.args.map.now.entries =
+    filter-RetainsPairs _ _ _ (λ k v b w f call. search rules) _ _ c.retain.ensures.filtered in
     λ path. ap (lookup (λ k. bytes_eq path (string_bytes k))) kept ∙ lookup-good path c.args.map.now.entries c.len.ensures.unique

@@ -8,5 +8,7 @@ use Rattle.zk_cache.proofs.held.mark_stale.Goals as goal
 pub returns-in-Some : goal.returns-in-Some
 returns-in-Some g c =
     λ other.
-    hash_map_updates_text c.args.path.now c.args.map.now (c.get_mut.follows.lender (record { answer = c.in-Some.kept.now.answer; mark = Stale })) _ ((c.get_mut.follows.holds _).3 (subst IsSome c.in-Some.ensures.value refl)) other
+    hash_map_updates_text c.args.path.now c.args.map.now
+    (c.get_mut.follows.lender (record { answer = c.in-Some.kept.now.answer; mark = Stale })) _
+    ((c.get_mut.follows.holds _).3 (subst IsSome c.in-Some.ensures.value refl)) other
     ∙ ap (λ o. if bytes_eq c.args.path.now other then stale o else get_by_text c.args.map.now other) c.in-Some.ensures.value

@@ -10,6 +10,8 @@ use Rattle.zk_conversation.proofs.result.read_names.Goals as goal
 
 pub returns : goal.returns
 returns g c =
-    let e = names-lent (λ v. v.items) (λ t. option_map (λ s. s.now) t.text) c.in_ok-found.found.children.elements c.new.result c.new.ensures.items in
+    let e = names-lent (λ v. v.items)
+    (λ t. option_map (λ s. s.now) t.text) c.in_ok-found.found.children.elements c.new.result c.new.ensures.items in
     rw (c.unwrap_or-names.ensures, ← e)
-    (ap (λ (r : Result (Value get_children2_response × List ℕ) TakeError). r >>= λ found. Ok (Listing (texts_of found.0.0) (stat_of found.0.1))) c.in_ok-found.ensures.gives)
+    (ap (λ (r : Result (Value get_children2_response × List ℕ) TakeError). r
+    >>= λ found. Ok (Listing (texts_of found.0.0) (stat_of found.0.1))) c.in_ok-found.ensures.gives)

@@ -11,5 +11,6 @@ returns-then-above-eq1 c =
 
 pub returns-else-above-eq1 : goal.returns-else-above-eq1
 returns-else-above-eq1 c =
-    let below = child_text-below c.args.above.now c.args.name.now c.requires (below_root c.args.above.now c.requires c.if-above-eq1.false) in
+    let below =
+    child_text-below c.args.above.now c.args.name.now c.requires (below_root c.args.above.now c.requires c.if-above-eq1.false) in
     omega (arith, ap length below, length-append c.args.above.now (47 ∷ c.args.name.now))

@@ -12,7 +12,8 @@ returns g c = elim c.if-above-gt1.branch [
       ∙ ap (λ t. string_bytes t ++ c.args.name.now) w.text-is
       ∙ ap (λ t. t ++ c.args.name.now) (w.in_ok-push_str.ensures.bytes ∙ ap (λ t. t ++ 47 ∷ []) c.in_ok-text.ensures.ok)
       ∙ append_assoc c.args.above.now (47 ∷ []) c.args.name.now
-      ∙ sym (child_text-below c.args.above.now c.args.name.now c.requires (below_root c.args.above.now c.requires (λ e. omega (arith, w.if-above-gt1, e))))
+      ∙ sym (child_text-below c.args.above.now c.args.name.now c.requires
+      (below_root c.args.above.now c.requires (λ e. omega (arith, w.if-above-gt1, e))))
   | else-above-gt1 w ↦
       let root = root_alone c.args.above.now c.requires (at_root c.args.above.now c.requires (omega (arith, w.if-above-gt1))) in
       c.in_ok-push_str-2.ensures.bytes

@@ -8,4 +8,5 @@ returns-then-bytes-eq47-clause-ascii c =
     λ yes. is_ascii-plain c.args.bytes.now (omega (arith, some)) (search rules) (c.is_plain.ensures yes)
 
 pub returns-then-bytes-eq47-clause-path : goal.returns-then-bytes-eq47-clause-path
-returns-then-bytes-eq47-clause-path c = λ yes. fault_of-plain c.args.bytes.now (search rules) (omega arith) (search rules) (c.is_plain.ensures yes)
+returns-then-bytes-eq47-clause-path c =
+    λ yes. fault_of-plain c.args.bytes.now (search rules) (omega arith) (search rules) (c.is_plain.ensures yes)

@@ -15,11 +15,13 @@ returns-then-is_plain c =
 
 pub returns-then-any : goal.returns-then-any
 returns-then-any c =
-    let r = any_from_yields_List is_refused _ _ c.any.result c.any.ensures.ran (YieldsList-from_chars c.args.text.now c.utf8.text c.chars.ensures.rest) (λ x b q k. search (rules, tests)) in
+    let r = any_from_yields_List is_refused _ _ c.any.result c.any.ensures.ran
+    (YieldsList-from_chars c.args.text.now c.utf8.text c.chars.ensures.rest) (λ x b q k. search (rules, tests)) in
     sym (fault_of-refused c.args.text.now (search rules) (omega arith) (search rules) (sym r ∙ c.if-any.true))
 
 pub returns : goal.returns
 returns c =
-    let r = any_from_yields_List is_refused _ _ c.any.result c.any.ensures.ran (YieldsList-from_chars c.args.text.now c.utf8.text c.chars.ensures.rest) (λ x b q k. search (rules, tests)) in
+    let r = any_from_yields_List is_refused _ _ c.any.result c.any.ensures.ran
+    (YieldsList-from_chars c.args.text.now c.utf8.text c.chars.ensures.rest) (λ x b q k. search (rules, tests)) in
     c.name_fault.ensures ∙ ap (λ t. fault_of_names (path_of t)) c.as_bytes-3.ensures.value
     ∙ sym (fault_of-names c.args.text.now (search rules) (omega arith) (search rules) (sym r ∙ c.if-any.false))

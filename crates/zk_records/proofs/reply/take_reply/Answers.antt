@@ -14,4 +14,5 @@ pub returns-clause-found : goal.returns-clause-found
 returns-clause-found g c = let t = (reply_reads _ _).takes _ _ c.args.at.now.bytes c.in_ok-reply.ensures.gives in (t.1, t.0.parts)
 
 pub returns-clause-only : goal.returns-clause-only
-returns-clause-only g c value rest fits e = is_the_one _ _ _ _ _ c.in_ok-reply.ensures.gives (ap (reply_at _ _) e ∙ (reply_reads _ _).again value rest fits)
+returns-clause-only g c value rest fits e =
+    is_the_one _ _ _ _ _ c.in_ok-reply.ensures.gives (ap (reply_at _ _) e ∙ (reply_reads _ _).again value rest fits)

@@ -20,4 +20,5 @@ returns-clause-ok g c =
 
 pub returns-clause-there : goal.returns-clause-there
 returns-clause-there g c =
-    λ h. c.keep.ensures.there (is_kept answer_of c.self.inside.data_answers c.as_str-text.result.now ∙ (λ i. is_some (finite.get (c.self.view_is i).data_answers (c.as_str-text.ensures.text i))) ∙ h)
+    λ h. c.keep.ensures.there (is_kept answer_of c.self.inside.data_answers c.as_str-text.result.now
+    ∙ (λ i. is_some (finite.get (c.self.view_is i).data_answers (c.as_str-text.ensures.text i))) ∙ h)

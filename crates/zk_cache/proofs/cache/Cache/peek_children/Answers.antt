@@ -5,4 +5,5 @@ use Rattle.zk_cache.proofs.LookLemmas.{seen}
 use Rattle.zk_cache.proofs.cache.Cache.peek_children.Goals as goal
 
 pub returns : goal.returns
-returns g c = seen names_in (λ r. r.now) c.self.inside.child_answers c.args.path.now c.peek.result c.peek.ensures ∙ (λ i. finite.get (c.self.view_is i).child_answers c.args.path.now)
+returns g c = seen names_in (λ r. r.now) c.self.inside.child_answers c.args.path.now c.peek.result c.peek.ensures
+    ∙ (λ i. finite.get (c.self.view_is i).child_answers c.args.path.now)

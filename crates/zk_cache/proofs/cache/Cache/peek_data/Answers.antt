@@ -5,4 +5,5 @@ use Rattle.zk_cache.proofs.LookLemmas.{seen}
 use Rattle.zk_cache.proofs.cache.Cache.peek_data.Goals as goal
 
 pub returns : goal.returns
-returns g c = seen answer_of (λ r. r.now) c.self.inside.data_answers c.args.path.now c.peek.result c.peek.ensures ∙ (λ i. finite.get (c.self.view_is i).data_answers c.args.path.now)
+returns g c = seen answer_of (λ r. r.now) c.self.inside.data_answers c.args.path.now c.peek.result c.peek.ensures
+    ∙ (λ i. finite.get (c.self.view_is i).data_answers c.args.path.now)

@@ -19,7 +19,8 @@ pub returns-in-Child : goal.returns-in-Child
 returns-in-Child g c =
     (λ i. record {
       data_answers = as_map (seen_by answer_of) c.self.inside.data_answers;
-      child_answers = as_map-stale names_in c.self.inside.child_answers c.mark_stale-in-Child.new.map c.args.path.now c.mark_stale-in-Child.ensures i;
+      child_answers =
+          as_map-stale names_in c.self.inside.child_answers c.mark_stale-in-Child.new.map c.args.path.now c.mark_stale-in-Child.ensures i;
     })
     ∙ ap (λ k. with_stale k Child c.args.path.now) c.self.view_is
     ∙ ap (λ s. with_stale c.args.self.now s c.args.path.now) (sym c.in-Child.is)

@@ -30,19 +30,22 @@ pub returns-in-GetData : goal.returns-in-GetData
 unfolding call_payload
 returns-in-GetData g c =
     let xid : to_z w32 (of_z w32 c.args.xid) ≡ c.args.xid = omega (arith, ints) in
-    rw c.in-GetData.is (rw (xid, c.reads-record-in-GetData.ensures.path, c.reads-record-in-GetData.ensures.watch) at c.request_frame-in-GetData.ensures)
+    rw c.in-GetData.is
+    (rw (xid, c.reads-record-in-GetData.ensures.path, c.reads-record-in-GetData.ensures.watch) at c.request_frame-in-GetData.ensures)
 
 pub request_frame-requires-in-GetChildren : goal.request_frame-requires-in-GetChildren
 unfolding call_payload
 request_frame-requires-in-GetChildren g c =
     let xid : to_z w32 (of_z w32 c.args.xid) ≡ c.args.xid = omega (arith, ints) in
-    rw (xid, c.reads-record-in-GetChildren.ensures.path, c.reads-record-in-GetChildren.ensures.watch) (small _ (rw c.in-GetChildren.is at c.requires))
+    rw (xid, c.reads-record-in-GetChildren.ensures.path, c.reads-record-in-GetChildren.ensures.watch)
+    (small _ (rw c.in-GetChildren.is at c.requires))
 
 pub returns-in-GetChildren : goal.returns-in-GetChildren
 unfolding call_payload
 returns-in-GetChildren g c =
     let xid : to_z w32 (of_z w32 c.args.xid) ≡ c.args.xid = omega (arith, ints) in
-    rw c.in-GetChildren.is (rw (xid, c.reads-record-in-GetChildren.ensures.path, c.reads-record-in-GetChildren.ensures.watch) at c.request_frame-in-GetChildren.ensures)
+    rw c.in-GetChildren.is (rw (xid, c.reads-record-in-GetChildren.ensures.path, c.reads-record-in-GetChildren.ensures.watch) at
+    c.request_frame-in-GetChildren.ensures)
 
 pub request_frame-requires-in-SetData : goal.request_frame-requires-in-SetData
 unfolding call_payload
@@ -70,7 +73,8 @@ unfolding call_payload
 returns-in-Create g c =
     let xid : to_z w32 (of_z w32 c.args.xid) ≡ c.args.xid = omega (arith, ints) in
     let flags : to_z w32 (of_z w32 c.flags.result) ≡ c.flags.result = omega (arith, ints) in
-    rw c.in-Create.is (rw (xid, c.as_str-in-Create.ensures.text, c.lent-in-Create.ensures, flags, c.flags.ensures) at c.request_frame-in-Create.ensures)
+    rw c.in-Create.is
+    (rw (xid, c.as_str-in-Create.ensures.text, c.lent-in-Create.ensures, flags, c.flags.ensures) at c.request_frame-in-Create.ensures)
 
 pub request_frame-requires-in-Delete : goal.request_frame-requires-in-Delete
 unfolding call_payload

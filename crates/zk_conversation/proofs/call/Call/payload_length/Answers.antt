@@ -1,4 +1,5 @@
-use Rattle.zk_conversation.proofs.Lengths.{length-exists, length-get_data, length-get_children, length-set_data, length-create, length-delete, length-close}
+use Rattle.zk_conversation.proofs.Lengths.{length-exists, length-get_data, length-get_children, length-set_data, length-create}
+use Rattle.zk_conversation.proofs.Lengths.{length-delete, length-close}
 use Rattle.zk_conversation.proofs.call.Call.payload_length.Goals as goal
 
 pub returns-in-Exists : goal.returns-in-Exists
@@ -11,10 +12,12 @@ pub returns-in-GetChildren : goal.returns-in-GetChildren
 returns-in-GetChildren g c = λ xid. rw (c.in-GetChildren.is, c.as_str-in-GetChildren.ensures.text) (length-get_children xid _ _)
 
 pub returns-in-SetData : goal.returns-in-SetData
-returns-in-SetData g c = λ xid. rw (c.in-SetData.is, c.as_str-in-SetData.ensures.text, c.data_length.ensures.length) (length-set_data xid _ _ _)
+returns-in-SetData g c =
+    λ xid. rw (c.in-SetData.is, c.as_str-in-SetData.ensures.text, c.data_length.ensures.length) (length-set_data xid _ _ _)
 
 pub returns-in-Create : goal.returns-in-Create
-returns-in-Create g c = λ xid. rw (c.in-Create.is, c.as_str-in-Create.ensures.text, c.data_length-in-Create.ensures.length) (length-create xid _ _ _)
+returns-in-Create g c = λ xid.
+    rw (c.in-Create.is, c.as_str-in-Create.ensures.text, c.data_length-in-Create.ensures.length) (length-create xid _ _ _)
 
 pub returns-in-Delete : goal.returns-in-Delete
 returns-in-Delete g c = λ xid. rw (c.in-Delete.is, c.as_str-in-Delete.ensures.text) (length-delete xid _ _)

@@ -9,13 +9,19 @@ use Rattle.zk_conversation.proofs.Requests.{counts-small, viewed-push, next-is}
 use Rattle.zk_conversation.proofs.conversation.Conversation.awaits.Goals as goal
 
 pub with-counts-requires-clause-on_data : goal.with-counts-requires-clause-on_data
-with-counts-requires-clause-on_data g c = let are = counts-small c.self.inside.counts (map pending_view c.self.inside.pending.items) c.self.invariant.counted c.self.invariant.few in are.on_data
+with-counts-requires-clause-on_data g c = let are =
+    counts-small c.self.inside.counts (map pending_view c.self.inside.pending.items) c.self.invariant.counted c.self.invariant.few in
+    are.on_data
 
 pub with-counts-requires-clause-on_child : goal.with-counts-requires-clause-on_child
-with-counts-requires-clause-on_child g c = let are = counts-small c.self.inside.counts (map pending_view c.self.inside.pending.items) c.self.invariant.counted c.self.invariant.few in are.on_child
+with-counts-requires-clause-on_child g c = let are =
+    counts-small c.self.inside.counts (map pending_view c.self.inside.pending.items) c.self.invariant.counted c.self.invariant.few in
+    are.on_child
 
 pub with-counts-requires-clause-closes : goal.with-counts-requires-clause-closes
-with-counts-requires-clause-closes g c = let are = counts-small c.self.inside.counts (map pending_view c.self.inside.pending.items) c.self.invariant.counted c.self.invariant.few in are.closes
+with-counts-requires-clause-closes g c = let are =
+    counts-small c.self.inside.counts (map pending_view c.self.inside.pending.items) c.self.invariant.counted c.self.invariant.few in
+    are.closes
 
 pub invariant_of-self-2 : goal.invariant_of-self-2
 invariant_of-self-2 g c =
@@ -24,8 +30,10 @@ invariant_of-self-2 g c =
     let pushed = viewed-push pending_view c.self.inside.pending.items c.push.new.pending.items _ c.in_ok-push.ensures.ok in
     let xid = next-is c.self.inside.xid c.next_xid-self-inside.result c.self.invariant.below c.next_xid-self-inside.ensures in
     record {
-      counted = c.with-counts.ensures ∙ ap (λ (n : Counts). counts_with n question) c.self.invariant.counted ∙ sym (counts-push_call xs _ c.args.ticket question) ∙ sym (ap counts_of pushed);
-      few = let room = rw (← c.self.view_is) at c.requires in rw c.with-counts.ensures (omega (arith, room, ap (λ (n : Counts). n.calls) c.self.invariant.counted));
+      counted = c.with-counts.ensures ∙ ap (λ (n : Counts). counts_with n question) c.self.invariant.counted
+          ∙ sym (counts-push_call xs _ c.args.ticket question) ∙ sym (ap counts_of pushed);
+      few = let room = rw (← c.self.view_is) at c.requires in
+          rw c.with-counts.ensures (omega (arith, room, ap (λ (n : Counts). n.calls) c.self.invariant.counted));
       first = xid.first;
       below = xid.below;
     }
@@ -33,5 +41,6 @@ invariant_of-self-2 g c =
 pub returns-clause-ok : goal.returns-clause-ok
 returns-clause-ok g c =
     let pushed = viewed-push pending_view c.self.inside.pending.items c.push.new.pending.items _ c.in_ok-push.ensures.ok in
-    let xid : to_z w32 (of_z w32 (pos c.self.inside.xid)) ≡ pos c.self.inside.xid = let below = c.self.invariant.below in omega (arith, ints) in
+    let xid : to_z w32 (of_z w32 (pos c.self.inside.xid)) ≡ pos c.self.inside.xid = let below =
+    c.self.invariant.below in omega (arith, ints) in
     rw (← c.self.view_is) (rw (pushed, c.next_xid-self-inside.ensures, xid) refl)

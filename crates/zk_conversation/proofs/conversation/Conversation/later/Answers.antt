@@ -16,26 +16,33 @@ pub returns-in-minus1-clause-answers : goal.returns-in-minus1-clause-answers
 returns-in-minus1-clause-answers g c =
     let read = rw (c.new-at.ensures.len, c.new-at.ensures.left) at c.in_ok-header.ensures.0 in
     let gives = rw (c.in_ok-header.ensures.1 ∙ c.new-at.ensures.len) at c.read_notice.ensures.gives in
-    notice-answers c.args.self.now c.args.payload.now c.in_ok-header.header (bytes_left c.read_header.new.at) c.read_notice.result c.requires read (omega (arith, ints)) gives
+    notice-answers c.args.self.now c.args.payload.now c.in_ok-header.header
+    (bytes_left c.read_header.new.at) c.read_notice.result c.requires read (omega (arith, ints)) gives
 
 pub returns-in-minus2-clause-answers : goal.returns-in-minus2-clause-answers
 returns-in-minus2-clause-answers g c =
-    pong-answers c.args.self.now c.args.payload.now c.in_ok-header.header _ c.requires (rw (c.new-at.ensures.len, c.new-at.ensures.left) at c.in_ok-header.ensures.0) (omega (arith, ints))
+    pong-answers c.args.self.now c.args.payload.now c.in_ok-header.header _ c.requires
+    (rw (c.new-at.ensures.len, c.new-at.ensures.left) at c.in_ok-header.ensures.0) (omega (arith, ints))
 
 pub returns-in-minus4-clause-answers : goal.returns-in-minus4-clause-answers
 returns-in-minus4-clause-answers g c =
-    skip-answers c.args.self.now c.args.payload.now c.in_ok-header.header _ c.requires (rw (c.new-at.ensures.len, c.new-at.ensures.left) at c.in_ok-header.ensures.0) (omega (arith, ints))
+    skip-answers c.args.self.now c.args.payload.now c.in_ok-header.header _ c.requires
+    (rw (c.new-at.ensures.len, c.new-at.ensures.left) at c.in_ok-header.ensures.0) (omega (arith, ints))
 
 pub returns-in_default-clause-answers : goal.returns-in_default-clause-answers
 returns-in_default-clause-answers g c =
     let read = rw (c.new-at.ensures.len, c.new-at.ensures.left) at c.in_ok-header.ensures.0 in
-    let free : IsFree c.in_ok-header.header.xid = record { notice = λ e. omega (arith, ints); pong = λ e. omega (arith, ints); skipped = λ e. omega (arith, ints) } in
+    let free : IsFree c.in_ok-header.header.xid =
+    record { notice = λ e. omega (arith, ints); pong = λ e. omega (arith, ints); skipped = λ e. omega (arith, ints) } in
     let replies = rw (c.in_ok-header.ensures.1 ∙ c.new-at.ensures.len) at c.reply.ensures.replies in
-    reply-answers c.args.self.now c.reply.new.self c.args.payload.now c.in_ok-header.header (bytes_left c.read_header.new.at) c.reply.result c.requires read free replies
+    reply-answers c.args.self.now c.reply.new.self c.args.payload.now c.in_ok-header.header
+    (bytes_left c.read_header.new.at) c.reply.result c.requires read free replies
 
 pub returns-in_default-clause-memory : goal.returns-in_default-clause-memory
 returns-in_default-clause-memory g c = λ h.
     let talk = c.args.self.now in
     let read = rw (c.new-at.ensures.len, c.new-at.ensures.left) at c.in_ok-header.ensures.0 in
-    let free : IsFree c.in_ok-header.header.xid = record { notice = λ e. omega (arith, ints); pong = λ e. omega (arith, ints); skipped = λ e. omega (arith, ints) } in
-    names-come talk.phase talk.pending c.args.payload.now c.in_ok-header.header (bytes_left c.read_header.new.at) c.requires free read (c.reply.ensures.memory h)
+    let free : IsFree c.in_ok-header.header.xid =
+    record { notice = λ e. omega (arith, ints); pong = λ e. omega (arith, ints); skipped = λ e. omega (arith, ints) } in
+    names-come talk.phase talk.pending c.args.payload.now c.in_ok-header.header (bytes_left c.read_header.new.at) c.requires free read
+    (c.reply.ensures.memory h)

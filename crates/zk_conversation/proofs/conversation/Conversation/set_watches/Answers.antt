@@ -4,7 +4,8 @@ use Rattle.zk_conversation.proofs.conversation.Conversation.set_watches.Goals as
 pub request_frame-requires : goal.request_frame-requires
 request_frame-requires g c =
     let part = c.args.part.now in
-    small _ (rw (part-lent (λ s. s.now) part.relative_zxid part.data_watches.now part.exist_watches.now part.child_watches.now) at c.requires.small)
+    small _ (rw
+    (part-lent (λ s. s.now) part.relative_zxid part.data_watches.now part.exist_watches.now part.child_watches.now) at c.requires.small)
 
 pub returns-clause-frame : goal.returns-clause-frame
 returns-clause-frame g c =

@@ -21,7 +21,8 @@ returns-in-Ok-Some g c =
         λ _. tt,
         record {
           was = sym (ap (λ (h : Held). h.bytes) c.self.view_is) ∙ moves.was;
-          spent = ap (λ (k : ℕ). at.place + (4 + k)) (sym moves.long) ∙ ap (λ (h : Held). h.spent + (4 + length (take (4 + n - 4) (drop 4 held)))) c.self.view_is;
+          spent = ap (λ (k : ℕ). at.place + (4 + k)) (sym moves.long)
+              ∙ ap (λ (h : Held). h.spent + (4 + length (take (4 + n - 4) (drop 4 held)))) c.self.view_is;
           read = sym (ap (λ (h : Held). h.fault) c.self.view_is) ∙ still;
           reads = still;
           admitted = moves.admitted;

@@ -7,4 +7,5 @@ use Rattle.zk_limits.specs.declared.limits.TheConstants.{MOST_PATHS}
 
 pub invariant_of-self-2 : goal.invariant_of-self-2
 invariant_of-self-2 g c =
-    rw c.in_ok-add.ensures.ok (sound-child _ _ c.self.invariant (subst (λ l. side_has l Child c.args.text.now ≡ false → count_of l Child < MOST_PATHS) (sym c.self.view_is) c.requires.room) c.requires.short false)
+    rw c.in_ok-add.ensures.ok (sound-child _ _ c.self.invariant (subst (λ l. side_has l Child c.args.text.now ≡ false
+    → count_of l Child < MOST_PATHS) (sym c.self.view_is) c.requires.room) c.requires.short false)

@@ -8,11 +8,13 @@ use Rattle.zk_limits.specs.declared.limits.TheConstants.{MOST_PATHS}
 
 pub invariant_of-self-then-branch : goal.invariant_of-self-then-branch
 invariant_of-self-then-branch g c =
-    rw (c.in_ok-add.ensures.ok, c.take_out.ensures.rest) (sound-there _ _ c.self.invariant (subst (λ l. side_has l Data c.args.text.now ≡ false → count_of l Data < MOST_PATHS) (sym c.self.view_is) c.requires.room) c.requires.short)
+    rw (c.in_ok-add.ensures.ok, c.take_out.ensures.rest) (sound-there _ _ c.self.invariant (subst (λ l. side_has l Data c.args.text.now
+    ≡ false → count_of l Data < MOST_PATHS) (sym c.self.view_is) c.requires.room) c.requires.short)
 
 pub invariant_of-self-then-branch-2 : goal.invariant_of-self-then-branch-2
 invariant_of-self-then-branch-2 g c =
-    rw (c.in_ok-add-2.ensures.ok, c.take_out-then-branch-2.ensures.rest) (sound-absent _ _ c.self.invariant (subst (λ l. side_has l Data c.args.text.now ≡ false → count_of l Data < MOST_PATHS) (sym c.self.view_is) c.requires.room) c.requires.short)
+    rw (c.in_ok-add-2.ensures.ok, c.take_out-then-branch-2.ensures.rest) (sound-absent _ _ c.self.invariant (subst (λ l.
+    side_has l Data c.args.text.now ≡ false → count_of l Data < MOST_PATHS) (sym c.self.view_is) c.requires.room) c.requires.short)
 
 pub returns-else-branch-clause-ok : goal.returns-else-branch-clause-ok
 returns-else-branch-clause-ok g c =
