@@ -10,6 +10,7 @@ use Rattle.zk_client.specs.Views.{outcome_view}
 use Rattle.zk_agent.specs.Telling.{Told, Says, TimesOut}
 use Rattle.zk_agent.specs.declared.input.Input.TheVariants as happens
 use Rattle.zk_driver.specs.Driving.{closed, Course, Goes, Hands}
+use Rattle.zk_driver.specs.Flowing.{Flow, Known, Runs}
 use Rattle.zk_ask.specs.declared.came.Came.{Came}
 use Rattle.zk_ask.specs.declared.came.Came.TheVariants as came
 
@@ -43,7 +44,11 @@ pub record Heard {A : Type 0} (call : Call) (until : ℕ) (start : Course A) (co
   pub hands : Hands (happens.Call ticket handed (Some until)) start asked
   pub hears : Hears ticket until last asked coming
 
--- So does a driver with a new session, which has no connection yet.
+-- how far a driver has come, what its stream knows, and nothing that was read and is not handed in
+abbrev pub flow_at : {A : Type 0} → Course A → Known → Flow A
+flow_at course known = record { course = course; known = known; held = [] }
+
+-- So does a driver with a new session, which has no connection yet. Byte by byte it is a run of that driver.
 pub record ComesOf (A : Type 0) (call : Call) (coming : Coming) : Type 0 where
   pub timeout : ℕ
   pub until : ℕ
@@ -53,3 +58,6 @@ pub record ComesOf (A : Type 0) (call : Call) (coming : Coming) : Type 0 where
   pub parted : start.channel ≡ closed
   pub untold : start.told ≡ []
   pub heard : Heard call until start coming last
+  pub before : Known
+  pub after : Known
+  pub runs : Runs (flow_at start before) (flow_at last after)

@@ -1,8 +1,9 @@
 //! A session for one call.
 
-ghost use Rattle.std.specs.Prelude.{None, IfOk, IfSome};
+ghost use Rattle.std.specs.Prelude.{None, IfOk, IfSome, OnOk};
 ghost use Rattle.zk_conversation.specs.Views.{call_view};
 ghost use Rattle.zk_driver.specs.Driving.{course_of};
+ghost use Rattle.zk_driver.specs.Flowing.{flow_of, Runs};
 ghost use Rattle.zk_ask.specs.Asking.{came_view, ComesOf, Heard};
 
 use crate::came::{Came, hear};
@@ -43,7 +44,8 @@ pub(crate) fn answered<A: Allocator + Copy, D: Dial + Drop, C: Clock + Drop>(
     call: Call<A>,
     until: u64,
 ) -> Result<Came<A>, Stop>
-    ensures { IfOk result (λ came. Heard (call_view call) until (course_of driver.old.engine None) (came_view came) (course_of driver.new.engine None)) }
+    ensures heard { IfOk result (λ came. Heard (call_view call) until (course_of driver.old.engine None) (came_view came) (course_of driver.new.engine None)) }
+    ensures runs { OnOk result (Runs (flow_of D.Stream.remaining D.Stream.contents driver.old.engine None) (flow_of D.Stream.remaining D.Stream.contents driver.new.engine None)) }
 {
     driver.ask(ticket, call, Some(until))?;
     hear(driver, ticket, until)

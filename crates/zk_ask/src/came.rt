@@ -1,10 +1,11 @@
 //! What comes of a call.
 
-ghost use Rattle.std.specs.Prelude.{◌≡◌, ◌∷◌, [], IfOk, None, Some};
+ghost use Rattle.std.specs.Prelude.{◌≡◌, ◌∷◌, [], IfOk, OnOk, None, Some};
 ghost use Rattle.std.specs.Option.{is_some};
 ghost use Rattle.zk_conversation.specs.Views.{call_view};
 ghost use Rattle.zk_agent.specs.declared.input.Input.TheVariants as happens;
 ghost use Rattle.zk_driver.specs.Driving.{course_of, Course, Hands};
+ghost use Rattle.zk_driver.specs.Flowing.{flow_of, Runs};
 ghost use Rattle.zk_ask.specs.Asking.{came_view, Hears};
 
 use std::alloc::Allocator;
@@ -27,7 +28,8 @@ pub(crate) fn hear<A: Allocator + Copy, D: Dial + Drop, C: Clock + Drop>(
     ticket: u64,
     until: u64,
 ) -> Result<Came<A>, Stop>
-    ensures { IfOk result (λ came. Hears ticket until (course_of driver.new.engine None) (course_of driver.old.engine None) (came_view came)) }
+    ensures hears { IfOk result (λ came. Hears ticket until (course_of driver.new.engine None) (course_of driver.old.engine None) (came_view came)) }
+    ensures runs { OnOk result (Runs (flow_of D.Stream.remaining D.Stream.contents driver.old.engine None) (flow_of D.Stream.remaining D.Stream.contents driver.new.engine None)) }
 {
     for _ in 0..u64::MAX {
         match driver.next(until)? {

@@ -82,6 +82,28 @@ pub record HandsOver {A : Type 0} (input : Input A) (old new : Flow A) : Type 0 
   pub held : between.held ≡ []
   pub writes : Carries between (Made Written) new
 
+-- ---- call after call
+
+-- A driver does something; or its program takes of what it is told.
+abbrev pub Passes : {A : Type 0} → Flow A → Option (Deed A) → Flow A → Type 0
+Passes old (Some deed) new = Carries old deed new
+Passes old None new = new ≡ record old { course = record old.course { told = new.course.told } }
+
+-- some of that, the oldest first
+pub record Runs {A : Type 0} (old new : Flow A) : Type 0 where
+  pub steps : List (Option (Deed A))
+  pub passes : FoldsTo Passes old steps new
+
+-- So is a call of a driver, that the program takes of what it is told, and one after the other.
+abbrev pub CallsRun : Type 0 → Type 0
+CallsRun A = (old new : Flow A) → Flows old new → Runs old new
+
+abbrev pub TakingRuns : Type 0 → Type 0
+TakingRuns A = (old : Flow A) (told : List Told) → Runs old (record old { course = record old.course { told = told } })
+
+abbrev pub RunsJoin : Type 0 → Type 0
+RunsJoin A = (old between new : Flow A) → Runs old between → Runs between new → Runs old new
+
 -- ---- what follows, as long as one connection lasts
 
 -- No connection begins.

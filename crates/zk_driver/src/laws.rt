@@ -1,6 +1,6 @@
 //! What follows of the bytes of a connection from what each call of a driver does.
 
-ghost use Rattle.zk_driver.specs.Flowing.{BytesComeWhole, BytesGoWhole};
+ghost use Rattle.zk_driver.specs.Flowing.{BytesComeWhole, BytesGoWhole, CallsRun, RunsJoin, TakingRuns};
 
 use std::alloc::Allocator;
 
@@ -13,4 +13,12 @@ pub fn bytes_come_whole<A: Allocator>()
 /// What the stream of a connection took is a beginning of what was sent on it: the rest is still to be written.
 pub fn bytes_go_whole<A: Allocator>()
     ensures { BytesGoWhole A }
+{}
+
+/// What a driver does over any list of calls that succeed is a run (`Runs`): each call is one, by its clause `flows`, so is that the program takes
+/// an action, and one after the other is one.
+pub fn calls_run<A: Allocator>()
+    ensures calls { CallsRun A }
+    ensures taking { TakingRuns A }
+    ensures join { RunsJoin A }
 {}

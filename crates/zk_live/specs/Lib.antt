@@ -6,3 +6,4 @@ pub mod Heard
 pub mod Lives
 pub mod Frames
 pub mod Trails
+pub mod Flowing

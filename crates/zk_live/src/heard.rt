@@ -5,6 +5,7 @@ ghost use Rattle.zk_turns.specs.Turns.{Cut};
 ghost use Rattle.zk_client.specs.Clients.{view_of};
 ghost use Rattle.zk_client.specs.Views.{input_view, output_view, said};
 ghost use Rattle.zk_script.specs.Stops.{IfHalted, IsWant};
+ghost use Rattle.zk_live.specs.Flowing.{bytes_of, flow_of, holding, Flows};
 ghost use Rattle.zk_live.specs.Heard.{tape, Halts, Hears, TellsEach, TellsHeard};
 
 use crate::joint::Joint;
@@ -66,6 +67,7 @@ pub fn hear<A: Allocator + Copy, S: Stream>(
     text: &mut String<A>,
 ) -> Result<Heard<A>, Stop>
     ensures ok { OnOk result (Hears (tape (view_of joint.old.client) (string_bytes text.old)) (input_view input) (tape (view_of joint.new.client) (string_bytes text.new))) }
+    ensures flows { OnOk result (Flows (holding (bytes_of (input_view input)) (flow_of S.remaining S.contents joint.old)) (flow_of S.remaining S.contents joint.new)) }
     ensures err { IfErr result IsWant }
     ensures halt { IfErr result (IfHalted (Halts (tape (view_of joint.old.client) (string_bytes text.old)) (input_view input) (tape (view_of joint.new.client) (string_bytes text.new)))) }
 {
@@ -85,6 +87,7 @@ pub fn cut<A: Allocator + Copy, S: Stream>(
     text: &mut String<A>,
 ) -> Result<(), Stop>
     ensures ok { OnOk result (Hears (tape (view_of joint.old.client) (string_bytes text.old)) Cut (tape (view_of joint.new.client) (string_bytes text.new))) }
+    ensures flows { OnOk result (Flows (flow_of S.remaining S.contents joint.old) (flow_of S.remaining S.contents joint.new)) }
     ensures err { IfErr result IsWant }
     ensures halt { IfErr result (IfHalted (Halts (tape (view_of joint.old.client) (string_bytes text.old)) Cut (tape (view_of joint.new.client) (string_bytes text.new)))) }
 {

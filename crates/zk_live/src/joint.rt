@@ -1,12 +1,13 @@
 //! A client and the connection that it has: one input at a time.
 
-ghost use Rattle.std.specs.Prelude.{◌≡◌, ◌≢◌, ◌++◌, [], false, true, is_some, IfErr, OnOk};
+ghost use Rattle.std.specs.Prelude.{◌≡◌, ◌≢◌, ◌++◌, [], false, true, is_some, IfErr, IfOk, OnOk};
 ghost use Rattle.std.specs.List.{filter};
 ghost use Rattle.zk_turns.specs.Turns.{Cut};
 ghost use Rattle.zk_client.specs.Clients.{view_of};
 ghost use Rattle.zk_client.specs.Views.{input_view, said};
 ghost use Rattle.zk_script.specs.declared.stop.Stop.TheVariants.{Memory};
 ghost use Rattle.zk_link.specs.Written.{IsLeftOf};
+ghost use Rattle.zk_live.specs.Flowing.{flow_of, known_of, piece_in, Delivers, Exchanges, Flows};
 ghost use Rattle.zk_live.specs.Frames.{frames};
 ghost use Rattle.zk_live.specs.Trails.{bare_of, is_given, kept, trail_of, Fails, Hears, IsLoud};
 
@@ -59,6 +60,7 @@ impl<A: Allocator + Copy, S: Stream> Joint<A, S> {
     pub fn hold(&mut self, stream: S)
         ensures trail { bare_of self.new ≡ record (bare_of self.old) { is_open = true } }
         ensures unsent { self.new.unsent.items ≡ [] }
+        ensures flows { Flows (flow_of S.remaining S.contents self.old) (flow_of S.remaining S.contents self.new) }
     {
         self.unsent.clear();
         self.stream = Some(stream);
@@ -77,6 +79,9 @@ impl<A: Allocator + Copy, S: Stream> Joint<A, S> {
     fn exchange(&mut self, ms: u64) -> Result<Brought<A>, AllocError>
         ensures trail { bare_of self.new ≡ bare_of self.old }
         ensures unsent { IsLeftOf self.old.unsent.items self.new.unsent.items }
+        ensures whole { IfOk result (λ brought. Exchanges self.old.unsent.items self.new.unsent.items
+            (known_of S.remaining S.contents self.old.stream) (known_of S.remaining S.contents self.new.stream) (piece_in brought)) }
+        ensures apart { is_some self.old.stream ≡ false → IfOk result (λ brought. piece_in brought ≡ []) }
     {
         make_room(&mut self.room)?;
         let Some(stream) = &mut self.stream else {
@@ -98,6 +103,9 @@ impl<A: Allocator + Copy, S: Stream> Joint<A, S> {
     pub fn read(&mut self, ms: u64) -> Result<Brought<A>, AllocError>
         ensures trail { bare_of self.new ≡ bare_of self.old }
         ensures unsent { IsLeftOf self.old.unsent.items self.new.unsent.items }
+        ensures whole { IfOk result (λ brought. Exchanges self.old.unsent.items self.new.unsent.items
+            (known_of S.remaining S.contents self.old.stream) (known_of S.remaining S.contents self.new.stream) (piece_in brought)) }
+        ensures apart { is_some self.old.stream ≡ false → IfOk result (λ brought. piece_in brought ≡ []) }
     {
         let mut left = ms;
         for _ in 0..ms / PRESSED_WAIT {
@@ -118,6 +126,8 @@ impl<A: Allocator + Copy, S: Stream> Joint<A, S> {
         ensures client { self.new.client ≡ self.old.client }
         ensures stream { is_some self.new.stream ≡ is_some self.old.stream }
         ensures kept { is_some self.old.stream ≡ true → OnOk result (IsLeftOf (self.old.unsent.items ++ frames (said outputs.now)) self.new.unsent.items) }
+        ensures sends { is_some self.old.stream ≡ true → OnOk result (Exchanges (self.old.unsent.items ++ frames (said outputs.now)) self.new.unsent.items
+            (known_of S.remaining S.contents self.old.stream) (known_of S.remaining S.contents self.new.stream) []) }
     {
         match &mut self.stream {
             Some(stream) => {
@@ -132,6 +142,8 @@ impl<A: Allocator + Copy, S: Stream> Joint<A, S> {
     fn let_go(&mut self, outputs: &[Output<A>])
         ensures client { self.new.client ≡ self.old.client }
         ensures stream { is_some self.new.stream ≡ kept (said outputs.now) (is_some self.old.stream) }
+        ensures same { is_some self.new.stream ≡ true → self.new.stream ≡ self.old.stream }
+        ensures unsent { self.new.unsent ≡ self.old.unsent }
     {
         if has_end(outputs) {
             self.stream = None;
@@ -148,6 +160,8 @@ impl<A: Allocator + Copy, S: Stream> Joint<A, S> {
         ensures client { self.new.client ≡ self.old.client }
         ensures stream { is_some self.new.stream ≡ kept (said made.items) (is_some self.old.stream) }
         ensures given { OnOk result (said outputs.new.items ≡ said outputs.old.items ++ filter is_given (said made.items)) }
+        ensures sends { is_some self.new.stream ≡ true → OnOk result (Exchanges (self.old.unsent.items ++ frames (said made.items)) self.new.unsent.items
+            (known_of S.remaining S.contents self.old.stream) (known_of S.remaining S.contents self.new.stream) []) }
         ensures err { IfErr result (λ stop. (stop ≡ Memory) × (outputs.new.items ≡ outputs.old.items)) }
     {
         let written = self.write(made.as_slice());
@@ -170,6 +184,7 @@ impl<A: Allocator + Copy, S: Stream> Joint<A, S> {
     pub fn hear(&mut self, input: Input<A>, outputs: &mut Vec<Output<A>, A>) -> Result<bool, Stop>
         ensures ok { OnOk result (Hears (trail_of self.old outputs.old.items) (input_view input) (trail_of self.new outputs.new.items)) }
         ensures err { IfErr result (λ stop. Fails stop (trail_of self.old outputs.old.items) (trail_of self.new outputs.new.items)) }
+        ensures flows { OnOk result (Delivers (input_view input) (said outputs.old.items) (said outputs.new.items) (flow_of S.remaining S.contents self.old) (flow_of S.remaining S.contents self.new)) }
         ensures loud { IfErr result (λ stop. IsLoud stop (view_of self.old.client) (input_view input)) }
     {
         let Ok(made) = self.client.step(input) else {
@@ -182,6 +197,7 @@ impl<A: Allocator + Copy, S: Stream> Joint<A, S> {
     pub fn cut(&mut self, outputs: &mut Vec<Output<A>, A>) -> Result<(), Stop>
         ensures ok { OnOk result (Hears (record (trail_of self.old outputs.old.items) { is_open = false }) Cut (trail_of self.new outputs.new.items)) }
         ensures err { IfErr result (λ stop. Fails stop (trail_of self.old outputs.old.items) (trail_of self.new outputs.new.items)) }
+        ensures flows { OnOk result (Flows (flow_of S.remaining S.contents self.old) (flow_of S.remaining S.contents self.new)) }
         ensures loud { IfErr result (λ stop. IsLoud stop (view_of self.old.client) Cut) }
     {
         self.stream = None;

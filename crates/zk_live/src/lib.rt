@@ -9,6 +9,7 @@ mod first_line;
 mod give;
 mod heard;
 pub mod joint;
+pub mod laws;
 pub mod link;
 pub mod live;
 mod live_line;

@@ -1,11 +1,12 @@
 //! A client and the connection that it has.
 
-ghost use Rattle.std.specs.Prelude.{◌≡◌, ◌≤◌, [], ◌∷◌, true, false, IfErr, OnOk, string_bytes};
+ghost use Rattle.std.specs.Prelude.{◌≡◌, ◌≤◌, [], ◌∷◌, true, false, IfErr, IfOk, IsOk, OnOk, string_bytes};
 ghost use Rattle.zk_conversation.specs.Views.{call_view};
 ghost use Rattle.zk_client.specs.Clients.{view_of};
 ghost use Rattle.zk_client.specs.Views.{input_view};
 ghost use Rattle.zk_turns.specs.Turns.{Call, Cut, Opened};
 ghost use Rattle.zk_script.specs.Stops.{IfHalted, IsWant};
+ghost use Rattle.zk_live.specs.Flowing.{bytes_of, flow_of, holding, piece_bytes, piece_in, Flows};
 ghost use Rattle.zk_live.specs.Heard.{is_waiting, tape, Awaits, Brings, Connects, Halts, HaltsAmong, HaltsAwaiting, HaltsBrought, HaltsConnecting, Hears, MayEnd, Takes};
 
 use crate::heard::{cut, hear};
@@ -49,7 +50,9 @@ fn has_answer<A: Allocator>(outputs: &[Output<A>], asked: u64) -> bool {
 /// The piece that a connection has brought, and none where it has ended, or brought nothing in time.
 fn piece_of<A: Allocator>(
     brought: Result<Brought<A>, AllocError>,
-) -> Result<Option<Vec<u8, A>>, AllocError> {
+) -> Result<Option<Vec<u8, A>>, AllocError>
+    ensures { IfOk result (λ piece. IsOk brought × IfOk brought (λ b. piece_bytes piece ≡ piece_in b)) }
+{
     match brought? {
         Brought::Piece(bytes) => Ok(Some(bytes)),
         Brought::Nothing | Brought::End => Ok(None),
@@ -69,6 +72,7 @@ impl<A: Allocator + Copy, S: Stream> Link<A, S> {
     /// The connection ends.
     pub fn cut(&mut self, alloc: A, text: &mut String<A>) -> Result<(), Stop>
         ensures ok { OnOk result (Hears (tape (view_of self.old.joint.client) (string_bytes text.old)) Cut (tape (view_of self.new.joint.client) (string_bytes text.new))) }
+        ensures flows { OnOk result (Flows (flow_of S.remaining S.contents self.old.joint) (flow_of S.remaining S.contents self.new.joint)) }
         ensures err { IfErr result IsWant }
         ensures halt { IfErr result (IfHalted (Halts (tape (view_of self.old.joint.client) (string_bytes text.old)) Cut (tape (view_of self.new.joint.client) (string_bytes text.new)))) }
     {
@@ -78,6 +82,7 @@ impl<A: Allocator + Copy, S: Stream> Link<A, S> {
     /// Ends the connection, where it is over.
     fn end_if(&mut self, is_over: bool, alloc: A, text: &mut String<A>) -> Result<(), Stop>
         ensures ok { OnOk result (MayEnd (tape (view_of self.old.joint.client) (string_bytes text.old)) (tape (view_of self.new.joint.client) (string_bytes text.new))) }
+        ensures flows { OnOk result (Flows (flow_of S.remaining S.contents self.old.joint) (flow_of S.remaining S.contents self.new.joint)) }
         ensures err { IfErr result IsWant }
         ensures halt { IfErr result (IfHalted (Halts (tape (view_of self.old.joint.client) (string_bytes text.old)) Cut (tape (view_of self.new.joint.client) (string_bytes text.new)))) }
     {
@@ -96,6 +101,7 @@ impl<A: Allocator + Copy, S: Stream> Link<A, S> {
         text: &mut String<A>,
     ) -> Result<Vec<Output<A>, A>, Stop>
         ensures ok { OnOk result (Takes (tape (view_of self.old.joint.client) (string_bytes text.old)) (input_view input) (tape (view_of self.new.joint.client) (string_bytes text.new))) }
+        ensures flows { OnOk result (Flows (holding (bytes_of (input_view input)) (flow_of S.remaining S.contents self.old.joint)) (flow_of S.remaining S.contents self.new.joint)) }
         ensures err { IfErr result IsWant }
         ensures halt { IfErr result (IfHalted (HaltsAmong (tape (view_of self.old.joint.client) (string_bytes text.old)) (input_view input ∷ Cut ∷ []) (tape (view_of self.new.joint.client) (string_bytes text.new)))) }
     {
@@ -125,7 +131,8 @@ impl<A: Allocator + Copy, S: Stream> Link<A, S> {
 
     /// The next piece of the connection, and none where it has ended, or brings nothing in time.
     fn next_piece(&mut self) -> Result<Option<Vec<u8, A>>, AllocError>
-        ensures { view_of self.new.joint.client ≡ view_of self.old.joint.client }
+        ensures view { view_of self.new.joint.client ≡ view_of self.old.joint.client }
+        ensures flows { IfOk result (λ piece. Flows (flow_of S.remaining S.contents self.old.joint) (holding (piece_bytes piece) (flow_of S.remaining S.contents self.new.joint))) }
     {
         let wait = self.longest_wait();
         let brought = self.joint.read(wait);
@@ -135,6 +142,7 @@ impl<A: Allocator + Copy, S: Stream> Link<A, S> {
     /// Hands the client what the connection brings next. One that brings nothing in time ends.
     fn bring(&mut self, alloc: A, text: &mut String<A>) -> Result<Vec<Output<A>, A>, Stop>
         ensures ok { OnOk result (Brings (tape (view_of self.old.joint.client) (string_bytes text.old)) (tape (view_of self.new.joint.client) (string_bytes text.new))) }
+        ensures flows { OnOk result (Flows (flow_of S.remaining S.contents self.old.joint) (flow_of S.remaining S.contents self.new.joint)) }
         ensures err { IfErr result IsWant }
         ensures halt { IfErr result (IfHalted (HaltsBrought (tape (view_of self.old.joint.client) (string_bytes text.old)) (tape (view_of self.new.joint.client) (string_bytes text.new)))) }
     {
@@ -162,6 +170,7 @@ impl<A: Allocator + Copy, S: Stream> Link<A, S> {
     fn settle(&mut self, alloc: A, text: &mut String<A>) -> Result<(), Stop>
         ensures ok { OnOk result (Brings (tape (view_of self.old.joint.client) (string_bytes text.old)) (tape (view_of self.new.joint.client) (string_bytes text.new))) }
         ensures settled { OnOk result (is_waiting (view_of self.new.joint.client).standing.state ≡ false) }
+        ensures flows { OnOk result (Flows (flow_of S.remaining S.contents self.old.joint) (flow_of S.remaining S.contents self.new.joint)) }
         ensures err { IfErr result IsWant }
         ensures halt { IfErr result (IfHalted (HaltsBrought (tape (view_of self.old.joint.client) (string_bytes text.old)) (tape (view_of self.new.joint.client) (string_bytes text.new)))) }
     {
@@ -188,6 +197,7 @@ impl<A: Allocator + Copy, S: Stream> Link<A, S> {
         text: &mut String<A>,
     ) -> Result<(), Stop>
         ensures ok { OnOk result (Brings (tape (view_of self.old.joint.client) (string_bytes text.old)) (tape (view_of self.new.joint.client) (string_bytes text.new))) }
+        ensures flows { OnOk result (Flows (flow_of S.remaining S.contents self.old.joint) (flow_of S.remaining S.contents self.new.joint)) }
         ensures err { IfErr result IsWant }
         ensures halt { IfErr result (IfHalted (HaltsBrought (tape (view_of self.old.joint.client) (string_bytes text.old)) (tape (view_of self.new.joint.client) (string_bytes text.new)))) }
     {
@@ -208,6 +218,7 @@ impl<A: Allocator + Copy, S: Stream> Link<A, S> {
     /// Asks the server, and waits for its answer.
     pub fn ask(&mut self, alloc: A, asked: Asked<A>, text: &mut String<A>) -> Result<(), Stop>
         ensures ok { OnOk result (Awaits (tape (view_of self.old.joint.client) (string_bytes text.old)) (Call asked.ticket (call_view asked.call)) (tape (view_of self.new.joint.client) (string_bytes text.new))) }
+        ensures flows { OnOk result (Flows (flow_of S.remaining S.contents self.old.joint) (flow_of S.remaining S.contents self.new.joint)) }
         ensures err { IfErr result IsWant }
         ensures halt { IfErr result (IfHalted (HaltsAwaiting (tape (view_of self.old.joint.client) (string_bytes text.old)) (Call asked.ticket (call_view asked.call)) (tape (view_of self.new.joint.client) (string_bytes text.new)))) }
     {
@@ -227,6 +238,7 @@ impl<A: Allocator + Copy, S: Stream> Link<A, S> {
         text: &mut String<A>,
     ) -> Result<(), Stop>
         ensures ok { OnOk result (Connects (tape (view_of self.old.joint.client) (string_bytes text.old)) (tape (view_of self.new.joint.client) (string_bytes text.new))) }
+        ensures flows { OnOk result (Flows (flow_of S.remaining S.contents self.old.joint) (flow_of S.remaining S.contents self.new.joint)) }
         ensures err { IfErr result IsWant }
         ensures halt { IfErr result (IfHalted (HaltsConnecting (tape (view_of self.old.joint.client) (string_bytes text.old)) (tape (view_of self.new.joint.client) (string_bytes text.new)))) }
     {

@@ -1,14 +1,16 @@
 //! How what goes to the server is written: what a connection does not take at once is kept.
 
-ghost use Rattle.std.specs.Prelude.{◌≡◌, ◌≤◌, ◌++◌, length, drop, vec_len, OnOk, IfSome};
+ghost use Rattle.std.specs.Prelude.{◌≡◌, ◌≤◌, ◌++◌, length, drop, take, unwrap_or, vec_len, OnOk, IfSome};
+ghost use Rattle.std.specs.Io.KnownBytes.{Appends, Keeps};
 ghost use Rattle.zk_client.specs.Views.{output_view, said};
 ghost use Rattle.zk_link.specs.Written.{IsLeftOf};
+ghost use Rattle.zk_live.specs.Flowing.{Sends};
 ghost use Rattle.zk_live.specs.Frames.{frame_in, frames};
 
 use crate::bring::is_late;
 use std::alloc::{AllocError, Allocator};
-use std::io::Write;
 use zk_client::Output;
+use zk_link::Stream;
 
 /// The most bytes that one write is asked to take.
 const PIECE: usize = 262_144;
@@ -40,10 +42,12 @@ pub(crate) fn queue<A: Allocator>(
 }
 
 /// How many bytes a connection takes in one write: none for now where it can't take one, and nothing where it has failed.
-fn write_some<S: Write>(stream: &mut S, bytes: &[u8]) -> Option<usize>
-    ensures { IfSome result (λ count. count ≤ length bytes.now) }
+fn write_some<S: Stream>(stream: &mut S, bytes: &[u8]) -> Option<usize>
+    ensures most { IfSome result (λ count. count ≤ length bytes.now) }
+    ensures takes { Appends (S.contents stream.old) (S.contents stream.new) (take (unwrap_or result 0) bytes.now) }
+    ensures left { Keeps (S.remaining stream.old) (S.remaining stream.new) }
 {
-    match stream.write(bytes) {
+    match stream.give(bytes) {
         Ok(0) => None,
         Ok(count) => Some(count.min(bytes.len())),
         Err(fault) if is_late(fault.kind()) => Some(0),
@@ -62,8 +66,10 @@ fn forget_front<A: Allocator>(unsent: &mut Vec<u8, A>, count: usize)
 }
 
 /// Writes of what is left as much as the connection takes for now, in order. Whether the connection has not failed.
-pub(crate) fn send<A: Allocator, S: Write>(stream: &mut S, unsent: &mut Vec<u8, A>) -> bool
-    ensures { IsLeftOf unsent.old.items unsent.new.items }
+pub(crate) fn send<A: Allocator, S: Stream>(stream: &mut S, unsent: &mut Vec<u8, A>) -> bool
+    ensures left { IsLeftOf unsent.old.items unsent.new.items }
+    ensures sends { Sends unsent.old.items unsent.new.items (S.contents stream.old) (S.contents stream.new) }
+    ensures gives { Keeps (S.remaining stream.old) (S.remaining stream.new) }
 {
     for _ in 0..WRITES {
         let piece = unsent.len().min(PIECE);

@@ -25,10 +25,10 @@ use Rattle.zk_agent.specs.declared.input.Input.TheVariants as happens
 use Rattle.zk_agent.specs.Telling.{Told}
 use Rattle.zk_agent.specs.Agents.{bytes_at, given_of, opened_at, trail_of, Ended, Hears, HungUp, Move, Opened, Trail}
 use Rattle.zk_driver.specs.Driving.{closed, opened, ChannelView, Course, Looked, Noted, Takes, Written}
-use Rattle.zk_driver.specs.Flowing.{Asked, Carries, Deed, Exchanges, Flow, Flows, Made}
+use Rattle.zk_driver.specs.Flowing.{Asked, Carries, Deed, Exchanges, Flow, Made, Passes}
 use Rattle.zk_served.specs.Asking.{DeedFits, StepsFit, MovesFit}
 use Rattle.zk_served.specs.Acts.{given_in, taken_in}
-use Rattle.zk_served.specs.Worlds.{Befalls, ByDriver, ByStream, Meanwhile, Meets, Passes, Runs}
+use Rattle.zk_served.specs.Worlds.{Befalls, ByDriver, ByStream, Meanwhile, Meets}
 use Rattle.zk_served.specs.Serving.{Begins, MeetsServers}
 use Rattle.zk_served.proofs.Turned.{kept_down, let_go, Kept}
 use Rattle.zk_served.proofs.Heard.{left_by}
@@ -312,25 +312,6 @@ meets_driver [] old new same before after meets = meets
 meets_driver (Some deed ∷ steps) old new passes before after meets =
     (meets.0, befalls_driver deed old passes.0 before meets.0 passes.1 meets.1, meets_driver steps passes.0 new passes.2 meets.0 after meets.2)
 meets_driver (None ∷ steps) old new passes before after meets = meets_driver steps passes.0 new passes.2 before after meets
-
--- ---- calls, one after the other
-
-passes_of : {A : Type 0} (deeds : List (Deed A)) (old new : Flow A) → FoldsTo Carries old deeds new → FoldsTo Passes old (map Some deeds) new
-passes_of [] old new same = same
-passes_of (deed ∷ deeds) old new carries = (carries.0, carries.1, passes_of deeds carries.0 new carries.2)
-
-pub calls_run : {A : Type 0} (old new : Flow A) → Flows old new → Runs old new
-calls_run old new flows = record { steps = map Some flows.deeds; passes = passes_of flows.deeds old new flows.carries }
-
-pub taking_runs : {A : Type 0} (old : Flow A) (told : List Told) → Runs old (record old { course = record old.course { told = told } })
-taking_runs old told = record { steps = None ∷ []; passes = (record old { course = record old.course { told = told } }, refl, refl) }
-
-passes_on : {A : Type 0} (steps more : List (Option (Deed A))) (old between new : Flow A) → FoldsTo Passes old steps between → FoldsTo Passes between more new → FoldsTo Passes old (steps ++ more) new
-passes_on [] more old between new same rest = subst (λ f. FoldsTo Passes f more new) (sym same) rest
-passes_on (step ∷ steps) more old between new passes rest = (passes.0, passes.1, passes_on steps more passes.0 between new passes.2 rest)
-
-pub runs_join : {A : Type 0} (old between new : Flow A) → Runs old between → Runs between new → Runs old new
-runs_join old between new first rest = record { steps = first.steps ++ rest.steps; passes = passes_on first.steps rest.steps old between new first.passes rest.passes }
 
 -- ---- in the end
 

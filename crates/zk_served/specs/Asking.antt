@@ -8,8 +8,7 @@ use Rattle.zk_serving.specs.Wires.{IsPathCall}
 use Rattle.zk_agent.specs.Agents.{Closes, Decides, Does, GivesUp, Hands, Hears, HearsSo, LeavesWhere, Move, Renews, Tires, Trail}
 use Rattle.zk_agent.specs.Agents as agents
 use Rattle.zk_driver.specs.Driving.{Noted}
-use Rattle.zk_driver.specs.Flowing.{Asked, Carries, Deed, Flow, Made}
-use Rattle.zk_served.specs.Worlds.{Passes}
+use Rattle.zk_driver.specs.Flowing.{Asked, Carries, Deed, Flow, Made, Passes}
 
 abbrev pub IsFitInput : Input → Type 0
 IsFitInput input = AsksOf IsTyped input × AsksOf IsPathCall input

@@ -8,9 +8,9 @@ use Rattle.zk_client.specs.Clients.{view_of}
 use Rattle.zk_laws.specs.Headline.{IsCoherentWith}
 use Rattle.zk_serving.specs.Shown.{Shown}
 use Rattle.zk_conclusions.specs.Seen.{IsServedFrom}
-use Rattle.zk_driver.specs.Flowing.{Flow}
+use Rattle.zk_driver.specs.Flowing.{Flow, Runs}
 use Rattle.zk_served.specs.Asking.{StepsFit}
-use Rattle.zk_served.specs.Worlds.{ByDriver, ByStream, Meets, Runs}
+use Rattle.zk_served.specs.Worlds.{ByDriver, ByStream, Meets}
 
 -- A driver begins: no connection is there, and its client has gone through nothing. The session to begin with is in range, and so are the later
 -- ones, which ask for a timeout above 0.

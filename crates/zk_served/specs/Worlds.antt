@@ -4,9 +4,8 @@ use Rattle.std.specs.List.{FoldsTo}
 use Rattle.zk_serving.specs.GoingOn.{GoesOn}
 use Rattle.zk_serving.specs.Shown.{connected, Shown}
 use Rattle.zk_agent.specs.declared.input.Input.TheVariants as happens
-use Rattle.zk_agent.specs.Telling.{Told}
 use Rattle.zk_driver.specs.Driving.{Looked, Noted, Written}
-use Rattle.zk_driver.specs.Flowing.{Carries, Deed, Flow, Flows, Made}
+use Rattle.zk_driver.specs.Flowing.{Deed, Flow, Made, Passes}
 use Rattle.zk_served.specs.Acts.{given_in, taken_in, Act, Happens}
 
 -- ---- which bytes these are
@@ -26,26 +25,6 @@ pub record ByDriver {A : Type 0} (took gave : List ℕ) (old new : Flow A) : Typ
   pub read : new.held ≡ old.held ++ gave
 
 -- ---- beside what a driver does
-
--- A driver does something; or its program takes of what it is told.
-abbrev pub Passes : {A : Type 0} → Flow A → Option (Deed A) → Flow A → Type 0
-Passes old (Some deed) new = Carries old deed new
-Passes old None new = new ≡ record old { course = record old.course { told = new.course.told } }
-
--- some of that, the oldest first
-pub record Runs {A : Type 0} (old new : Flow A) : Type 0 where
-  pub steps : List (Option (Deed A))
-  pub passes : FoldsTo Passes old steps new
-
--- So is a call of a driver, that the program takes of what it is told, and one after the other.
-abbrev pub CallsRun : Type 0 → Type 0
-CallsRun A = (old new : Flow A) → Flows old new → Runs old new
-
-abbrev pub TakingRuns : Type 0 → Type 0
-TakingRuns A = (old : Flow A) (told : List Told) → Runs old (record old { course = record old.course { told = told } })
-
-abbrev pub RunsJoin : Type 0 → Type 0
-RunsJoin A = (old between new : Flow A) → Runs old between → Runs between new → Runs old new
 
 module _ {A : Type 0} (By : List ℕ → List ℕ → Flow A → Flow A → Type 0) where
   -- While a connection is there, what befalls it are acts with these bytes; without one the history may go on.

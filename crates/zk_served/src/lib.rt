@@ -4,7 +4,6 @@
 
 ghost use Rattle.zk_served.specs.Benches.{BenchAdvances, BenchEnds, BenchGives, BenchProcesses, BenchTakes};
 ghost use Rattle.zk_served.specs.Serving.{BytesServe, StreamsCohere, StreamsServe};
-ghost use Rattle.zk_served.specs.Worlds.{CallsRun, RunsJoin, TakingRuns};
 
 use std::alloc::Allocator;
 
@@ -22,14 +21,6 @@ pub fn streams_cohere<A: Allocator>()
 /// The same by what the driver wrote and read, over any streams.
 pub fn bytes_serve<A: Allocator>()
     ensures { BytesServe A }
-{}
-
-/// What a driver does over any list of calls that succeed is a run (`Runs`): each call is one, by its clause `flows`, so is that the program takes
-/// an action, and one after the other is one.
-pub fn calls_run<A: Allocator>()
-    ensures calls { CallsRun A }
-    ensures taking { TakingRuns A }
-    ensures join { RunsJoin A }
 {}
 
 /// What befalls a connection is what servers in memory do, by the clauses of `zk_bench::Bench`: bytes come to the connected server, the first

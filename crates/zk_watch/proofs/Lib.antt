@@ -7,3 +7,4 @@ mod Printing
 mod Showing
 mod Telling
 mod Tending
+mod Running

@@ -12,6 +12,8 @@ use Rattle.zk_driver.specs.declared.engine.Engine.{Engine}
 use Rattle.zk_driver.specs.declared.turn.Turn.{Turn}
 use Rattle.zk_agent.specs.declared.input.Input.TheVariants as happens
 use Rattle.zk_driver.specs.Driving.{course_of, Hands}
+use Rattle.zk_driver.specs.Flowing.{flow_of, Flows}
+use Rattle.zk_driver.proofs.Running.{calls_run, next_runs}
 use Rattle.zk_driver.specs.Noting.{is_come, notes_of, passed_in, GoesBy}
 use Rattle.zk_watch.specs.declared.shown.Watched.{Watched}
 use Rattle.zk_nodes.specs.Path.{Text}
@@ -103,12 +105,14 @@ pub follows_more : {A : Type 0} (subjects : List (Subject A)) (index : ℕ) (sub
 follows_more {A} subjects index subject first here new within is follows next =
     mapped_next (λ at aim after. FollowsSo false aim at after) aim_of subjects index subject first here new within is follows next
 
-pub ok_follows : {A S X E : Type 0} (result : Result X E) (is_found : Bool) (aim : Side × Text) (first last : Engine A S) (olds news : List (Watched A)) (one : Watched A) (is_accepted : Bool) (style : Style)
+pub ok_follows : {A S X E : Type 0} (remaining contents : S → Option (List ℕ)) (result : Result X E) (is_found : Bool) (aim : Side × Text) (first last : Engine A S) (olds news : List (Watched A)) (one : Watched A) (is_accepted : Bool) (style : Style)
     (trees : Trees A) (next : ℕ) → aim_of one.subject ≡ aim → string_bytes one.words ≡ none_words aim.0 → one.ticket ≡ trees.ticket → one.is_found ≡ is_found → news ≡ olds ++ one ∷ []
     → next ≡ trees.ticket + 1 → OnOk result (Hands (happens.Follow trees.ticket aim.0 aim.1) (course_of first None) (course_of last None))
-    → OnOk result (FollowsSo is_found aim (stand_of first olds is_accepted style trees) (stand_of last news is_accepted style (record trees { ticket = next })))
-ok_follows {A} (Ok x) is_found aim first last olds news one is_accepted style trees next is words ticket part more after hands = record {
+    → OnOk result (Flows (flow_of remaining contents first None) (flow_of remaining contents last None))
+    → OnOk result (FollowsSo is_found aim (stand_of remaining contents first olds is_accepted style trees) (stand_of remaining contents last news is_accepted style (record trees { ticket = next })))
+ok_follows {A} remaining contents (Ok x) is_found aim first last olds news one is_accepted style trees next is words ticket part more after hands flows = record {
   hands = hands;
+  runs = calls_run (flow_of remaining contents first None) (flow_of remaining contents last None) flows;
   one = one;
   its_aim = is;
   its_words = words;
@@ -119,20 +123,21 @@ ok_follows {A} (Ok x) is_found aim first last olds news one is_accepted style tr
   style = refl;
   growth = ap (λ n. record (growth_of trees) { ticket = n }) after;
 }
-ok_follows (Err e) is_found aim first last olds news one is_accepted style trees next is words ticket part more after hands = tt
+ok_follows remaining contents (Err e) is_found aim first last olds news one is_accepted style trees next is words ticket part more after hands flows = tt
 
 -- ---- one turn, heard
 
 -- what a driver has come to, with what it hands on
-pub heard_so : {A S : Type 0} (until : ℕ) (is_over : Bool) (turn : Turn A) (first between last : Engine A S) (olds news : List (Watched A)) (was is : Bool) (style : Style) (trees : Trees A) (text : List ℕ) → last ≡ between
+pub heard_so : {A S : Type 0} (remaining contents : S → Option (List ℕ)) (until : ℕ) (is_over : Bool) (turn : Turn A) (first between last : Engine A S) (olds news : List (Watched A)) (was is : Bool) (style : Style) (trees : Trees A) (text : List ℕ) → last ≡ between
     → GoesBy (notes_of turn) (course_of first None) (course_of between (passed_in turn))
+    → Flows (flow_of remaining contents first None) (flow_of remaining contents between (passed_in turn))
     → TellsTurn style turn (view_of between.agent.asker.follower.client) (told_by between.waiting.items) olds news text → is ≡ (was || accepts turn) → is_over ≡ is_come turn
     → (is_come turn ≡ true → until ≤ between.agent.latest) → (is_come turn ≡ true → between.waiting.items ≡ [])
-    → Heard until is_over (stand_of first olds was style trees) text (stand_of last news is style trees)
-heard_so {A} {S} until is_over turn first between last olds news was is style trees text same goes tells accepted over comes waits =
-    subst (λ (e : Engine A S). Heard until is_over (stand_of first olds was style trees) text (stand_of e news is style trees)) (sym same) (record {
+    → Heard until is_over (stand_of remaining contents first olds was style trees) text (stand_of remaining contents last news is style trees)
+heard_so {A} {S} remaining contents until is_over turn first between last olds news was is style trees text same goes flows tells accepted over comes waits =
+    subst (λ (e : Engine A S). Heard until is_over (stand_of remaining contents first olds was style trees) text (stand_of remaining contents e news is style trees)) (sym same) (record {
       turn = turn;
-      turns = record { goes = goes; tells = tells; accepted = accepted; style = refl; growth = refl };
+      turns = record { goes = goes; runs = next_runs remaining contents (flow_of remaining contents first None) between (passed_in turn) flows; tells = tells; accepted = accepted; style = refl; growth = refl };
       over = over;
       comes = λ is_so. (comes (sym over ∙ is_so), ap told_by (waits (sym over ∙ is_so)));
     })

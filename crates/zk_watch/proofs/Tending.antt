@@ -1,6 +1,6 @@
 -- What becomes of trees after a turn: nothing where something waits to be told or the watch is over, and else what is gone is let go and each tree
 -- is taken on.
-use Rattle.std.proofs.Common.{◌≡◌, ◌≢◌, ◌∙◌, ℕ, Bool, true, false, List, [], refl, sym, subst, ap}
+use Rattle.std.proofs.Common.{◌≡◌, ◌≢◌, ◌∙◌, ℕ, Bool, true, false, List, [], Option, refl, sym, subst, ap}
 use Rattle.std.specs.Prelude.{Result, Ok, Err, IfOk, OnOk}
 use Rattle.zk_agent.specs.declared.action.Action.{Action}
 use Rattle.zk_agent.specs.Telling.{told_by}
@@ -54,9 +54,9 @@ ok_tends (Ok text) bytes is_over old new waits are on none tends = record {
 ok_tends (Err e) bytes is_over old new waits are on none tends = tt
 
 -- a watch that is as it was
-pub same_stand : {A S : Type 0} (engine other : Engine A S) (watched others : List (Watched A)) (is was : Bool) (style once : Style) (trees before : Trees A) → engine ≡ other → watched ≡ others
-    → is ≡ was → style ≡ once → trees ≡ before → stand_of engine watched is style trees ≡ stand_of other others was once before
-same_stand engine other watched others is was style once trees before e w a s t = cc
+pub same_stand : {A S : Type 0} (remaining contents : S → Option (List ℕ)) (engine other : Engine A S) (watched others : List (Watched A)) (is was : Bool) (style once : Style) (trees before : Trees A) → engine ≡ other → watched ≡ others
+    → is ≡ was → style ≡ once → trees ≡ before → stand_of remaining contents engine watched is style trees ≡ stand_of remaining contents other others was once before
+same_stand remaining contents engine other watched others is was style once trees before e w a s t = cc
 
 pub ok_grows : {A X E : Type 0} (result : Result X E) (wants : Wants) (old new : Stand A) → AreWanted (view_in old) old.growth.most old.growth.roots wants
     → OnOk result (TakesAllOn wants old new) → OnOk result (Grows old new)

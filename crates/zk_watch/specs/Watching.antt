@@ -14,6 +14,7 @@ use Rattle.zk_agent.specs.Telling.{Told, Says, action_view}
 use Rattle.zk_agent.specs.declared.input.Input.TheVariants as happens
 use Rattle.zk_driver.specs.declared.engine.Engine.{Engine}
 use Rattle.zk_driver.specs.Driving.{closed, course_of, passed_by, AreFollowed, Course, Hands}
+use Rattle.zk_driver.specs.Flowing.{known_of, Flow, Known, Runs}
 use Rattle.zk_driver.specs.Noting.{is_come, notes_of, passed_in, GoesBy}
 use Rattle.zk_driver.specs.declared.turn.Turn.{Turn}
 use Rattle.zk_driver.specs.declared.turn.Turn.TheVariants as turn
@@ -54,21 +55,32 @@ ShowsAll style ms view olds news text = ⊥
 
 -- ---- how far a watch has come
 
--- The agent and its connection, with what it has told that was not taken yet; the subjects with what was printed of each last; whether a
+-- The agent and its connection, with what it has told that was not taken yet; what the stream of the connection knows; the subjects with what was printed of each last; whether a
 -- server has accepted a session; how it is printed; and how far its trees are known.
 pub record Stand (A : Type 0) : Type 0 where
   pub course : Course A
+  pub known : Known
   pub watched : List (Watched A)
   pub is_accepted : Bool
   pub style : Style
   pub growth : Growth
 
-abbrev pub stand_of : {A S : Type 0} → Engine A S → List (Watched A) → (is_accepted : Bool) → Style → Trees A → Stand A
-stand_of engine watched is_accepted style trees =
-    record { course = course_of engine None; watched = watched; is_accepted = is_accepted; style = style; growth = growth_of trees }
+abbrev pub stand_of : {A S : Type 0} → (remaining contents : S → Option (List ℕ)) → Engine A S → List (Watched A) → (is_accepted : Bool) → Style → Trees A → Stand A
+stand_of remaining contents engine watched is_accepted style trees = record {
+  course = course_of engine None;
+  known = known_of remaining contents engine.channel.stream;
+  watched = watched;
+  is_accepted = is_accepted;
+  style = style;
+  growth = growth_of trees;
+}
 
 abbrev pub view_in : {A : Type 0} → Stand A → View
 view_in stand = view_of stand.course.agent.asker.follower.client
+
+-- how far the driver has come, what its stream knows, and nothing that was read and is not handed in
+abbrev pub flow_in : {A : Type 0} → Stand A → Flow A
+flow_in stand = record { course = stand.course; known = stand.known; held = [] }
 
 -- that a server has accepted a session
 abbrev pub accepts_by : Told → Bool
@@ -100,9 +112,10 @@ pub record TellsTurn {A : Type 0} (style : Style) (turn : Turn A) (view : View) 
   pub rests : waits ≢ [] → (new ≡ old) × (shown ≡ [])
   pub are : text ≡ turn_line style ms old at view turn ++ shown
 
--- One turn of the driver, and what is printed of it. What waits to be told is neither lost nor told twice.
+-- One turn of the driver, and what is printed of it. What waits to be told is neither lost nor told twice. Byte by byte it is a run.
 pub record Turns {A : Type 0} (turn : Turn A) (old : Stand A) (text : List ℕ) (new : Stand A) : Type 0 where
   pub goes : GoesBy (notes_of turn) old.course (record new.course { told = passed_by (passed_in turn) ++ new.course.told })
+  pub runs : Runs (flow_in old) (flow_in new)
   pub tells : TellsTurn old.style turn (view_in new) new.course.told old.watched new.watched text
   pub accepted : new.is_accepted ≡ (old.is_accepted || accepts turn)
   pub style : new.style ≡ old.style
@@ -111,6 +124,7 @@ pub record Turns {A : Type 0} (turn : Turn A) (old : Stand A) (text : List ℕ) 
 -- A subject is followed, by the next ticket: as if nothing were kept of it and that were printed.
 pub record FollowsSo {A : Type 0} (is_found : Bool) (aim : Side × Text) (old new : Stand A) : Type 0 where
   pub hands : Hands (happens.Follow old.growth.ticket aim.0 aim.1) old.course new.course
+  pub runs : Runs (flow_in old) (flow_in new)
   pub one : Watched A
   pub its_aim : aim_of one.subject ≡ aim
   pub its_words : string_bytes one.words ≡ none_words aim.0
@@ -130,7 +144,8 @@ FollowsAll aims old new = FoldsTo (λ at aim after. FollowsSo false aim at after
 -- The subject of this ticket is followed no more.
 pub record LetsGo {A : Type 0} (ticket : ℕ) (old new : Stand A) : Type 0 where
   pub hands : Hands (happens.Unfollow ticket) old.course new.course
-  pub same : new ≡ record old { course = new.course }
+  pub runs : Runs (flow_in old) (flow_in new)
+  pub same : new ≡ record old { course = new.course; known = new.known }
 
 -- What is gone is watched no more: each node that was found below a root and of which it is kept and good that there is none. All others stay, in
 -- their order.
@@ -204,7 +219,7 @@ text_of (Closes until) = []
 abbrev pub Does : {A : Type 0} → Stand A → Move A → Stand A → Type 0
 Does old (Takes turn text) new = Rounds turn old text new
 Does old (Closes until) new =
-    Hands (happens.Call 0 call.Close (Some until)) old.course new.course × (new.watched ≡ old.watched) × (new.is_accepted ≡ old.is_accepted)
+    Hands (happens.Call 0 call.Close (Some until)) old.course new.course × Runs (flow_in old) (flow_in new) × (new.watched ≡ old.watched) × (new.is_accepted ≡ old.is_accepted)
     × (new.style ≡ old.style) × (new.growth ≡ record old.growth { roots = [] })
 
 -- Some moves print this.
@@ -308,3 +323,12 @@ abbrev pub IsWatched : (A : Type 0) → Style → List (Side × Text) → (roots
 IsWatched A style aims roots most for_ms text is_accepted =
     (first : Stand A) × IsBegun style roots most first × (from : EndsFrom (aims ++ roots_aims roots) for_ms first text is_accepted)
     × IsStood from.ready from.over.told from.over.over from.over.prints × IsStood from.over.over from.over.rest from.last from.over.closes
+
+-- ---- what follows byte by byte
+
+-- A watch is a run of its driver, through all that it prints and follows.
+abbrev pub WatchesRun : Type 0 → Type 0
+WatchesRun A = (old new : Stand A) (text : List ℕ) → Prints old text new → Runs (flow_in old) (flow_in new)
+
+abbrev pub FollowsRun : Type 0 → Type 0
+FollowsRun A = (aims : List (Side × Text)) (old new : Stand A) → FollowsAll aims old new → Runs (flow_in old) (flow_in new)

@@ -8,6 +8,7 @@
 mod bound;
 mod end;
 mod kept_object;
+pub mod laws;
 mod looks;
 mod object;
 mod plan;

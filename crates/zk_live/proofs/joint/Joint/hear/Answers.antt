@@ -1,4 +1,4 @@
-use Rattle.std.proofs.Common.{◌≡◌, ◌++◌, ap, subst, sym}
+use Rattle.std.proofs.Common.{◌≡◌, ◌++◌, ap, refl, subst, sym}
 use Rattle.std.specs.List.{filter}
 use Rattle.zk_turns.specs.Turns.{Turn}
 use Rattle.zk_turns.specs.Rule.{Rule}
@@ -8,6 +8,8 @@ use Rattle.zk_script.specs.declared.stop.Stop.{Stop}
 use Rattle.zk_script.specs.declared.stop.Stop.TheVariants.{Memory}
 use Rattle.zk_live.specs.Trails.{is_given, trail_of, Fails, Hears, IsLoud}
 use Rattle.zk_live.proofs.TrailLemmas.{if_err, lost_turn, on_ok}
+use Rattle.zk_live.specs.Flowing.{flow_of}
+use Rattle.zk_live.proofs.Flowed.{delivered}
 use Rattle.zk_live.proofs.joint.Joint.hear.Goals as goal
 
 pub returns-clause-ok : goal.returns-clause-ok
@@ -36,3 +38,13 @@ returns-clause-loud g c =
     if_err (λ stop. (stop ≡ Memory) × (c.deliver.new.outputs.items ≡ c.args.outputs.now.items)) (λ stop. IsLoud stop view input) c.deliver.result
     (λ (stop : Stop) (h : (stop ≡ Memory) × (c.deliver.new.outputs.items ≡ c.args.outputs.now.items)). subst (λ (s : Stop). IsLoud s view input) (sym h.0) tt)
     c.deliver.ensures.err
+
+pub returns-clause-flows : goal.returns-clause-flows
+returns-clause-flows g c =
+    let know = flow_of g.S.Read.remaining g.S.Write.contents in
+    let old = know c.args.self.now in
+    let new = know c.deliver.new.self in
+    let made = said c.in-Ok.made.items in
+    let rule : Rule old.view (record { input = input_view c.args.input; outputs = made }) new.view = rw c.deliver.ensures.client c.in-Ok.ensures.rule in
+    delivered c.deliver.result (input_view c.args.input) (said c.args.outputs.now.items) (said c.deliver.new.outputs.items) made old new rule c.deliver.ensures.stream refl
+    c.deliver.ensures.given c.deliver.ensures.sends

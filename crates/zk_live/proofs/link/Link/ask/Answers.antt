@@ -5,6 +5,7 @@ use Rattle.zk_turns.specs.Turns.{Call}
 use Rattle.zk_client.specs.Clients.{view_of}
 use Rattle.zk_live.specs.Heard.{tape}
 use Rattle.zk_live.proofs.HeardLemmas.{asks, halts_asked, halts_awaiting}
+use Rattle.zk_live.proofs.Flowed.{flow_after}
 use Rattle.zk_live.proofs.link.Link.ask.Goals as goal
 
 pub returns-clause-ok : goal.returns-clause-ok
@@ -30,3 +31,6 @@ returns-in_err-wait-clause-halt g c =
     (tape (view_of new.self.joint.client) (string_bytes new.text)) (Call c.args.asked.ticket (call_view c.args.asked.call)) c.in_err-wait.field-0.0
     c.in_ok-outputs.ensures.ok c.in_err-wait.ensures.halt in
     search rules
+
+pub returns-clause-flows : goal.returns-clause-flows
+returns-clause-flows g c = flow_after _ _ _ c.in_ok-outputs.ensures.flows c.in_ok-wait.ensures.flows

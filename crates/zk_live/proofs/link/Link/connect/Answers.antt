@@ -7,6 +7,7 @@ use Rattle.zk_live.specs.Trails.{Trail}
 use Rattle.zk_script.specs.Stops.{IfHalted}
 use Rattle.zk_live.specs.Heard.{tape, HaltsAmong, Takes}
 use Rattle.zk_live.proofs.HeardLemmas.{connects, halts_opened, halts_settling}
+use Rattle.zk_live.proofs.Flowed.{flow_after}
 use Rattle.zk_live.proofs.link.Link.connect.Goals as goal
 
 pub returns-clause-ok : goal.returns-clause-ok
@@ -44,3 +45,7 @@ returns-in_err-settle-clause-halt g c =
     between (tape (view_of new.self.joint.client) (string_bytes new.text)) c.in_err-settle.field-0.0 c.in_ok-end_if.ensures.ok
     (subst (λ (v : View). Takes (tape v (string_bytes ended.text)) Opened between) same c.in_ok-take.ensures.ok) c.in_err-settle.ensures.halt in
     search rules
+
+pub returns-clause-flows : goal.returns-clause-flows
+returns-clause-flows g c =
+    flow_after _ _ _ c.in_ok-end_if.ensures.flows (flow_after _ _ _ c.hold.ensures.flows (flow_after _ _ _ c.in_ok-take.ensures.flows c.in_ok-settle.ensures.flows))

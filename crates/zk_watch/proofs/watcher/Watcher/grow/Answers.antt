@@ -10,7 +10,7 @@ pub returns : goal.returns
 returns g c =
     let old = c.args.self.now in
     let new = c.take_all_on.new.self in
-    ok_grows c.take_all_on.result (wants_of c.in-Ok.wanted) (stand_of old.driver.engine old.watched.items old.is_accepted old.style old.trees)
-    (stand_of new.driver.engine new.watched.items new.is_accepted new.style new.trees)
+    ok_grows c.take_all_on.result (wants_of c.in-Ok.wanted) (stand_of g.D.Stream.Read.remaining g.D.Stream.Write.contents old.driver.engine old.watched.items old.is_accepted old.style old.trees)
+    (stand_of g.D.Stream.Read.remaining g.D.Stream.Write.contents new.driver.engine new.watched.items new.is_accepted new.style new.trees)
     (subst (λ (v : View). AreWanted v old.trees.most old.trees.roots.items (wants_of c.in-Ok.wanted)) c.client-client.ensures c.in-Ok.ensures)
     c.take_all_on.ensures

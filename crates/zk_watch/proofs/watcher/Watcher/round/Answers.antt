@@ -11,8 +11,8 @@ returns-clause-ok g c =
     let between = c.hear.new.self in
     let new = c.tend.new.self in
     let adds : Appends (g.O.Write.contents c.args.out.now) (g.O.Write.contents c.write.new.out) (string_bytes c.in_ok-is_over.text ++ string_bytes c.in_ok-more.more) = search rules in
-    rounds c.args.until c.in_ok-is_over.is_over (stand_of old.driver.engine old.watched.items old.is_accepted old.style old.trees)
-    (stand_of between.driver.engine between.watched.items between.is_accepted between.style between.trees) (stand_of new.driver.engine new.watched.items new.is_accepted new.style new.trees)
+    rounds c.args.until c.in_ok-is_over.is_over (stand_of g.D.Stream.Read.remaining g.D.Stream.Write.contents old.driver.engine old.watched.items old.is_accepted old.style old.trees)
+    (stand_of g.D.Stream.Read.remaining g.D.Stream.Write.contents between.driver.engine between.watched.items between.is_accepted between.style between.trees) (stand_of g.D.Stream.Read.remaining g.D.Stream.Write.contents new.driver.engine new.watched.items new.is_accepted new.style new.trees)
     (string_bytes c.in_ok-is_over.text) (string_bytes c.in_ok-more.more) (g.O.Write.contents c.args.out.now) (g.O.Write.contents c.write.new.out)
     c.in_ok-is_over.ensures.ok c.in_ok-more.ensures.ok adds
 
@@ -21,6 +21,6 @@ returns-clause-come g c =
     let old = c.args.self.now in
     let between = c.hear.new.self in
     let new = c.tend.new.self in
-    come c.args.until c.in_ok-is_over.is_over (stand_of old.driver.engine old.watched.items old.is_accepted old.style old.trees)
-    (stand_of between.driver.engine between.watched.items between.is_accepted between.style between.trees) (stand_of new.driver.engine new.watched.items new.is_accepted new.style new.trees)
+    come c.args.until c.in_ok-is_over.is_over (stand_of g.D.Stream.Read.remaining g.D.Stream.Write.contents old.driver.engine old.watched.items old.is_accepted old.style old.trees)
+    (stand_of g.D.Stream.Read.remaining g.D.Stream.Write.contents between.driver.engine between.watched.items between.is_accepted between.style between.trees) (stand_of g.D.Stream.Read.remaining g.D.Stream.Write.contents new.driver.engine new.watched.items new.is_accepted new.style new.trees)
     (string_bytes c.in_ok-is_over.text) (string_bytes c.in_ok-more.more) c.in_ok-is_over.ensures.ok c.in_ok-more.ensures.ok

@@ -1,5 +1,5 @@
-use Rattle.zk_served.proofs.Served.{calls_run, runs_join, taking_runs}
-use Rattle.zk_served.proofs.calls_run.Goals as goal
+use Rattle.zk_driver.proofs.Running.{calls_run, runs_join, taking_runs}
+use Rattle.zk_driver.proofs.laws.calls_run.Goals as goal
 
 pub returns-clause-calls : goal.returns-clause-calls
 returns-clause-calls g c = calls_run
