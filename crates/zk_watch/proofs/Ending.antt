@@ -18,7 +18,7 @@ use Rattle.zk_driver.specs.Driving.{Course, Hands}
 use Rattle.zk_driver.specs.Noting.{is_come}
 use Rattle.zk_agent.specs.Telling.{Told}
 use Rattle.zk_watch.specs.declared.plan.Style.{Style}
-use Rattle.zk_watch.specs.Trees.{is_settled, roots_aims, stays, tickets_gone}
+use Rattle.zk_trees.specs.Trees.{is_settled, roots_aims, stays, tickets_gone}
 use Rattle.zk_watch.specs.Watching.{view_in, AllStood, Grows, IsTurnLed, LetsGo, TakesOn, TakesOnWhere, Tends, TendsSo, end_of, Closes, Does, EndsFrom, FollowsAll, HasCome, IsBegun, IsOver, IsPrinted, IsWatched, Move, Prints, PrintsFrom, Stand, Takes, Writes, WritesEnd, WritesOn}
 use Rattle.zk_watch.proofs.Printing.{after, none, on_after, one, writes_none}
 

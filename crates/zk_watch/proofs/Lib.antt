@@ -1,6 +1,4 @@
 mod Ending
-mod Going
-mod Growing
 mod Objects
 mod Pieces
 mod Printing

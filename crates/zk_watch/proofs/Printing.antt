@@ -15,14 +15,15 @@ use Rattle.zk_driver.specs.Driving.{course_of, Hands}
 use Rattle.zk_driver.specs.Flowing.{flow_of, Flows}
 use Rattle.zk_driver.proofs.Running.{calls_run, next_runs}
 use Rattle.zk_driver.specs.Noting.{is_come, notes_of, passed_in, GoesBy}
-use Rattle.zk_watch.specs.declared.shown.Watched.{Watched}
+use Rattle.zk_trees.specs.declared.member.Member.{Member}
+use Rattle.std.specs.declared.string.String.{String}
 use Rattle.zk_nodes.specs.Path.{Text}
 use Rattle.zk_nodes.specs.declared.side.Side.{Side}
 use Rattle.zk_watch.specs.declared.plan.Style.{Style}
-use Rattle.zk_watch.specs.declared.plan.Subject.{Subject}
+use Rattle.zk_trees.specs.declared.subject.Subject.{Subject}
 use Rattle.zk_watch.specs.declared.trees.Trees.{Trees}
 use Rattle.zk_watch.specs.Trees.{growth_of}
-use Rattle.zk_watch.proofs.Growing.{mapped_next}
+use Rattle.zk_trees.proofs.Growing.{mapped_next}
 use Rattle.zk_watch.specs.Lines.{none_words}
 use Rattle.zk_watch.specs.Watching.{accepts, aim_of, aims_of, stand_of, text_of, FollowsAll, FollowsSo, TellsTurn, TendsSo, Does, HasCome, Heard, Move, Prints, Stand, Takes, Writes, WritesOn}
 
@@ -105,8 +106,8 @@ pub follows_more : {A : Type 0} (subjects : List (Subject A)) (index : ℕ) (sub
 follows_more {A} subjects index subject first here new within is follows next =
     mapped_next (λ at aim after. FollowsSo false aim at after) aim_of subjects index subject first here new within is follows next
 
-pub ok_follows : {A S X E : Type 0} (remaining contents : S → Option (List ℕ)) (result : Result X E) (is_found : Bool) (aim : Side × Text) (first last : Engine A S) (olds news : List (Watched A)) (one : Watched A) (is_accepted : Bool) (style : Style)
-    (trees : Trees A) (next : ℕ) → aim_of one.subject ≡ aim → string_bytes one.words ≡ none_words aim.0 → one.ticket ≡ trees.ticket → one.is_found ≡ is_found → news ≡ olds ++ one ∷ []
+pub ok_follows : {A S X E : Type 0} (remaining contents : S → Option (List ℕ)) (result : Result X E) (is_found : Bool) (aim : Side × Text) (first last : Engine A S) (olds news : List (Member A (String A))) (one : Member A (String A)) (is_accepted : Bool) (style : Style)
+    (trees : Trees A) (next : ℕ) → aim_of one.subject ≡ aim → string_bytes one.note ≡ none_words aim.0 → one.ticket ≡ trees.ticket → one.is_found ≡ is_found → news ≡ olds ++ one ∷ []
     → next ≡ trees.ticket + 1 → OnOk result (Hands (happens.Follow trees.ticket aim.0 aim.1) (course_of first None) (course_of last None))
     → OnOk result (Flows (flow_of remaining contents first None) (flow_of remaining contents last None))
     → OnOk result (FollowsSo is_found aim (stand_of remaining contents first olds is_accepted style trees) (stand_of remaining contents last news is_accepted style (record trees { ticket = next })))
@@ -128,7 +129,7 @@ ok_follows remaining contents (Err e) is_found aim first last olds news one is_a
 -- ---- one turn, heard
 
 -- what a driver has come to, with what it hands on
-pub heard_so : {A S : Type 0} (remaining contents : S → Option (List ℕ)) (until : ℕ) (is_over : Bool) (turn : Turn A) (first between last : Engine A S) (olds news : List (Watched A)) (was is : Bool) (style : Style) (trees : Trees A) (text : List ℕ) → last ≡ between
+pub heard_so : {A S : Type 0} (remaining contents : S → Option (List ℕ)) (until : ℕ) (is_over : Bool) (turn : Turn A) (first between last : Engine A S) (olds news : List (Member A (String A))) (was is : Bool) (style : Style) (trees : Trees A) (text : List ℕ) → last ≡ between
     → GoesBy (notes_of turn) (course_of first None) (course_of between (passed_in turn))
     → Flows (flow_of remaining contents first None) (flow_of remaining contents between (passed_in turn))
     → TellsTurn style turn (view_of between.agent.asker.follower.client) (told_by between.waiting.items) olds news text → is ≡ (was || accepts turn) → is_over ≡ is_come turn
@@ -143,10 +144,10 @@ heard_so {A} {S} remaining contents until is_over turn first between last olds n
     })
 
 -- the same of a driver that is the same, and of the same subjects
-pub same_tells : {A S : Type 0} (style : Style) (turn : Turn A) (text : List ℕ) (engine other : Engine A S) (olds others news nexts : List (Watched A)) → other ≡ engine → others ≡ olds → nexts ≡ news
+pub same_tells : {A S : Type 0} (style : Style) (turn : Turn A) (text : List ℕ) (engine other : Engine A S) (olds others news nexts : List (Member A (String A))) → other ≡ engine → others ≡ olds → nexts ≡ news
     → TellsTurn style turn (view_of other.agent.asker.follower.client) (told_by other.waiting.items) others news text
     → TellsTurn style turn (view_of engine.agent.asker.follower.client) (told_by engine.waiting.items) olds nexts text
 same_tells {A} {S} style turn text engine other olds others news nexts is was now tells =
     subst (λ (e : Engine A S). TellsTurn style turn (view_of e.agent.asker.follower.client) (told_by e.waiting.items) olds nexts text) is
-    (subst (λ (ws : List (Watched A)). TellsTurn style turn (view_of other.agent.asker.follower.client) (told_by other.waiting.items) ws nexts text) was
-    (subst (λ (ws : List (Watched A)). TellsTurn style turn (view_of other.agent.asker.follower.client) (told_by other.waiting.items) others ws text) (sym now) tells))
+    (subst (λ (ws : List (Member A (String A))). TellsTurn style turn (view_of other.agent.asker.follower.client) (told_by other.waiting.items) ws nexts text) was
+    (subst (λ (ws : List (Member A (String A))). TellsTurn style turn (view_of other.agent.asker.follower.client) (told_by other.waiting.items) others ws text) (sym now) tells))

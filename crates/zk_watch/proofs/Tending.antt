@@ -8,9 +8,11 @@ use Rattle.zk_driver.specs.declared.engine.Engine.{Engine}
 use Rattle.zk_nodes.specs.Path.{Text}
 use Rattle.zk_nodes.specs.declared.side.Side.{Side}
 use Rattle.zk_watch.specs.declared.plan.Style.{Style}
-use Rattle.zk_watch.specs.declared.shown.Watched.{Watched}
+use Rattle.zk_trees.specs.declared.member.Member.{Member}
+use Rattle.std.specs.declared.string.String.{String}
 use Rattle.zk_watch.specs.declared.trees.Trees.{Trees}
-use Rattle.zk_watch.specs.Trees.{bound_text, AreWanted, Wants}
+use Rattle.zk_trees.specs.Trees.{AreWanted, Wants}
+use Rattle.zk_watch.specs.Trees.{bound_text}
 use Rattle.zk_watch.specs.Watching.{stand_of, view_in, Grows, FollowsSo, LetsAllGo, Stand, TakesAllOn, TakesOnWhere, Tends, TendsSo}
 use Rattle.zk_watch.proofs.Telling.{none_told}
 
@@ -54,7 +56,7 @@ ok_tends (Ok text) bytes is_over old new waits are on none tends = record {
 ok_tends (Err e) bytes is_over old new waits are on none tends = tt
 
 -- a watch that is as it was
-pub same_stand : {A S : Type 0} (remaining contents : S → Option (List ℕ)) (engine other : Engine A S) (watched others : List (Watched A)) (is was : Bool) (style once : Style) (trees before : Trees A) → engine ≡ other → watched ≡ others
+pub same_stand : {A S : Type 0} (remaining contents : S → Option (List ℕ)) (engine other : Engine A S) (watched others : List (Member A (String A))) (is was : Bool) (style once : Style) (trees before : Trees A) → engine ≡ other → watched ≡ others
     → is ≡ was → style ≡ once → trees ≡ before → stand_of remaining contents engine watched is style trees ≡ stand_of remaining contents other others was once before
 same_stand remaining contents engine other watched others is was style once trees before e w a s t = cc
 

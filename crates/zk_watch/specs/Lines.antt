@@ -34,7 +34,8 @@ use Rattle.zk_replay.specs.Played.{DoesClient}
 use Rattle.zk_replay.specs.Shown.{drop_words, mark_word, state_word}
 use Rattle.zk_watch.specs.declared.plan.Style.{Style}
 use Rattle.zk_watch.specs.declared.plan.Style.TheVariants as style_is
-use Rattle.zk_watch.specs.declared.shown.Watched.{Watched}
+use Rattle.zk_trees.specs.declared.member.Member.{Member}
+use Rattle.std.specs.declared.string.String.{String}
 
 -- ---- a line
 
@@ -246,11 +247,11 @@ why_text TooLarge = codes " refused K6 the path is too long"
 why_text SessionClosed = codes " refused K3 the session is being closed"
 
 -- the path of the subject that has a ticket
-abbrev pub path_in : {A : Type 0} → Option (Watched A) → Text
+abbrev pub path_in : {A : Type 0} → Option (Member A (String A)) → Text
 path_in None = []
 path_in (Some one) = one.subject.path
 
-abbrev pub path_of : {A : Type 0} → List (Watched A) → (ticket : ℕ) → Text
+abbrev pub path_of : {A : Type 0} → List (Member A (String A)) → (ticket : ℕ) → Text
 path_of watched ticket = path_in (find (λ one. one.ticket == ticket) watched)
 
 abbrev pub refusal_words : Text → Refusal → List ℕ
@@ -272,7 +273,7 @@ drop_text at fault = codes "drop" ++ (drop_words fault ++ (spaced at ++ spaced (
 
 -- Of what the agent tells: each state, each connection that is given up, each session that begins after another, and each refusal. That a
 -- subject is good, and reports, are seen by what is kept; the answer to the call that ends the session is its state.
-abbrev pub action_words : {A : Type 0} → List (Watched A) → (at : Text) → View → Told → List ℕ
+abbrev pub action_words : {A : Type 0} → List (Member A (String A)) → (at : Text) → View → Told → List ℕ
 action_words watched at view (Says (Enters state)) = state_words at view state
 action_words watched at view (Says (Drop fault)) = drop_text at fault
 action_words watched at view Begins = codes "session new"
@@ -280,7 +281,7 @@ action_words watched at view (Tells ticket (news.Refused why)) = refusal_words (
 action_words watched at view told = []
 
 -- Of a turn: what the agent tells; each address that is dialled, each that could not be, and each connection that has ended, with the reason.
-abbrev pub turn_words : {A : Type 0} → List (Watched A) → (at : Text) → View → Turn A → List ℕ
+abbrev pub turn_words : {A : Type 0} → List (Member A (String A)) → (at : Text) → View → Turn A → List ℕ
 turn_words watched at view (turn.Told action) = action_words watched at view (action_view action)
 turn_words watched at view turn.Dials = codes "dial" ++ spaced at
 turn_words watched at view (turn.Failed why) = codes "failed" ++ (spaced at ++ spaced (reason_words why))
@@ -332,13 +333,13 @@ abbrev pub state_members : (at : Text) → View → State → List json.Token
 state_members at view Connected = text_members (codes "state") (state_word Connected) ++ (address_members at ++ session_members view)
 state_members at view state = text_members (codes "state") (state_word state)
 
-abbrev pub action_members : {A : Type 0} → List (Watched A) → (at : Text) → View → Told → List json.Token
+abbrev pub action_members : {A : Type 0} → List (Member A (String A)) → (at : Text) → View → Told → List json.Token
 action_members watched at view (Says (Enters state)) = state_members at view state
 action_members watched at view (Says (Drop fault)) = address_members at ++ fault_members (fault_code fault) (fault_words fault)
 action_members watched at view (Tells ticket (news.Refused why)) = text_members (codes "path") (path_of watched ticket) ++ why_members why
 action_members watched at view told = []
 
-abbrev pub turn_members : {A : Type 0} → List (Watched A) → (at : Text) → View → Turn A → List json.Token
+abbrev pub turn_members : {A : Type 0} → List (Member A (String A)) → (at : Text) → View → Turn A → List json.Token
 turn_members watched at view (turn.Told action) = action_members watched at view (action_view action)
 turn_members watched at view turn.Dials = address_members at
 turn_members watched at view (turn.Failed why) = address_members at ++ reason_members (reason_words why)
@@ -347,6 +348,6 @@ turn_members watched at view turn = []
 
 -- ---- the line of a turn, in each style
 
-abbrev pub turn_line : {A : Type 0} → Style → (ms : ℕ) → List (Watched A) → (at : Text) → View → Turn A → List ℕ
+abbrev pub turn_line : {A : Type 0} → Style → (ms : ℕ) → List (Member A (String A)) → (at : Text) → View → Turn A → List ℕ
 turn_line style_is.Json ms watched at view turn = object_line ms (turn_kind turn) (turn_members watched at view turn)
 turn_line style ms watched at view turn = line_of (stamp_of ms) (turn_words watched at view turn)

@@ -19,18 +19,14 @@ use Rattle.zk_driver.specs.Noting.{is_come, notes_of, passed_in, GoesBy}
 use Rattle.zk_driver.specs.declared.turn.Turn.{Turn}
 use Rattle.zk_driver.specs.declared.turn.Turn.TheVariants as turn
 use Rattle.zk_watch.specs.Lines.{none_words, turn_line, IsSubjectLine, Looks}
-use Rattle.zk_watch.specs.Trees.{bound_text, growth_of, is_settled, roots_aims, stays, tickets_gone, AreWanted, Growth, Wants}
+pub use Rattle.zk_trees.specs.Trees.{aim_of, aims_of}
+use Rattle.zk_trees.specs.Trees.{is_settled, roots_aims, stays, tickets_gone, AreWanted, Wants}
+use Rattle.zk_watch.specs.Trees.{bound_text, growth_of, Growth}
 use Rattle.zk_watch.specs.declared.plan.Style.{Style}
-use Rattle.zk_watch.specs.declared.plan.Subject.{Subject}
-use Rattle.zk_watch.specs.declared.shown.Watched.{Watched}
+use Rattle.zk_trees.specs.declared.subject.Subject.{Subject}
+use Rattle.zk_trees.specs.declared.member.Member.{Member}
+use Rattle.std.specs.declared.string.String.{String}
 use Rattle.zk_watch.specs.declared.trees.Trees.{Trees}
-
--- a side of a path
-abbrev pub aim_of : {A : Type 0} → Subject A → Side × Text
-aim_of subject = (subject.side, subject.path)
-
-abbrev pub aims_of : {A : Type 0} → List (Subject A) → List (Side × Text)
-aims_of subjects = map aim_of subjects
 
 -- ---- what is shown of subjects
 
@@ -40,15 +36,15 @@ PrintsChange true style ms side path view words text = text ≡ []
 PrintsChange false style ms side path view words text = IsSubjectLine style ms side path view words text
 
 -- A subject is shown: what was printed of it last is the look-up then, and it is printed where it was not.
-pub record ShowsSo {A : Type 0} (style : Style) (ms : ℕ) (view : View) (old new : Watched A) (text : List ℕ) : Type 0 where
+pub record ShowsSo {A : Type 0} (style : Style) (ms : ℕ) (view : View) (old new : Member A (String A)) (text : List ℕ) : Type 0 where
   pub aim : aim_of new.subject ≡ aim_of old.subject
   pub ticket : new.ticket ≡ old.ticket
   pub found : new.is_found ≡ old.is_found
-  pub looks : Looks new.subject.side new.subject.path view (string_bytes new.words)
-  pub line : PrintsChange (bytes_eq (string_bytes new.words) (string_bytes old.words)) style ms new.subject.side new.subject.path view (string_bytes new.words) text
+  pub looks : Looks new.subject.side new.subject.path view (string_bytes new.note)
+  pub line : PrintsChange (bytes_eq (string_bytes new.note) (string_bytes old.note)) style ms new.subject.side new.subject.path view (string_bytes new.note) text
 
 -- Each is, in order.
-abbrev pub ShowsAll : {A : Type 0} → Style → (ms : ℕ) → View → (old new : List (Watched A)) → (text : List ℕ) → Type 0
+abbrev pub ShowsAll : {A : Type 0} → Style → (ms : ℕ) → View → (old new : List (Member A (String A))) → (text : List ℕ) → Type 0
 ShowsAll style ms view [] [] text = text ≡ []
 ShowsAll style ms view (old ∷ olds) (new ∷ news) text = (first rest : List ℕ) × ShowsSo style ms view old new first × ShowsAll style ms view olds news rest × (text ≡ first ++ rest)
 ShowsAll style ms view olds news text = ⊥
@@ -60,12 +56,12 @@ ShowsAll style ms view olds news text = ⊥
 pub record Stand (A : Type 0) : Type 0 where
   pub course : Course A
   pub known : Known
-  pub watched : List (Watched A)
+  pub watched : List (Member A (String A))
   pub is_accepted : Bool
   pub style : Style
   pub growth : Growth
 
-abbrev pub stand_of : {A S : Type 0} → (remaining contents : S → Option (List ℕ)) → Engine A S → List (Watched A) → (is_accepted : Bool) → Style → Trees A → Stand A
+abbrev pub stand_of : {A S : Type 0} → (remaining contents : S → Option (List ℕ)) → Engine A S → List (Member A (String A)) → (is_accepted : Bool) → Style → Trees A → Stand A
 stand_of remaining contents engine watched is_accepted style trees = record {
   course = course_of engine None;
   known = known_of remaining contents engine.channel.stream;
@@ -92,11 +88,11 @@ accepts (turn.Told action) = accepts_by (action_view action)
 accepts turn = false
 
 -- The line of a turn, with some address.
-abbrev pub LinesOf : {A : Type 0} → Style → (ms : ℕ) → Turn A → View → List (Watched A) → List ℕ → Type 0
+abbrev pub LinesOf : {A : Type 0} → Style → (ms : ℕ) → Turn A → View → List (Member A (String A)) → List ℕ → Type 0
 LinesOf style ms turn view watched text = (at : Text) × (text ≡ turn_line style ms watched at view turn)
 
 -- Subjects are shown where nothing waits to be told, and this is added to a text.
-pub record ShowsThen {A : Type 0} (style : Style) (ms : ℕ) (view : View) (waits : List Told) (old new : List (Watched A)) (before after : List ℕ) : Type 0 where
+pub record ShowsThen {A : Type 0} (style : Style) (ms : ℕ) (view : View) (waits : List Told) (old new : List (Member A (String A))) (before after : List ℕ) : Type 0 where
   pub shown : List ℕ
   pub shows : waits ≡ [] → ShowsAll style ms view old new shown
   pub rests : waits ≢ [] → (new ≡ old) × (shown ≡ [])
@@ -104,7 +100,7 @@ pub record ShowsThen {A : Type 0} (style : Style) (ms : ℕ) (view : View) (wait
 
 -- What is printed of a turn: its words, after some time. Where nothing waits to be told then, each subject is printed after them of which what
 -- the client keeps is not what was printed last: so what was printed last of each subject is the look-up then.
-pub record TellsTurn {A : Type 0} (style : Style) (turn : Turn A) (view : View) (waits : List Told) (old new : List (Watched A)) (text : List ℕ) : Type 0 where
+pub record TellsTurn {A : Type 0} (style : Style) (turn : Turn A) (view : View) (waits : List Told) (old new : List (Member A (String A))) (text : List ℕ) : Type 0 where
   pub ms : ℕ
   pub at : Text
   pub shown : List ℕ
@@ -125,9 +121,9 @@ pub record Turns {A : Type 0} (turn : Turn A) (old : Stand A) (text : List ℕ) 
 pub record FollowsSo {A : Type 0} (is_found : Bool) (aim : Side × Text) (old new : Stand A) : Type 0 where
   pub hands : Hands (happens.Follow old.growth.ticket aim.0 aim.1) old.course new.course
   pub runs : Runs (flow_in old) (flow_in new)
-  pub one : Watched A
+  pub one : Member A (String A)
   pub its_aim : aim_of one.subject ≡ aim
-  pub its_words : string_bytes one.words ≡ none_words aim.0
+  pub its_words : string_bytes one.note ≡ none_words aim.0
   pub its_ticket : one.ticket ≡ old.growth.ticket
   pub its_part : one.is_found ≡ is_found
   pub watched : new.watched ≡ old.watched ++ one ∷ []

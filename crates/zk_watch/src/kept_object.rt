@@ -10,15 +10,15 @@ ghost use Rattle.zk_client.specs.Clients.{view_of};
 ghost use Rattle.zk_follow.specs.Following.{is_kept, says_none};
 ghost use Rattle.zk_watch.specs.Lines.{answer_kind, answer_members, array_members, data_members, field_members, fields, kind_of, mark_members, names_kind, node_kind, node_members, number_members, side_name, stat_members, subject_members, text_members, AreMembers, AreNamesMembers, IsSubjectObject};
 
-use crate::looks::{is_missing, mark_word};
+use crate::looks::mark_word;
 use crate::object::{begun, ended, put_number, put_text};
-use crate::plan::Subject;
 use crate::texts::as_utf8;
 use json::Writer;
 use std::alloc::{AllocError, Allocator};
 use std::collections::BTreeSet;
 use zk_client::{Client, DataAnswer, DataStat, Mark, Names, Side};
 use zk_script::words::bytes_to_word;
+use zk_trees::{Subject, is_missing};
 
 /// The word for a side.
 fn side_name(side: Side) -> &'static str

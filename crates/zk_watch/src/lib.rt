@@ -22,5 +22,6 @@ mod watcher;
 mod words;
 
 pub use end::End;
-pub use plan::{Plan, Style, Subject};
+pub use plan::{Plan, Style};
 pub use planned::watch;
+pub use zk_trees::Subject;

@@ -5,18 +5,18 @@ ghost use Rattle.std.specs.Option.{option_map};
 ghost use Rattle.zk_script.specs.Values.{spaced, stat_words};
 ghost use Rattle.zk_replay.specs.Shown.{mark_word};
 ghost use Rattle.zk_client.specs.Clients.{view_of};
-ghost use Rattle.zk_follow.specs.Following.{is_kept, says_none};
 ghost use Rattle.zk_replay.specs.ClientLines.{PeekLine};
 ghost use Rattle.zk_replay.specs.Played.{DoesClient};
 ghost use Rattle.zk_watch.specs.Lines.{data_word, none_words, text_words, words_in, Looks};
 
-use crate::plan::{Style, Subject};
+use crate::plan::Style;
 use crate::texts::data_word;
 use std::alloc::{AllocError, Allocator};
 use zk_client::{Client, DataAnswer, DataStat, Mark, Path, Side};
 use zk_replay::peeks::{data_line, names_line};
 use zk_replay::words::push_spaced;
 use zk_script::values::push_stat;
+use zk_trees::{Subject, is_missing};
 
 /// The words where nothing is kept.
 pub(crate) fn none_words(side: Side) -> &'static str
@@ -26,16 +26,6 @@ pub(crate) fn none_words(side: Side) -> &'static str
         Side::Data => "data none",
         Side::Child => "names none",
     }
-}
-
-/// Whether it is kept and good that there is no node.
-pub(crate) fn is_missing<A: Allocator + Copy>(client: &Client<A>, path: &Path<A>) -> bool
-    ensures { result ≡ is_kept says_none ((view_of client.now).cache.nodes path.now) }
-{
-    matches!(
-        client.peek_data(path),
-        Some((DataAnswer::Absent, Mark::Good))
-    )
 }
 
 /// The words of a line, without its end.

@@ -1,14 +1,8 @@
 //! What is watched, and for how long.
 
 use std::alloc::Allocator;
-use zk_client::{Path, Side};
-
-/// What is watched: the data of a node, or the names below it.
-#[derive(Drop)]
-pub struct Subject<A: Allocator> {
-    pub side: Side,
-    pub path: Path<A>,
-}
+use zk_client::Path;
+use zk_trees::Subject;
 
 /// How lines are printed.
 #[derive(Clone, Copy, Debug, PartialEq, Eq)]

@@ -6,12 +6,13 @@ ghost use Rattle.zk_watch.specs.Watching.{aims_of, IsPrinted, IsWatched};
 
 use crate::end::End;
 use crate::plan::Plan;
-use crate::trees::{Trees, add_roots};
+use crate::trees::Trees;
 use crate::watcher::Watcher;
 use std::alloc::Allocator;
 use std::io::Write;
 use zk_driver::Driver;
 use zk_link::{Clock, Dial};
+use zk_trees::add_roots;
 
 /// Watches the subjects of a plan, and prints to `out` what changes, until its time is over or a write fails. Then the session is ended,
 /// which is waited for, a third of the timeout at most.

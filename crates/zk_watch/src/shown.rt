@@ -7,32 +7,17 @@ ghost use Rattle.zk_watch.specs.Watching.{aim_of, ShowsAll, ShowsSo};
 
 use crate::kept_object::subject_object;
 use crate::looks::{look, none_words, words_in};
-use crate::plan::{Style, Subject};
+use crate::plan::Style;
 use crate::stamp::line_at;
 use std::alloc::{AllocError, Allocator};
-use zk_client::{Client, Path};
+use zk_client::Client;
 use zk_replay::words::push_spaced;
 use zk_script::values::push_word;
 use zk_script::words::text_to_word;
+use zk_trees::{Member, Subject};
 
-/// A copy of a path.
-pub(crate) fn copy_of<A: Allocator + Copy>(alloc: A, path: &Path<A>) -> Result<Path<A>, AllocError>
-    ensures { IfOk result (λ copy. copy ≡ path.now) }
-{
-    match Path::new(alloc, path.as_str()) {
-        Ok(copy) => Ok(copy),
-        Err(_) => Err(AllocError),
-    }
-}
-
-/// A subject, the ticket by which it is followed, whether it was found below a root, and the words that were printed of it last.
-#[derive(Drop)]
-pub(crate) struct Watched<A: Allocator> {
-    pub(crate) subject: Subject<A>,
-    pub(crate) ticket: u64,
-    pub(crate) is_found: bool,
-    pub(crate) words: String<A>,
-}
+/// A subject that is watched. What is noted of it are the words that were printed of it last.
+pub(crate) type Watched<A> = Member<A, String<A>>;
 
 /// The words of a subject's line: the path, what is kept, and the last seen zxid.
 fn subject_words<A: Allocator + Copy>(
@@ -84,50 +69,47 @@ fn subject_line<A: Allocator + Copy>(
     }
 }
 
-impl<A: Allocator + Copy> Watched<A> {
-    /// A copy of a subject, as if nothing were kept of it and that were printed.
-    pub(crate) fn new(
-        alloc: A,
-        subject: &Subject<A>,
-        ticket: u64,
-        is_found: bool,
-    ) -> Result<Watched<A>, AllocError>
-        ensures aim { IfOk result (λ one. aim_of one.subject ≡ aim_of subject.now) }
-        ensures ticket { IfOk result (λ one. one.ticket ≡ ticket) }
-        ensures found { IfOk result (λ one. one.is_found ≡ is_found) }
-        ensures words { IfOk result (λ one. string_bytes one.words ≡ none_words subject.now.side) }
-    {
-        let words = String::from_str(alloc, none_words(subject.side))?;
-        let path = copy_of(alloc, &subject.path)?;
-        let side = subject.side;
-        Ok(Watched {
-            subject: Subject { side, path },
-            ticket,
-            is_found,
-            words,
-        })
-    }
+/// A copy of a subject, as if nothing were kept of it and that were printed.
+pub(crate) fn watched_of<A: Allocator + Copy>(
+    alloc: A,
+    subject: &Subject<A>,
+    ticket: u64,
+    is_found: bool,
+) -> Result<Watched<A>, AllocError>
+    ensures aim { IfOk result (λ one. aim_of one.subject ≡ aim_of subject.now) }
+    ensures ticket { IfOk result (λ one. one.ticket ≡ ticket) }
+    ensures found { IfOk result (λ one. one.is_found ≡ is_found) }
+    ensures words { IfOk result (λ one. string_bytes one.note ≡ none_words subject.now.side) }
+{
+    let note = String::from_str(alloc, none_words(subject.side))?;
+    let subject = Subject::of(alloc, subject.side, &subject.path)?;
+    Ok(Member {
+        subject,
+        ticket,
+        is_found,
+        note,
+    })
+}
 
-    /// Adds the line of a subject, where what a client keeps of it is not what was printed last.
-    fn show(
-        &mut self,
-        alloc: A,
-        style: Style,
-        ms: u64,
-        client: &Client<A>,
-        text: &mut String<A>,
-    ) -> Result<(), AllocError>
-        ensures { OnOk result ((told : List ℕ) × ShowsSo style ms (view_of client.now) self.old self.new told × (string_bytes text.new ≡ string_bytes text.old ++ told)) }
-    {
-        let words = look(alloc, client, &self.subject)?;
-        if words.as_str() == self.words.as_str() {
-            return Ok(());
-        }
-        let line = subject_line(alloc, style, ms, client, &self.subject, words.as_str())?;
-        text.push_str(line.as_str())?;
-        self.words = words;
-        Ok(())
+/// Adds the line of a subject, where what a client keeps of it is not what was printed last.
+fn show<A: Allocator + Copy>(
+    alloc: A,
+    style: Style,
+    ms: u64,
+    client: &Client<A>,
+    one: &mut Watched<A>,
+    text: &mut String<A>,
+) -> Result<(), AllocError>
+    ensures { OnOk result ((told : List ℕ) × ShowsSo style ms (view_of client.now) one.old one.new told × (string_bytes text.new ≡ string_bytes text.old ++ told)) }
+{
+    let words = look(alloc, client, &one.subject)?;
+    if words.as_str() == one.note.as_str() {
+        return Ok(());
     }
+    let line = subject_line(alloc, style, ms, client, &one.subject, words.as_str())?;
+    text.push_str(line.as_str())?;
+    one.note = words;
+    Ok(())
 }
 
 /// Adds the line of each subject of which what a client keeps is not what was printed last.
@@ -142,7 +124,7 @@ pub(crate) fn show_all<A: Allocator + Copy>(
     ensures { OnOk result ((told : List ℕ) × ShowsAll style ms (view_of client.now) watched.old watched.new told × (string_bytes text.new ≡ string_bytes text.old ++ told)) }
 {
     for one in watched.iter_mut() {
-        one.show(alloc, style, ms, client, text)?;
+        show(alloc, style, ms, client, one, text)?;
     }
     Ok(())
 }

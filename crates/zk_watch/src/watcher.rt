@@ -5,20 +5,21 @@ ghost use Rattle.std.specs.Io.KnownBytes.{Appends};
 ghost use Rattle.zk_agent.specs.Telling.{told_by};
 ghost use Rattle.zk_client.specs.Clients.{view_of};
 ghost use Rattle.zk_driver.specs.Noting.{is_come};
-ghost use Rattle.zk_watch.specs.Trees.{wants_of};
+ghost use Rattle.zk_trees.specs.Trees.{wants_of};
 ghost use Rattle.zk_watch.specs.Watching.{accepts, aim_of, aims_of, end_of, stand_of, EndsFrom, FollowsAll, FollowsSo, HasCome, Closes, Does, Grows, Heard, IsOver, LetsAllGo, LinesOf, PrintsFrom, ShowsThen, TakesAllOn, TakesOn, TellsTurn, Tends, TendsSo, Writes, WritesEnd, WritesOn};
 
 use crate::bound::bound_text;
 use crate::end::{End, Failure};
-use crate::plan::{Style, Subject};
-use crate::shown::{Watched, copy_of, show_all};
-use crate::trees::{Trees, Wanted, drop_gone, is_settled, tickets_gone, wanted_of};
+use crate::plan::Style;
+use crate::shown::{Watched, show_all, watched_of};
+use crate::trees::Trees;
 use crate::words::turn_line;
 use std::alloc::{AllocError, Allocator};
 use std::io::{self, Write};
 use zk_client::{Call, State};
 use zk_driver::{Action, Driver, Stop, Turn};
 use zk_link::{Clock, Dial};
+use zk_trees::{Subject, Wanted, copy_of, drop_gone, is_settled, tickets_gone, wanted_of};
 
 /// The ticket of the call that ends the session. Those of subjects begin at 1.
 const CLOSE: u64 = 0;
@@ -199,7 +200,8 @@ impl<'a, A: Allocator + Copy, D: Dial + Drop, C: Clock + Drop> Watcher<'a, A, D,
         ensures { OnOk result (Grows (stand_of D.Stream.remaining D.Stream.contents self.old.driver.engine self.old.watched.items self.old.is_accepted self.old.style self.old.trees) (stand_of D.Stream.remaining D.Stream.contents self.new.driver.engine self.new.watched.items self.new.is_accepted self.new.style self.new.trees)) }
     {
         let client = self.driver.client();
-        let Ok(wanted) = wanted_of(self.alloc, client, &self.trees) else {
+        let (most, roots) = (self.trees.most, self.trees.roots.as_slice());
+        let Ok(wanted) = wanted_of(self.alloc, client, most, roots) else {
             return Err(Stop::Memory);
         };
         self.take_all_on(&wanted)
@@ -326,7 +328,7 @@ impl<'a, A: Allocator + Copy, D: Dial + Drop, C: Clock + Drop> Watcher<'a, A, D,
         let Some(next) = ticket.checked_add(1) else {
             return Err(Stop::Memory);
         };
-        let Ok(one) = Watched::new(self.alloc, subject, ticket, is_found) else {
+        let Ok(one) = watched_of(self.alloc, subject, ticket, is_found) else {
             return Err(Stop::Memory);
         };
         if self.watched.push(one).is_err() {

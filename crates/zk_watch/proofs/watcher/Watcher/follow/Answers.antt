@@ -13,9 +13,9 @@ returns g c =
     let first = old.driver.engine in
     let last = c.follow.new.self.engine in
     let olds = old.watched.items in
-    let one = c.in-Ok-new.one in
+    let one = c.in-Ok-watched_of.one in
     let more : c.push.new.self.items ≡ olds ++ one ∷ [] = search rules in
     ok_follows g.D.Stream.Read.remaining g.D.Stream.Write.contents c.follow.result c.args.is_found (aim_of c.args.subject.now) first last olds c.push.new.self.items one old.is_accepted old.style old.trees c.in-Some.next
-    c.in-Ok-new.ensures.aim c.in-Ok-new.ensures.words c.in-Ok-new.ensures.ticket c.in-Ok-new.ensures.found more c.in-Some.ensures.1
+    c.in-Ok-watched_of.ensures.aim c.in-Ok-watched_of.ensures.words c.in-Ok-watched_of.ensures.ticket c.in-Ok-watched_of.ensures.found more c.in-Some.ensures.1
     (subst (λ (p : Text). OnOk c.follow.result (Hands (happens.Follow old.trees.ticket c.args.subject.now.side p) (course_of first None) (course_of last None))) c.in-Ok.ensures c.follow.ensures.hands)
     c.follow.ensures.flows

@@ -1,7 +1,8 @@
-use Rattle.std.proofs.Common.{subst}
+use Rattle.std.proofs.Common.{subst, List}
 use Rattle.zk_client.specs.Clients.{view_of}
+use Rattle.zk_nodes.specs.Path.{Text}
 use Rattle.zk_turns.specs.View.{View}
-use Rattle.zk_watch.specs.Trees.{wants_of, AreWanted}
+use Rattle.zk_trees.specs.Trees.{wants_of, AreWanted}
 use Rattle.zk_watch.specs.Watching.{stand_of}
 use Rattle.zk_watch.proofs.Tending.{ok_grows}
 use Rattle.zk_watch.proofs.watcher.Watcher.grow.Goals as goal
@@ -12,5 +13,6 @@ returns g c =
     let new = c.take_all_on.new.self in
     ok_grows c.take_all_on.result (wants_of c.in-Ok.wanted) (stand_of g.D.Stream.Read.remaining g.D.Stream.Write.contents old.driver.engine old.watched.items old.is_accepted old.style old.trees)
     (stand_of g.D.Stream.Read.remaining g.D.Stream.Write.contents new.driver.engine new.watched.items new.is_accepted new.style new.trees)
-    (subst (λ (v : View). AreWanted v old.trees.most old.trees.roots.items (wants_of c.in-Ok.wanted)) c.client-client.ensures c.in-Ok.ensures)
+    (subst (λ (l : List Text). AreWanted (view_of old.driver.engine.agent.asker.follower.client) old.trees.most l (wants_of c.in-Ok.wanted)) c.as_slice-roots.ensures.value
+    (subst (λ (v : View). AreWanted v old.trees.most c.as_slice-roots.result.now (wants_of c.in-Ok.wanted)) c.client-client.ensures c.in-Ok.ensures))
     c.take_all_on.ensures

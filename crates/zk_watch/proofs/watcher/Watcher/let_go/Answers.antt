@@ -5,15 +5,15 @@ use Rattle.std.specs.List.{filter, FoldsTo}
 use Rattle.zk_client.specs.Clients.{view_of}
 use Rattle.zk_driver.specs.Flowing.{flow_of}
 use Rattle.zk_driver.proofs.Running.{calls_run}
-use Rattle.zk_watch.specs.Trees.{stays, tickets_gone}
+use Rattle.zk_trees.specs.Trees.{stays, tickets_gone}
 use Rattle.zk_watch.specs.Watching.{stand_of, LetsGo}
-use Rattle.zk_watch.proofs.Growing.{folds_next}
+use Rattle.zk_trees.proofs.Growing.{folds_next}
 use Rattle.zk_watch.proofs.watcher.Watcher.let_go.Goals as goal
 
 pub loop-ticket-init : goal.loop-ticket-init
 loop-ticket-init g c =
     let old = c.args.self.now in
-    let are : c.drop_gone.new.watched.items ≡ filter (stays (view_of old.driver.engine.agent.asker.follower.client)) old.watched.items =
+    let are : c.drop_gone.new.members.items ≡ filter (stays (view_of old.driver.engine.agent.asker.follower.client)) old.watched.items =
     rw c.client-client.ensures at c.drop_gone.ensures in
     ap (λ ws. stand_of g.D.Stream.Read.remaining g.D.Stream.Write.contents old.driver.engine ws old.is_accepted old.style old.trees) (sym are)
 

@@ -1,7 +1,7 @@
 use Rattle.std.proofs.Common.{take}
 use Rattle.std.specs.List.{filter, FoldsTo}
 use Rattle.zk_client.specs.Clients.{view_of}
-use Rattle.zk_watch.specs.Trees.{stays}
+use Rattle.zk_trees.specs.Trees.{stays}
 use Rattle.zk_watch.specs.Watching.{stand_of, LetsGo}
 use Rattle.zk_watch.proofs.watcher.Watcher.let_go.Given as goal
 

@@ -1,9 +1,9 @@
 use Rattle.std.proofs.Common.{◌≤◌, List, arith, length, refl, subst}
 use Rattle.std.proofs.lemmas.List.{take_all}
 use Rattle.std.specs.List.{FoldsTo}
-use Rattle.zk_watch.specs.declared.plan.Subject.{Subject}
+use Rattle.zk_trees.specs.declared.subject.Subject.{Subject}
 use Rattle.zk_watch.specs.Watching.{aim_of, aims_of, stand_of, TakesOn}
-use Rattle.zk_watch.proofs.Growing.{mapped_next}
+use Rattle.zk_trees.proofs.Growing.{mapped_next}
 use Rattle.zk_watch.proofs.watcher.Watcher.take_all_on.Goals as goal
 
 pub loop-subject-preserved : goal.loop-subject-preserved

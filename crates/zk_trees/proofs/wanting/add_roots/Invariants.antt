@@ -1,7 +1,7 @@
 use Rattle.std.proofs.Common.{◌≡◌, ◌++◌, drop}
-use Rattle.zk_watch.specs.Trees.{roots_aims}
-use Rattle.zk_watch.specs.Watching.{aims_of}
-use Rattle.zk_watch.proofs.trees.add_roots.Given as goal
+use Rattle.zk_trees.specs.Trees.{roots_aims}
+use Rattle.zk_trees.specs.Trees.{aims_of}
+use Rattle.zk_trees.proofs.wanting.add_roots.Given as goal
 
 -- what was added, with what is left to be added
 abbrev pub invariant-loop-root : goal.invariant-loop-root

@@ -6,9 +6,9 @@ use Rattle.zk_nodes.specs.Path.{Text}
 use Rattle.zk_nodes.specs.declared.side.Side.{Side}
 use Rattle.zk_nodes.specs.declared.side.Side.TheVariants.{Data, Child}
 use Rattle.zk_turns.specs.View.{View}
-use Rattle.zk_watch.specs.Trees.{aims_at, all, wants_of, IsWanted, Wants}
-use Rattle.zk_watch.specs.Watching.{aims_of}
-use Rattle.zk_watch.proofs.trees.add_wanted.Goals as goal
+use Rattle.zk_trees.specs.Trees.{aims_at, all, wants_of, IsWanted, Wants}
+use Rattle.zk_trees.specs.Trees.{aims_of}
+use Rattle.zk_trees.proofs.wanting.add_wanted.Goals as goal
 
 -- what lacks an answer was added
 ok_all : {X E : Type 0} (result : Result X E) (view : View) (most : ℕ) (root : Text) (old : Wants) (aims : List (Side × Text)) (nodes names : List Text)

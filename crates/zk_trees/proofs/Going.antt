@@ -1,0 +1,29 @@
+-- Which tickets are those of what is gone, one subject after another.
+use Rattle.std.proofs.Common.{◌≡◌, ◌<◌, ◌+◌, ◌++◌, ◌∙◌, ℕ, Bool, true, false, List, [], ◌∷◌, length, get_or, drop, refl, sym, ap, append_assoc, arith}
+use Rattle.std.specs.Prelude.{cond}
+use Rattle.std.proofs.lemmas.List.{drop_more}
+use Rattle.zk_turns.specs.View.{View}
+use Rattle.zk_trees.specs.Trees.{is_gone, tickets_gone}
+use Rattle.zk_trees.specs.declared.member.Member.{Member}
+
+first_of : {A N : Type 0} (view : View) (one : Member A N) (rest : List (Member A N)) (b : Bool) → is_gone view one ≡ b
+    → tickets_gone view (one ∷ rest) ≡ cond b (one.ticket ∷ tickets_gone view rest) (tickets_gone view rest)
+first_of view one rest true is = grind (arith, is)
+first_of view one rest false is = grind (arith, is)
+
+module _ {A N : Type 0} (view : View) (members : List (Member A N)) (index : ℕ) (one : Member A N) (within : index < length members) (at : one ≡ get_or members index one) where
+  split : drop index members ≡ one ∷ drop (index + 1) members
+  split = drop_more members index one within ∙ ap (λ w. w ∷ drop (index + 1) members) (sym at)
+
+  -- one that is gone
+  pub gone_more : (tickets all : List ℕ) → is_gone view one ≡ true → tickets ++ tickets_gone view (drop index members) ≡ all
+      → (tickets ++ one.ticket ∷ []) ++ tickets_gone view (drop (index + 1) members) ≡ all
+  gone_more tickets all is whole =
+      append_assoc tickets (one.ticket ∷ []) (tickets_gone view (drop (index + 1) members))
+      ∙ ap (λ l. tickets ++ l) (sym (ap (tickets_gone view) split ∙ first_of view one (drop (index + 1) members) true is)) ∙ whole
+
+  -- one that stays
+  pub gone_less : (tickets all : List ℕ) → is_gone view one ≡ false → tickets ++ tickets_gone view (drop index members) ≡ all
+      → tickets ++ tickets_gone view (drop (index + 1) members) ≡ all
+  gone_less tickets all is whole =
+      ap (λ l. tickets ++ l) (sym (ap (tickets_gone view) split ∙ first_of view one (drop (index + 1) members) false is)) ∙ whole

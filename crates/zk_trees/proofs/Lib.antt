@@ -1,0 +1,2 @@
+mod Going
+pub mod Growing

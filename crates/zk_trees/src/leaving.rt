@@ -1,0 +1,67 @@
+//! Which subjects are taken on no more, and which members are let go.
+
+ghost use Rattle.std.specs.Prelude.{◌≡◌, IfOk};
+ghost use Rattle.std.specs.List.{filter};
+ghost use Rattle.zk_client.specs.Clients.{view_of};
+ghost use Rattle.zk_trees.specs.Trees.{aim_of, is_gone, is_member, is_settled, stays, tickets_gone};
+
+use crate::member::Member;
+use crate::subject::{Subject, is_missing};
+use std::alloc::{AllocError, Allocator};
+use zk_client::Client;
+
+/// Whether a subject is that of a member.
+fn is_member<A: Allocator + Copy, N: Drop>(subject: &Subject<A>, members: &[Member<A, N>]) -> bool
+    ensures { result ≡ is_member (aim_of subject.now) members.now }
+{
+    members.iter().any(|one| one.subject.is_same(subject))
+}
+
+/// Whether a subject is not to be taken on: it is that of a member, or it is kept and good that there is no such node.
+pub fn is_settled<A: Allocator + Copy, N: Drop>(
+    client: &Client<A>,
+    subject: &Subject<A>,
+    members: &[Member<A, N>],
+) -> bool
+    ensures { result ≡ is_settled (view_of client.now) (aim_of subject.now) members.now }
+{
+    is_member(subject, members) || is_missing(client, &subject.path)
+}
+
+/// Whether a node was found below a root, and it is kept and good that there is none.
+fn is_gone<A: Allocator + Copy, N: Drop>(client: &Client<A>, one: &Member<A, N>) -> bool
+    ensures { result ≡ is_gone (view_of client.now) one.now }
+{
+    one.is_found && is_missing(client, &one.subject.path)
+}
+
+/// The tickets of the members that are gone. An error means that memory ran out.
+pub fn tickets_gone<A: Allocator + Copy, N: Drop>(
+    alloc: A,
+    client: &Client<A>,
+    members: &[Member<A, N>],
+) -> Result<Vec<u64, A>, AllocError>
+    ensures { IfOk result (λ tickets. tickets.items ≡ tickets_gone (view_of client.now) members.now) }
+{
+    let mut tickets = Vec::new(alloc);
+    for one in members {
+        if is_gone(client, one) {
+            tickets.push(one.ticket)?;
+        }
+    }
+    Ok(tickets)
+}
+
+/// Takes out the members that are gone. The others stay, in their order.
+pub fn drop_gone<A: Allocator + Copy, N: Drop>(
+    client: &Client<A>,
+    members: &mut Vec<Member<A, N>, A>,
+)
+    ensures { members.new.items ≡ filter (stays (view_of client.now)) members.old.items }
+{
+    members.retain(
+        |one: &Member<A, N>| -> bool
+            ensures { result ≡ stays (view_of client.entry.now) one.now }
+        { !is_gone(client, one) },
+    );
+}

@@ -1,0 +1,16 @@
+//! Which nodes of a tree are to be followed, judged by what a client keeps. Nothing here follows one: who does holds a list of [`Member`]s.
+//!
+//! [`wanted_of`] tells what is wanted of trees: what good names lead to from the root on, and lacks an answer, within a bound.
+//! [`is_settled`] tells what of it is not to be taken on: what is a member already, and a node of which it is kept and good that there is
+//! none. [`tickets_gone`] and [`drop_gone`] are about members that were found below a root, and whose node has gone.
+#![tactic(auto)]
+
+mod leaving;
+mod member;
+mod subject;
+mod wanting;
+
+pub use leaving::{drop_gone, is_settled, tickets_gone};
+pub use member::Member;
+pub use subject::{Subject, copy_of, is_missing};
+pub use wanting::{Wanted, add_roots, wanted_of};

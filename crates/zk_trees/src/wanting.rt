@@ -1,0 +1,100 @@
+//! What is wanted of trees.
+
+ghost use Rattle.std.specs.Prelude.{◌≡◌, ◌++◌, IfOk, OnOk};
+ghost use Rattle.zk_client.specs.Clients.{view_of};
+ghost use Rattle.zk_trees.specs.Trees.{aims_at, aims_of, roots_aims, wants_of, AreWanted, IsWanted};
+
+use crate::subject::Subject;
+use std::alloc::{AllocError, Allocator};
+use zk_client::{Client, Path, Side};
+use zk_conclusions::{Lacking, NoSubtree};
+
+/// What is wanted of trees, and whether one has more nodes than the most.
+#[derive(Drop)]
+pub struct Wanted<A: Allocator> {
+    pub subjects: Vec<Subject<A>, A>,
+    pub is_bounded: bool,
+}
+
+/// Adds this side of each of the paths.
+fn add_each<A: Allocator + Copy>(
+    alloc: A,
+    subjects: &mut Vec<Subject<A>, A>,
+    side: Side,
+    paths: &[Path<A>],
+) -> Result<(), AllocError>
+    ensures { OnOk result (aims_of subjects.new.items ≡ aims_of subjects.old.items ++ aims_at side paths.now) }
+{
+    for path in paths {
+        subjects.push(Subject::of(alloc, side, path)?)?;
+    }
+    Ok(())
+}
+
+/// Adds the data of each root, and the names below it. An error means that memory ran out.
+pub fn add_roots<A: Allocator + Copy>(
+    alloc: A,
+    subjects: &mut Vec<Subject<A>, A>,
+    roots: &[Path<A>],
+) -> Result<(), AllocError>
+    ensures { OnOk result (aims_of subjects.new.items ≡ aims_of subjects.old.items ++ roots_aims roots.now) }
+{
+    for root in roots {
+        subjects.push(Subject::of(alloc, Side::Data, root)?)?;
+        subjects.push(Subject::of(alloc, Side::Child, root)?)?;
+    }
+    Ok(())
+}
+
+/// Adds what a tree lacks.
+fn add_lacking<A: Allocator + Copy>(
+    alloc: A,
+    subjects: &mut Vec<Subject<A>, A>,
+    lacking: &Lacking<A>,
+) -> Result<(), AllocError>
+    ensures { OnOk result (aims_of subjects.new.items ≡ aims_of subjects.old.items ++ (aims_at Side.Data lacking.now.data.items ++ aims_at Side.Child lacking.now.names.items)) }
+{
+    add_each(alloc, subjects, Side::Data, lacking.data.as_slice())?;
+    add_each(alloc, subjects, Side::Child, lacking.names.as_slice())
+}
+
+/// Adds what is wanted of a tree.
+fn add_wanted<A: Allocator + Copy>(
+    alloc: A,
+    client: &Client<A>,
+    most: u64,
+    root: &Path<A>,
+    wanted: &mut Wanted<A>,
+) -> Result<(), AllocError>
+    ensures { OnOk result (IsWanted (view_of client.now) most root.now (wants_of wanted.old) (wants_of wanted.new)) }
+{
+    match Lacking::of(client, alloc, root, most as usize) {
+        Ok(lacking) => add_lacking(alloc, &mut wanted.subjects, &lacking),
+        Err(NoSubtree::TooMany) => {
+            wanted.is_bounded = true;
+            Ok(())
+        }
+        Err(NoSubtree::NotWhole) => Ok(()),
+        Err(NoSubtree::Memory) => Err(AllocError),
+    }
+}
+
+/// What is wanted of the trees of these roots: of each what good names lead to from its root on, and that lacks something; and nothing of a
+/// tree that has more nodes than the most. An error means that memory ran out.
+pub fn wanted_of<A: Allocator + Copy>(
+    alloc: A,
+    client: &Client<A>,
+    most: u64,
+    roots: &[Path<A>],
+) -> Result<Wanted<A>, AllocError>
+    ensures { IfOk result (λ wanted. AreWanted (view_of client.now) most roots.now (wants_of wanted)) }
+{
+    let mut wanted = Wanted {
+        subjects: Vec::new(alloc),
+        is_bounded: false,
+    };
+    for root in roots {
+        add_wanted(alloc, client, most, root, &mut wanted)?;
+    }
+    Ok(wanted)
+}
