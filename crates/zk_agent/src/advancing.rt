@@ -33,7 +33,7 @@ fn tell<A: Allocator + Copy>(
     ensures client { follower.new.client ≡ follower.old.client }
 {
     let mut news = Vec::new(alloc);
-    follower.tell(outputs.as_slice(), &mut news)?;
+    follower.report_all(outputs.as_slice(), &mut news)?;
     push_outputs(line, outputs, actions)?;
     push_news(news.as_slice(), actions)
 }
