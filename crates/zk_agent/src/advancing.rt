@@ -20,7 +20,7 @@ use zk_follow::{Follower, Stop};
 use zk_line::{Ending, Line};
 
 /// Tells what the client has said, and then what there is to tell of the subjects. The line hears the answers.
-fn tell<A: Allocator + Copy>(
+fn report<A: Allocator + Copy>(
     alloc: A,
     follower: &mut Follower<A>,
     line: &mut Line<A>,
@@ -53,7 +53,7 @@ pub(crate) fn advance<A: Allocator + Copy>(
 {
     let outputs = follower.step(now, input)?;
     let heard = heard_in(outputs.as_slice());
-    tell(alloc, follower, line, outputs, actions)?;
+    report(alloc, follower, line, outputs, actions)?;
     Ok(heard)
 }
 
