@@ -10,7 +10,8 @@ use Rattle.zk_client.specs.Views.{outcome_view}
 use Rattle.zk_agent.specs.Telling.{Told, Says, TimesOut}
 use Rattle.zk_agent.specs.declared.input.Input.TheVariants as happens
 use Rattle.zk_driver.specs.Driving.{closed, Course, Goes, Hands}
-use Rattle.zk_driver.specs.Flowing.{Flow, Known, Runs}
+use Rattle.zk_link.specs.Streams.{Known}
+use Rattle.zk_driver.specs.Flowing.{Flow, Runs}
 use Rattle.zk_ask.specs.declared.came.Came.{Came}
 use Rattle.zk_ask.specs.declared.came.Came.TheVariants as came
 

@@ -10,8 +10,9 @@ use Rattle.zk_agent.specs.Telling.{Told, Says, Dials, HangsUp, told_by}
 use Rattle.zk_agent.specs.declared.input.Input.{Input}
 use Rattle.zk_agent.specs.declared.input.Input.TheVariants as happens
 use Rattle.zk_driver.specs.Driving.{carried, closed, ChannelView, Course, Hands, IsAsked, Meets, Written, Looked, Noted, Takes}
-use Rattle.zk_driver.specs.Flowing.{bytes_in, frame_of, handed_by, sent_in, AreWithin, Asked, BytesComeWhole, BytesGoWhole, Carries, Deed, Flow, Flows, HandsOver, Known, Lasts, Made, Sends}
-use Rattle.zk_driver.proofs.Streaming.{appends_none, appends_on}
+use Rattle.zk_link.specs.Streams.{Known, Sends}
+use Rattle.zk_driver.specs.Flowing.{bytes_in, frame_of, handed_by, sent_in, AreWithin, Asked, BytesComeWhole, BytesGoWhole, Carries, Deed, Flow, Flows, HandsOver, Lasts, Made}
+use Rattle.zk_link.proofs.Streaming.{appends_none, appends_on}
 
 -- ---- deeds, one after the other
 

@@ -1,6 +1,5 @@
 pub mod Going
 pub mod Carrying
 pub mod Asking
-pub mod Streaming
 pub mod Flowed
 pub mod Running

@@ -1,24 +1,15 @@
 -- What goes through a driver, byte by byte, over streams that know what they have still to give and what they took.
 use Rattle.std.specs.Prelude.{◌≡◌, ⊤, ℕ, true, List, [], ◌∷◌, ◌++◌, Option, Some, None, IfSome}
 use Rattle.std.specs.List.{flat_map, FoldsTo}
-use Rattle.std.specs.Io.KnownBytes.{Appends, Consumes}
+use Rattle.std.specs.Io.KnownBytes.{Appends}
 use Rattle.zk_turns.specs.Turns.{Send}
 use Rattle.zk_agent.specs.declared.action.Action.{Action}
 use Rattle.zk_agent.specs.declared.input.Input.{Input}
 use Rattle.zk_agent.specs.declared.input.Input.TheVariants as happens
 use Rattle.zk_agent.specs.Telling.{Told, Says, told_by}
+use Rattle.zk_link.specs.Streams.{known_of, Exchanges, Known}
 use Rattle.zk_driver.specs.declared.engine.Engine.{Engine}
 use Rattle.zk_driver.specs.Driving.{course_of, Course, Does, IsAsked, Move, Written, Looked, Noted, Takes}
-
--- What a stream has still to give, and what it took, each where it knows that.
-pub record Known : Type 0 where
-  pub left : Option (List ℕ)
-  pub took : Option (List ℕ)
-
--- of the stream of a connection, where there is one
-abbrev pub known_of : {S : Type 0} → (remaining contents : S → Option (List ℕ)) → Option S → Known
-known_of remaining contents None = record { left = None; took = None }
-known_of remaining contents (Some stream) = record { left = remaining stream; took = contents stream }
 
 -- How far a driver has come, what the stream of its connection knows, and what was read and is not handed to the agent yet.
 pub record Flow (A : Type 0) : Type 0 where
@@ -34,15 +25,6 @@ flow_of remaining contents engine passed =
 abbrev pub bytes_in : {A : Type 0} → Input A → List ℕ
 bytes_in (happens.Bytes bytes) = bytes.items
 bytes_in input = []
-
--- What leaves the front of what is unsent is what the stream took, after what it had taken.
-abbrev pub Sends : (unsent rest : List ℕ) → (before after : Option (List ℕ)) → Type 0
-Sends unsent rest before after = (written : List ℕ) × (unsent ≡ written ++ rest) × Appends before after written
-
--- Some of what is unsent is written, and these bytes are read: the first ones that the stream had to give. Each leaves what the other changes.
-pub record Exchanges (unsent rest : List ℕ) (old new : Known) (piece : List ℕ) : Type 0 where
-  pub sends : Sends unsent rest old.took new.took
-  pub gives : Consumes old.left new.left piece
 
 -- The stream is as it was, unless a connection begins or is over.
 abbrev pub Lasts : {A : Type 0} → Input A → (old new : Flow A) → Type 0

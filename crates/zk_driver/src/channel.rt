@@ -5,7 +5,8 @@ ghost use Rattle.zk_driver.specs.Driving.{channel_view, closed, is_nothing, look
 ghost use Rattle.zk_driver.specs.Noting.{notes_of_event, notes_in};
 ghost use Rattle.std.specs.Io.KnownBytes.{Keeps};
 ghost use Rattle.zk_driver.specs.Driving.{input_of};
-ghost use Rattle.zk_driver.specs.Flowing.{bytes_in, known_of, Exchanges, Sends};
+ghost use Rattle.zk_link.specs.Streams.{known_of, Exchanges, Sends};
+ghost use Rattle.zk_driver.specs.Flowing.{bytes_in};
 ghost use Rattle.zk_driver.specs.Reads.{IsBrought};
 
 use crate::bring::{bring, make_room};

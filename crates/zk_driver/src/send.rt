@@ -3,7 +3,7 @@
 ghost use Rattle.std.specs.Prelude.{◌≡◌, ◌≤◌, length, drop, take, unwrap_or, vec_len, IfSome};
 ghost use Rattle.std.specs.Io.KnownBytes.{Appends, Keeps};
 ghost use Rattle.zk_link.specs.Written.{IsLeftOf};
-ghost use Rattle.zk_driver.specs.Flowing.{Sends};
+ghost use Rattle.zk_link.specs.Streams.{Sends};
 ghost use Rattle.zk_driver.specs.Reads.{written_by};
 
 use crate::bring::is_late;

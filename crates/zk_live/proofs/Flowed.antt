@@ -8,8 +8,9 @@ use Rattle.zk_turns.specs.Rule.{Rule}
 use Rattle.zk_link.specs.declared.brought.Brought.{Brought}
 use Rattle.zk_live.specs.Frames.{frames}
 use Rattle.zk_live.specs.Trails.{is_given, kept}
-use Rattle.zk_live.specs.Flowing.{bytes_of, handed_by, holding, piece_bytes, piece_in, sent_by, AreWithin, BytesComeWhole, BytesGoWhole, Carries, Deed, Delivers, Ends, Exchanges, Flow, Flows, Hears, Holds, Known, Reads, Sends}
-use Rattle.zk_live.proofs.Streaming.{appends_none, appends_on}
+use Rattle.zk_link.specs.Streams.{Exchanges, Known, Sends}
+use Rattle.zk_live.specs.Flowing.{bytes_of, handed_by, holding, piece_bytes, piece_in, sent_by, AreWithin, BytesComeWhole, BytesGoWhole, Carries, Deed, Delivers, Ends, Flow, Flows, Hears, Holds, Reads}
+use Rattle.zk_link.proofs.Streaming.{appends_none, appends_on}
 
 -- ---- deeds, one after the other
 

@@ -2,5 +2,4 @@ pub mod HeardLemmas
 pub mod LiveLemmas
 pub mod TrailLemmas
 pub mod GiveLemmas
-pub mod Streaming
 pub mod Flowed

@@ -1,7 +1,7 @@
 -- What goes through a client's connection, byte by byte, over streams that know what they have still to give and what they took.
 use Rattle.std.specs.Prelude.{◌≡◌, ⊤, ℕ, Bool, true, false, List, [], ◌∷◌, ◌++◌, Vec, Option, Some, None, IfSome, is_some}
 use Rattle.std.specs.List.{filter, flat_map, FoldsTo}
-use Rattle.std.specs.Io.KnownBytes.{Appends, Consumes}
+use Rattle.std.specs.Io.KnownBytes.{Appends}
 use Rattle.zk_turns.specs.Turns.{Input, Output, Turn}
 use Rattle.zk_turns.specs.Turns as turns
 use Rattle.zk_turns.specs.View.{View}
@@ -9,28 +9,10 @@ use Rattle.zk_turns.specs.Rule.{Rule}
 use Rattle.zk_client.specs.Clients.{view_of}
 use Rattle.zk_link.specs.declared.brought.Brought.{Brought}
 use Rattle.zk_link.specs.declared.brought.Brought.TheVariants as brought
+use Rattle.zk_link.specs.Streams.{known_of, Exchanges, Known}
 use Rattle.zk_live.specs.declared.joint.Joint.{Joint}
 use Rattle.zk_live.specs.Frames.{frames}
 use Rattle.zk_live.specs.Trails.{is_given, kept}
-
--- What a stream has still to give, and what it took, each where it knows that.
-pub record Known : Type 0 where
-  pub left : Option (List ℕ)
-  pub took : Option (List ℕ)
-
--- of the stream of a connection, where there is one
-abbrev pub known_of : {S : Type 0} → (remaining contents : S → Option (List ℕ)) → Option S → Known
-known_of remaining contents None = record { left = None; took = None }
-known_of remaining contents (Some stream) = record { left = remaining stream; took = contents stream }
-
--- What leaves the front of what is unsent is what the stream took, after what it had taken.
-abbrev pub Sends : (unsent rest : List ℕ) → (before after : Option (List ℕ)) → Type 0
-Sends unsent rest before after = (written : List ℕ) × (unsent ≡ written ++ rest) × Appends before after written
-
--- Some of what is unsent is written, and these bytes are read: the first ones that the stream had to give. Each leaves what the other changes.
-pub record Exchanges (unsent rest : List ℕ) (old new : Known) (piece : List ℕ) : Type 0 where
-  pub sends : Sends unsent rest old.took new.took
-  pub gives : Consumes old.left new.left piece
 
 -- the bytes that a client is handed by an input
 abbrev pub bytes_of : Input → List ℕ

@@ -7,7 +7,8 @@ ghost use Rattle.zk_client.specs.Clients.{view_of};
 ghost use Rattle.zk_client.specs.Views.{input_view, said};
 ghost use Rattle.zk_script.specs.declared.stop.Stop.TheVariants.{Memory};
 ghost use Rattle.zk_link.specs.Written.{IsLeftOf};
-ghost use Rattle.zk_live.specs.Flowing.{flow_of, known_of, piece_in, Delivers, Exchanges, Flows};
+ghost use Rattle.zk_link.specs.Streams.{known_of, Exchanges};
+ghost use Rattle.zk_live.specs.Flowing.{flow_of, piece_in, Delivers, Flows};
 ghost use Rattle.zk_live.specs.Frames.{frames};
 ghost use Rattle.zk_live.specs.Trails.{bare_of, is_given, kept, trail_of, Fails, Hears, IsLoud};
 

@@ -4,7 +4,7 @@ ghost use Rattle.std.specs.Prelude.{◌≡◌, ◌≤◌, ◌++◌, length, drop
 ghost use Rattle.std.specs.Io.KnownBytes.{Appends, Keeps};
 ghost use Rattle.zk_client.specs.Views.{output_view, said};
 ghost use Rattle.zk_link.specs.Written.{IsLeftOf};
-ghost use Rattle.zk_live.specs.Flowing.{Sends};
+ghost use Rattle.zk_link.specs.Streams.{Sends};
 ghost use Rattle.zk_live.specs.Frames.{frame_in, frames};
 
 use crate::bring::is_late;

@@ -25,7 +25,8 @@ use Rattle.zk_agent.specs.declared.input.Input.TheVariants as happens
 use Rattle.zk_agent.specs.Telling.{Told}
 use Rattle.zk_agent.specs.Agents.{bytes_at, given_of, opened_at, trail_of, Ended, Hears, HungUp, Move, Opened, Trail}
 use Rattle.zk_driver.specs.Driving.{closed, opened, ChannelView, Course, Looked, Noted, Takes, Written}
-use Rattle.zk_driver.specs.Flowing.{Asked, Carries, Deed, Exchanges, Flow, Made, Passes}
+use Rattle.zk_link.specs.Streams.{Exchanges}
+use Rattle.zk_driver.specs.Flowing.{Asked, Carries, Deed, Flow, Made, Passes}
 use Rattle.zk_served.specs.Asking.{DeedFits, StepsFit, MovesFit}
 use Rattle.zk_served.specs.Acts.{given_in, taken_in}
 use Rattle.zk_served.specs.Worlds.{Befalls, ByDriver, ByStream, Meanwhile, Meets}

@@ -14,7 +14,8 @@ use Rattle.zk_agent.specs.Telling.{Told, Says, action_view}
 use Rattle.zk_agent.specs.declared.input.Input.TheVariants as happens
 use Rattle.zk_driver.specs.declared.engine.Engine.{Engine}
 use Rattle.zk_driver.specs.Driving.{closed, course_of, passed_by, AreFollowed, Course, Hands}
-use Rattle.zk_driver.specs.Flowing.{known_of, Flow, Known, Runs}
+use Rattle.zk_link.specs.Streams.{known_of, Known}
+use Rattle.zk_driver.specs.Flowing.{Flow, Runs}
 use Rattle.zk_driver.specs.Noting.{is_come, notes_of, passed_in, GoesBy}
 use Rattle.zk_driver.specs.declared.turn.Turn.{Turn}
 use Rattle.zk_driver.specs.declared.turn.Turn.TheVariants as turn

@@ -1,7 +1,7 @@
 use Rattle.std.proofs.Common.{drop, take, sym, subst, refl}
 use Rattle.std.specs.Io.KnownBytes.{Appends}
-use Rattle.zk_driver.specs.Flowing.{Sends}
-use Rattle.zk_driver.proofs.Streaming.{keeps_on, keeps_same, left_of, sends_front, sends_no_more, sends_none, sends_on}
+use Rattle.zk_link.specs.Streams.{Sends}
+use Rattle.zk_link.proofs.Streaming.{keeps_on, keeps_same, left_of, sends_front, sends_no_more, sends_none, sends_on}
 use Rattle.zk_driver.proofs.send.send.Goals as goal
 
 pub loop-init : goal.loop-init

@@ -1,6 +1,6 @@
 use Rattle.std.specs.Io.KnownBytes.{Keeps}
 use Rattle.zk_link.specs.Written.{IsLeftOf}
-use Rattle.zk_driver.specs.Flowing.{Sends}
+use Rattle.zk_link.specs.Streams.{Sends}
 use Rattle.zk_driver.proofs.send.send.Given as goal
 
 -- what was written so far

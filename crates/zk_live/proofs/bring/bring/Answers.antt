@@ -1,4 +1,5 @@
-use Rattle.zk_live.proofs.Streaming.{consumes_none, keeps_on, read_kept}
+use Rattle.zk_link.proofs.Streaming.{consumes_none, keeps_on, read_kept}
+use Rattle.zk_live.specs.Flowing.{piece_in}
 use Rattle.zk_live.proofs.bring.bring.Goals as goal
 
 pub returns-then-is_err-clause-whole : goal.returns-then-is_err-clause-whole
@@ -7,7 +8,7 @@ returns-then-is_err-clause-whole g c =
 
 pub returns-clause-whole : goal.returns-clause-whole
 returns-clause-whole g c =
-    read_kept c.read_once.result (g.S.Read.remaining c.args.stream.now) (g.S.Read.remaining c.wait_at_most.new.self)
+    read_kept c.read_once.result piece_in (g.S.Read.remaining c.args.stream.now) (g.S.Read.remaining c.wait_at_most.new.self)
     (g.S.Read.remaining c.read_once.new.stream) c.wait_at_most.ensures.gives c.read_once.ensures.whole
 
 pub returns-clause-took : goal.returns-clause-took

@@ -1,8 +1,9 @@
 use Rattle.std.proofs.Common.{[], subst, sym}
 use Rattle.std.specs.Prelude.{IfOk}
 use Rattle.zk_driver.specs.Driving.{input_of}
-use Rattle.zk_driver.specs.Flowing.{bytes_in, known_of, Exchanges, Known}
-use Rattle.zk_driver.proofs.Streaming.{exchanged, exchanges_none, keeps_same, sends_none}
+use Rattle.zk_link.specs.Streams.{known_of, Exchanges, Known}
+use Rattle.zk_driver.specs.Flowing.{bytes_in}
+use Rattle.zk_link.proofs.Streaming.{exchanged, exchanges_none, keeps_same, sends_none}
 use Rattle.zk_driver.proofs.channel.Channel.read.Goals as goal
 
 pub returns-in_default-clause-whole : goal.returns-in_default-clause-whole
@@ -29,5 +30,5 @@ returns-clause-whole g c =
     let wrote : Known = record { left = g.S.Read.remaining c.send.new.stream; took = g.S.Write.contents c.send.new.stream } in
     let new : Known = record { left = g.S.Read.remaining c.bring.new.stream; took = g.S.Write.contents c.bring.new.stream } in
     subst (λ stream. IfOk c.bring.result (λ brought. Exchanges unsent rest (know stream) new (bytes_in (input_of brought)))) (sym c.in-Some.is)
-    (exchanged c.bring.result unsent rest (record { left = g.S.Read.remaining c.in-Some.stream; took = g.S.Write.contents c.in-Some.stream }) wrote new
+    (exchanged c.bring.result (λ brought. bytes_in (input_of brought)) unsent rest (record { left = g.S.Read.remaining c.in-Some.stream; took = g.S.Write.contents c.in-Some.stream }) wrote new
     c.send.ensures.sends c.send.ensures.gives c.bring.ensures.took c.bring.ensures.whole)

@@ -3,7 +3,8 @@ use Rattle.zk_driver.specs.declared.engine.Engine.{Engine}
 use Rattle.zk_driver.specs.Driving.{channel_view, course_of, input_of, is_nothing, look_after}
 use Rattle.zk_driver.specs.Noting.{notes_in, notes_of_event}
 use Rattle.zk_driver.specs.Driving.{Looked}
-use Rattle.zk_driver.specs.Flowing.{bytes_in, flow_of, known_of, Flow, Made}
+use Rattle.zk_link.specs.Streams.{known_of}
+use Rattle.zk_driver.specs.Flowing.{bytes_in, flow_of, Flow, Made}
 use Rattle.zk_driver.proofs.Flowed.{flow_after, flow_one, flow_same}
 use Rattle.zk_driver.proofs.Going.{by_after, by_same_notes, looked_by, same_by}
 use Rattle.zk_driver.proofs.driver.Driver.read.Goals as goal

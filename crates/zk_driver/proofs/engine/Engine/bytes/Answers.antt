@@ -2,7 +2,8 @@ use Rattle.std.proofs.Common.{None, refl}
 use Rattle.zk_agent.specs.Telling.{told_by}
 use Rattle.zk_agent.specs.declared.input.Input.TheVariants as happens
 use Rattle.zk_driver.specs.Driving.{channel_view, course_of}
-use Rattle.zk_driver.specs.Flowing.{flow_of, known_of}
+use Rattle.zk_link.specs.Streams.{known_of}
+use Rattle.zk_driver.specs.Flowing.{flow_of}
 use Rattle.zk_driver.proofs.Carrying.{extends_on}
 use Rattle.zk_driver.proofs.Flowed.{flow_noted, ok_flow_after}
 use Rattle.zk_driver.proofs.Going.{first_so, first_then, noted_so, ok_by_after}

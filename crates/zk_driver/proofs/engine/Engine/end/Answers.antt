@@ -1,7 +1,8 @@
 use Rattle.std.proofs.Common.{None, ap, refl}
 use Rattle.zk_agent.specs.declared.input.Input.TheVariants as happens
 use Rattle.zk_driver.specs.Driving.{ChannelView, channel_view, course_of}
-use Rattle.zk_driver.specs.Flowing.{flow_of, known_of}
+use Rattle.zk_link.specs.Streams.{known_of}
+use Rattle.zk_driver.specs.Flowing.{flow_of}
 use Rattle.zk_driver.proofs.Flowed.{ok_flow_noted, ok_stays_shut}
 use Rattle.zk_driver.proofs.Going.{first, noted}
 use Rattle.zk_driver.proofs.engine.Engine.end.Goals as goal

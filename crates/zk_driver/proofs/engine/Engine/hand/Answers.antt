@@ -1,8 +1,8 @@
 use Rattle.std.proofs.Common.{[], ap, refl}
 use Rattle.zk_agent.specs.Telling.{told_by}
 use Rattle.zk_driver.specs.Driving.{channel_view}
-use Rattle.zk_driver.specs.Flowing.{known_of}
-use Rattle.zk_driver.proofs.Streaming.{exchanges_none}
+use Rattle.zk_link.specs.Streams.{known_of}
+use Rattle.zk_link.proofs.Streaming.{exchanges_none}
 use Rattle.zk_driver.proofs.engine.Engine.hand.Goals as goal
 
 pub returns-clause-hands : goal.returns-clause-hands

@@ -1,7 +1,8 @@
 use Rattle.std.proofs.Common.{◌∙◌, [], ap, subst}
-use Rattle.zk_live.specs.Flowing.{known_of, piece_in, Exchanges}
+use Rattle.zk_link.specs.Streams.{known_of, Exchanges}
+use Rattle.zk_live.specs.Flowing.{piece_in}
 use Rattle.zk_live.specs.Trails.{Trail}
-use Rattle.zk_live.proofs.Streaming.{exchanges_on, left_of, ok_exchanges_on}
+use Rattle.zk_link.proofs.Streaming.{exchanges_on, left_of, ok_exchanges_on}
 use Rattle.zk_live.proofs.joint.Joint.read.Goals as goal
 
 pub returns-in_default : goal.returns-in_default
@@ -39,4 +40,4 @@ returns-clause-whole g c =
     let old = c.args.self.now in
     let here = c.loop.self in
     let new = c.exchange-2.new.self in
-    ok_exchanges_on c.exchange-2.result old.unsent.items here.unsent.items new.unsent.items (know old.stream) (know here.stream) (know new.stream) c.loop.invariant.whole c.exchange-2.ensures.whole
+    ok_exchanges_on c.exchange-2.result piece_in old.unsent.items here.unsent.items new.unsent.items (know old.stream) (know here.stream) (know new.stream) c.loop.invariant.whole c.exchange-2.ensures.whole

@@ -1,6 +1,6 @@
 use Rattle.std.proofs.Common.{◌≡◌, []}
 use Rattle.zk_link.specs.Written.{IsLeftOf}
-use Rattle.zk_live.specs.Flowing.{known_of, Exchanges}
+use Rattle.zk_link.specs.Streams.{known_of, Exchanges}
 use Rattle.zk_live.specs.Trails.{bare_of}
 use Rattle.zk_live.proofs.joint.Joint.read.Given as goal
 

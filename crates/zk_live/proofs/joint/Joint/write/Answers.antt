@@ -1,9 +1,9 @@
 use Rattle.std.proofs.Common.{◌++◌, [], subst, sym}
 use Rattle.zk_client.specs.Views.{said}
 use Rattle.zk_link.specs.Written.{IsLeftOf}
-use Rattle.zk_live.specs.Flowing.{known_of, Exchanges, Known, Sends}
+use Rattle.zk_link.specs.Streams.{known_of, Exchanges, Known, Sends}
 use Rattle.zk_live.specs.Frames.{frames}
-use Rattle.zk_live.proofs.Streaming.{exchanges_none}
+use Rattle.zk_link.proofs.Streaming.{exchanges_none}
 use Rattle.zk_live.proofs.joint.Joint.write.Goals as goal
 
 pub returns-in_ok-queue-in-Some-clause-kept : goal.returns-in_ok-queue-in-Some-clause-kept

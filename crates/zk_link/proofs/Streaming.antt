@@ -1,12 +1,11 @@
 -- What reads and writes of a stream do to the bytes that it knows, one after the other.
 use Rattle.std.proofs.Common.{◌≡◌, ◌++◌, ◌∙◌, ◌≤◌, ℕ, List, [], ap, append-nil, append_assoc, refl, sym, subst, take, drop, length, take-append-drop, Option, Some, None}
-use Rattle.std.specs.Prelude.{Result, Ok, Err, IfOk, OnOk}
+use Rattle.std.specs.Prelude.{Result, Ok, Err, IfOk}
 use Rattle.std.specs.Io.KnownBytes.{Appends, Consumes, Keeps}
 use Rattle.std.proofs.Math.Seq.{drop-append_seam}
 use Rattle.std.proofs.lemmas.List.{take-append-le}
 use Rattle.zk_link.specs.Written.{IsLeftOf}
-use Rattle.zk_link.specs.declared.brought.Brought.{Brought}
-use Rattle.zk_live.specs.Flowing.{piece_in, Exchanges, Known, Sends}
+use Rattle.zk_link.specs.Streams.{Exchanges, Known, Sends}
 
 -- ---- known bytes
 
@@ -55,10 +54,10 @@ pub exchanges_none : (unsent rest : List ℕ) (old new : Known) → Sends unsent
 exchanges_none unsent rest old new sends keeps = record { sends = sends; gives = consumes_none old.left new.left keeps }
 
 -- what a stream kept before it was read
-pub read_kept : {A E : Type 0} (result : Result (Brought A) E) (a b c : Option (List ℕ)) → Keeps a b
-    → IfOk result (λ brought. Consumes b c (piece_in brought)) → IfOk result (λ brought. Consumes a c (piece_in brought))
-read_kept (Ok brought) a b c keeps gives = kept_consumes a b c (piece_in brought) keeps gives
-read_kept (Err e) a b c keeps gives = tt
+pub read_kept : {X E : Type 0} (result : Result X E) (piece : X → List ℕ) (a b c : Option (List ℕ)) → Keeps a b
+    → IfOk result (λ brought. Consumes b c (piece brought)) → IfOk result (λ brought. Consumes a c (piece brought))
+read_kept (Ok brought) piece a b c keeps gives = kept_consumes a b c (piece brought) keeps gives
+read_kept (Err e) piece a b c keeps gives = tt
 
 pub left_of : (unsent rest : List ℕ) (a b : Option (List ℕ)) → Sends unsent rest a b → IsLeftOf unsent rest
 left_of unsent rest a b sends =
@@ -77,15 +76,15 @@ pub sends_no_more : (unsent rest : List ℕ) (a b c : Option (List ℕ)) → Sen
 sends_no_more unsent rest a b c sends takes = sends_on unsent rest rest a b c sends ([], refl, takes)
 
 -- some was written, and then a read was made
-pub exchanged : {A E : Type 0} (result : Result (Brought A) E) (unsent rest : List ℕ) (old wrote new : Known) → Sends unsent rest old.took wrote.took
+pub exchanged : {X E : Type 0} (result : Result X E) (piece : X → List ℕ) (unsent rest : List ℕ) (old wrote new : Known) → Sends unsent rest old.took wrote.took
     → Keeps old.left wrote.left → Keeps wrote.took new.took
-    → IfOk result (λ brought. Consumes wrote.left new.left (piece_in brought))
-    → IfOk result (λ brought. Exchanges unsent rest old new (piece_in brought))
-exchanged (Ok brought) unsent rest old wrote new sends left took gives = record {
+    → IfOk result (λ brought. Consumes wrote.left new.left (piece brought))
+    → IfOk result (λ brought. Exchanges unsent rest old new (piece brought))
+exchanged (Ok brought) piece unsent rest old wrote new sends left took gives = record {
   sends = (sends.0, sends.1, appends_kept old.took wrote.took new.took sends.0 sends.2 took);
-  gives = kept_consumes old.left wrote.left new.left (piece_in brought) left gives;
+  gives = kept_consumes old.left wrote.left new.left (piece brought) left gives;
 }
-exchanged (Err e) unsent rest old wrote new sends left took gives = tt
+exchanged (Err e) piece unsent rest old wrote new sends left took gives = tt
 
 pub keeps_on : (a b c : Option (List ℕ)) → Keeps a b → Keeps b c → Keeps a c
 keeps_on None b c first rest = tt
@@ -112,10 +111,10 @@ exchanges_on unsent mid rest old between new piece first more = record {
   gives = consumes_on old.left between.left new.left piece first.gives more.gives;
 }
 
-pub ok_exchanges_on : {A E : Type 0} (result : Result (Brought A) E) (unsent mid rest : List ℕ) (old between new : Known) → Exchanges unsent mid old between []
-    → IfOk result (λ brought. Exchanges mid rest between new (piece_in brought)) → IfOk result (λ brought. Exchanges unsent rest old new (piece_in brought))
-ok_exchanges_on (Ok brought) unsent mid rest old between new first more = exchanges_on unsent mid rest old between new (piece_in brought) first more
-ok_exchanges_on (Err e) unsent mid rest old between new first more = tt
+pub ok_exchanges_on : {X E : Type 0} (result : Result X E) (piece : X → List ℕ) (unsent mid rest : List ℕ) (old between new : Known) → Exchanges unsent mid old between []
+    → IfOk result (λ brought. Exchanges mid rest between new (piece brought)) → IfOk result (λ brought. Exchanges unsent rest old new (piece brought))
+ok_exchanges_on (Ok brought) piece unsent mid rest old between new first more = exchanges_on unsent mid rest old between new (piece brought) first more
+ok_exchanges_on (Err e) piece unsent mid rest old between new first more = tt
 
 pub exchanges_same : (unsent : List ℕ) (known : Known) → Exchanges unsent unsent known known []
 exchanges_same unsent known = exchanges_none unsent unsent known known (sends_none unsent known.took) (keeps_same known.left)
