@@ -71,7 +71,7 @@ impl<A: Allocator + Copy> Rehearsal<A> {
     }
 
     /// Reads a line of the history.
-    fn tell(&mut self, alloc: A, line: &[u8]) -> Result<String<A>, Stop>
+    fn read_history(&mut self, alloc: A, line: &[u8]) -> Result<String<A>, Stop>
         requires { is_begun (position_of self.old) ≡ false }
         ensures ok { IfOk result (λ text. DoesHistory line.now (position_of self.old) (position_of self.new) (string_bytes text)) }
         ensures err { IfErr result (IsDueOf line.now HistoryLine (position_of self.old)) }
@@ -81,14 +81,14 @@ impl<A: Allocator + Copy> Rehearsal<A> {
     }
 
     /// Does what a line says that is allowed here.
-    fn take(&mut self, alloc: A, line: &[u8], said: Said<A>) -> Result<String<A>, Stop>
+    fn perform_said(&mut self, alloc: A, line: &[u8], said: Said<A>) -> Result<String<A>, Stop>
         requires { CanPlay (is_begun (position_of self.old)) (said_value said) }
         ensures ok { IfOk result (λ text. Does line.now (said_value said) (position_of self.old) (position_of self.new) (string_bytes text)) }
         ensures err { IfErr result (IsDueOf line.now (said_value said) (position_of self.old)) }
         ensures halt { IfErr result (IfHalted (HaltsSaid (said_value said) (position_of self.old) (position_of self.new))) }
     {
         match said {
-            Said::History => self.tell(alloc, line),
+            Said::History => self.read_history(alloc, line),
             Said::Begin(timeout) => {
                 self.begin(alloc, timeout);
                 Ok(String::new(alloc))
@@ -119,7 +119,7 @@ impl<A: Allocator + Copy> Rehearsal<A> {
         ensures halt { IfErr result (IfHalted (HaltsLine line.now (position_of self.old) (position_of self.new))) }
     {
         match self.said(alloc, line)? {
-            Some(said) => self.take(alloc, line, said),
+            Some(said) => self.perform_said(alloc, line, said),
             None => Ok(String::new(alloc)),
         }
     }

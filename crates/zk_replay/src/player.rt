@@ -84,7 +84,7 @@ impl<A: Allocator + Copy> Player<A> {
     }
 
     /// Does what the words after a keyword say.
-    fn take(&mut self, alloc: A, keyword: Keyword, words: &[&[u8]]) -> Result<String<A>, Stop>
+    fn perform(&mut self, alloc: A, keyword: Keyword, words: &[&[u8]]) -> Result<String<A>, Stop>
         ensures ok { IfOk result (λ text. DoesSaid (placed_at keyword (is_some (view_of_player self.old)) (map (λ w. w.now) words.now)) (view_of_player self.old) (view_of_player self.new) (string_bytes text)) }
         ensures err { IfErr result (IsDueBy (placed_at keyword (is_some (view_of_player self.old)) (map (λ w. w.now) words.now))) }
         ensures halt { IfErr result (IfHalted (HaltsSaid (placed_at keyword (is_some (view_of_player self.old)) (map (λ w. w.now) words.now)) (view_of_player self.old) (view_of_player self.new))) }
@@ -105,7 +105,7 @@ impl<A: Allocator + Copy> Player<A> {
             return Ok(String::new(alloc));
         };
         let keyword = Keyword::named(first).ok_or(ScriptFault::Unknown)?;
-        self.take(alloc, keyword, behind)
+        self.perform(alloc, keyword, behind)
     }
 
     /// Does what a line says, and gives what is to be printed: the lines of what the client says, or of a look-up. An empty line
