@@ -78,7 +78,7 @@ impl<'a, S: Server> Stream for Partner<'a, S> {
         Ok(())
     }
 
-    fn take(&mut self, buf: &mut [u8]) -> io::Result<usize> {
+    fn read_some(&mut self, buf: &mut [u8]) -> io::Result<usize> {
         self.read(buf)
     }
 

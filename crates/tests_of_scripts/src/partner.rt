@@ -170,7 +170,7 @@ impl<'a> Stream for Partner<'a> {
         Ok(())
     }
 
-    fn take(&mut self, buf: &mut [u8]) -> io::Result<usize> {
+    fn read_some(&mut self, buf: &mut [u8]) -> io::Result<usize> {
         self.read(buf)
     }
 

@@ -20,7 +20,7 @@ use zk_follow::{Follower, Stop};
 use zk_line::{Ending, Line};
 
 /// Tells what the client has said, and then what there is to tell of the subjects. The line hears the answers.
-fn tell<A: Allocator + Copy>(
+fn report<A: Allocator + Copy>(
     alloc: A,
     follower: &mut Follower<A>,
     line: &mut Line<A>,
@@ -33,7 +33,7 @@ fn tell<A: Allocator + Copy>(
     ensures client { follower.new.client ≡ follower.old.client }
 {
     let mut news = Vec::new(alloc);
-    follower.tell(outputs.as_slice(), &mut news)?;
+    follower.report_all(outputs.as_slice(), &mut news)?;
     push_outputs(line, outputs, actions)?;
     push_news(news.as_slice(), actions)
 }
@@ -53,7 +53,7 @@ pub(crate) fn advance<A: Allocator + Copy>(
 {
     let outputs = follower.step(now, input)?;
     let heard = heard_in(outputs.as_slice());
-    tell(alloc, follower, line, outputs, actions)?;
+    report(alloc, follower, line, outputs, actions)?;
     Ok(heard)
 }
 

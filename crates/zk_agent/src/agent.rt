@@ -186,7 +186,7 @@ impl<A: Allocator + Copy> Agent<A> {
         let now = self.latest.max(now);
         let heard_at = heard_moment(self.dialler.is_open(), now, &input, self.heard_at);
         let mut actions = Vec::new(self.alloc);
-        self.take(now, input, &mut actions)?;
+        self.apply_happening(now, input, &mut actions)?;
         self.renew(&mut actions)?;
         self.give_up(now, &mut actions)?;
         self.send(now, &mut actions)?;
@@ -198,7 +198,7 @@ impl<A: Allocator + Copy> Agent<A> {
     }
 
     /// Takes what has happened.
-    fn take(
+    fn apply_happening(
         &mut self,
         now: u64,
         input: Input<A>,
@@ -211,7 +211,7 @@ impl<A: Allocator + Copy> Agent<A> {
             Input::Opened => self.open(now, actions),
             Input::Failed | Input::Cut => self.end(now, actions),
             Input::Bytes(bytes) => self.bytes(now, bytes, actions),
-            Input::Moment => self.hear(now, zk_client::Input::Now(now), actions),
+            Input::Moment => self.step_client(now, zk_client::Input::Now(now), actions),
             Input::Addresses(count) => self.set_addresses(now, count, actions),
             Input::Call {
                 ticket,
@@ -230,7 +230,7 @@ impl<A: Allocator + Copy> Agent<A> {
     {
         let timeout_ms = self.timeout_ms();
         if self.dialler.open(timeout_ms, now) {
-            return self.hear(now, zk_client::Input::Opened, actions);
+            return self.step_client(now, zk_client::Input::Opened, actions);
         }
         push(actions, Action::HangUp)?;
         self.end(now, actions)
@@ -243,7 +243,7 @@ impl<A: Allocator + Copy> Agent<A> {
     {
         let timeout_ms = self.timeout_ms();
         self.dialler.end(timeout_ms, now);
-        self.hear(now, zk_client::Input::Cut, actions)
+        self.step_client(now, zk_client::Input::Cut, actions)
     }
 
     /// Bytes came. They are of no connection where there is none.
@@ -257,9 +257,9 @@ impl<A: Allocator + Copy> Agent<A> {
         ensures followed { OnOk result (All (IsFollowed now (view_of self.new.asker.follower.client)) self.new.asker.follower.subjects.items) }
     {
         if self.dialler.is_open() {
-            return self.hear(now, zk_client::Input::Bytes(bytes), actions);
+            return self.step_client(now, zk_client::Input::Bytes(bytes), actions);
         }
-        self.hear(now, zk_client::Input::Now(now), actions)
+        self.step_client(now, zk_client::Input::Now(now), actions)
     }
 
     /// Another list of addresses.
@@ -273,7 +273,7 @@ impl<A: Allocator + Copy> Agent<A> {
         ensures followed { OnOk result (All (IsFollowed now (view_of self.new.asker.follower.client)) self.new.asker.follower.subjects.items) }
     {
         self.dialler.set_addresses(self.alloc, count)?;
-        self.hear(now, zk_client::Input::Now(now), actions)
+        self.step_client(now, zk_client::Input::Now(now), actions)
     }
 
     /// A call is asked.
@@ -289,7 +289,7 @@ impl<A: Allocator + Copy> Agent<A> {
         ensures followed { OnOk result (All (IsFollowed now (view_of self.new.asker.follower.client)) self.new.asker.follower.subjects.items) }
     {
         self.asker.ask(ticket, call, until)?;
-        self.hear(now, zk_client::Input::Now(now), actions)
+        self.step_client(now, zk_client::Input::Now(now), actions)
     }
 
     /// A subject is followed.
@@ -305,7 +305,7 @@ impl<A: Allocator + Copy> Agent<A> {
         ensures followed { OnOk result (All (IsFollowed now (view_of self.new.asker.follower.client)) self.new.asker.follower.subjects.items) }
     {
         self.asker.follow(ticket, side, path)?;
-        self.hear(now, zk_client::Input::Now(now), actions)
+        self.step_client(now, zk_client::Input::Now(now), actions)
     }
 
     /// A subject is followed no more.
@@ -319,7 +319,7 @@ impl<A: Allocator + Copy> Agent<A> {
         ensures followed { OnOk result (All (IsFollowed now (view_of self.new.asker.follower.client)) self.new.asker.follower.subjects.items) }
     {
         self.asker.unfollow(ticket);
-        self.hear(now, zk_client::Input::Now(now), actions)
+        self.step_client(now, zk_client::Input::Now(now), actions)
     }
 
     /// Another session begins.

@@ -54,7 +54,7 @@ impl Frames {
     }
 
     /// Takes the next byte. The xid of the frame that ends with it, if one does.
-    pub(crate) fn take(&mut self, byte: u8) -> Option<u64>
+    pub(crate) fn read_byte(&mut self, byte: u8) -> Option<u64>
         ensures place { self.new ≡ place_after byte self.old }
         ensures xid { result ≡ ends_with byte self.old }
     {

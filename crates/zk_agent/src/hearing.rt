@@ -18,7 +18,7 @@ fn note_answers<A: Allocator + Copy>(waits: &mut Waits<A>, input: &Input<A>)
     ensures { waited_of waits.new ≡ heard_input (waited_of waits.old) (input_view input.now) }
 {
     if let Input::Bytes(bytes) = input {
-        waits.hear(bytes.as_slice());
+        waits.read_bytes(bytes.as_slice());
     }
 }
 
@@ -152,7 +152,7 @@ impl<A: Allocator + Copy> Agent<A> {
     }
 
     /// Hands the client an input, and does what it says.
-    pub(crate) fn hear(
+    pub(crate) fn step_client(
         &mut self,
         now: u64,
         input: Input<A>,

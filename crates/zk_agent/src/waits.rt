@@ -73,22 +73,22 @@ impl<A: Allocator> Waits<A> {
     }
 
     /// A byte came.
-    fn take(&mut self, byte: u8)
+    fn read_byte(&mut self, byte: u8)
         ensures { waited_of self.new ≡ heard_byte (waited_of self.old) byte }
     {
-        let xid = self.came.take(byte);
+        let xid = self.came.read_byte(byte);
         self.answer(xid);
     }
 
     /// Bytes came, with which calls and pings may have their answers. It looks at the first eight of each frame, and at its last one.
-    pub(crate) fn hear(&mut self, bytes: &[u8])
+    pub(crate) fn read_bytes(&mut self, bytes: &[u8])
         ensures { waited_of self.new ≡ heard_bytes (waited_of self.old) bytes.now }
     {
         let mut at = 0usize;
         while at < bytes.len() {
             let passed = self.came.pass((bytes.len() - at) as u64);
             at += passed as usize;
-            self.take(bytes[at]);
+            self.read_byte(bytes[at]);
             at += 1;
         }
     }

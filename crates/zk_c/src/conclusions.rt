@@ -14,7 +14,7 @@ ghost use Rattle.zk_c.specs.Kept.{FindsText};
 ghost use Rattle.zk_c.specs.Stood.{FindsHolder, FindsStanding, TellsStands};
 
 use crate::handle::DwClient;
-use crate::taking::{CLOSED, NONE, WAITS, take};
+use crate::taking::{CLOSED, NONE, WAITS, take_device};
 use std::alloc::Global;
 use zk_device::{Contender, Refusal, Stands, holder, lacking, snapshot, standing, subtree};
 
@@ -34,7 +34,7 @@ pub extern "C" fn dw_subtree(
     ensures same { handle.new.slot.held ≡ handle.old.slot.held }
 {
     *count = 0;
-    let Some(device) = take(alloc, handle) else {
+    let Some(device) = take_device(alloc, handle) else {
         return CLOSED;
     };
     let found = subtree(alloc, &device.client, path, most, out);
@@ -64,7 +64,7 @@ pub extern "C" fn dw_lacking(
     ensures same { handle.new.slot.held ≡ handle.old.slot.held }
 {
     *count = 0;
-    let Some(device) = take(alloc, handle) else {
+    let Some(device) = take_device(alloc, handle) else {
         return CLOSED;
     };
     let found = lacking(alloc, &device.client, path, most, out);
@@ -94,7 +94,7 @@ pub extern "C" fn dw_snapshot(
     ensures same { handle.new.slot.held ≡ handle.old.slot.held }
 {
     *count = 0;
-    let Some(device) = take(alloc, handle) else {
+    let Some(device) = take_device(alloc, handle) else {
         return CLOSED;
     };
     let found = snapshot(alloc, &device.client, nodes, parents, out);
@@ -147,7 +147,7 @@ pub extern "C" fn dw_standing(
     ensures same { handle.new.slot.held ≡ handle.old.slot.held }
 {
     (*token, *count) = (0, 0);
-    let Some(device) = take(alloc, handle) else {
+    let Some(device) = take_device(alloc, handle) else {
         return CLOSED;
     };
     let contender = Contender {
@@ -178,7 +178,7 @@ pub extern "C" fn dw_holder(
     ensures same { handle.new.slot.held ≡ handle.old.slot.held }
 {
     *token = 0;
-    let Some(device) = take(alloc, handle) else {
+    let Some(device) = take_device(alloc, handle) else {
         return CLOSED;
     };
     let found = holder(alloc, &device.client, directory, prefix, path);

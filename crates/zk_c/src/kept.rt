@@ -9,7 +9,7 @@ ghost use Rattle.zk_c.specs.Held.{Forgets, Holds, IsClosed, LeavesRoom};
 ghost use Rattle.zk_c.specs.Kept.{FindsData, FindsNames, FindsText};
 
 use crate::handle::DwClient;
-use crate::taking::{CLOSED, take};
+use crate::taking::{CLOSED, take_device};
 use std::alloc::Global;
 use zk_device::{
     KeptData, KeptNames, forget_stale, peek_children, peek_data, peek_name, peek_names,
@@ -28,7 +28,7 @@ pub extern "C" fn dw_peek_data(
     ensures finds { (d : Device) → handle.old.slot.held ≡ Some d → FindsData (RefusesPath path.now) ((view_of d.client).cache.nodes path.now) result kept.old kept.new out.old out.new }
     ensures same { handle.new.slot.held ≡ handle.old.slot.held }
 {
-    let Some(device) = take(alloc, handle) else {
+    let Some(device) = take_device(alloc, handle) else {
         return CLOSED;
     };
     let found = peek_data(&device.client, path, out);
@@ -54,7 +54,7 @@ pub extern "C" fn dw_peek_children(
     ensures finds { (d : Device) → handle.old.slot.held ≡ Some d → FindsNames (RefusesPath path.now) ((view_of d.client).cache.children path.now) result kept.old kept.new }
     ensures same { handle.new.slot.held ≡ handle.old.slot.held }
 {
-    let Some(device) = take(alloc, handle) else {
+    let Some(device) = take_device(alloc, handle) else {
         return CLOSED;
     };
     let found = peek_children(&device.client, path);
@@ -84,7 +84,7 @@ pub extern "C" fn dw_peek_name(
     ensures same { handle.new.slot.held ≡ handle.old.slot.held }
 {
     *count = 0;
-    let Some(device) = take(alloc, handle) else {
+    let Some(device) = take_device(alloc, handle) else {
         return CLOSED;
     };
     let found = peek_name(&device.client, path, index, out);
@@ -113,7 +113,7 @@ pub extern "C" fn dw_peek_names(
     ensures same { handle.new.slot.held ≡ handle.old.slot.held }
 {
     *count = 0;
-    let Some(device) = take(alloc, handle) else {
+    let Some(device) = take_device(alloc, handle) else {
         return CLOSED;
     };
     let found = peek_names(alloc, &device.client, path, out);
@@ -133,7 +133,7 @@ pub extern "C" fn dw_forget(alloc: Global, handle: &mut DwClient) -> i32
     ensures closed { handle.old.slot.held ≡ None → IsClosed result handle.new.slot.held }
     ensures forgets { (d : Device) → handle.old.slot.held ≡ Some d → Holds handle.new.slot.held (Forgets d result) }
 {
-    let Some(mut device) = take(alloc, handle) else {
+    let Some(mut device) = take_device(alloc, handle) else {
         return CLOSED;
     };
     forget_stale(&mut device.client);

@@ -10,7 +10,7 @@ ghost use Rattle.zk_c.specs.Held.{Holds, IsClosed, LeavesRoom, Tells, Writes};
 ghost use Rattle.zk_c.specs.Kept.{FindsText};
 
 use crate::handle::DwClient;
-use crate::taking::{CLOSED, NONE, take};
+use crate::taking::{CLOSED, NONE, take_device};
 use std::alloc::Global;
 use zk_device::{Flat, Refusal, copy_into};
 
@@ -20,7 +20,7 @@ pub extern "C" fn dw_next(alloc: Global, handle: &mut DwClient, out: &mut Flat) 
     ensures closed { handle.old.slot.held ≡ None → IsClosed result handle.new.slot.held × (out.new ≡ out.old) }
     ensures next { (d : Device) → handle.old.slot.held ≡ Some d → Holds handle.new.slot.held (Tells d out.old result out.new) }
 {
-    let Some(mut device) = take(alloc, handle) else {
+    let Some(mut device) = take_device(alloc, handle) else {
         return CLOSED;
     };
     let next = device.next();
@@ -48,7 +48,7 @@ pub extern "C" fn dw_copy(
     ensures copied { (d : Device) → handle.old.slot.held ≡ Some d → out.new ≡ take (length out.old) (drop from (told_text d.said.items d.read)) ++ drop (length (drop from (told_text d.said.items d.read))) out.old }
     ensures same { handle.new.slot.held ≡ handle.old.slot.held }
 {
-    let Some(device) = take(alloc, handle) else {
+    let Some(device) = take_device(alloc, handle) else {
         return 0;
     };
     let count = device.copy_text(from, out);
@@ -70,7 +70,7 @@ pub extern "C" fn dw_name(
     ensures copied { (d : Device) → handle.old.slot.held ≡ Some d → out.new ≡ take (length out.old) (told_name index d.said.items d.read) ++ drop (length (told_name index d.said.items d.read)) out.old }
     ensures same { handle.new.slot.held ≡ handle.old.slot.held }
 {
-    let Some(device) = take(alloc, handle) else {
+    let Some(device) = take_device(alloc, handle) else {
         return 0;
     };
     let count = device.copy_name(index, out);
@@ -92,7 +92,7 @@ pub extern "C" fn dw_names(
     ensures same { handle.new.slot.held ≡ handle.old.slot.held }
 {
     *count = 0;
-    let Some(device) = take(alloc, handle) else {
+    let Some(device) = take_device(alloc, handle) else {
         return CLOSED;
     };
     let names = device.copy_names(alloc, out);
@@ -119,7 +119,7 @@ pub extern "C" fn dw_words(
     ensures same { handle.new.slot.held ≡ handle.old.slot.held }
 {
     *count = 0;
-    let Some(device) = take(alloc, handle) else {
+    let Some(device) = take_device(alloc, handle) else {
         return CLOSED;
     };
     let words = device.words(alloc);

@@ -12,7 +12,7 @@ ghost use Rattle.zk_c.specs.Held.{Holds, IsClosed, LeavesRoom, Makes, Writes};
 
 use crate::handle::DwClient;
 use crate::making::hold;
-use crate::taking::{CLOSED, NONE, drive, take};
+use crate::taking::{CLOSED, NONE, drive, take_device};
 use std::alloc::Global;
 use zk_device::{Device, Refusal, copy_into, saved, state};
 
@@ -51,7 +51,7 @@ pub extern "C" fn dw_state(alloc: Global, handle: &mut DwClient) -> i32
     ensures state { (d : Device) → handle.old.slot.held ≡ Some d → result ≡ pos (state_number (view_of d.client).standing.state) }
     ensures same { handle.new.slot.held ≡ handle.old.slot.held }
 {
-    let Some(device) = take(alloc, handle) else {
+    let Some(device) = take_device(alloc, handle) else {
         return CLOSED;
     };
     let state = state(&device.client);
@@ -66,7 +66,7 @@ pub extern "C" fn dw_last_zxid(alloc: Global, handle: &mut DwClient) -> i64
     ensures last { (d : Device) → handle.old.slot.held ≡ Some d → result ≡ (view_of d.client).saved.last }
     ensures same { handle.new.slot.held ≡ handle.old.slot.held }
 {
-    let Some(device) = take(alloc, handle) else {
+    let Some(device) = take_device(alloc, handle) else {
         return i64::from(CLOSED);
     };
     let last = device.client.last_zxid();
@@ -82,7 +82,7 @@ pub extern "C" fn dw_revision(alloc: Global, handle: &mut DwClient) -> u64
     ensures begun { (d : Device) → handle.old.slot.held ≡ Some d → 1 ≤ result }
     ensures same { handle.new.slot.held ≡ handle.old.slot.held }
 {
-    let Some(device) = take(alloc, handle) else {
+    let Some(device) = take_device(alloc, handle) else {
         return 0;
     };
     let number = device.revision.number();
@@ -97,7 +97,7 @@ pub extern "C" fn dw_timeout_ms(alloc: Global, handle: &mut DwClient) -> i64
     ensures timeout { (d : Device) → handle.old.slot.held ≡ Some d → result ≡ pos (view_of d.client).saved.session.timeout }
     ensures same { handle.new.slot.held ≡ handle.old.slot.held }
 {
-    let Some(device) = take(alloc, handle) else {
+    let Some(device) = take_device(alloc, handle) else {
         return i64::from(CLOSED);
     };
     let timeout = device.client.timeout_ms();
@@ -114,7 +114,7 @@ pub extern "C" fn dw_deadline(alloc: Global, handle: &mut DwClient, first_ms: &m
     ensures same { handle.new.slot.held ≡ handle.old.slot.held }
 {
     *first_ms = 0;
-    let Some(device) = take(alloc, handle) else {
+    let Some(device) = take_device(alloc, handle) else {
         return CLOSED;
     };
     let deadline = device.client.deadline();
@@ -141,7 +141,7 @@ pub extern "C" fn dw_saved(
     ensures same { handle.new.slot.held ≡ handle.old.slot.held }
 {
     *count = 0;
-    let Some(device) = take(alloc, handle) else {
+    let Some(device) = take_device(alloc, handle) else {
         return CLOSED;
     };
     let saved = saved(alloc, &device.client);

@@ -21,7 +21,7 @@ pub const NONE: i32 = 1;
 pub const WAITS: i32 = 2;
 
 /// Takes the device of a handle, if it has one.
-pub fn take(alloc: Global, handle: &mut DwClient) -> Option<Box<Device, Global>>
+pub fn take_device(alloc: Global, handle: &mut DwClient) -> Option<Box<Device, Global>>
     ensures some { IfSome result (λ device. handle.old.slot.held ≡ Some device.value) }
     ensures none { IfNone result (handle.old.slot.held ≡ None) }
     ensures rest { handle.new.slot.held ≡ None }
@@ -40,7 +40,7 @@ pub fn drive<F: FnOnce(&mut Device) -> Result<(), Refusal>>(
     ensures done { (before : Device) → handle.old.slot.held ≡ Some before → (after : Device) × (done : Result ⊤ Refusal)
         × (handle.new.slot.held ≡ Some after) × (result ≡ code_of done) × FnOnceReturnsAtMut F.FnOnce step before done after }
 {
-    let Some(mut device) = take(alloc, handle) else {
+    let Some(mut device) = take_device(alloc, handle) else {
         return CLOSED;
     };
     let done = step(&mut device);

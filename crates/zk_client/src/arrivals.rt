@@ -47,7 +47,7 @@ fn is_memory(fault: TalkFault) -> bool
 
 impl<A: Allocator + Copy> Core<A> {
     /// A payload came.
-    pub(crate) fn take(
+    pub(crate) fn read_payload(
         &mut self,
         payload: &[u8],
         outputs: &mut Vec<Output<A>, A>,

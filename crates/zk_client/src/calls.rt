@@ -39,7 +39,7 @@ fn side_of<A: Allocator + Copy>(call: &Call<A>) -> Option<Side>
 }
 
 /// A version, read for what is known of it.
-fn read_version(version: i32) -> i32
+fn known_of_version(version: i32) -> i32
     ensures range { FitsSigned w32 version }
     ensures same { result ≡ version }
 {
@@ -47,7 +47,7 @@ fn read_version(version: i32) -> i32
 }
 
 /// How long the path of a call is. The call is read for what is known of its texts and numbers.
-pub(crate) fn path_length<A: Allocator + Copy>(call: &Call<A>) -> usize
+pub(crate) fn known_of_call<A: Allocator + Copy>(call: &Call<A>) -> usize
     ensures asked { IsAskable (call_view call.now) }
     ensures typed { IsTyped (call_view call.now) }
 {
@@ -56,12 +56,12 @@ pub(crate) fn path_length<A: Allocator + Copy>(call: &Call<A>) -> usize
         Call::GetData { path, .. } => path.as_str().len(),
         Call::GetChildren { path, .. } => path.as_str().len(),
         Call::SetData { path, version, .. } => {
-            read_version(*version);
+            known_of_version(*version);
             path.as_str().len()
         }
         Call::Create { path, .. } => path.as_str().len(),
         Call::Delete { path, version } => {
-            read_version(*version);
+            known_of_version(*version);
             path.as_str().len()
         }
         Call::Close => 0,

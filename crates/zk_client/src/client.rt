@@ -9,7 +9,7 @@ use crate::fault::Halt;
 use crate::input::Input;
 use crate::machine::Core;
 use crate::output::Output;
-use crate::turn::{asked_length, turn};
+use crate::turn::{known_of_input, turn};
 use std::alloc::{AllocError, Allocator, Global};
 use zk_cache::{Cache, DataAnswer, Mark};
 use zk_conversation::Conversation;
@@ -127,7 +127,7 @@ impl<A: Allocator + Copy> Client<A> {
     {
         one_turn();
         outputs.clear();
-        let taken = self.take(input, outputs);
+        let taken = self.apply_input(input, outputs);
         if taken.is_err() {
             outputs.clear();
         }
@@ -194,14 +194,14 @@ impl<A: Allocator + Copy> Client<A> {
         ensures halted { (view_of self.old).standing.halted ≡ true → IsErr result }
     {
         one_turn();
-        asked_length(&input);
-        self.take(Input::Now(now), outputs)?;
-        self.take(input, outputs)?;
+        known_of_input(&input);
+        self.apply_input(Input::Now(now), outputs)?;
+        self.apply_input(input, outputs)?;
         Ok(())
     }
 
     /// Takes an input, and adds the outputs that it makes due.
-    fn take(&mut self, input: Input<A>, outputs: &mut Vec<Output<A>, A>) -> Result<(), Halt>
+    fn apply_input(&mut self, input: Input<A>, outputs: &mut Vec<Output<A>, A>) -> Result<(), Halt>
         ensures rule { OnOk result (Adds (view_of self.old) (input_view input) (said outputs.old.items) (said outputs.new.items) (view_of self.new)) }
         ensures typed { AsksOf IsTyped (input_view input) }
         ensures quiet { IsQuiet (view_of self.old) (input_view input) → IsOk result }
@@ -210,7 +210,7 @@ impl<A: Allocator + Copy> Client<A> {
     {
         let state = self.core.session.state();
         let last = self.core.session.last_zxid();
-        asked_length(&input);
+        known_of_input(&input);
         self.core.earlier = None;
         if self.core.halted {
             drop(input);

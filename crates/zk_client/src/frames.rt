@@ -14,7 +14,7 @@ use std::alloc::{AllocError, Allocator};
 use zk_frames::FrameReader;
 
 /// Bytes came. Each payload that is whole has its effect, up to the end of the connection.
-pub(crate) fn hear<A: Allocator + Copy>(
+pub(crate) fn receive_bytes<A: Allocator + Copy>(
     core: &mut Core<A>,
     reader: &mut FrameReader<A>,
     piece: Vec<u8, A>,
@@ -62,7 +62,7 @@ fn take_frames<A: Allocator + Copy>(
 {
     while core.session.state().is_open() {
         match reader.next_frame() {
-            Ok(Some(payload)) => core.take(payload, outputs)?,
+            Ok(Some(payload)) => core.read_payload(payload, outputs)?,
             Ok(None) => return Ok(()),
             Err(fault) => {
                 reader.reset();

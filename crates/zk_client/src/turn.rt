@@ -12,9 +12,9 @@ ghost use Rattle.zk_client.specs.Seen.{view_with, origin};
 ghost use Rattle.zk_client.specs.Sound.{CoreIsSound, IsReading};
 ghost use Rattle.zk_client.specs.Steps.{IsQuiet};
 
-use crate::calls::path_length;
+use crate::calls::known_of_call;
 use crate::fault::Fault;
-use crate::frames::hear;
+use crate::frames::receive_bytes;
 use crate::input::Input;
 use crate::machine::Core;
 use crate::output::Output;
@@ -23,12 +23,12 @@ use zk_frames::FrameReader;
 use zk_session::{Due, State};
 
 /// How long the path is that a caller asks about, if one does. It is read for what is known of its text.
-pub(crate) fn asked_length<A: Allocator + Copy>(input: &Input<A>) -> usize
+pub(crate) fn known_of_input<A: Allocator + Copy>(input: &Input<A>) -> usize
     ensures asked { IsAsked (input_view input.now) }
     ensures typed { AsksOf IsTyped (input_view input.now) }
 {
     match input {
-        Input::Call(_, call) => path_length(call),
+        Input::Call(_, call) => known_of_call(call),
         _ => 0,
     }
 }
@@ -52,7 +52,7 @@ pub(crate) fn turn<A: Allocator + Copy>(
 {
     match input {
         Input::Opened => opened(core, reader, outputs),
-        Input::Bytes(piece) => hear(core, reader, piece, outputs),
+        Input::Bytes(piece) => receive_bytes(core, reader, piece, outputs),
         Input::Cut => cut(core, reader, outputs),
         Input::Now(moment) => now(core, reader, moment, outputs),
         Input::Call(ticket, call) => core.ask(ticket, call, outputs),

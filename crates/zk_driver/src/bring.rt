@@ -66,7 +66,7 @@ fn read_once<A: Allocator, S: Stream>(
     ensures whole { IfOk result (λ brought. Consumes (S.remaining stream.old) (S.remaining stream.new) (bytes_in (input_of brought))) }
     ensures took { Keeps (S.contents stream.old) (S.contents stream.new) }
 {
-    match reading_of(Stream::take(stream, room.as_mut_slice())) {
+    match reading_of(Stream::read_some(stream, room.as_mut_slice())) {
         Reading::Bytes(count) => {
             let bytes = Vec::from_slice(alloc, &room[..count])?;
             Ok(Brought::Piece(bytes))

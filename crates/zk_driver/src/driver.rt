@@ -311,7 +311,7 @@ impl<'a, A: Allocator + Copy, D: Dial + Drop, C: Clock + Drop> Driver<'a, A, D, 
         }
         self.clock.pause(ms);
         let now = self.now();
-        Ok((self.engine.tell(now)?, Event::Nothing))
+        Ok((self.engine.pass_moment(now)?, Event::Nothing))
     }
 
     /// Reads the connection once, from this moment on and for `ms` milliseconds, and tells the agent what that brings, or that it brings
@@ -345,7 +345,7 @@ impl<'a, A: Allocator + Copy, D: Dial + Drop, C: Clock + Drop> Driver<'a, A, D, 
             });
         }
         let event = self.engine.channel.event_of(&brought);
-        let told = self.engine.take(now, brought)?;
+        let told = self.engine.apply_read(now, brought)?;
         let is_again = self.engine.reads_on(event, told < now);
         Ok(Glance {
             now,

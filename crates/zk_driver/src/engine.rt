@@ -189,7 +189,7 @@ impl<A: Allocator + Copy, S: Stream> Engine<A, S> {
     }
 
     /// Nothing has come but a moment.
-    pub(crate) fn tell(&mut self, now: u64) -> Result<u64, Stop>
+    pub(crate) fn pass_moment(&mut self, now: u64) -> Result<u64, Stop>
         requires none { self.old.channel.attempt ≡ None }
         requires timely { IsTimely now (course_of self.old None) }
         ensures goes { OnOk result (GoesBy [] (course_of self.old None) (course_of self.new None)) }
@@ -334,11 +334,11 @@ impl<A: Allocator + Copy, S: Stream> Engine<A, S> {
         if self.channel.attempt.is_some() || self.is_to_be_read(now) {
             return Ok(told);
         }
-        self.tell(now)
+        self.pass_moment(now)
     }
 
     /// What a read has brought, or that it brought nothing, is noticed at this moment.
-    pub(crate) fn take(&mut self, now: u64, brought: Brought<A>) -> Result<u64, Stop>
+    pub(crate) fn apply_read(&mut self, now: u64, brought: Brought<A>) -> Result<u64, Stop>
         requires none { self.old.channel.attempt ≡ None }
         requires open { is_some self.old.channel.stream ≡ true }
         requires taken { IsTaken now brought (course_of self.old None) }
@@ -350,7 +350,7 @@ impl<A: Allocator + Copy, S: Stream> Engine<A, S> {
     {
         match brought {
             Brought::Piece(bytes) => self.bytes(now, bytes),
-            Brought::Nothing => self.tell(now),
+            Brought::Nothing => self.pass_moment(now),
             Brought::End => self.cut(now),
         }
     }
@@ -369,7 +369,7 @@ impl<A: Allocator + Copy, S: Stream> Engine<A, S> {
                 self.end(now)?;
                 self.settle_closed(now)
             }
-            None => self.tell(now),
+            None => self.pass_moment(now),
         }
     }
 
@@ -383,7 +383,7 @@ impl<A: Allocator + Copy, S: Stream> Engine<A, S> {
     {
         match self.channel.attempt {
             Some(_) => self.fail(now),
-            None => self.tell(now),
+            None => self.pass_moment(now),
         }
     }
 

@@ -222,7 +222,7 @@ impl<A: Allocator + Copy> Follower<A> {
 
     /// What there is to tell of each subject since the call before this one, with its ticket, after what `all` has. These outputs are those
     /// that the steps have given since then. An error means that memory ran out.
-    pub fn tell(
+    pub fn report_all(
         &mut self,
         outputs: &[Output<A>],
         all: &mut Vec<(u64, News), A>,

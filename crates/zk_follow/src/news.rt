@@ -135,7 +135,7 @@ fn add_news<A: Allocator>(
 
 impl<A: Allocator + Copy> Subject<A> {
     /// Adds what there is to tell of the subject, with its ticket. It counts as told from then on.
-    fn tell(
+    fn report(
         &mut self,
         client: &Client<A>,
         outputs: &[Output<A>],
@@ -163,7 +163,7 @@ pub(crate) fn tell_all<A: Allocator + Copy>(
     ensures told { OnOk result (subjects.new ≡ map (told_of (view_of client.now)) subjects.old) }
 {
     for subject in subjects.iter_mut() {
-        subject.tell(client, outputs, all)?;
+        subject.report(client, outputs, all)?;
     }
     Ok(())
 }

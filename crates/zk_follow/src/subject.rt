@@ -77,7 +77,7 @@ impl<A: Allocator> Subject<A> {
     }
 
     /// Hears what the client has said at this moment.
-    fn hear(&mut self, now: u64, outputs: &[Output<A>])
+    fn note_outputs(&mut self, now: u64, outputs: &[Output<A>])
         ensures { self.new ≡ heard_all now self.old (said outputs.now) }
     {
         for output in outputs {
@@ -97,10 +97,10 @@ impl<A: Allocator> Subject<A> {
     }
 
     /// Takes what the client has said at this moment.
-    fn take(&mut self, now: u64, outputs: &[Output<A>])
+    fn pass_moment(&mut self, now: u64, outputs: &[Output<A>])
         ensures { self.new ≡ taken now (said outputs.now) self.old }
     {
-        self.hear(now, outputs);
+        self.note_outputs(now, outputs);
         self.wake(now);
     }
 
@@ -135,7 +135,7 @@ impl<A: Allocator + Copy> Subject<A> {
         let Ok(mut outputs) = client.step(Input::Call(self.ticket, call)) else {
             return Err(Stop::Halted);
         };
-        self.hear(now, outputs.as_slice());
+        self.note_outputs(now, outputs.as_slice());
         match made.append(&mut outputs) {
             Ok(()) => Ok(self.is_unread()),
             Err(_) => Err(Stop::Memory),
@@ -181,7 +181,7 @@ impl<A: Allocator + Copy> Subject<A> {
         ensures full { IfOk result (λ is_full. is_full ≡ true → IsFull (view_of client.new)) }
         ensures visits { OnOk result (VisitsAnd now (view_of client.old) (said made.old.items) (taken now (said outputs.now) self.old) (view_of client.new) (said made.new.items) self.new) }
     {
-        self.take(now, outputs);
+        self.pass_moment(now, outputs);
         if is_shown(client, self.side, &self.path) {
             self.rest();
             return Ok(is_full);

@@ -17,7 +17,7 @@ pub trait Stream: Read + Write + Drop {
         ensures took { Keeps (Self.contents self.old) (Self.contents self.new) };
 
     /// Reads, as [`read`](Read::read) does, and writes nothing.
-    fn take(&mut self, buf: &mut [u8]) -> io::Result<usize>
+    fn read_some(&mut self, buf: &mut [u8]) -> io::Result<usize>
         ensures bound { ReadsAtMost result buf.new }
         ensures bytes { ReadConsumes (Self.remaining self.old) (Self.remaining self.new) result buf.new }
         ensures took { Keeps (Self.contents self.old) (Self.contents self.new) };

@@ -50,7 +50,7 @@ impl<S: Read + Write + OpenStream + Drop> Stream for Socket<S> {
             .set_read_timeout(Some(Duration::from_millis(ms)))
     }
 
-    fn take(&mut self, buf: &mut [u8]) -> io::Result<usize> {
+    fn read_some(&mut self, buf: &mut [u8]) -> io::Result<usize> {
         self.read(buf)
     }
 

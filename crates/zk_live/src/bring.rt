@@ -36,7 +36,7 @@ fn read_once<A: Allocator, S: Stream>(
     ensures whole { IfOk result (λ brought. Consumes (S.remaining stream.old) (S.remaining stream.new) (piece_in brought)) }
     ensures took { Keeps (S.contents stream.old) (S.contents stream.new) }
 {
-    match Stream::take(stream, room.as_mut_slice()) {
+    match Stream::read_some(stream, room.as_mut_slice()) {
         Ok(0) => Ok(Brought::End),
         Ok(count) => Ok(Brought::Piece(Vec::from_slice(alloc, &room[..count])?)),
         Err(fault) if is_late(fault.kind()) => Ok(Brought::Nothing),

@@ -60,7 +60,7 @@ pub struct Heard<A: Allocator> {
 }
 
 /// Hands a client an input, and adds what is printed of what it says. Where that is answered by a halt, the client has halted.
-pub fn hear<A: Allocator + Copy, S: Stream>(
+pub fn printed_step<A: Allocator + Copy, S: Stream>(
     alloc: A,
     joint: &mut Joint<A, S>,
     input: Input<A>,
@@ -72,7 +72,7 @@ pub fn hear<A: Allocator + Copy, S: Stream>(
     ensures halt { IfErr result (IfHalted (Halts (tape (view_of joint.old.client) (string_bytes text.old)) (input_view input) (tape (view_of joint.new.client) (string_bytes text.new)))) }
 {
     let mut outputs = Vec::new(alloc);
-    let is_well = match joint.hear(input, &mut outputs) {
+    let is_well = match joint.step(input, &mut outputs) {
         Ok(is_well) => is_well,
         Err(stop) => return Err(stop),
     };

@@ -25,7 +25,7 @@ const PRESSED_WAIT: u64 = 10;
 /// A client, and its connection, if it has one.
 #[derive(Drop)]
 pub struct Joint<A: Allocator + Copy, S: Drop> {
-    /// The client. What it says is done where [`hear`](Joint::hear) hands it an input.
+    /// The client. What it says is done where [`step`](Joint::step) hands it an input.
     pub client: Client<A>,
     pub(crate) stream: Option<S>,
     alloc: A,
@@ -181,7 +181,7 @@ impl<A: Allocator + Copy, S: Stream> Joint<A, S> {
     /// [`Input::Now`].
     ///
     /// An error says that memory ran out, in the client, or for what is written or given. An input without effect halts no client.
-    pub fn hear(&mut self, input: Input<A>, outputs: &mut Vec<Output<A>, A>) -> Result<bool, Stop>
+    pub fn step(&mut self, input: Input<A>, outputs: &mut Vec<Output<A>, A>) -> Result<bool, Stop>
         ensures ok { OnOk result (Hears (trail_of self.old outputs.old.items) (input_view input) (trail_of self.new outputs.new.items)) }
         ensures err { IfErr result (λ stop. Fails stop (trail_of self.old outputs.old.items) (trail_of self.new outputs.new.items)) }
         ensures flows { OnOk result (Delivers (input_view input) (said outputs.old.items) (said outputs.new.items) (flow_of S.remaining S.contents self.old) (flow_of S.remaining S.contents self.new)) }
@@ -201,7 +201,7 @@ impl<A: Allocator + Copy, S: Stream> Joint<A, S> {
         ensures loud { IfErr result (λ stop. IsLoud stop (view_of self.old.client) Cut) }
     {
         self.stream = None;
-        self.hear(Input::Cut, outputs)?;
+        self.step(Input::Cut, outputs)?;
         Ok(())
     }
 }

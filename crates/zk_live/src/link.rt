@@ -9,7 +9,7 @@ ghost use Rattle.zk_script.specs.Stops.{IfHalted, IsWant};
 ghost use Rattle.zk_live.specs.Flowing.{bytes_of, flow_of, holding, piece_bytes, piece_in, Flows};
 ghost use Rattle.zk_live.specs.Heard.{is_waiting, tape, Awaits, Brings, Connects, Halts, HaltsAmong, HaltsAwaiting, HaltsBrought, HaltsConnecting, Hears, MayEnd, Takes};
 
-use crate::heard::{cut, hear};
+use crate::heard::{cut, printed_step};
 use crate::joint::Joint;
 use crate::ring::Ring;
 use std::alloc::{AllocError, Allocator};
@@ -94,7 +94,7 @@ impl<A: Allocator + Copy, S: Stream> Link<A, S> {
     }
 
     /// Hands the client an input, and the connection what goes to the server. Where that is not written, the connection ends.
-    pub fn take(
+    pub fn step(
         &mut self,
         alloc: A,
         input: Input<A>,
@@ -105,7 +105,7 @@ impl<A: Allocator + Copy, S: Stream> Link<A, S> {
         ensures err { IfErr result IsWant }
         ensures halt { IfErr result (IfHalted (HaltsAmong (tape (view_of self.old.joint.client) (string_bytes text.old)) (input_view input ∷ Cut ∷ []) (tape (view_of self.new.joint.client) (string_bytes text.new)))) }
     {
-        let heard = hear(alloc, &mut self.joint, input, text)?;
+        let heard = printed_step(alloc, &mut self.joint, input, text)?;
         self.end_if(!heard.is_well, alloc, text)?;
         Ok(heard.outputs)
     }
@@ -148,7 +148,7 @@ impl<A: Allocator + Copy, S: Stream> Link<A, S> {
     {
         match self.next_piece()? {
             Some(bytes) => {
-                let outputs = self.take(alloc, Input::Bytes(bytes), text)?;
+                let outputs = self.step(alloc, Input::Bytes(bytes), text)?;
                 Ok(outputs)
             }
             None => {
@@ -223,7 +223,7 @@ impl<A: Allocator + Copy, S: Stream> Link<A, S> {
         ensures halt { IfErr result (IfHalted (HaltsAwaiting (tape (view_of self.old.joint.client) (string_bytes text.old)) (Call asked.ticket (call_view asked.call)) (tape (view_of self.new.joint.client) (string_bytes text.new)))) }
     {
         let ticket = asked.ticket;
-        let outputs = self.take(alloc, Input::Call(ticket, asked.call), text)?;
+        let outputs = self.step(alloc, Input::Call(ticket, asked.call), text)?;
         self.wait(alloc, ticket, outputs, text)?;
         Ok(())
     }
@@ -250,7 +250,7 @@ impl<A: Allocator + Copy, S: Stream> Link<A, S> {
             return Ok(());
         };
         self.joint.hold(stream);
-        self.take(alloc, Input::Opened, text)?;
+        self.step(alloc, Input::Opened, text)?;
         self.settle(alloc, text)?;
         Ok(())
     }

@@ -49,7 +49,7 @@ impl<A: Allocator + Copy, D: Dial> Session<'_, A, D> {
         match line {
             ClientLine::Cut => self.link.cut(alloc, &mut text)?,
             ClientLine::Now(moment) => {
-                self.link.take(alloc, Input::Now(moment), &mut text)?;
+                self.link.step(alloc, Input::Now(moment), &mut text)?;
             }
             ClientLine::Call(asked) => self.link.ask(alloc, asked, &mut text)?,
             line => return driven(alloc, &mut self.link.joint.client, line),

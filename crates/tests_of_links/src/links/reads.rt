@@ -60,7 +60,7 @@ fn words_for<A: Allocator>(brought: &Brought<A>) -> &'static str {
 /// The client begins the connection that it is given.
 fn begin(alloc: Global, joint: &mut Read<'_>) -> Result<()> {
     let mut outputs = Vec::new(alloc);
-    let heard = joint.hear(Input::Opened, &mut outputs);
+    let heard = joint.step(Input::Opened, &mut outputs);
     drop(outputs);
     match heard {
         Ok(_) => Ok(()),

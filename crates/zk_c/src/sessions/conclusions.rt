@@ -14,7 +14,7 @@ ghost use Rattle.zk_c.specs.Kept.{FindsText};
 ghost use Rattle.zk_c.specs.Stood.{FindsHolder, FindsStanding, TellsStands};
 
 use crate::sessions::handle::DwSession;
-use crate::sessions::taking::take;
+use crate::sessions::taking::take_device;
 use crate::taking::{CLOSED, NONE, WAITS};
 use std::alloc::Global;
 use zk_device::{Contender, Refusal, Stands, holder, lacking, snapshot, standing, subtree};
@@ -35,7 +35,7 @@ pub extern "C" fn dw_session_subtree(
     ensures same { handle.new.slot.held ≡ handle.old.slot.held }
 {
     *count = 0;
-    let Some(session) = take(alloc, handle) else {
+    let Some(session) = take_device(alloc, handle) else {
         return CLOSED;
     };
     let found = subtree(alloc, session.agent.client(), path, most, out);
@@ -65,7 +65,7 @@ pub extern "C" fn dw_session_lacking(
     ensures same { handle.new.slot.held ≡ handle.old.slot.held }
 {
     *count = 0;
-    let Some(session) = take(alloc, handle) else {
+    let Some(session) = take_device(alloc, handle) else {
         return CLOSED;
     };
     let found = lacking(alloc, session.agent.client(), path, most, out);
@@ -95,7 +95,7 @@ pub extern "C" fn dw_session_snapshot(
     ensures same { handle.new.slot.held ≡ handle.old.slot.held }
 {
     *count = 0;
-    let Some(session) = take(alloc, handle) else {
+    let Some(session) = take_device(alloc, handle) else {
         return CLOSED;
     };
     let found = snapshot(alloc, session.agent.client(), nodes, parents, out);
@@ -148,7 +148,7 @@ pub extern "C" fn dw_session_standing(
     ensures same { handle.new.slot.held ≡ handle.old.slot.held }
 {
     (*token, *count) = (0, 0);
-    let Some(session) = take(alloc, handle) else {
+    let Some(session) = take_device(alloc, handle) else {
         return CLOSED;
     };
     let contender = Contender {
@@ -179,7 +179,7 @@ pub extern "C" fn dw_session_holder(
     ensures same { handle.new.slot.held ≡ handle.old.slot.held }
 {
     *token = 0;
-    let Some(session) = take(alloc, handle) else {
+    let Some(session) = take_device(alloc, handle) else {
         return CLOSED;
     };
     let found = holder(alloc, session.agent.client(), directory, prefix, path);

@@ -10,7 +10,7 @@ ghost use Rattle.zk_c.specs.Kept.{FindsData, FindsNames, FindsText};
 ghost use Rattle.zk_c.specs.Sessions.{ForgetsStale};
 
 use crate::sessions::handle::DwSession;
-use crate::sessions::taking::take;
+use crate::sessions::taking::take_device;
 use crate::taking::CLOSED;
 use std::alloc::Global;
 use zk_device::{KeptData, KeptNames, peek_children, peek_data, peek_name, peek_names};
@@ -28,7 +28,7 @@ pub extern "C" fn dw_session_peek_data(
     ensures finds { (d : AgentDevice) → handle.old.slot.held ≡ Some d → FindsData (RefusesPath path.now) ((view_of d.agent.asker.follower.client).cache.nodes path.now) result kept.old kept.new out.old out.new }
     ensures same { handle.new.slot.held ≡ handle.old.slot.held }
 {
-    let Some(session) = take(alloc, handle) else {
+    let Some(session) = take_device(alloc, handle) else {
         return CLOSED;
     };
     let found = peek_data(session.agent.client(), path, out);
@@ -54,7 +54,7 @@ pub extern "C" fn dw_session_peek_children(
     ensures finds { (d : AgentDevice) → handle.old.slot.held ≡ Some d → FindsNames (RefusesPath path.now) ((view_of d.agent.asker.follower.client).cache.children path.now) result kept.old kept.new }
     ensures same { handle.new.slot.held ≡ handle.old.slot.held }
 {
-    let Some(session) = take(alloc, handle) else {
+    let Some(session) = take_device(alloc, handle) else {
         return CLOSED;
     };
     let found = peek_children(session.agent.client(), path);
@@ -84,7 +84,7 @@ pub extern "C" fn dw_session_peek_name(
     ensures same { handle.new.slot.held ≡ handle.old.slot.held }
 {
     *count = 0;
-    let Some(session) = take(alloc, handle) else {
+    let Some(session) = take_device(alloc, handle) else {
         return CLOSED;
     };
     let found = peek_name(session.agent.client(), path, index, out);
@@ -113,7 +113,7 @@ pub extern "C" fn dw_session_peek_names(
     ensures same { handle.new.slot.held ≡ handle.old.slot.held }
 {
     *count = 0;
-    let Some(session) = take(alloc, handle) else {
+    let Some(session) = take_device(alloc, handle) else {
         return CLOSED;
     };
     let found = peek_names(alloc, session.agent.client(), path, out);
@@ -133,7 +133,7 @@ pub extern "C" fn dw_session_forget(alloc: Global, handle: &mut DwSession) -> i3
     ensures closed { handle.old.slot.held ≡ None → IsClosed result handle.new.slot.held }
     ensures forgets { (d : AgentDevice) → handle.old.slot.held ≡ Some d → Holds handle.new.slot.held (ForgetsStale d result) }
 {
-    let Some(mut session) = take(alloc, handle) else {
+    let Some(mut session) = take_device(alloc, handle) else {
         return CLOSED;
     };
     session.forget_stale();

@@ -11,7 +11,7 @@ ghost use Rattle.zk_c.specs.Sessions.{Tells};
 ghost use Rattle.zk_c.specs.Kept.{FindsText};
 
 use crate::sessions::handle::DwSession;
-use crate::sessions::taking::take;
+use crate::sessions::taking::take_device;
 use crate::taking::{CLOSED, NONE};
 use std::alloc::Global;
 use zk_device::{Flat, Refusal, copy_into};
@@ -22,7 +22,7 @@ pub extern "C" fn dw_session_next(alloc: Global, handle: &mut DwSession, out: &m
     ensures closed { handle.old.slot.held ≡ None → IsClosed result handle.new.slot.held × (out.new ≡ out.old) }
     ensures next { (d : AgentDevice) → handle.old.slot.held ≡ Some d → Holds handle.new.slot.held (Tells d out.old result out.new) }
 {
-    let Some(mut session) = take(alloc, handle) else {
+    let Some(mut session) = take_device(alloc, handle) else {
         return CLOSED;
     };
     let next = session.next();
@@ -50,7 +50,7 @@ pub extern "C" fn dw_session_copy(
     ensures copied { (d : AgentDevice) → handle.old.slot.held ≡ Some d → out.new ≡ take (length out.old) (drop from (told_text d.said.items d.read)) ++ drop (length (drop from (told_text d.said.items d.read))) out.old }
     ensures same { handle.new.slot.held ≡ handle.old.slot.held }
 {
-    let Some(session) = take(alloc, handle) else {
+    let Some(session) = take_device(alloc, handle) else {
         return 0;
     };
     let count = session.copy_text(from, out);
@@ -72,7 +72,7 @@ pub extern "C" fn dw_session_name(
     ensures copied { (d : AgentDevice) → handle.old.slot.held ≡ Some d → out.new ≡ take (length out.old) (told_name index d.said.items d.read) ++ drop (length (told_name index d.said.items d.read)) out.old }
     ensures same { handle.new.slot.held ≡ handle.old.slot.held }
 {
-    let Some(session) = take(alloc, handle) else {
+    let Some(session) = take_device(alloc, handle) else {
         return 0;
     };
     let count = session.copy_name(index, out);
@@ -94,7 +94,7 @@ pub extern "C" fn dw_session_names(
     ensures same { handle.new.slot.held ≡ handle.old.slot.held }
 {
     *count = 0;
-    let Some(session) = take(alloc, handle) else {
+    let Some(session) = take_device(alloc, handle) else {
         return CLOSED;
     };
     let names = session.copy_names(alloc, out);
@@ -121,7 +121,7 @@ pub extern "C" fn dw_session_words(
     ensures same { handle.new.slot.held ≡ handle.old.slot.held }
 {
     *count = 0;
-    let Some(session) = take(alloc, handle) else {
+    let Some(session) = take_device(alloc, handle) else {
         return CLOSED;
     };
     let words = session.words(alloc);

@@ -9,7 +9,7 @@ ghost use Rattle.zk_c.specs.Held.{LeavesRoom, Writes};
 ghost use Rattle.zk_c.specs.Sessions.{FirstDue, TellsMoment};
 
 use crate::sessions::handle::DwSession;
-use crate::sessions::taking::take;
+use crate::sessions::taking::take_device;
 use crate::taking::{CLOSED, NONE};
 use std::alloc::Global;
 use zk_device::{Refusal, copy_into, saved, state};
@@ -21,7 +21,7 @@ pub extern "C" fn dw_session_state(alloc: Global, handle: &mut DwSession) -> i32
     ensures state { (d : AgentDevice) → handle.old.slot.held ≡ Some d → result ≡ pos (state_number (view_of d.agent.asker.follower.client).standing.state) }
     ensures same { handle.new.slot.held ≡ handle.old.slot.held }
 {
-    let Some(session) = take(alloc, handle) else {
+    let Some(session) = take_device(alloc, handle) else {
         return CLOSED;
     };
     let state = state(session.agent.client());
@@ -36,7 +36,7 @@ pub extern "C" fn dw_session_last_zxid(alloc: Global, handle: &mut DwSession) ->
     ensures last { (d : AgentDevice) → handle.old.slot.held ≡ Some d → result ≡ (view_of d.agent.asker.follower.client).saved.last }
     ensures same { handle.new.slot.held ≡ handle.old.slot.held }
 {
-    let Some(session) = take(alloc, handle) else {
+    let Some(session) = take_device(alloc, handle) else {
         return i64::from(CLOSED);
     };
     let last = session.agent.client().last_zxid();
@@ -52,7 +52,7 @@ pub extern "C" fn dw_session_revision(alloc: Global, handle: &mut DwSession) -> 
     ensures begun { (d : AgentDevice) → handle.old.slot.held ≡ Some d → 1 ≤ result }
     ensures same { handle.new.slot.held ≡ handle.old.slot.held }
 {
-    let Some(session) = take(alloc, handle) else {
+    let Some(session) = take_device(alloc, handle) else {
         return 0;
     };
     let number = session.revision.number();
@@ -67,7 +67,7 @@ pub extern "C" fn dw_session_timeout_ms(alloc: Global, handle: &mut DwSession) -
     ensures timeout { (d : AgentDevice) → handle.old.slot.held ≡ Some d → result ≡ pos (view_of d.agent.asker.follower.client).saved.session.timeout }
     ensures same { handle.new.slot.held ≡ handle.old.slot.held }
 {
-    let Some(session) = take(alloc, handle) else {
+    let Some(session) = take_device(alloc, handle) else {
         return i64::from(CLOSED);
     };
     let timeout = session.agent.client().timeout_ms();
@@ -88,7 +88,7 @@ pub extern "C" fn dw_session_deadline(
     ensures same { handle.new.slot.held ≡ handle.old.slot.held }
 {
     *first_ms = 0;
-    let Some(session) = take(alloc, handle) else {
+    let Some(session) = take_device(alloc, handle) else {
         return CLOSED;
     };
     let deadline = session.agent.deadline();
@@ -114,7 +114,7 @@ pub extern "C" fn dw_session_heard_at(
     ensures same { handle.new.slot.held ≡ handle.old.slot.held }
 {
     *moment_ms = 0;
-    let Some(session) = take(alloc, handle) else {
+    let Some(session) = take_device(alloc, handle) else {
         return CLOSED;
     };
     let heard = session.agent.heard_at();
@@ -141,7 +141,7 @@ pub extern "C" fn dw_session_saved(
     ensures same { handle.new.slot.held ≡ handle.old.slot.held }
 {
     *count = 0;
-    let Some(session) = take(alloc, handle) else {
+    let Some(session) = take_device(alloc, handle) else {
         return CLOSED;
     };
     let saved = saved(alloc, session.agent.client());

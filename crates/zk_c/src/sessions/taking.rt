@@ -14,7 +14,7 @@ use zk_agent_device::AgentDevice;
 use zk_device::{Refusal, code_of};
 
 /// Takes the session of a handle, if it has one.
-pub fn take(alloc: Global, handle: &mut DwSession) -> Option<Box<AgentDevice, Global>>
+pub fn take_device(alloc: Global, handle: &mut DwSession) -> Option<Box<AgentDevice, Global>>
     ensures some { IfSome result (λ session. handle.old.slot.held ≡ Some session.value) }
     ensures none { IfNone result (handle.old.slot.held ≡ None) }
     ensures rest { handle.new.slot.held ≡ None }
@@ -33,7 +33,7 @@ pub fn drive<F: FnOnce(&mut AgentDevice) -> Result<(), Refusal>>(
     ensures done { (before : AgentDevice) → handle.old.slot.held ≡ Some before → (after : AgentDevice) × (done : Result ⊤ Refusal)
         × (handle.new.slot.held ≡ Some after) × (result ≡ code_of done) × FnOnceReturnsAtMut F.FnOnce step before done after }
 {
-    let Some(mut session) = take(alloc, handle) else {
+    let Some(mut session) = take_device(alloc, handle) else {
         return CLOSED;
     };
     let done = step(&mut session);

@@ -20,21 +20,21 @@ loop-reader-preserved g c =
     let payload = c.in-Ok-Some.payload.now in
     let rest = c.next_frame.follows.lender-at-none.bytes in
     let up : IsOpen c.loop-reader.core.session.state = ap is_open (sym c.state.ensures) ∙ sym c.loop-reader-test.ensures in
-    let is = c.in_ok-take-in-Ok-Some.ensures.next [] in
+    let is = c.in_ok-read_payload-in-Ok-Some.ensures.next [] in
     let keeps = stays view payload in
     record {
-      sound = c.in_ok-take-in-Ok-Some.ensures.sound;
+      sound = c.in_ok-read_payload-in-Ok-Some.ensures.sound;
       clean = gives.reads;
       goes_on = ap (λ (v : View). v.standing.halted) is ∙ keeps.halted ∙ c.loop-reader.invariant.goes_on;
       heard = ap (λ (v : View). v.moments.heard) is ∙ keeps.heard ∙ c.loop-reader.invariant.heard ∙ sym (ap (λ (v : View). v.moments.now) is ∙ keeps.now);
       next = ap (λ (v : View). after_signals v (map Comes rest)) is ∙ sym (frame-view view up c.loop-reader.invariant.goes_on c.loop-reader.invariant.heard refl c.loop-reader.reader.bytes payload rest gives.admitted gives.was) ∙ c.loop-reader.invariant.next;
       says =
-          ap (λ (l : List Output). l ++ says_signals (view_with [] c.take.new.self) (map Comes rest)) (c.in_ok-take-in-Ok-Some.ensures.says [])
+          ap (λ (l : List Output). l ++ says_signals (view_with [] c.read_payload.new.self) (map Comes rest)) (c.in_ok-read_payload-in-Ok-Some.ensures.says [])
           ∙ ap (λ (v : View). (said c.loop-reader.outputs.items ++ says view (arrival view payload)) ++ says_signals v (map Comes rest)) is
           ∙ append_assoc (said c.loop-reader.outputs.items) (says view (arrival view payload)) (says_signals (next view (arrival view payload)) (map Comes rest))
           ∙ ap (λ (l : List Output). said c.loop-reader.outputs.items ++ l) (sym (frame-says view up c.loop-reader.invariant.goes_on c.loop-reader.invariant.heard refl c.loop-reader.reader.bytes payload rest gives.admitted gives.was))
           ∙ c.loop-reader.invariant.says;
-      origin = c.take.ensures.origin ∙ c.loop-reader.invariant.origin;
+      origin = c.read_payload.ensures.origin ∙ c.loop-reader.invariant.origin;
     }
 
 pub returns-in-Ok-None-clause-next : goal.returns-in-Ok-None-clause-next

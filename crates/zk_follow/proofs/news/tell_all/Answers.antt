@@ -21,8 +21,8 @@ loop-subject-preserved g c =
     let same : item ≡ get_or subjects index item = get_or_default subjects index c.subject-item.result item fits in
     let is : item ≡ get_or first index item = same ∙ at_seam (told_of view) first subjects index item within c.loop-subject.invariant.subjects in
     record {
-      subjects = ap (set subjects index) c.tell.ensures.told ∙ map_over_more (told_of view) first subjects index item within c.loop-subject.invariant.subjects same;
-      all = c.in_ok-tell.ensures.news ∙ ap (λ all. all ++ news_in view outputs item) c.loop-subject.invariant.all
+      subjects = ap (set subjects index) c.report.ensures.told ∙ map_over_more (told_of view) first subjects index item within c.loop-subject.invariant.subjects same;
+      all = c.in_ok-report.ensures.news ∙ ap (λ all. all ++ news_in view outputs item) c.loop-subject.invariant.all
           ∙ append_assoc c.args.all.now.items (flat_map (news_in view outputs) (take index first)) (news_in view outputs item)
           ∙ ap (λ all. c.args.all.now.items ++ all) (sym (flat_more (news_in view outputs) first index item within is));
     }

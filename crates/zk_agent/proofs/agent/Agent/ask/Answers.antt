@@ -13,7 +13,7 @@ returns-clause-comes g c =
     let old = trail_of c.args.self.now c.args.actions.now.items in
     let entry : Entry g.row.A.Denot = record { ticket = c.args.ticket; call = c.args.call; until = c.args.until; is_sent = false } in
     let between = record old { view = view_of c.ask.new.self.follower.client; subjects = c.ask.new.self.follower.subjects.items; line = c.ask.new.self.line.entries.items } in
-    ok_after c.hear.result c.args.now (Asks c.args.ticket (call_view c.args.call) c.args.until ∷ []) (Hears c.args.now (Now c.args.now) ∷ []) old between (trail_of c.hear.new.self c.hear.new.actions.items)
+    ok_after c.step_client.result c.args.now (Asks c.args.ticket (call_view c.args.call) c.args.until ∷ []) (Hears c.args.now (Now c.args.now) ∷ []) old between (trail_of c.step_client.new.self c.step_client.new.actions.items)
     (gives c.args.now (Asks c.args.ticket (call_view c.args.call) c.args.until) old between refl tt (record {
       entry = entry;
       its_ticket = refl;
@@ -22,4 +22,4 @@ returns-clause-comes g c =
       waits = refl;
       last = trail_eq (record old { line = old.line ++ entry ∷ [] }) between (ap (λ (f : Follower g.row.A.Denot). view_of f.client) c.ask.ensures.follower)
           (ap (λ (f : Follower g.row.A.Denot). f.subjects.items) c.ask.ensures.follower) c.in_ok-ask.ensures.line refl refl refl refl;
-    })) c.hear.ensures.comes
+    })) c.step_client.ensures.comes

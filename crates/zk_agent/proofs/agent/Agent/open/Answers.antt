@@ -6,18 +6,18 @@ use Rattle.zk_agent.specs.Telling.{told_by, HangsUp}
 use Rattle.zk_agent.proofs.Moves.{gives, late_is_same, late_makes, ok_after, opened, ours_is_open, ours_makes, trail_eq}
 use Rattle.zk_agent.proofs.agent.Agent.open.Goals as goal
 
-pub hear-requires : goal.hear-requires
-hear-requires g c = ours_is_open c.timeout_ms-timeout_ms.result c.args.now c.args.self.now.dialler c.open.new.self c.open.result c.open.ensures c.if-open.true
+pub step_client-requires : goal.step_client-requires
+step_client-requires g c = ours_is_open c.timeout_ms-timeout_ms.result c.args.now c.args.self.now.dialler c.open.new.self c.open.result c.open.ensures c.if-open.true
 
 pub returns-then-open-clause-comes : goal.returns-then-open-clause-comes
 returns-then-open-clause-comes g c =
     let old = trail_of c.args.self.now c.args.actions.now.items in
     let between = record old { dialler = c.open.new.self } in
-    let new = trail_of c.hear.new.self c.hear.new.actions.items in
-    subst (λ given. OnOk c.hear.result (Comes c.args.now given old new))
+    let new = trail_of c.step_client.new.self c.step_client.new.actions.items in
+    subst (λ given. OnOk c.step_client.result (Comes c.args.now given old new))
     (ours_makes c.timeout_ms-timeout_ms.result c.args.now c.args.self.now.dialler c.open.new.self c.open.result c.open.ensures c.if-open.true)
-    (ok_after c.hear.result c.args.now (Opened c.args.now ∷ []) (Hears c.args.now turns.Opened ∷ []) old between new
-    (opened old between c.timeout_ms-timeout_ms.result c.args.now c.open.result c.timeout_ms-timeout_ms.ensures c.if-open.true c.open.ensures refl) c.hear.ensures.comes)
+    (ok_after c.step_client.result c.args.now (Opened c.args.now ∷ []) (Hears c.args.now turns.Opened ∷ []) old between new
+    (opened old between c.timeout_ms-timeout_ms.result c.args.now c.open.result c.timeout_ms-timeout_ms.ensures c.if-open.true c.open.ensures refl) c.step_client.ensures.comes)
 
 pub returns-clause-comes : goal.returns-clause-comes
 returns-clause-comes g c =

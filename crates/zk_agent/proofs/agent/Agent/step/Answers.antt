@@ -19,33 +19,33 @@ pub returns-clause-comes : goal.returns-clause-comes
 returns-clause-comes g c =
     let now = c.max-now.result in
     let given = given_of c.args.self.now.dialler.phase now c.args.input in
-    let first = trail_of c.take.new.self c.take.new.actions.items in
+    let first = trail_of c.apply_happening.new.self c.apply_happening.new.actions.items in
     let old = trail_of c.args.self.now [] in
     let new = trail_of c.dial.new.self c.dial.new.actions.items in
     subst (λ moment. Comes moment (given_of c.args.self.now.dialler.phase moment c.args.input) old new) c.max-now.ensures
     (in_turn now given old first (trail_of c.renew.new.self c.renew.new.actions.items) (trail_of c.give_up.new.self c.give_up.new.actions.items)
     (trail_of c.send.new.self c.send.new.actions.items) (trail_of c.tire.new.self c.tire.new.actions.items) new
-    (subst (λ items. Comes now given (trail_of c.args.self.now items) first) c.new-actions.ensures.items c.in_ok-take.ensures.comes) (c.in_ok-renew.ensures.comes now)
+    (subst (λ items. Comes now given (trail_of c.args.self.now items) first) c.new-actions.ensures.items c.in_ok-apply_happening.ensures.comes) (c.in_ok-renew.ensures.comes now)
     c.in_ok-give_up.ensures.comes c.in_ok-send.ensures.comes c.in_ok-tire.ensures.tired.comes c.in_ok-dial.ensures.comes)
 
 pub returns-clause-calls : goal.returns-clause-calls
 returns-clause-calls g c = λ ticket.
     let now = c.max-now.result in
     let given = given_of c.args.self.now.dialler.phase now c.args.input in
-    let first = trail_of c.take.new.self c.take.new.actions.items in
+    let first = trail_of c.apply_happening.new.self c.apply_happening.new.actions.items in
     let old = trail_of c.args.self.now [] in
     let new = trail_of c.dial.new.self c.dial.new.actions.items in
     let all = calls_balance now given old new
     (in_turn now given old first (trail_of c.renew.new.self c.renew.new.actions.items) (trail_of c.give_up.new.self c.give_up.new.actions.items)
     (trail_of c.send.new.self c.send.new.actions.items) (trail_of c.tire.new.self c.tire.new.actions.items) new
-    (subst (λ items. Comes now given (trail_of c.args.self.now items) first) c.new-actions.ensures.items c.in_ok-take.ensures.comes) (c.in_ok-renew.ensures.comes now)
+    (subst (λ items. Comes now given (trail_of c.args.self.now items) first) c.new-actions.ensures.items c.in_ok-apply_happening.ensures.comes) (c.in_ok-renew.ensures.comes now)
     c.in_ok-give_up.ensures.comes c.in_ok-send.ensures.comes c.in_ok-tire.ensures.tired.comes c.in_ok-dial.ensures.comes) refl ticket in
     all ∙ ap (λ n. how_many ticket old.line + n) (asks_its ticket c.args.self.now.dialler.phase now c.args.input)
 
 pub returns-clause-followed : goal.returns-clause-followed
 returns-clause-followed g c =
     let now = c.max-now.result in
-    let renewed = c.in_ok-renew.ensures.followed now c.in_ok-take.ensures.followed in
+    let renewed = c.in_ok-renew.ensures.followed now c.in_ok-apply_happening.ensures.followed in
     let given_up = subst (λ (f : Follower g.row.A.Denot). All (IsFollowed now (view_of f.client)) f.subjects.items) (sym c.give_up.ensures.follower) renewed in
     subst (λ (a : Asker g.row.A.Denot). All (IsFollowed now (view_of a.follower.client)) a.follower.subjects.items) (sym c.dial.ensures.asker) (c.in_ok-tire.ensures.followed (c.in_ok-send.ensures.followed given_up))
 

@@ -22,7 +22,7 @@ returns-clause-goes g c =
     let old = course_of c.args.self.now.engine None in
     let between = record old { channel = channel_view c.exchange.new.self } in
     let later = course_of c.now-now.new.self.engine None in
-    let new = course_of c.take.new.self None in
+    let new = course_of c.apply_read.new.self None in
     let notes = notes_in (input_of c.in-Ok.brought) in
     let look = look_after c.args.began c.args.is_again (is_nothing c.in-Ok.brought) c.args.self.now.engine.channel.looked in
     by_same_notes notes (notes_of_event c.event_of-event.result) old new c.event_of-event.ensures
@@ -67,5 +67,5 @@ returns-clause-flows g c =
     let there : between ≡ later =
     sym (ap (λ (e : Engine g.row.A.Denot g.row.D-Stream.Denot). record (flow_of remaining contents e None) { held = held }) c.now-now.ensures.engine) in
     let looked = flow_one (Made (Looked look)) old between ((c.in-Ok.ensures.looks, refl), c.in-Ok.ensures.whole, refl) in
-    let new = flow_of remaining contents c.take.new.self None in
+    let new = flow_of remaining contents c.apply_read.new.self None in
     flow_after old between new looked (flow_after between later new (flow_same between later there) c.in_ok-told.ensures.flows)

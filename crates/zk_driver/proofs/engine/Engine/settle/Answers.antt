@@ -27,4 +27,4 @@ returns-in_ok-end-in-None-clause-kept g c =
     extends_on (told_by c.args.self.now.waiting.items) (told_by c.end.new.self.waiting.items) (told_by c.settle_closed.new.self.waiting.items) c.end.ensures.kept c.settle_closed.ensures.kept
 
 pub returns-in-None-2-clause-goes : goal.returns-in-None-2-clause-goes
-returns-in-None-2-clause-goes g c = ok_goes c.tell.result [] (course_of c.args.self.now None) (course_of c.tell.new.self None) c.tell.ensures.goes
+returns-in-None-2-clause-goes g c = ok_goes c.pass_moment.result [] (course_of c.args.self.now None) (course_of c.pass_moment.new.self None) c.pass_moment.ensures.goes

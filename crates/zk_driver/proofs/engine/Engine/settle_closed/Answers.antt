@@ -8,4 +8,4 @@ pub returns-in-Some-clause-goes : goal.returns-in-Some-clause-goes
 returns-in-Some-clause-goes g c = ok_goes c.fail.result (Missed ∷ []) (course_of c.args.self.now None) (course_of c.fail.new.self None) c.fail.ensures.goes
 
 pub returns-in-None-clause-goes : goal.returns-in-None-clause-goes
-returns-in-None-clause-goes g c = ok_goes c.tell.result [] (course_of c.args.self.now None) (course_of c.tell.new.self None) c.tell.ensures.goes
+returns-in-None-clause-goes g c = ok_goes c.pass_moment.result [] (course_of c.args.self.now None) (course_of c.pass_moment.new.self None) c.pass_moment.ensures.goes

@@ -14,8 +14,8 @@ returns-in-Ok-append-clause-followed g c =
     let reading = record c.args.self.now { progress = Reading } in
     let settled = read_asked c.args.now c.ranges.now.fits reading refl (call_view c.args.call) c.requires.read.0 c.requires.read.1
     (view_of c.args.client.now) (view_of c.step.new.self) (said c.in-Ok.outputs.items) c.in-Ok.ensures.rule c.requires.connected in
-    let heard : c.hear.new.self ≡ heard_all c.args.now reading (said c.in-Ok.outputs.items) =
-    c.hear.ensures ∙ ap (λ outputs. heard_all c.args.now reading (said outputs)) c.as_slice.ensures.value in
+    let heard : c.note_outputs.new.self ≡ heard_all c.args.now reading (said c.in-Ok.outputs.items) =
+    c.note_outputs.ensures ∙ ap (λ outputs. heard_all c.args.now reading (said outputs)) c.as_slice.ensures.value in
     subst (IsFollowed c.args.now (view_of c.step.new.self)) (sym heard) settled.0
 
 pub returns-in-Ok-append-clause-counted : goal.returns-in-Ok-append-clause-counted
@@ -23,8 +23,8 @@ returns-in-Ok-append-clause-counted g c =
     let reading = record c.args.self.now { progress = Reading } in
     let settled = read_asked c.args.now c.ranges.now.fits reading refl (call_view c.args.call) c.requires.read.0 c.requires.read.1
     (view_of c.args.client.now) (view_of c.step.new.self) (said c.in-Ok.outputs.items) c.in-Ok.ensures.rule c.requires.connected in
-    let heard : c.hear.new.self ≡ heard_all c.args.now reading (said c.in-Ok.outputs.items) =
-    c.hear.ensures ∙ ap (λ outputs. heard_all c.args.now reading (said outputs)) c.as_slice.ensures.value in
+    let heard : c.note_outputs.new.self ≡ heard_all c.args.now reading (said c.in-Ok.outputs.items) =
+    c.note_outputs.ensures ∙ ap (λ outputs. heard_all c.args.now reading (said outputs)) c.as_slice.ensures.value in
     subst (IsCounted (view_of c.step.new.self)) (sym heard) settled.1
 
 pub returns-in-Ok-append-clause-asks : goal.returns-in-Ok-append-clause-asks
@@ -39,13 +39,13 @@ returns-in-Ok-append-clause-full g c = λ full.
     let reading = record c.args.self.now { progress = Reading } in
     let settled = read_asked c.args.now c.ranges.now.fits reading refl (call_view c.args.call) c.requires.read.0 c.requires.read.1
     (view_of c.args.client.now) (view_of c.step.new.self) (said c.in-Ok.outputs.items) c.in-Ok.ensures.rule c.requires.connected in
-    let heard : c.hear.new.self ≡ heard_all c.args.now reading (said c.in-Ok.outputs.items) =
-    c.hear.ensures ∙ ap (λ outputs. heard_all c.args.now reading (said outputs)) c.as_slice.ensures.value in
+    let heard : c.note_outputs.new.self ≡ heard_all c.args.now reading (said c.in-Ok.outputs.items) =
+    c.note_outputs.ensures ∙ ap (λ outputs. heard_all c.args.now reading (said outputs)) c.as_slice.ensures.value in
     settled.3 (sym (ap (λ subject. subject.progress) heard) ∙ c.is_unread.ensures.yes full)
 
 pub returns-in-Ok-append-clause-asked : goal.returns-in-Ok-append-clause-asked
 returns-in-Ok-append-clause-asked g c =
     let reading = record c.args.self.now { progress = Reading } in
-    let heard : c.hear.new.self ≡ heard_all c.args.now reading (said c.in-Ok.outputs.items) =
-    c.hear.ensures ∙ ap (λ outputs. heard_all c.args.now reading (said outputs)) c.as_slice.ensures.value in
+    let heard : c.note_outputs.new.self ≡ heard_all c.args.now reading (said c.in-Ok.outputs.items) =
+    c.note_outputs.ensures ∙ ap (λ outputs. heard_all c.args.now reading (said outputs)) c.as_slice.ensures.value in
     (said c.in-Ok.outputs.items, c.in-Ok.ensures.rule, heard, ap said c.in-Ok-append.ensures.items ∙ map-append output_view c.args.made.now.items c.in-Ok.outputs.items)

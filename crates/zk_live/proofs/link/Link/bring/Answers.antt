@@ -10,7 +10,7 @@ use Rattle.zk_live.proofs.link.Link.bring.Goals as goal
 
 pub returns-in_ok-outputs-in-Some-clause-ok : goal.returns-in_ok-outputs-in-Some-clause-ok
 returns-in_ok-outputs-in-Some-clause-ok g c =
-    let new = c.take.new in
+    let new = c.step.new in
     rw (← c.next_piece.ensures.view)
     (piece (tape (view_of c.next_piece.new.self.joint.client) (string_bytes c.args.text.now)) (tape (view_of new.self.joint.client) (string_bytes new.text))
     c.in-Some.bytes.items c.in_ok-outputs-in-Some.ensures.ok)
@@ -24,7 +24,7 @@ returns-in_ok-cut-in-None-clause-ok g c =
 
 pub returns-in_err-outputs-in-Some-clause-halt : goal.returns-in_err-outputs-in-Some-clause-halt
 returns-in_err-outputs-in-Some-clause-halt g c =
-    let new = c.take.new in
+    let new = c.step.new in
     let halted = halts_piece (tape (view_of c.next_piece.new.self.joint.client) (string_bytes c.args.text.now)) (tape (view_of new.self.joint.client) (string_bytes new.text))
     c.in-Some.bytes.items c.in_err-outputs-in-Some.field-0.0 c.in_err-outputs-in-Some.ensures.halt in
     search rules

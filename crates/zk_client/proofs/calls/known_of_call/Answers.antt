@@ -8,7 +8,7 @@ use Rattle.std.proofs.Common.{subst, sym}
 use Rattle.std.proofs.Common.{◌≡◌, ◌≤◌, w32}
 use Rattle.zk_conversation.specs.Views.{call_view}
 use Rattle.zk_turns.specs.Ranges.{IsTyped}
-use Rattle.zk_client.proofs.calls.path_length.Goals as goal
+use Rattle.zk_client.proofs.calls.known_of_call.Goals as goal
 
 -- a mode is from 0 to 3
 mode_is_small : (mode : CreateMode) → mode_number mode ≤ 3
@@ -27,10 +27,10 @@ pub returns-in-GetChildren-clause-typed : goal.returns-in-GetChildren-clause-typ
 returns-in-GetChildren-clause-typed g c = let text = is_utf8-from_IsUtf8 _ (rw c.as_str-in-GetChildren.ensures.text at c.as_str-in-GetChildren.utf8) in subst (λ asked. IsTyped (call_view asked)) (sym c.in-GetChildren.is) text
 
 pub returns-in-SetData-clause-typed : goal.returns-in-SetData-clause-typed
-returns-in-SetData-clause-typed g c = let text = is_utf8-from_IsUtf8 _ (rw c.as_str-in-SetData.ensures.text at c.as_str-in-SetData.utf8) in subst (λ asked. IsTyped (call_view asked)) (sym c.in-SetData.is) (text, (let v : to_z w32 (of_z w32 c.in-SetData.version) ≡ c.in-SetData.version = omega (arith, ints) in rw v at c.read_version.ensures.range))
+returns-in-SetData-clause-typed g c = let text = is_utf8-from_IsUtf8 _ (rw c.as_str-in-SetData.ensures.text at c.as_str-in-SetData.utf8) in subst (λ asked. IsTyped (call_view asked)) (sym c.in-SetData.is) (text, (let v : to_z w32 (of_z w32 c.in-SetData.version) ≡ c.in-SetData.version = omega (arith, ints) in rw v at c.known_of_version.ensures.range))
 
 pub returns-in-Create-clause-typed : goal.returns-in-Create-clause-typed
 returns-in-Create-clause-typed g c = let text = is_utf8-from_IsUtf8 _ (rw c.as_str-in-Create.ensures.text at c.as_str-in-Create.utf8) in subst (λ asked. IsTyped (call_view asked)) (sym c.in-Create.is) (text, mode_is_small c.in-Create.mode)
 
 pub returns-in-Delete-clause-typed : goal.returns-in-Delete-clause-typed
-returns-in-Delete-clause-typed g c = let text = is_utf8-from_IsUtf8 _ (rw c.as_str-in-Delete.ensures.text at c.as_str-in-Delete.utf8) in subst (λ asked. IsTyped (call_view asked)) (sym c.in-Delete.is) (text, (let v : to_z w32 (of_z w32 c.in-Delete.version) ≡ c.in-Delete.version = omega (arith, ints) in rw v at c.read_version-in-Delete.ensures.range))
+returns-in-Delete-clause-typed g c = let text = is_utf8-from_IsUtf8 _ (rw c.as_str-in-Delete.ensures.text at c.as_str-in-Delete.utf8) in subst (λ asked. IsTyped (call_view asked)) (sym c.in-Delete.is) (text, (let v : to_z w32 (of_z w32 c.in-Delete.version) ≡ c.in-Delete.version = omega (arith, ints) in rw v at c.known_of_version-in-Delete.ensures.range))

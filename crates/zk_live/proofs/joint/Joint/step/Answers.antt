@@ -10,7 +10,7 @@ use Rattle.zk_live.specs.Trails.{is_given, trail_of, Fails, Hears, IsLoud}
 use Rattle.zk_live.proofs.TrailLemmas.{if_err, lost_turn, on_ok}
 use Rattle.zk_live.specs.Flowing.{flow_of}
 use Rattle.zk_live.proofs.Flowed.{delivered}
-use Rattle.zk_live.proofs.joint.Joint.hear.Goals as goal
+use Rattle.zk_live.proofs.joint.Joint.step.Goals as goal
 
 pub returns-clause-ok : goal.returns-clause-ok
 returns-clause-ok g c =

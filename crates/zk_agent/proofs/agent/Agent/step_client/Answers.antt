@@ -1,7 +1,7 @@
 use Rattle.zk_client.specs.Views.{input_view}
 use Rattle.zk_agent.specs.Agents.{trail_of}
 use Rattle.zk_agent.proofs.Moves.{hears_and, hears_then}
-use Rattle.zk_agent.proofs.agent.Agent.hear.Goals as goal
+use Rattle.zk_agent.proofs.agent.Agent.step_client.Goals as goal
 
 pub returns-then-is_lost-clause-comes : goal.returns-then-is_lost-clause-comes
 returns-then-is_lost-clause-comes g c =

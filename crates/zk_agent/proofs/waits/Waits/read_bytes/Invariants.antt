@@ -1,6 +1,6 @@
 use Rattle.std.proofs.Common.{◌≡◌, ◌≤◌, ◌-◌, length, take}
 use Rattle.zk_agent.specs.Waits.{heard_bytes, waited_of}
-use Rattle.zk_agent.proofs.waits.Waits.hear.Given as goal
+use Rattle.zk_agent.proofs.waits.Waits.read_bytes.Given as goal
 
 -- the bytes so far were heard
 abbrev pub invariant-loop-at : goal.invariant-loop-at

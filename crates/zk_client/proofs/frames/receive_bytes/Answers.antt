@@ -10,7 +10,7 @@ use Rattle.zk_turns.proofs.Pieces.{unheard_view, unheard_says}
 use Rattle.zk_client.specs.Views.{said}
 use Rattle.zk_client.specs.Seen.{view_with}
 use Rattle.zk_client.proofs.Heard.{whole-view, whole-says}
-use Rattle.zk_client.proofs.frames.hear.Goals as goal
+use Rattle.zk_client.proofs.frames.receive_bytes.Goals as goal
 
 -- where no connection is open, and where one is
 down : (g : _) (c : goal.After-drop-piece g) → IsOpen c.args.core.now.session.state → ⊥

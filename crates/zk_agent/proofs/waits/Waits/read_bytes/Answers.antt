@@ -1,7 +1,7 @@
 use Rattle.std.proofs.Common.{refl, ap, arith}
 use Rattle.zk_agent.specs.Waits.{waited_of}
 use Rattle.zk_agent.proofs.Passing.{one_more_heard}
-use Rattle.zk_agent.proofs.waits.Waits.hear.Goals as goal
+use Rattle.zk_agent.proofs.waits.Waits.read_bytes.Goals as goal
 
 pub loop-at-preserved : goal.loop-at-preserved
 loop-at-preserved g c =
@@ -14,6 +14,6 @@ loop-at-preserved g c =
       fits = omega (arith, fits, below, less);
       heard = one_more_heard (waited_of c.args.self.now) c.args.bytes.now at count _
           (waited_of c.loop-at.self) (record (waited_of c.loop-at.self) { came = c.pass-passed.new.self })
-          (waited_of c.take.new.self) c.loop-at.invariant.heard c.pass-passed.ensures.inside (omega (arith, fits, below, less))
-          (ap (λ came. record (waited_of c.loop-at.self) { came = came }) c.pass-passed.ensures.place) refl c.take.ensures;
+          (waited_of c.read_byte.new.self) c.loop-at.invariant.heard c.pass-passed.ensures.inside (omega (arith, fits, below, less))
+          (ap (λ came. record (waited_of c.loop-at.self) { came = came }) c.pass-passed.ensures.place) refl c.read_byte.ensures;
     }

@@ -1,7 +1,7 @@
 use Rattle.std.proofs.Common.{◌≡◌, fold, take}
 use Rattle.zk_client.specs.Views.{output_view}
 use Rattle.zk_follow.specs.Following.{heard}
-use Rattle.zk_follow.proofs.subject.Subject.hear.Given as goal
+use Rattle.zk_follow.proofs.subject.Subject.note_outputs.Given as goal
 
 -- what was heard so far
 abbrev pub invariant-loop-output : goal.invariant-loop-output

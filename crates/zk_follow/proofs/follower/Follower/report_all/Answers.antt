@@ -4,7 +4,7 @@ use Rattle.zk_client.specs.Clients.{view_of}
 use Rattle.zk_follow.specs.Following.{told_of, IsCounted}
 use Rattle.zk_follow.proofs.Telling.{All_changed}
 use Rattle.zk_follow.proofs.Visiting.{whole_written}
-use Rattle.zk_follow.proofs.follower.Follower.tell.Goals as goal
+use Rattle.zk_follow.proofs.follower.Follower.report_all.Goals as goal
 
 pub invariant_of-self : goal.invariant_of-self
 invariant_of-self g c =

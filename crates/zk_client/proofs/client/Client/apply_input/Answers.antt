@@ -6,7 +6,7 @@ use Rattle.zk_turns.specs.Rule.{says_signals}
 use Rattle.zk_client.specs.Clients.{view_of}
 use Rattle.zk_client.specs.Views.{input_view}
 use Rattle.zk_client.proofs.Whole.{halts}
-use Rattle.zk_client.proofs.client.Client.take.Goals as goal
+use Rattle.zk_client.proofs.client.Client.apply_input.Goals as goal
 
 pub returns-then-self-clause-halt : goal.returns-then-self-clause-halt
 returns-then-self-clause-halt g c =
@@ -31,5 +31,5 @@ pub returns-clause-rule : goal.returns-clause-rule
 returns-clause-rule g c = record {
   outputs = says_signals (view_of c.args.self.now) (signals_of (input_view c.args.input));
   added = c.in-Ok.ensures.says;
-  rule = record { asked = c.asked_length.ensures.asked; goes_on = c.if-self.false; outputs = refl; next = c.in-Ok.ensures.next };
+  rule = record { asked = c.known_of_input.ensures.asked; goes_on = c.if-self.false; outputs = refl; next = c.in-Ok.ensures.next };
 }

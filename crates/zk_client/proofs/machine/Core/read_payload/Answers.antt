@@ -12,7 +12,7 @@ use Rattle.zk_client.specs.Views.{said}
 use Rattle.zk_client.specs.Seen.{shown, view_with}
 use Rattle.zk_client.specs.Sound.{IsLeft}
 use Rattle.zk_client.proofs.Came.{comes, arrives, before-it}
-use Rattle.zk_client.proofs.machine.Core.take.Goals as goal
+use Rattle.zk_client.proofs.machine.Core.read_payload.Goals as goal
 
 pub arrive-requires : goal.arrive-requires
 arrive-requires g c =

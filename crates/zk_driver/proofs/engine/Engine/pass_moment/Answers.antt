@@ -4,7 +4,7 @@ use Rattle.zk_driver.specs.Driving.{channel_view, course_of}
 use Rattle.zk_driver.specs.Flowing.{flow_of, known_of}
 use Rattle.zk_driver.proofs.Flowed.{ok_flow_noted}
 use Rattle.zk_driver.proofs.Going.{first, noted}
-use Rattle.zk_driver.proofs.engine.Engine.tell.Goals as goal
+use Rattle.zk_driver.proofs.engine.Engine.pass_moment.Goals as goal
 
 pub returns-clause-goes : goal.returns-clause-goes
 returns-clause-goes g c = noted c.hand.result happens.Moment (course_of c.args.self.now None) (course_of c.hand.new.self None) (channel_view c.args.self.now.channel) (c.requires.none, refl) c.hand.ensures.hands
