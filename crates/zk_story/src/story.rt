@@ -17,7 +17,7 @@ use zk_script::pieces::words_of;
 use zk_script::reads::split_keyword;
 use zk_script::script::LineReader;
 use zk_script::script_fault::ScriptFault;
-use zk_script::stop::Stop;
+use zk_script::stop::LineStop;
 
 /// A history, and whether it was asked: from then on it takes look-ups alone.
 #[derive(Drop)]
@@ -149,10 +149,10 @@ impl<A: Allocator + Copy> LineReader<A> for Story<A> {
 
     ghost stands = { λ story position. position_of story ≡ position };
 
-    fn read(&mut self, alloc: A, line: &[u8]) -> Result<String<A>, Stop> {
+    fn read(&mut self, alloc: A, line: &[u8]) -> Result<String<A>, LineStop> {
         match self.read_line(alloc, line) {
             Ok(answer) => Ok(answer),
-            Err(fault) => Err(Stop::from(fault)),
+            Err(fault) => Err(LineStop::from(fault)),
         }
     }
 }

@@ -17,7 +17,7 @@ use zk_records::RequestHeader;
 use zk_script::pieces::words_of;
 use zk_script::script::LineReader;
 use zk_script::script_fault::ScriptFault;
-use zk_script::stop::Stop;
+use zk_script::stop::LineStop;
 
 /// What came in one direction: how many bytes, and how many of them were whole frames.
 #[derive(Drop)]
@@ -247,10 +247,10 @@ impl<A: Allocator + Copy> LineReader<A> for Stream<A> {
 
     ghost stands = { λ stream position. position_of stream ≡ position };
 
-    fn read(&mut self, alloc: A, line: &[u8]) -> Result<String<A>, Stop> {
+    fn read(&mut self, alloc: A, line: &[u8]) -> Result<String<A>, LineStop> {
         match self.read_line(alloc, line) {
             Ok(text) => Ok(text),
-            Err(fault) => Err(Stop::from(fault)),
+            Err(fault) => Err(LineStop::from(fault)),
         }
     }
 }
