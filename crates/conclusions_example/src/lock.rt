@@ -285,12 +285,12 @@ impl<'a> Contender<'a> {
     }
 
     /// Takes in what happens. After a report the directory is listed again.
-    fn hear<W: Write>(&mut self, action: Action, out: &mut W) -> Result<()> {
+    fn apply_action<W: Write>(&mut self, action: Action, out: &mut W) -> Result<()> {
         match action {
             Action::Answer { outcome, .. } => self.answer(outcome),
             Action::TimedOut { .. } => {
                 self.is_over = true;
-                self.tell(Told::LeavesToExpire, 0, out)
+                self.print_line(Told::LeavesToExpire, 0, out)
             }
             Action::Report { .. } => {
                 self.is_changed = true;
@@ -350,7 +350,7 @@ impl<'a> Contender<'a> {
         self.made = None;
         self.place = None;
         self.is_over = self.is_leaving;
-        self.tell(Told::Expired, 0, out)
+        self.print_line(Told::Expired, 0, out)
     }
 
     /// Writes to the store, where the session shows that it holds, and says how it stands. Once it has held for long enough it leaves.
@@ -366,7 +366,7 @@ impl<'a> Contender<'a> {
         }
         if self.leave_at <= now {
             self.is_leaving = true;
-            return self.tell(Told::Leaves, 0, out);
+            return self.print_line(Told::Leaves, 0, out);
         }
         let (told, token) = self.stand(client, store);
         if let Told::Holds = told {
@@ -375,7 +375,7 @@ impl<'a> Contender<'a> {
         match told {
             Told::Nothing => Ok(()),
             told if (words_of(told), token) == self.told => Ok(()),
-            told => self.tell(told, token, out),
+            told => self.print_line(told, token, out),
         }
     }
 
@@ -398,7 +398,7 @@ impl<'a> Contender<'a> {
     }
 
     /// Says something of the session, in one write.
-    fn tell<W: Write>(&mut self, told: Told, token: i64, out: &mut W) -> Result<()> {
+    fn print_line<W: Write>(&mut self, told: Told, token: i64, out: &mut W) -> Result<()> {
         let (name, words) = (self.name, words_of(told));
         self.told = (words, token);
         let line = if token == 0 {
@@ -430,7 +430,7 @@ impl<'a> Program for Contender<'a> {
                 until.min(self.leave_at)
             };
             match driver.next(moment)? {
-                Some(action) => self.hear(action, out)?,
+                Some(action) => self.apply_action(action, out)?,
                 None if moment == until => break,
                 None => {}
             }

@@ -92,7 +92,7 @@ impl Tree {
             return self.take_on_all(driver);
         };
         self.zxid = Some(zxid);
-        self.tell(line, zxid, store, out)?;
+        self.print_if_changed(line, zxid, store, out)?;
         match self.gone(driver.client())? {
             Some(node) => self.let_go(driver, node.as_str()),
             None => Ok(()),
@@ -100,7 +100,7 @@ impl Tree {
     }
 
     /// Prints the nodes, if they are others than before.
-    fn tell<W: Write>(
+    fn print_if_changed<W: Write>(
         &mut self,
         line: Vec<u8>,
         zxid: i64,

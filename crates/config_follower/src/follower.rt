@@ -15,7 +15,7 @@ pub fn follow<D: Dial + Drop, C: Clock + Drop, W: Write>(
 ) -> Result<()> {
     for _ in 0..u64::MAX {
         match driver.next(until)? {
-            Some(Action::Shown { .. }) => tell(driver.client(), node, out)?,
+            Some(Action::Shown { .. }) => print_node(driver.client(), node, out)?,
             Some(Action::Renewed) => out.write_all(b"another session\n")?,
             Some(_) => {}
             None => break,
@@ -25,7 +25,7 @@ pub fn follow<D: Dial + Drop, C: Clock + Drop, W: Write>(
 }
 
 /// What is kept of the node, which is good.
-fn tell<W: Write>(client: &Client, node: &Path, out: &mut W) -> Result<()> {
+fn print_node<W: Write>(client: &Client, node: &Path, out: &mut W) -> Result<()> {
     let shown = match client.peek_data(node) {
         Some((DataAnswer::Full(Some(bytes), _), _)) => bytes.as_slice(),
         Some((DataAnswer::Full(None, _), _)) => b"no data",

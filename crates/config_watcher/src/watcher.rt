@@ -22,7 +22,7 @@ pub fn watch(client: &mut Client, node: &Path, world: &mut World) -> Result<()> 
                 Output::Answer { .. } => {}
                 other => {
                     is_asked = false;
-                    world.tell(other)?;
+                    world.record_output(other)?;
                 }
             }
             if output.ends_connection() {

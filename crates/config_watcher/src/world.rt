@@ -137,7 +137,7 @@ impl World {
     }
 
     /// Takes down what the client says.
-    pub fn tell(&mut self, output: &Output) -> Result<()> {
+    pub fn record_output(&mut self, output: &Output) -> Result<()> {
         writeln!(self.told, "{output:?}").map_err(From::from)
     }
 

@@ -120,7 +120,7 @@ fn is_slow(event: Event) -> bool {
 }
 
 /// An action that is no frame, with the length of its text.
-fn tell(flat: Flat, length: usize, told: &mut String) -> Result<()> {
+fn tell_action(flat: Flat, length: usize, told: &mut String) -> Result<()> {
     let numbers = [
         ("", i64::from(flat.kind)),
         (" ", i64::from(flat.detail)),
@@ -134,7 +134,11 @@ fn tell(flat: Flat, length: usize, told: &mut String) -> Result<()> {
 }
 
 /// Tells what the device said at its last step, and gives the server the frames.
-fn hear(device: &mut AgentDevice, bench: &mut Bench<Global>, told: &mut String) -> Result<()> {
+fn pass_on_actions(
+    device: &mut AgentDevice,
+    bench: &mut Bench<Global>,
+    told: &mut String,
+) -> Result<()> {
     let mut room = [0; ROOM];
     for _ in 0..ACTIONS {
         let Some(flat) = device.next() else {
@@ -145,7 +149,7 @@ fn hear(device: &mut AgentDevice, bench: &mut Bench<Global>, told: &mut String) 
             bench.receive(&room[..length])?;
             bench.process()?;
         } else {
-            tell(flat, length, told)?;
+            tell_action(flat, length, told)?;
         }
     }
     Ok(())
@@ -163,10 +167,10 @@ fn go(
     let done = code_of(happen(alloc, event, now, bench, device));
     writeln!(told, "at {now}: {done}")?;
     if is_slow(event) {
-        return hear(device, bench, told);
+        return pass_on_actions(device, bench, told);
     }
     for _ in 0..ANSWERS {
-        hear(device, bench, told)?;
+        pass_on_actions(device, bench, told)?;
         let bytes = bench.output(usize::MAX)?;
         if bytes.is_empty() {
             return Ok(());

@@ -100,7 +100,7 @@ fn watch<A: Allocator + Copy>(peer: &mut Peer<A>, number: usize, is_names: bool)
     let is_there = is_names || number % 2 == 0;
     ask(peer, number, is_names, is_there)?;
     let (alloc, xid) = (peer.alloc, peer.xid());
-    peer.hear(if is_names {
+    peer.receive_spelled(if is_names {
         names(alloc, xid, 1)
     } else if is_there {
         data(alloc, xid, 1)
@@ -132,7 +132,7 @@ fn count_good<A: Allocator + Copy>(
 fn restore<A: Allocator + Copy>(peer: &mut Peer<A>) -> Result<usize> {
     let parts = peer.again(PASSWORD)?;
     for _ in 0..parts {
-        peer.hear(done(peer.alloc, PART_XID))?;
+        peer.receive_spelled(done(peer.alloc, PART_XID))?;
     }
     Ok(parts)
 }
@@ -184,14 +184,14 @@ fn count_kept<A: Allocator + Copy>(peer: &Peer<A>) -> Result<(usize, usize)> {
 
 fn long_reply<A: Allocator + Copy, W: Write>(peer: &mut Peer<A>, out: &mut W) -> Result<()> {
     ask(peer, 0, false, true)?;
-    let (length, _) = peer.hear(data(peer.alloc, peer.xid(), DATA))?;
+    let (length, _) = peer.receive_spelled(data(peer.alloc, peer.xid(), DATA))?;
     let (kept, _) = count_kept(peer)?;
     writeln!(out, "a reply of {length} bytes: {kept} of data kept").map_err(From::from)
 }
 
 fn many_names<A: Allocator + Copy, W: Write>(peer: &mut Peer<A>, out: &mut W) -> Result<()> {
     ask(peer, 0, true, true)?;
-    peer.hear(names(peer.alloc, peer.xid(), NAMES))?;
+    peer.receive_spelled(names(peer.alloc, peer.xid(), NAMES))?;
     let (_, kept) = count_kept(peer)?;
     writeln!(out, "names: {kept} kept").map_err(From::from)
 }

@@ -16,7 +16,7 @@ use crate::calls::{end_calls, push_outputs};
 use crate::replies::{Heard, heard_in};
 use std::alloc::{AllocError, Allocator};
 use zk_client::{Input, Output};
-use zk_follow::{Follower, Stop};
+use zk_follow::{Follower, FollowerStop};
 use zk_line::{Ending, Line};
 
 /// Tells what the client has said, and then what there is to tell of the subjects. The line hears the answers.
@@ -46,7 +46,7 @@ pub(crate) fn advance<A: Allocator + Copy>(
     now: u64,
     input: Input<A>,
     actions: &mut Vec<Action<A>, A>,
-) -> Result<Heard, Stop>
+) -> Result<Heard, FollowerStop>
     ensures takes { IfOk result (λ heard. TakesSo now (input_view input) (view_of follower.old.client) follower.old.subjects.items line.old.entries.items (told_by actions.old.items)
         (view_of follower.new.client) follower.new.subjects.items line.new.entries.items (told_by actions.new.items) heard) }
     ensures followed { OnOk result (All (IsFollowed now (view_of follower.new.client)) follower.new.subjects.items) }
@@ -64,7 +64,7 @@ pub(crate) fn hand_over<A: Allocator + Copy>(
     line: &mut Line<A>,
     now: u64,
     actions: &mut Vec<Action<A>, A>,
-) -> Result<Option<Heard>, Stop>
+) -> Result<Option<Heard>, FollowerStop>
     ensures hands { IfOk result (λ heard. HandsOver now (view_of follower.old.client) follower.old.subjects.items line.old.entries.items (told_by actions.old.items)
         (view_of follower.new.client) follower.new.subjects.items line.new.entries.items (told_by actions.new.items) heard) }
     ensures followed { IfOk result (λ heard. OnSome heard (All (IsFollowed now (view_of follower.new.client)) follower.new.subjects.items)) }

@@ -10,7 +10,7 @@ use crate::waits::Waits;
 use std::alloc::{AllocError, Allocator, Global};
 use zk_client::{Call, Client, Path, Side, State};
 use zk_dialler::Dialler;
-use zk_follow::Stop;
+use zk_follow::FollowerStop;
 
 /// What an agent begins with.
 #[derive(Clone, Copy)]
@@ -170,7 +170,7 @@ impl<A: Allocator + Copy> Agent<A> {
     /// Takes what has happened, noticed at this moment, and gives what is to be done and what there is to tell, in order.
     ///
     /// An error means that memory ran out. The agent is of no use then: begin with another one, from what was saved.
-    pub fn step(&mut self, now: u64, input: Input<A>) -> Result<Vec<Action<A>, A>, Stop>
+    pub fn step(&mut self, now: u64, input: Input<A>) -> Result<Vec<Action<A>, A>, FollowerStop>
         ensures comes { IfOk result (λ actions. Comes (max self.old.latest now) (given_of self.old.dialler.phase (max self.old.latest now) input) (trail_of self.old []) (trail_of self.new actions.items)) }
         ensures followed { OnOk result (All (IsFollowed self.new.latest (view_of self.new.asker.follower.client)) self.new.asker.follower.subjects.items) }
         ensures calls { IfOk result (λ actions. (ticket : ℕ) → how_many ticket self.new.asker.line.entries.items + how_many_ended ticket (told_by actions.items) ≡ how_many ticket self.old.asker.line.entries.items + how_many_asked ticket input) }
@@ -203,7 +203,7 @@ impl<A: Allocator + Copy> Agent<A> {
         now: u64,
         input: Input<A>,
         actions: &mut Vec<Action<A>, A>,
-    ) -> Result<(), Stop>
+    ) -> Result<(), FollowerStop>
         ensures comes { OnOk result (Comes now (given_of self.old.dialler.phase now input) (trail_of self.old actions.old.items) (trail_of self.new actions.new.items)) }
         ensures followed { OnOk result (All (IsFollowed now (view_of self.new.asker.follower.client)) self.new.asker.follower.subjects.items) }
     {
@@ -224,7 +224,7 @@ impl<A: Allocator + Copy> Agent<A> {
     }
 
     /// The connection that was asked for is there, or another one, which is hung up.
-    fn open(&mut self, now: u64, actions: &mut Vec<Action<A>, A>) -> Result<(), Stop>
+    fn open(&mut self, now: u64, actions: &mut Vec<Action<A>, A>) -> Result<(), FollowerStop>
         ensures comes { OnOk result (Comes now (opened_at self.old.dialler.phase now) (trail_of self.old actions.old.items) (trail_of self.new actions.new.items)) }
         ensures followed { OnOk result (All (IsFollowed now (view_of self.new.asker.follower.client)) self.new.asker.follower.subjects.items) }
     {
@@ -237,7 +237,7 @@ impl<A: Allocator + Copy> Agent<A> {
     }
 
     /// The attempt has failed, or the connection is over.
-    fn end(&mut self, now: u64, actions: &mut Vec<Action<A>, A>) -> Result<(), Stop>
+    fn end(&mut self, now: u64, actions: &mut Vec<Action<A>, A>) -> Result<(), FollowerStop>
         ensures comes { OnOk result (Comes now (over_at now) (trail_of self.old actions.old.items) (trail_of self.new actions.new.items)) }
         ensures followed { OnOk result (All (IsFollowed now (view_of self.new.asker.follower.client)) self.new.asker.follower.subjects.items) }
     {
@@ -252,7 +252,7 @@ impl<A: Allocator + Copy> Agent<A> {
         now: u64,
         bytes: Vec<u8, A>,
         actions: &mut Vec<Action<A>, A>,
-    ) -> Result<(), Stop>
+    ) -> Result<(), FollowerStop>
         ensures comes { OnOk result (Comes now (bytes_at (is_open self.old.dialler.phase) now bytes.items) (trail_of self.old actions.old.items) (trail_of self.new actions.new.items)) }
         ensures followed { OnOk result (All (IsFollowed now (view_of self.new.asker.follower.client)) self.new.asker.follower.subjects.items) }
     {
@@ -268,7 +268,7 @@ impl<A: Allocator + Copy> Agent<A> {
         now: u64,
         count: usize,
         actions: &mut Vec<Action<A>, A>,
-    ) -> Result<(), Stop>
+    ) -> Result<(), FollowerStop>
         ensures comes { OnOk result (Comes now (Addressed count ∷ Hears now (turns.Now now) ∷ []) (trail_of self.old actions.old.items) (trail_of self.new actions.new.items)) }
         ensures followed { OnOk result (All (IsFollowed now (view_of self.new.asker.follower.client)) self.new.asker.follower.subjects.items) }
     {
@@ -284,7 +284,7 @@ impl<A: Allocator + Copy> Agent<A> {
         call: Call<A>,
         until: Option<u64>,
         actions: &mut Vec<Action<A>, A>,
-    ) -> Result<(), Stop>
+    ) -> Result<(), FollowerStop>
         ensures comes { OnOk result (Comes now (Asks ticket (call_view call) until ∷ Hears now (turns.Now now) ∷ []) (trail_of self.old actions.old.items) (trail_of self.new actions.new.items)) }
         ensures followed { OnOk result (All (IsFollowed now (view_of self.new.asker.follower.client)) self.new.asker.follower.subjects.items) }
     {
@@ -300,7 +300,7 @@ impl<A: Allocator + Copy> Agent<A> {
         side: Side,
         path: Path<A>,
         actions: &mut Vec<Action<A>, A>,
-    ) -> Result<(), Stop>
+    ) -> Result<(), FollowerStop>
         ensures comes { OnOk result (Comes now (Follows ticket side path ∷ Hears now (turns.Now now) ∷ []) (trail_of self.old actions.old.items) (trail_of self.new actions.new.items)) }
         ensures followed { OnOk result (All (IsFollowed now (view_of self.new.asker.follower.client)) self.new.asker.follower.subjects.items) }
     {
@@ -314,7 +314,7 @@ impl<A: Allocator + Copy> Agent<A> {
         now: u64,
         ticket: u64,
         actions: &mut Vec<Action<A>, A>,
-    ) -> Result<(), Stop>
+    ) -> Result<(), FollowerStop>
         ensures comes { OnOk result (Comes now (Unfollows ticket ∷ Hears now (turns.Now now) ∷ []) (trail_of self.old actions.old.items) (trail_of self.new actions.new.items)) }
         ensures followed { OnOk result (All (IsFollowed now (view_of self.new.asker.follower.client)) self.new.asker.follower.subjects.items) }
     {
@@ -323,7 +323,7 @@ impl<A: Allocator + Copy> Agent<A> {
     }
 
     /// Another session begins.
-    fn begin(&mut self, actions: &mut Vec<Action<A>, A>) -> Result<(), Stop>
+    fn begin(&mut self, actions: &mut Vec<Action<A>, A>) -> Result<(), FollowerStop>
         ensures view { OnOk result (view_of self.new.asker.follower.client ≡ view_at (renewed_start self.old.timeout_ms (view_of self.old.asker.follower.client)) []) }
         ensures subjects { OnOk result (self.new.asker.follower.subjects.items ≡ map due_again self.old.asker.follower.subjects.items) }
         ensures dialler { OnOk result (self.new.dialler ≡ record self.old.dialler { backoff = row_ended self.old.dialler.backoff }) }
@@ -337,7 +337,7 @@ impl<A: Allocator + Copy> Agent<A> {
         self.dialler.answered();
         match push(actions, Action::Renewed) {
             Ok(()) => Ok(()),
-            Err(_) => Err(Stop::Memory),
+            Err(_) => Err(FollowerStop::Memory),
         }
     }
 
@@ -350,7 +350,7 @@ impl<A: Allocator + Copy> Agent<A> {
     }
 
     /// After an expiry another session begins.
-    fn renew(&mut self, actions: &mut Vec<Action<A>, A>) -> Result<(), Stop>
+    fn renew(&mut self, actions: &mut Vec<Action<A>, A>) -> Result<(), FollowerStop>
         ensures comes { (now : ℕ) → OnOk result (Comes now [] (trail_of self.old actions.old.items) (trail_of self.new actions.new.items)) }
         ensures renewed { OnOk result ((view_of self.new.asker.follower.client).standing.state ≢ Expired) }
         ensures followed { (now : ℕ) → All (IsFollowed now (view_of self.old.asker.follower.client)) self.old.asker.follower.subjects.items → OnOk result (All (IsFollowed now (view_of self.new.asker.follower.client)) self.new.asker.follower.subjects.items) }

@@ -11,7 +11,7 @@ use crate::calls::{close_calls, end_calls};
 use crate::replies::Heard;
 use std::alloc::{AllocError, Allocator, Global};
 use zk_client::{Call, Client, Input, Path, Side};
-use zk_follow::{Follower, Stop};
+use zk_follow::{Follower, FollowerStop};
 use zk_line::{Ending, Line};
 
 /// A client with what it is asked for its program: subjects that are followed, and calls. Where a call counts as handed over, the client waits
@@ -64,7 +64,7 @@ impl<A: Allocator + Copy> Asker<A> {
         now: u64,
         input: Input<A>,
         actions: &mut Vec<Action<A>, A>,
-    ) -> Result<Heard, Stop>
+    ) -> Result<Heard, FollowerStop>
         ensures takes { IfOk result (λ heard. TakesSo now (input_view input) (view_of self.old.follower.client) self.old.follower.subjects.items self.old.line.entries.items (told_by actions.old.items)
             (view_of self.new.follower.client) self.new.follower.subjects.items self.new.line.entries.items (told_by actions.new.items) heard) }
         ensures followed { OnOk result (All (IsFollowed now (view_of self.new.follower.client)) self.new.follower.subjects.items) }
@@ -90,7 +90,7 @@ impl<A: Allocator + Copy> Asker<A> {
         &mut self,
         now: u64,
         actions: &mut Vec<Action<A>, A>,
-    ) -> Result<Option<Heard>, Stop>
+    ) -> Result<Option<Heard>, FollowerStop>
         ensures hands { IfOk result (λ heard. HandsOver now (view_of self.old.follower.client) self.old.follower.subjects.items self.old.line.entries.items (told_by actions.old.items)
             (view_of self.new.follower.client) self.new.follower.subjects.items self.new.line.entries.items (told_by actions.new.items) heard) }
         ensures followed { IfOk result (λ heard. OnSome heard (All (IsFollowed now (view_of self.new.follower.client)) self.new.follower.subjects.items)) }

@@ -11,7 +11,7 @@ use crate::replies::Heard;
 use crate::waits::Waits;
 use std::alloc::{AllocError, Allocator};
 use zk_client::Input;
-use zk_follow::Stop;
+use zk_follow::FollowerStop;
 
 /// Notes the answers that come with what the client is told.
 fn note_answers<A: Allocator + Copy>(waits: &mut Waits<A>, input: &Input<A>)
@@ -131,7 +131,7 @@ impl<A: Allocator + Copy> Agent<A> {
         now: u64,
         input: Input<A>,
         actions: &mut Vec<Action<A>, A>,
-    ) -> Result<bool, Stop>
+    ) -> Result<bool, FollowerStop>
         requires { MayTake (input_view input) (is_open self.old.dialler.phase) }
         ensures hears { IfOk result (λ is_lost. (hears : HearsSo now (input_view input) (trail_of self.old actions.old.items) (trail_of self.new actions.new.items)) × (hears.heard.is_lost ≡ is_lost)) }
         ensures followed { OnOk result (All (IsFollowed now (view_of self.new.asker.follower.client)) self.new.asker.follower.subjects.items) }
@@ -143,7 +143,11 @@ impl<A: Allocator + Copy> Agent<A> {
     }
 
     /// The connection was hung up: the client is told that it is over.
-    pub(crate) fn hear_cut(&mut self, now: u64, actions: &mut Vec<Action<A>, A>) -> Result<(), Stop>
+    pub(crate) fn hear_cut(
+        &mut self,
+        now: u64,
+        actions: &mut Vec<Action<A>, A>,
+    ) -> Result<(), FollowerStop>
         ensures hears { OnOk result (HearsSo now Cut (trail_of self.old actions.old.items) (trail_of self.new actions.new.items)) }
         ensures followed { OnOk result (All (IsFollowed now (view_of self.new.asker.follower.client)) self.new.asker.follower.subjects.items) }
     {
@@ -157,7 +161,7 @@ impl<A: Allocator + Copy> Agent<A> {
         now: u64,
         input: Input<A>,
         actions: &mut Vec<Action<A>, A>,
-    ) -> Result<(), Stop>
+    ) -> Result<(), FollowerStop>
         requires { MayTake (input_view input) (is_open self.old.dialler.phase) }
         ensures comes { OnOk result (Comes now (Hears now (input_view input) ∷ []) (trail_of self.old actions.old.items) (trail_of self.new actions.new.items)) }
         ensures followed { OnOk result (All (IsFollowed now (view_of self.new.asker.follower.client)) self.new.asker.follower.subjects.items) }

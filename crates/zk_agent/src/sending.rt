@@ -4,7 +4,7 @@ use crate::action::Action;
 use crate::agent::Agent;
 use crate::moments::is_connected;
 use std::alloc::Allocator;
-use zk_follow::Stop;
+use zk_follow::FollowerStop;
 
 impl<A: Allocator + Copy> Agent<A> {
     ghost use Rattle.std.specs.Prelude.{◌≡◌, ◌≢◌, ◌<◌, true, false, [], IfOk, OnOk, All};
@@ -18,7 +18,7 @@ impl<A: Allocator + Copy> Agent<A> {
 
     /// Hands the call over whose turn it is, where a server has accepted the connection. Whether another one may be: a call was handed over, and
     /// the client has not said that it cannot be sent now.
-    fn send_one(&mut self, now: u64, actions: &mut Vec<Action<A>, A>) -> Result<bool, Stop>
+    fn send_one(&mut self, now: u64, actions: &mut Vec<Action<A>, A>) -> Result<bool, FollowerStop>
         requires { (view_of self.old.asker.follower.client).standing.state ≡ Connected }
         ensures sends { IfOk result (λ goes_on. Sends now (trail_of self.old actions.old.items) (trail_of self.new actions.new.items) goes_on) }
         ensures followed { All (IsFollowed now (view_of self.old.asker.follower.client)) self.old.asker.follower.subjects.items → OnOk result (All (IsFollowed now (view_of self.new.asker.follower.client)) self.new.asker.follower.subjects.items) }
@@ -31,7 +31,7 @@ impl<A: Allocator + Copy> Agent<A> {
     }
 
     /// The same where it is not known that a server has.
-    fn try_one(&mut self, now: u64, actions: &mut Vec<Action<A>, A>) -> Result<bool, Stop>
+    fn try_one(&mut self, now: u64, actions: &mut Vec<Action<A>, A>) -> Result<bool, FollowerStop>
         ensures sends { IfOk result (λ goes_on. Sends now (trail_of self.old actions.old.items) (trail_of self.new actions.new.items) goes_on) }
         ensures followed { All (IsFollowed now (view_of self.old.asker.follower.client)) self.old.asker.follower.subjects.items → OnOk result (All (IsFollowed now (view_of self.new.asker.follower.client)) self.new.asker.follower.subjects.items) }
         ensures same { (view_of self.old.asker.follower.client).standing.state ≢ Connected → self.new.asker ≡ self.old.asker }
@@ -43,7 +43,11 @@ impl<A: Allocator + Copy> Agent<A> {
     }
 
     /// Hands calls over, in the order of asking, as long as they can be.
-    pub(crate) fn send(&mut self, now: u64, actions: &mut Vec<Action<A>, A>) -> Result<(), Stop>
+    pub(crate) fn send(
+        &mut self,
+        now: u64,
+        actions: &mut Vec<Action<A>, A>,
+    ) -> Result<(), FollowerStop>
         ensures comes { OnOk result (Comes now [] (trail_of self.old actions.old.items) (trail_of self.new actions.new.items)) }
         ensures followed { All (IsFollowed now (view_of self.old.asker.follower.client)) self.old.asker.follower.subjects.items → OnOk result (All (IsFollowed now (view_of self.new.asker.follower.client)) self.new.asker.follower.subjects.items) }
         ensures limits { All (IsInTime now) self.old.asker.line.entries.items → OnOk result (All (IsInTime now) self.new.asker.line.entries.items) }

@@ -4,7 +4,7 @@ use crate::action::Action;
 use crate::agent::Agent;
 use crate::moments::has_come;
 use std::alloc::Allocator;
-use zk_follow::Stop;
+use zk_follow::FollowerStop;
 
 impl<A: Allocator + Copy> Agent<A> {
     ghost use Rattle.std.specs.Prelude.{◌≡◌, true, false, [], OnOk, All};
@@ -17,7 +17,7 @@ impl<A: Allocator + Copy> Agent<A> {
     ghost use Rattle.zk_agent.specs.Waits.{ends_at, waited_of};
 
     /// Leaves the connection, and tells the client so. Nothing waits then.
-    fn leave(&mut self, now: u64, actions: &mut Vec<Action<A>, A>) -> Result<(), Stop>
+    fn leave(&mut self, now: u64, actions: &mut Vec<Action<A>, A>) -> Result<(), FollowerStop>
         requires { has_come now (ends_of (trail_of self.old actions.old.items)) ≡ true }
         ensures tired { OnOk result (Tired now (trail_of self.old actions.old.items) (trail_of self.new actions.new.items)) }
         ensures followed { OnOk result (All (IsFollowed now (view_of self.new.asker.follower.client)) self.new.asker.follower.subjects.items) }
@@ -38,7 +38,11 @@ impl<A: Allocator + Copy> Agent<A> {
     }
 
     /// Leaves a connection on which a call or a ping has waited for so long.
-    pub(crate) fn tire(&mut self, now: u64, actions: &mut Vec<Action<A>, A>) -> Result<(), Stop>
+    pub(crate) fn tire(
+        &mut self,
+        now: u64,
+        actions: &mut Vec<Action<A>, A>,
+    ) -> Result<(), FollowerStop>
         ensures tired { OnOk result (Tired now (trail_of self.old actions.old.items) (trail_of self.new actions.new.items)) }
         ensures followed { All (IsFollowed now (view_of self.old.asker.follower.client)) self.old.asker.follower.subjects.items → OnOk result (All (IsFollowed now (view_of self.new.asker.follower.client)) self.new.asker.follower.subjects.items) }
     {

@@ -6,7 +6,7 @@ ghost use Rattle.zk_driver.specs.Driving.{course_of};
 ghost use Rattle.zk_driver.specs.Flowing.{flow_of, Runs};
 ghost use Rattle.zk_ask.specs.Asking.{came_view, ComesOf, Heard};
 
-use crate::came::{Came, hear};
+use crate::came::{Came, wait_for_answer};
 use std::alloc::Allocator;
 use zk_client::{Call, State};
 use zk_driver::{Driver, Stop};
@@ -33,7 +33,7 @@ pub(crate) fn close<A: Allocator + Copy, D: Dial + Drop, C: Clock + Drop>(
     }
     let until = driver.now().saturating_add(CLOSE_MS);
     if driver.ask(CLOSE, Call::Close, Some(until)).is_ok() {
-        let _ = hear(driver, CLOSE, until);
+        let _ = wait_for_answer(driver, CLOSE, until);
     }
 }
 
@@ -48,7 +48,7 @@ pub(crate) fn answered<A: Allocator + Copy, D: Dial + Drop, C: Clock + Drop>(
     ensures runs { OnOk result (Runs (flow_of D.Stream.remaining D.Stream.contents driver.old.engine None) (flow_of D.Stream.remaining D.Stream.contents driver.new.engine None)) }
 {
     driver.ask(ticket, call, Some(until))?;
-    hear(driver, ticket, until)
+    wait_for_answer(driver, ticket, until)
 }
 
 /// What comes of a call of servers at these addresses within this many milliseconds, in a session of its own. An error says that memory ran

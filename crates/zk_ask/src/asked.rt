@@ -46,7 +46,7 @@ fn print<A: Allocator + Copy, O: Write>(
 }
 
 /// Tells what came of a call that ends so, and is not done.
-fn tell<A: Allocator + Copy, E: Write>(
+fn print_end<A: Allocator + Copy, E: Write>(
     alloc: A,
     name: &str,
     came: &Came<A>,
@@ -80,7 +80,7 @@ fn finish<A: Allocator + Copy, O: Write, E: Write>(
 {
     match end_of(came) {
         End::Done => print(alloc, form, chroot, came, out),
-        end => tell(alloc, name, came, end, errors),
+        end => print_end(alloc, name, came, end, errors),
     }
 }
 

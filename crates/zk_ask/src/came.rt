@@ -23,7 +23,7 @@ pub(crate) enum Came<A: Allocator> {
 }
 
 /// Goes on with a driver until a call is answered, or this moment, which is its limit, has come.
-pub(crate) fn hear<A: Allocator + Copy, D: Dial + Drop, C: Clock + Drop>(
+pub(crate) fn wait_for_answer<A: Allocator + Copy, D: Dial + Drop, C: Clock + Drop>(
     driver: &mut Driver<'_, A, D, C>,
     ticket: u64,
     until: u64,

@@ -18,7 +18,7 @@ use zk_history::Change;
 use zk_records::Event;
 
 // Sends an event at a path, if it is watched. A deletion is told once where both sides are.
-fn tell<A: Allocator + Copy>(
+fn send_event<A: Allocator + Copy>(
     alloc: A,
     event: Event,
     path: &str,
@@ -51,7 +51,7 @@ fn tell_change<A: Allocator + Copy>(
 {
     let (event, path) = match change {
         Change::Set(path, _) => {
-            tell(alloc, Event::DataChanged, path.as_str(), connection)?;
+            send_event(alloc, Event::DataChanged, path.as_str(), connection)?;
             return Ok(());
         }
         Change::Create(path, _, _) => (Event::Created, path),
@@ -61,8 +61,8 @@ fn tell_change<A: Allocator + Copy>(
     let Some(parent) = path.parent() else {
         return Ok(());
     };
-    tell(alloc, event, path.as_str(), connection)?;
-    tell(alloc, Event::ChildrenChanged, parent, connection)?;
+    send_event(alloc, event, path.as_str(), connection)?;
+    send_event(alloc, Event::ChildrenChanged, parent, connection)?;
     Ok(())
 }
 

@@ -26,7 +26,7 @@ pub(crate) fn unread(fault: InputFault) -> Status
 }
 
 /// Tells which line is refused and why.
-fn tell<E: Write>(errors: &mut E, number: usize, why: ScriptFault) -> Status
+fn print_refusal<E: Write>(errors: &mut E, number: usize, why: ScriptFault) -> Status
     ensures fault { result ≡ Status.Fault → Appends (E.contents errors.old) (E.contents errors.new) (refusal_text number why) }
     ensures only { (result ≡ Status.Fault) ⊎ (result ≡ Status.Stream) }
 {
@@ -82,7 +82,7 @@ pub(crate) fn write_transcript<A: Allocator, O: Write, E: Write>(
     }
     match transcript.end {
         End::Taken => Status::Done,
-        End::Refused { number, why } => tell(errors, number, why),
+        End::Refused { number, why } => print_refusal(errors, number, why),
         End::Halted => halt(out),
         End::Memory => Status::Memory,
     }

@@ -30,10 +30,10 @@ pub(crate) struct Engine<A: Allocator + Copy, S: Drop> {
 }
 
 /// Why an agent stops.
-fn stop_of(stop: zk_follow::Stop) -> Stop {
+fn stop_of(stop: zk_follow::FollowerStop) -> Stop {
     match stop {
-        zk_follow::Stop::Halted => Stop::Halted,
-        zk_follow::Stop::Memory => Stop::Memory,
+        zk_follow::FollowerStop::Halted => Stop::Halted,
+        zk_follow::FollowerStop::Memory => Stop::Memory,
     }
 }
 

@@ -12,7 +12,7 @@ ghost use Rattle.zk_follow.specs.Following.{due_again, first_again, first_of, ag
 
 use crate::news::{News, tell_all};
 use crate::progress::Progress;
-use crate::stop::Stop;
+use crate::stop::FollowerStop;
 use crate::subject::Subject;
 use std::alloc::{AllocError, Allocator, Global};
 use std::mem;
@@ -36,7 +36,7 @@ fn visit_all<A: Allocator + Copy>(
     now: u64,
     outputs: &[Output<A>],
     made: &mut Vec<Output<A>, A>,
-) -> Result<(), Stop>
+) -> Result<(), FollowerStop>
     requires counted { All (λ subject. IsCounted (view_of client.old) (heard_all now subject (said outputs.now))) subjects.old }
     requires goes_on { (view_of client.old).standing.halted ≡ false }
     ensures followed { OnOk result (All (IsFollowed now (view_of client.new)) subjects.new) }
@@ -58,7 +58,7 @@ fn advance<A: Allocator + Copy>(
     client: &mut Client<A>,
     now: u64,
     input: Input<A>,
-) -> Result<Vec<Output<A>, A>, Stop>
+) -> Result<Vec<Output<A>, A>, FollowerStop>
     requires { All (IsCounted (view_of client.old)) subjects.old }
     ensures followed { OnOk result (All (IsFollowed now (view_of client.new)) subjects.new) }
     ensures counted { OnOk result (All (IsCounted (view_of client.new)) subjects.new) }
@@ -66,13 +66,13 @@ fn advance<A: Allocator + Copy>(
     ensures steps { IfOk result (λ outputs. Steps now (view_of client.old) (input_view input) subjects.old (view_of client.new) (said outputs.items) subjects.new) }
 {
     let Ok(mut outputs) = client.step_at(now, input) else {
-        return Err(Stop::Halted);
+        return Err(FollowerStop::Halted);
     };
     let mut made = Vec::new(alloc);
     visit_all(alloc, subjects, client, now, outputs.as_slice(), &mut made)?;
     match outputs.append(&mut made) {
         Ok(()) => Ok(outputs),
-        Err(_) => Err(Stop::Memory),
+        Err(_) => Err(FollowerStop::Memory),
     }
 }
 
@@ -167,7 +167,7 @@ impl<A: Allocator + Copy> Follower<A> {
     /// with the ticket of a subject answer its reads, so a refusal is told by one of them.
     ///
     /// An error means that memory ran out. Nothing is followed any more then.
-    pub fn step(&mut self, now: u64, input: Input<A>) -> Result<Vec<Output<A>, A>, Stop>
+    pub fn step(&mut self, now: u64, input: Input<A>) -> Result<Vec<Output<A>, A>, FollowerStop>
         ensures followed { OnOk result (All (IsFollowed now (view_of self.new.client)) self.new.subjects.items) }
         ensures ahead { OnOk result (All (λ subject. IsAhead now subject.progress) self.new.subjects.items) }
         ensures steps { IfOk result (λ outputs. Steps now (view_of self.old.client) (input_view input) self.old.subjects.items (view_of self.new.client) (said outputs.items) self.new.subjects.items) }

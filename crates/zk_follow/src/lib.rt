@@ -16,5 +16,5 @@ mod subject;
 pub use follower::Follower;
 pub use news::News;
 pub use progress::{Progress, Refusal};
-pub use stop::Stop;
+pub use stop::FollowerStop;
 pub use subject::Subject;

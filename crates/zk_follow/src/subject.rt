@@ -14,7 +14,7 @@ use crate::kept::is_shown;
 use crate::news::News;
 use crate::progress::{Progress, missing_after, progress_after, there_after};
 use crate::reads::read_of;
-use crate::stop::Stop;
+use crate::stop::FollowerStop;
 use std::alloc::Allocator;
 use zk_client::{Call, Client, Input, Output, Path, Side, State};
 
@@ -121,7 +121,7 @@ impl<A: Allocator + Copy> Subject<A> {
         now: u64,
         call: Call<A>,
         made: &mut Vec<Output<A>, A>,
-    ) -> Result<bool, Stop>
+    ) -> Result<bool, FollowerStop>
         requires read { (is_missing : Bool) × (question_of (call_view call) ≡ read_of self.old.side is_missing self.old.path) }
         requires connected { (view_of client.old).standing.state ≡ Connected }
         ensures followed { OnOk result (IsFollowed now (view_of client.new) self.new) }
@@ -133,12 +133,12 @@ impl<A: Allocator + Copy> Subject<A> {
     {
         self.progress = Progress::Reading;
         let Ok(mut outputs) = client.step(Input::Call(self.ticket, call)) else {
-            return Err(Stop::Halted);
+            return Err(FollowerStop::Halted);
         };
         self.note_outputs(now, outputs.as_slice());
         match made.append(&mut outputs) {
             Ok(()) => Ok(self.is_unread()),
-            Err(_) => Err(Stop::Memory),
+            Err(_) => Err(FollowerStop::Memory),
         }
     }
 
@@ -171,7 +171,7 @@ impl<A: Allocator + Copy> Subject<A> {
         is_full: bool,
         outputs: &[Output<A>],
         made: &mut Vec<Output<A>, A>,
-    ) -> Result<bool, Stop>
+    ) -> Result<bool, FollowerStop>
         requires counted { IsCounted (view_of client.old) (heard_all now self.old (said outputs.now)) }
         requires goes_on { (view_of client.old).standing.halted ≡ false }
         requires full { is_full ≡ true → IsFull (view_of client.old) }
@@ -197,7 +197,7 @@ impl<A: Allocator + Copy> Subject<A> {
         }
         match read_of(alloc, self.side, self.is_missing, &self.path) {
             Ok(call) => self.ask(client, now, call, made),
-            Err(_) => Err(Stop::Memory),
+            Err(_) => Err(FollowerStop::Memory),
         }
     }
 }

@@ -8,8 +8,8 @@ use Rattle.zk_session.specs.declared.states.State.{State}
 use Rattle.zk_session.specs.declared.states.State.TheVariants.{Idle, Connecting, Connected, Expired, Closed}
 use Rattle.std.specs.Prelude.{codes, if◌then◌else◌}
 use Rattle.zk_live.specs.Trails.{is_given, Fails, Hears as JointHears, IsLoud, Trail}
-use Rattle.zk_script.specs.declared.stop.Stop.{Stop}
-use Rattle.zk_script.specs.declared.stop.Stop.TheVariants as stops
+use Rattle.zk_script.specs.declared.stop.LineStop.{LineStop}
+use Rattle.zk_script.specs.declared.stop.LineStop.TheVariants as stops
 use Rattle.zk_script.specs.Stops.{IfHalted, IsWant}
 use Rattle.zk_live.specs.Heard.{is_waiting, tape, AllBrought, Awaits, Brings, Connects, Halts, HaltsAmong, HaltsAwaiting, HaltsBrought, HaltsConnecting, Hears, IsBrought, MayEnd, Takes, Tape, TellsEach}
 
@@ -41,13 +41,13 @@ heard old new input before told after none hears tells printed =
     }
 
 -- want of memory at one input
-pub halted : (stop : Stop) (old new : Trail) (input : Input) (text : List ℕ) → Fails stop old new → IsLoud stop old.view input
+pub halted : (stop : LineStop) (old new : Trail) (input : Input) (text : List ℕ) → Fails stop old new → IsLoud stop old.view input
     → IfHalted (Halts (tape old.view text) input (tape new.view text)) stop
 halted (stops.Refused fault) old new input text fails loud = tt
 halted stops.Halted old new input text fails loud = record { halts = record { loud = loud; halts = fails.0 }; printed = refl }
 halted stops.Memory old new input text fails loud = tt
 
-pub wants : (stop : Stop) (old new : Trail) → Fails stop old new → IsWant stop
+pub wants : (stop : LineStop) (old new : Trail) → Fails stop old new → IsWant stop
 wants (stops.Refused fault) old new fails = fails
 wants stops.Halted old new fails = tt
 wants stops.Memory old new fails = tt
@@ -135,19 +135,19 @@ cut_settles old new hears =
     ∙ (ap (λ v. is_waiting (after_signals v (Cuts ∷ [])).standing.state) same ∙ going_cut old.view.standing.state old.view)
 
 -- what follows from a halt follows where there may be one
-pub if_halted : (a b : Type 0) (stop : Stop) → (a → b) → IfHalted a stop → IfHalted b stop
+pub if_halted : (a b : Type 0) (stop : LineStop) → (a → b) → IfHalted a stop → IfHalted b stop
 if_halted a b (stops.Refused fault) to h = tt
 if_halted a b stops.Halted to h = to h
 if_halted a b stops.Memory to h = tt
 
 -- a halt at a piece, or where the connection ends after it
-pub halts_piece : (old new : Tape) (bytes : List ℕ) (stop : Stop) → IfHalted (HaltsAmong old (Bytes bytes ∷ Cut ∷ []) new) stop → IfHalted (HaltsBrought old new) stop
+pub halts_piece : (old new : Tape) (bytes : List ℕ) (stop : LineStop) → IfHalted (HaltsAmong old (Bytes bytes ∷ Cut ∷ []) new) stop → IfHalted (HaltsBrought old new) stop
 halts_piece old new bytes stop =
     if_halted (HaltsAmong old (Bytes bytes ∷ Cut ∷ []) new) (HaltsBrought old new) stop
     (λ halts. record { inputs = Bytes bytes ∷ Cut ∷ []; brought = (tt, (tt, tt)); halts = halts })
 
 -- a halt at the end
-pub halts_cut : (old new : Tape) (stop : Stop) → IfHalted (Halts old Cut new) stop → IfHalted (HaltsBrought old new) stop
+pub halts_cut : (old new : Tape) (stop : LineStop) → IfHalted (Halts old Cut new) stop → IfHalted (HaltsBrought old new) stop
 halts_cut old new stop =
     if_halted (Halts old Cut new) (HaltsBrought old new) stop (λ halts. record { inputs = Cut ∷ []; brought = (tt, tt); halts = inl halts })
 
@@ -164,11 +164,11 @@ brought_behind old between new brings halts = record {
 }
 
 -- a halt after what came
-pub halts_behind : (old between new : Tape) (stop : Stop) → Brings old between → IfHalted (HaltsBrought between new) stop → IfHalted (HaltsBrought old new) stop
+pub halts_behind : (old between new : Tape) (stop : LineStop) → Brings old between → IfHalted (HaltsBrought between new) stop → IfHalted (HaltsBrought old new) stop
 halts_behind old between new stop brings = if_halted (HaltsBrought between new) (HaltsBrought old new) stop (brought_behind old between new brings)
 
 -- a halt at the end, after what came
-pub halts_ended : (old between new : Tape) (stop : Stop) → Brings old between → IfHalted (Halts between Cut new) stop → IfHalted (HaltsBrought old new) stop
+pub halts_ended : (old between new : Tape) (stop : LineStop) → Brings old between → IfHalted (Halts between Cut new) stop → IfHalted (HaltsBrought old new) stop
 halts_ended old between new stop brings halts = halts_behind old between new stop brings (halts_cut between new stop halts)
 
 awaiting_first : (old new : Tape) (input : Input) → HaltsAmong old (input ∷ Cut ∷ []) new → HaltsAwaiting old input new
@@ -180,24 +180,24 @@ awaiting_behind old between new input takes halts =
     record { inputs = rest.inputs; brought = rest.brought; halts = inr (takes.between, takes.hears, rest.halts) }
 
 -- a halt at a call
-pub halts_asked : (old new : Tape) (input : Input) (stop : Stop) → IfHalted (HaltsAmong old (input ∷ Cut ∷ []) new) stop
+pub halts_asked : (old new : Tape) (input : Input) (stop : LineStop) → IfHalted (HaltsAmong old (input ∷ Cut ∷ []) new) stop
     → IfHalted (HaltsAwaiting old input new) stop
 halts_asked old new input stop = if_halted (HaltsAmong old (input ∷ Cut ∷ []) new) (HaltsAwaiting old input new) stop (awaiting_first old new input)
 
 -- a halt at what is awaited
-pub halts_awaiting : (old between new : Tape) (input : Input) (stop : Stop) → Takes old input between → IfHalted (HaltsBrought between new) stop
+pub halts_awaiting : (old between new : Tape) (input : Input) (stop : LineStop) → Takes old input between → IfHalted (HaltsBrought between new) stop
     → IfHalted (HaltsAwaiting old input new) stop
 halts_awaiting old between new input stop takes =
     if_halted (HaltsBrought between new) (HaltsAwaiting old input new) stop (awaiting_behind old between new input takes)
 
 -- a halt where a connection begins
-pub halts_opened : (old ended new : Tape) (stop : Stop) → MayEnd old ended → IfHalted (HaltsAmong ended (Opened ∷ Cut ∷ []) new) stop
+pub halts_opened : (old ended new : Tape) (stop : LineStop) → MayEnd old ended → IfHalted (HaltsAmong ended (Opened ∷ Cut ∷ []) new) stop
     → IfHalted (HaltsConnecting old new) stop
 halts_opened old ended new stop ends =
     if_halted (HaltsAmong ended (Opened ∷ Cut ∷ []) new) (HaltsConnecting old new) stop (λ halts. inr (ended, ends, awaiting_first ended new Opened halts))
 
 -- a halt before the server has answered
-pub halts_settling : (old ended between new : Tape) (stop : Stop) → MayEnd old ended → Takes ended Opened between → IfHalted (HaltsBrought between new) stop
+pub halts_settling : (old ended between new : Tape) (stop : LineStop) → MayEnd old ended → Takes ended Opened between → IfHalted (HaltsBrought between new) stop
     → IfHalted (HaltsConnecting old new) stop
 halts_settling old ended between new stop ends takes =
     if_halted (HaltsBrought between new) (HaltsConnecting old new) stop (λ halts. inr (ended, ends, awaiting_behind ended between new Opened takes halts))

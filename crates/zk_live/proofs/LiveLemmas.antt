@@ -8,8 +8,8 @@ use Rattle.zk_script.specs.Scripts.{end_at, progress, IsDue}
 use Rattle.zk_script.specs.Scripts as scripts
 use Rattle.zk_script.specs.Stops.{IfHalted, IsDueBy, IsWant}
 use Rattle.zk_script.specs.declared.script.End.{End}
-use Rattle.zk_script.specs.declared.stop.Stop.{Stop}
-use Rattle.zk_script.specs.declared.stop.Stop.TheVariants as stops
+use Rattle.zk_script.specs.declared.stop.LineStop.{LineStop}
+use Rattle.zk_script.specs.declared.stop.LineStop.TheVariants as stops
 use Rattle.zk_replay.specs.ReplayLines.{BeginValue}
 use Rattle.zk_replay.specs.Played.{start_of}
 use Rattle.zk_live.specs.Begins.{begun_by, Begins}
@@ -33,7 +33,7 @@ pub goes : (line : Text) (old before after : Position) (text : List ℕ) → Tak
 goes line old before after text takes is = (after, rw (← is) takes, refl)
 
 -- and why a line is not done there
-pub due : (line : Text) (old : Position) (view after : View) (begun : Bool) (stop : Stop) → IsDueBy (says_at (words_of line) begun) stop
+pub due : (line : Text) (old : Position) (view after : View) (begun : Bool) (stop : LineStop) → IsDueBy (says_at (words_of line) begun) stop
     → IfHalted (HaltsLine line begun view after) stop → position view begun ≡ old → IsDue rules line old stop
 due line old view after begun (stops.Refused fault) refused halted is = rw (← is) refused
 due line old view after begun stops.Halted refused halted is = (after, rw (← is) halted)
@@ -55,7 +55,7 @@ first_halts : (lines : List Text) (start : BeginValue) (made after : View) → b
 first_halts lines start made after begins stands halts = record { start = start; begins = begins; after = after; halts = rw (sym stands) halts }
 
 -- want of memory
-pub want : (lines : List Text) (start : BeginValue) (made after : View) (number : ℕ) (stop : Stop) → begun_by lines ≡ Begins start
+pub want : (lines : List Text) (start : BeginValue) (made after : View) (number : ℕ) (stop : LineStop) → begun_by lines ≡ Begins start
     → made ≡ view_at (start_of start) [] → IsWant stop → IfHalted (HaltsLive OpensLine made after) stop → IsUnread lines (end_at number stop)
 want lines start made after number (stops.Refused why) begins stands none halts = absurd none
 want lines start made after number stops.Halted begins stands none halts = first_halts lines start made after begins stands halts

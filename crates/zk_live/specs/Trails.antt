@@ -8,8 +8,8 @@ use Rattle.zk_client.specs.declared.output.Output.{Output as Made}
 use Rattle.zk_client.specs.Clients.{view_of}
 use Rattle.zk_client.specs.Steps.{IsQuiet}
 use Rattle.zk_client.specs.Views.{said}
-use Rattle.zk_script.specs.declared.stop.Stop.{Stop}
-use Rattle.zk_script.specs.declared.stop.Stop.TheVariants.{Refused, Halted, Memory}
+use Rattle.zk_script.specs.declared.stop.LineStop.{LineStop}
+use Rattle.zk_script.specs.declared.stop.LineStop.TheVariants.{Refused, Halted, Memory}
 use Rattle.zk_live.specs.declared.joint.Joint.{Joint}
 
 -- Whether an output is for the caller: all but what goes to the server.
@@ -44,13 +44,13 @@ pub record Hears (old : Trail) (input : Input) (new : Trail) : Type 0 where
 
 -- Memory ran out. The client has halted, at no turn; or what came is lost: it is no turn, or nothing of what its turn said is given. Nothing
 -- is refused.
-abbrev pub Fails : Stop → Trail → Trail → Type 0
+abbrev pub Fails : LineStop → Trail → Trail → Type 0
 Fails (Refused fault) old new = ⊥
 Fails Halted old new = HaltsAs old.view new.view × (new.given ≡ old.given)
 Fails Memory old new = ((new.view ≡ old.view) ⊎ ((turn : Turn) × Rule old.view turn new.view)) × (new.given ≡ old.given)
 
 -- A client halts at no input that has no effect.
-abbrev pub IsLoud : Stop → View → Input → Type 0
+abbrev pub IsLoud : LineStop → View → Input → Type 0
 IsLoud (Refused fault) view input = ⊤
 IsLoud Halted view input = ¬ (IsQuiet view input)
 IsLoud Memory view input = ⊤

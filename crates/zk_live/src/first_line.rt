@@ -9,7 +9,7 @@ use crate::live_line::{ASKED, parse_first_line};
 use std::alloc::Allocator;
 use zk_replay::begin_line::BeginLine;
 use zk_script::script::{End, end_at};
-use zk_script::stop::Stop;
+use zk_script::stop::LineStop;
 
 /// The client that lines ask for: the first that is neither empty nor a remark says which. An error where that line is refused,
 /// and for memory.
@@ -22,7 +22,7 @@ pub fn begin_of<A: Allocator + Copy>(alloc: A, lines: &[&[u8]]) -> Result<BeginL
         match parse_first_line(alloc, line) {
             Ok(None) => {}
             Ok(Some(begin)) => return Ok(begin),
-            Err(fault) => return Err(end_at(index + 1, Stop::from(fault))),
+            Err(fault) => return Err(end_at(index + 1, LineStop::from(fault))),
         }
     }
     Ok(BeginLine::Timeout(ASKED))

@@ -13,7 +13,7 @@ use std::alloc::{AllocError, Allocator};
 use zk_client::{Input, Output};
 use zk_link::Stream;
 use zk_replay::outputs::push_output;
-use zk_script::stop::Stop;
+use zk_script::stop::LineStop;
 
 /// Adds the line of an output, and nothing where it goes to the server.
 fn push_heard<A: Allocator + Copy>(
@@ -65,7 +65,7 @@ pub fn printed_step<A: Allocator + Copy, S: Stream>(
     joint: &mut Joint<A, S>,
     input: Input<A>,
     text: &mut String<A>,
-) -> Result<Heard<A>, Stop>
+) -> Result<Heard<A>, LineStop>
     ensures ok { OnOk result (Hears (tape (view_of joint.old.client) (string_bytes text.old)) (input_view input) (tape (view_of joint.new.client) (string_bytes text.new))) }
     ensures flows { OnOk result (Flows (holding (bytes_of (input_view input)) (flow_of S.remaining S.contents joint.old)) (flow_of S.remaining S.contents joint.new)) }
     ensures err { IfErr result IsWant }
@@ -85,7 +85,7 @@ pub fn cut<A: Allocator + Copy, S: Stream>(
     alloc: A,
     joint: &mut Joint<A, S>,
     text: &mut String<A>,
-) -> Result<(), Stop>
+) -> Result<(), LineStop>
     ensures ok { OnOk result (Hears (tape (view_of joint.old.client) (string_bytes text.old)) Cut (tape (view_of joint.new.client) (string_bytes text.new))) }
     ensures flows { OnOk result (Flows (flow_of S.remaining S.contents joint.old) (flow_of S.remaining S.contents joint.new)) }
     ensures err { IfErr result IsWant }
@@ -97,6 +97,6 @@ pub fn cut<A: Allocator + Copy, S: Stream>(
     }
     match push_told(alloc, outputs.as_slice(), text) {
         Ok(()) => Ok(()),
-        Err(_) => Err(Stop::Memory),
+        Err(_) => Err(LineStop::Memory),
     }
 }

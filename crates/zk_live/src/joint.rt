@@ -5,7 +5,7 @@ ghost use Rattle.std.specs.List.{filter};
 ghost use Rattle.zk_turns.specs.Turns.{Cut};
 ghost use Rattle.zk_client.specs.Clients.{view_of};
 ghost use Rattle.zk_client.specs.Views.{input_view, said};
-ghost use Rattle.zk_script.specs.declared.stop.Stop.TheVariants.{Memory};
+ghost use Rattle.zk_script.specs.declared.stop.LineStop.TheVariants.{Memory};
 ghost use Rattle.zk_link.specs.Written.{IsLeftOf};
 ghost use Rattle.zk_link.specs.Streams.{known_of, Exchanges};
 ghost use Rattle.zk_live.specs.Flowing.{flow_of, piece_in, Delivers, Flows};
@@ -18,7 +18,7 @@ use crate::send::{queue, send};
 use std::alloc::{AllocError, Allocator};
 use zk_client::{Client, Input, Output};
 use zk_link::{Brought, Stream};
-use zk_script::stop::Stop;
+use zk_script::stop::LineStop;
 
 /// How long a read may wait, in milliseconds, while bytes are left to be written.
 const PRESSED_WAIT: u64 = 10;
@@ -157,7 +157,7 @@ impl<A: Allocator + Copy, S: Stream> Joint<A, S> {
         &mut self,
         made: Vec<Output<A>, A>,
         outputs: &mut Vec<Output<A>, A>,
-    ) -> Result<bool, Stop>
+    ) -> Result<bool, LineStop>
         ensures client { self.new.client ≡ self.old.client }
         ensures stream { is_some self.new.stream ≡ kept (said made.items) (is_some self.old.stream) }
         ensures given { OnOk result (said outputs.new.items ≡ said outputs.old.items ++ filter is_given (said made.items)) }
@@ -168,11 +168,11 @@ impl<A: Allocator + Copy, S: Stream> Joint<A, S> {
         let written = self.write(made.as_slice());
         self.let_go(made.as_slice());
         let Ok(is_well) = written else {
-            return Err(Stop::Memory);
+            return Err(LineStop::Memory);
         };
         match give(made, outputs) {
             Ok(()) => Ok(is_well),
-            Err(_) => Err(Stop::Memory),
+            Err(_) => Err(LineStop::Memory),
         }
     }
 
@@ -182,20 +182,24 @@ impl<A: Allocator + Copy, S: Stream> Joint<A, S> {
     /// [`Input::Now`].
     ///
     /// An error says that memory ran out, in the client, or for what is written or given. An input without effect halts no client.
-    pub fn step(&mut self, input: Input<A>, outputs: &mut Vec<Output<A>, A>) -> Result<bool, Stop>
+    pub fn step(
+        &mut self,
+        input: Input<A>,
+        outputs: &mut Vec<Output<A>, A>,
+    ) -> Result<bool, LineStop>
         ensures ok { OnOk result (Hears (trail_of self.old outputs.old.items) (input_view input) (trail_of self.new outputs.new.items)) }
         ensures err { IfErr result (λ stop. Fails stop (trail_of self.old outputs.old.items) (trail_of self.new outputs.new.items)) }
         ensures flows { OnOk result (Delivers (input_view input) (said outputs.old.items) (said outputs.new.items) (flow_of S.remaining S.contents self.old) (flow_of S.remaining S.contents self.new)) }
         ensures loud { IfErr result (λ stop. IsLoud stop (view_of self.old.client) (input_view input)) }
     {
         let Ok(made) = self.client.step(input) else {
-            return Err(Stop::Halted);
+            return Err(LineStop::Halted);
         };
         self.deliver(made, outputs)
     }
 
     /// The connection is over: it is let go, if it is there still, and the client is told.
-    pub fn cut(&mut self, outputs: &mut Vec<Output<A>, A>) -> Result<(), Stop>
+    pub fn cut(&mut self, outputs: &mut Vec<Output<A>, A>) -> Result<(), LineStop>
         ensures ok { OnOk result (Hears (record (trail_of self.old outputs.old.items) { is_open = false }) Cut (trail_of self.new outputs.new.items)) }
         ensures err { IfErr result (λ stop. Fails stop (trail_of self.old outputs.old.items) (trail_of self.new outputs.new.items)) }
         ensures flows { OnOk result (Flows (flow_of S.remaining S.contents self.old) (flow_of S.remaining S.contents self.new)) }

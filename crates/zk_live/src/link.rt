@@ -16,7 +16,7 @@ use std::alloc::{AllocError, Allocator};
 use zk_client::{Client, Input, Output};
 use zk_link::{Brought, Dial, Stream};
 use zk_replay::call_line::Asked;
-use zk_script::stop::Stop;
+use zk_script::stop::LineStop;
 use zk_session::State;
 
 /// The most pieces that are read for one line.
@@ -70,7 +70,7 @@ impl<A: Allocator + Copy, S: Stream> Link<A, S> {
     }
 
     /// The connection ends.
-    pub fn cut(&mut self, alloc: A, text: &mut String<A>) -> Result<(), Stop>
+    pub fn cut(&mut self, alloc: A, text: &mut String<A>) -> Result<(), LineStop>
         ensures ok { OnOk result (Hears (tape (view_of self.old.joint.client) (string_bytes text.old)) Cut (tape (view_of self.new.joint.client) (string_bytes text.new))) }
         ensures flows { OnOk result (Flows (flow_of S.remaining S.contents self.old.joint) (flow_of S.remaining S.contents self.new.joint)) }
         ensures err { IfErr result IsWant }
@@ -80,7 +80,7 @@ impl<A: Allocator + Copy, S: Stream> Link<A, S> {
     }
 
     /// Ends the connection, where it is over.
-    fn end_if(&mut self, is_over: bool, alloc: A, text: &mut String<A>) -> Result<(), Stop>
+    fn end_if(&mut self, is_over: bool, alloc: A, text: &mut String<A>) -> Result<(), LineStop>
         ensures ok { OnOk result (MayEnd (tape (view_of self.old.joint.client) (string_bytes text.old)) (tape (view_of self.new.joint.client) (string_bytes text.new))) }
         ensures flows { OnOk result (Flows (flow_of S.remaining S.contents self.old.joint) (flow_of S.remaining S.contents self.new.joint)) }
         ensures err { IfErr result IsWant }
@@ -99,7 +99,7 @@ impl<A: Allocator + Copy, S: Stream> Link<A, S> {
         alloc: A,
         input: Input<A>,
         text: &mut String<A>,
-    ) -> Result<Vec<Output<A>, A>, Stop>
+    ) -> Result<Vec<Output<A>, A>, LineStop>
         ensures ok { OnOk result (Takes (tape (view_of self.old.joint.client) (string_bytes text.old)) (input_view input) (tape (view_of self.new.joint.client) (string_bytes text.new))) }
         ensures flows { OnOk result (Flows (holding (bytes_of (input_view input)) (flow_of S.remaining S.contents self.old.joint)) (flow_of S.remaining S.contents self.new.joint)) }
         ensures err { IfErr result IsWant }
@@ -140,7 +140,7 @@ impl<A: Allocator + Copy, S: Stream> Link<A, S> {
     }
 
     /// Hands the client what the connection brings next. One that brings nothing in time ends.
-    fn bring(&mut self, alloc: A, text: &mut String<A>) -> Result<Vec<Output<A>, A>, Stop>
+    fn bring(&mut self, alloc: A, text: &mut String<A>) -> Result<Vec<Output<A>, A>, LineStop>
         ensures ok { OnOk result (Brings (tape (view_of self.old.joint.client) (string_bytes text.old)) (tape (view_of self.new.joint.client) (string_bytes text.new))) }
         ensures flows { OnOk result (Flows (flow_of S.remaining S.contents self.old.joint) (flow_of S.remaining S.contents self.new.joint)) }
         ensures err { IfErr result IsWant }
@@ -167,7 +167,7 @@ impl<A: Allocator + Copy, S: Stream> Link<A, S> {
 
     /// Reads until the server has answered that a connection begins. By the last piece it ends.
     #[tactic(auto, using(crate::proofs::HeardLemmas::nothing))]
-    fn settle(&mut self, alloc: A, text: &mut String<A>) -> Result<(), Stop>
+    fn settle(&mut self, alloc: A, text: &mut String<A>) -> Result<(), LineStop>
         ensures ok { OnOk result (Brings (tape (view_of self.old.joint.client) (string_bytes text.old)) (tape (view_of self.new.joint.client) (string_bytes text.new))) }
         ensures settled { OnOk result (is_waiting (view_of self.new.joint.client).standing.state ≡ false) }
         ensures flows { OnOk result (Flows (flow_of S.remaining S.contents self.old.joint) (flow_of S.remaining S.contents self.new.joint)) }
@@ -195,7 +195,7 @@ impl<A: Allocator + Copy, S: Stream> Link<A, S> {
         ticket: u64,
         first: Vec<Output<A>, A>,
         text: &mut String<A>,
-    ) -> Result<(), Stop>
+    ) -> Result<(), LineStop>
         ensures ok { OnOk result (Brings (tape (view_of self.old.joint.client) (string_bytes text.old)) (tape (view_of self.new.joint.client) (string_bytes text.new))) }
         ensures flows { OnOk result (Flows (flow_of S.remaining S.contents self.old.joint) (flow_of S.remaining S.contents self.new.joint)) }
         ensures err { IfErr result IsWant }
@@ -216,7 +216,7 @@ impl<A: Allocator + Copy, S: Stream> Link<A, S> {
     }
 
     /// Asks the server, and waits for its answer.
-    pub fn ask(&mut self, alloc: A, asked: Asked<A>, text: &mut String<A>) -> Result<(), Stop>
+    pub fn ask(&mut self, alloc: A, asked: Asked<A>, text: &mut String<A>) -> Result<(), LineStop>
         ensures ok { OnOk result (Awaits (tape (view_of self.old.joint.client) (string_bytes text.old)) (Call asked.ticket (call_view asked.call)) (tape (view_of self.new.joint.client) (string_bytes text.new))) }
         ensures flows { OnOk result (Flows (flow_of S.remaining S.contents self.old.joint) (flow_of S.remaining S.contents self.new.joint)) }
         ensures err { IfErr result IsWant }
@@ -236,7 +236,7 @@ impl<A: Allocator + Copy, S: Stream> Link<A, S> {
         dial: &mut D,
         ring: &mut Ring<'_>,
         text: &mut String<A>,
-    ) -> Result<(), Stop>
+    ) -> Result<(), LineStop>
         ensures ok { OnOk result (Connects (tape (view_of self.old.joint.client) (string_bytes text.old)) (tape (view_of self.new.joint.client) (string_bytes text.new))) }
         ensures flows { OnOk result (Flows (flow_of S.remaining S.contents self.old.joint) (flow_of S.remaining S.contents self.new.joint)) }
         ensures err { IfErr result IsWant }

@@ -26,7 +26,7 @@ use zk_replay::client_line::ClientLine;
 use zk_replay::driven::{driven, make_client};
 use zk_script::pieces::lines_of;
 use zk_script::script::{End, LineReader, Transcript, end_at, nothing, read_lines};
-use zk_script::stop::Stop;
+use zk_script::stop::LineStop;
 
 /// A client with its connection, what dials, the addresses that are tried, and whether lines have begun.
 #[derive(Drop)]
@@ -39,7 +39,7 @@ struct Session<'a, A: Allocator + Copy, D: Dial> {
 
 impl<A: Allocator + Copy, D: Dial> Session<'_, A, D> {
     /// Does what a line says that is the same whatever is at the other end.
-    fn drive(&mut self, alloc: A, line: ClientLine<A>) -> Result<String<A>, Stop>
+    fn drive(&mut self, alloc: A, line: ClientLine<A>) -> Result<String<A>, LineStop>
         ensures ok { IfOk result (λ text. DoesLive (DrivesLine (client_value_of line)) (view_of self.old.link.joint.client) (view_of self.new.link.joint.client) (string_bytes text)) }
         ensures err { IfErr result IsWant }
         ensures halt { IfErr result (IfHalted (HaltsLive (DrivesLine (client_value_of line)) (view_of self.old.link.joint.client) (view_of self.new.link.joint.client))) }
@@ -58,7 +58,7 @@ impl<A: Allocator + Copy, D: Dial> Session<'_, A, D> {
     }
 
     /// Does what a line says, and gives what is to be printed.
-    fn act(&mut self, alloc: A, line: LiveLine<A>) -> Result<String<A>, Stop>
+    fn act(&mut self, alloc: A, line: LiveLine<A>) -> Result<String<A>, LineStop>
         ensures ok { IfOk result (λ text. DoesLive (live_value_of line) (view_of self.old.link.joint.client) (view_of self.new.link.joint.client) (string_bytes text)) }
         ensures err { IfErr result IsWant }
         ensures halt { IfErr result (IfHalted (HaltsLive (live_value_of line) (view_of self.old.link.joint.client) (view_of self.new.link.joint.client))) }
@@ -77,7 +77,7 @@ impl<A: Allocator + Copy, D: Dial> Session<'_, A, D> {
 
     /// Does what a line says, and gives what is to be printed. The first reason that applies refuses a line.
     #[tactic(auto, using(crate::proofs::LiveLemmas::took_none, crate::proofs::LiveLemmas::took))]
-    fn read_line(&mut self, alloc: A, line: &[u8]) -> Result<String<A>, Stop>
+    fn read_line(&mut self, alloc: A, line: &[u8]) -> Result<String<A>, LineStop>
         ensures ok { IfOk result (λ text. TakesLine line.now (position_of self.old) (position_of self.new) (string_bytes text)) }
         ensures err { IfErr result (IsDueBy (says_at (words_of line.now) self.old.is_begun)) }
         ensures halt { IfErr result (IfHalted (HaltsLine line.now self.old.is_begun (view_of self.old.link.joint.client) (view_of self.new.link.joint.client))) }
@@ -98,7 +98,7 @@ impl<A: Allocator + Copy, D: Dial> LineReader<A> for Session<'_, A, D> {
 
     ghost stands = { λ session here. position_of session ≡ here };
 
-    fn read(&mut self, alloc: A, line: &[u8]) -> Result<String<A>, Stop> {
+    fn read(&mut self, alloc: A, line: &[u8]) -> Result<String<A>, LineStop> {
         match self.read_line(alloc, line) {
             Ok(text) => Ok(text),
             Err(stop) => Err(stop),

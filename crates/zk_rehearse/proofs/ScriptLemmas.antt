@@ -3,7 +3,7 @@ use Rattle.std.proofs.Common.{◌≡◌, IfErr, IfOk, refl, subst}
 use Rattle.std.specs.Prelude.{String, string_bytes, Result, Ok, Err}
 use Rattle.zk_nodes.specs.Path.{Text}
 use Rattle.zk_script.specs.Scripts.{IsDue}
-use Rattle.zk_script.specs.declared.stop.Stop.{Stop}
+use Rattle.zk_script.specs.declared.stop.LineStop.{LineStop}
 use Rattle.zk_rehearse.specs.declared.rehearsal.Rehearsal.{Rehearsal}
 use Rattle.zk_rehearse.specs.Rehearsed.{Position, position_of, IsServedAt, TakesLine}
 use Rattle.zk_rehearse.specs.Scripts.{rules, IsAt}
@@ -11,7 +11,7 @@ use Rattle.zk_rehearse.proofs.Agreeing.{line_agrees}
 use Rattle.zk_rehearse.proofs.Serving.{line_served}
 
 -- where servers of the laws have served the client, a line says so of it, and they have served it after the line too
-pub moved : {A Y : Type 0} (line : Text) (old before : Position) (after : Rehearsal A) (r : Result (String Y) Stop) → IfOk r (λ text. TakesLine line before (position_of after) (string_bytes text))
+pub moved : {A Y : Type 0} (line : Text) (old before : Position) (after : Rehearsal A) (r : Result (String Y) LineStop) → IfOk r (λ text. TakesLine line before (position_of after) (string_bytes text))
     → before ≡ old → IsServedAt old → IfOk r (λ text. (new : Position) × rules.Takes line old new (string_bytes text) × IsAt after new)
 moved line old before after (Ok text) takes is served =
     let here : TakesLine line old (position_of after) (string_bytes text) = rw (← is) takes in
@@ -19,5 +19,5 @@ moved line old before after (Ok text) takes is served =
 moved line old before after (Err stop) takes is served = tt
 
 -- and why a line is not done there
-pub due_at : {X : Type 0} (line : Text) (old before : Position) (r : Result X Stop) → IfErr r (IsDue rules line before) → before ≡ old → IfErr r (IsDue rules line old)
+pub due_at : {X : Type 0} (line : Text) (old before : Position) (r : Result X LineStop) → IfErr r (IsDue rules line before) → before ≡ old → IfErr r (IsDue rules line old)
 due_at line old before r due is = subst (λ (position : Position). IfErr r (IsDue rules line position)) is due

@@ -8,8 +8,8 @@ use Rattle.zk_story.specs.Stories as story
 use Rattle.zk_turns.specs.Ranges.{IsResumable}
 use Rattle.zk_turns.specs.Turns.{new_start}
 use Rattle.zk_script.specs.declared.script_fault.ScriptFault.{ScriptFault}
-use Rattle.zk_script.specs.declared.stop.Stop.{Stop}
-use Rattle.zk_script.specs.declared.stop.Stop.TheVariants.{Refused, Halted, Memory}
+use Rattle.zk_script.specs.declared.stop.LineStop.{LineStop}
+use Rattle.zk_script.specs.declared.stop.LineStop.TheVariants.{Refused, Halted, Memory}
 use Rattle.zk_rehearse.specs.declared.rehearsal.Rehearsal.{Rehearsal}
 use Rattle.zk_rehearse.specs.BenchLines.{BenchValue, GoodLine}
 use Rattle.zk_rehearse.specs.RehearseLines.{RehearseValue, HistoryLine, BeginLine, BenchValueLine, says_at}
@@ -92,7 +92,7 @@ pub data RefusesLine (line : Text) (old : Position) (fault : ScriptFault) : Type
   by_history : says_at (words_of line) (is_begun old) ≡ Ok (Some HistoryLine) → RefusesHistory line old fault → RefusesLine line old fault
 
 -- why a line whose words say this is not done, if memory did not run out
-abbrev pub IsDueOf : Text → RehearseValue → Position → Stop → Type 0
+abbrev pub IsDueOf : Text → RehearseValue → Position → LineStop → Type 0
 IsDueOf line HistoryLine old (Refused fault) = RefusesHistory line old fault
 IsDueOf line value old (Refused fault) = ⊥
 IsDueOf line value old Halted = ⊤

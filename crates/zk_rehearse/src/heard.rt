@@ -10,7 +10,10 @@ use zk_client::Output;
 
 /// The connected server gets what is sent. Where the client gives the connection up, or its session is over, no server is
 /// connected any more.
-fn hear<A: Allocator + Copy>(bench: &mut Bench<A>, output: &Output<A>) -> Result<(), AllocError>
+fn pass_on_output<A: Allocator + Copy>(
+    bench: &mut Bench<A>,
+    output: &Output<A>,
+) -> Result<(), AllocError>
     ensures { OnOk result (bench.new ≡ heard (output_view output.now) bench.old) }
 {
     if output.ends_connection() {
@@ -30,7 +33,7 @@ pub fn hear_all<A: Allocator + Copy>(
     ensures { OnOk result (bench.new ≡ heard_all (said outputs.now) bench.old) }
 {
     for output in outputs {
-        hear(bench, output)?;
+        pass_on_output(bench, output)?;
     }
     Ok(())
 }

@@ -18,7 +18,7 @@ use std::mem;
 use zk_history::History;
 use zk_script::pieces::words_of;
 use zk_script::script::LineReader;
-use zk_script::stop::Stop;
+use zk_script::stop::LineStop;
 use zk_story::story::Story;
 
 /// A history, and a client with servers over it, once a line has made them.
@@ -58,7 +58,7 @@ impl<A: Allocator + Copy> Rehearsal<A> {
     }
 
     /// Does what a line after the one that makes the client says.
-    fn perform(&mut self, alloc: A, line: BenchLine<A>) -> Result<String<A>, Stop>
+    fn perform(&mut self, alloc: A, line: BenchLine<A>) -> Result<String<A>, LineStop>
         requires { is_begun (position_of self.old) ≡ true }
         ensures ok { IfOk result (λ text. DoesBenchLine (bench_value_of line) (position_of self.old) (position_of self.new) (string_bytes text)) }
         ensures err { IfErr result IsWant }
@@ -66,12 +66,12 @@ impl<A: Allocator + Copy> Rehearsal<A> {
     {
         match &mut self.rig {
             Some(rig) => rig.perform(alloc, line),
-            None => Err(Stop::Memory),
+            None => Err(LineStop::Memory),
         }
     }
 
     /// Reads a line of the history.
-    fn tell(&mut self, alloc: A, line: &[u8]) -> Result<String<A>, Stop>
+    fn read_history(&mut self, alloc: A, line: &[u8]) -> Result<String<A>, LineStop>
         requires { is_begun (position_of self.old) ≡ false }
         ensures ok { IfOk result (λ text. DoesHistory line.now (position_of self.old) (position_of self.new) (string_bytes text)) }
         ensures err { IfErr result (IsDueOf line.now HistoryLine (position_of self.old)) }
@@ -81,14 +81,14 @@ impl<A: Allocator + Copy> Rehearsal<A> {
     }
 
     /// Does what a line says that is allowed here.
-    fn take(&mut self, alloc: A, line: &[u8], said: Said<A>) -> Result<String<A>, Stop>
+    fn perform_said(&mut self, alloc: A, line: &[u8], said: Said<A>) -> Result<String<A>, LineStop>
         requires { CanPlay (is_begun (position_of self.old)) (said_value said) }
         ensures ok { IfOk result (λ text. Does line.now (said_value said) (position_of self.old) (position_of self.new) (string_bytes text)) }
         ensures err { IfErr result (IsDueOf line.now (said_value said) (position_of self.old)) }
         ensures halt { IfErr result (IfHalted (HaltsSaid (said_value said) (position_of self.old) (position_of self.new))) }
     {
         match said {
-            Said::History => self.tell(alloc, line),
+            Said::History => self.read_history(alloc, line),
             Said::Begin(timeout) => {
                 self.begin(alloc, timeout);
                 Ok(String::new(alloc))
@@ -98,7 +98,7 @@ impl<A: Allocator + Copy> Rehearsal<A> {
     }
 
     /// What a line says, if it says something.
-    fn said(&self, alloc: A, line: &[u8]) -> Result<Option<Said<A>>, Stop>
+    fn said(&self, alloc: A, line: &[u8]) -> Result<Option<Said<A>>, LineStop>
         ensures says { IfOk result (λ said. says_at (words_of line.now) (is_begun (position_of self.now)) ≡ Ok (option_map said_value said)) }
         ensures can { IfOk result (λ said. IfSome said (λ one. CanPlay (is_begun (position_of self.now)) (said_value one))) }
         ensures err { IfErr result (IsDueBy (says_at (words_of line.now) (is_begun (position_of self.now)))) }
@@ -113,13 +113,13 @@ impl<A: Allocator + Copy> Rehearsal<A> {
     /// and one that begins with `#` say nothing. The first reason that applies refuses a line. A halt is the answer only where the
     /// line brings an input, and the client has halted at it.
     #[tactic(auto, using(crate::proofs::DueLemmas::words_due, crate::proofs::DueLemmas::due, crate::proofs::DueLemmas::taken, crate::proofs::DueLemmas::none_halts, crate::proofs::DueLemmas::halts_so))]
-    pub fn read_line(&mut self, alloc: A, line: &[u8]) -> Result<String<A>, Stop>
+    pub fn read_line(&mut self, alloc: A, line: &[u8]) -> Result<String<A>, LineStop>
         ensures ok { IfOk result (λ text. TakesLine line.now (position_of self.old) (position_of self.new) (string_bytes text)) }
         ensures err { IfErr result (IsDue rules line.now (position_of self.old)) }
         ensures halt { IfErr result (IfHalted (HaltsLine line.now (position_of self.old) (position_of self.new))) }
     {
         match self.said(alloc, line)? {
-            Some(said) => self.take(alloc, line, said),
+            Some(said) => self.perform_said(alloc, line, said),
             None => Ok(String::new(alloc)),
         }
     }
@@ -132,7 +132,7 @@ impl<A: Allocator + Copy> LineReader<A> for Rehearsal<A> {
 
     ghost stands = { IsAt };
 
-    fn read(&mut self, alloc: A, line: &[u8]) -> Result<String<A>, Stop> {
+    fn read(&mut self, alloc: A, line: &[u8]) -> Result<String<A>, LineStop> {
         self.read_line(alloc, line)
     }
 }

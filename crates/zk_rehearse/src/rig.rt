@@ -17,7 +17,7 @@ use zk_replay::call_line::Asked;
 use zk_replay::client_line::ClientLine;
 use zk_replay::driven::driven;
 use zk_replay::outputs::outputs_text;
-use zk_script::stop::Stop;
+use zk_script::stop::LineStop;
 
 /// A client that asks for a timeout in milliseconds, the servers over a history, and the paths that calls named.
 #[derive(Drop)]
@@ -57,13 +57,13 @@ impl<A: Allocator + Copy> Rig<A> {
     }
 
     /// The client takes an input, and the servers hear what it says.
-    fn play(&mut self, alloc: A, input: Input<A>) -> Result<String<A>, Stop>
+    fn play(&mut self, alloc: A, input: Input<A>) -> Result<String<A>, LineStop>
         ensures ok { IfOk result (λ text. Plays (input_view input) (scene_of self.old) (scene_of self.new) (string_bytes text)) }
         ensures err { IfErr result IsWant }
         ensures halt { IfErr result (IfHalted (HaltsAt (input_view input) (scene_of self.old).view (scene_of self.new).view)) }
     {
         let Ok(outputs) = self.client.step(input) else {
-            return Err(Stop::Halted);
+            return Err(LineStop::Halted);
         };
         hear_all(&mut self.bench, outputs.as_slice())?;
         let text = outputs_text(alloc, outputs.as_slice())?;
@@ -71,7 +71,7 @@ impl<A: Allocator + Copy> Rig<A> {
     }
 
     /// A server takes the next transaction.
-    fn take_next(&mut self, alloc: A, server: Server) -> Result<String<A>, Stop>
+    fn take_next(&mut self, alloc: A, server: Server) -> Result<String<A>, LineStop>
         ensures ok { IfOk result (λ text. DoesBench (TakeLine server.number) (scene_of self.old) (scene_of self.new) (string_bytes text)) }
         ensures err { IfErr result IsWant }
         ensures halt { IfErr result (IfHalted ⊥) }
@@ -81,7 +81,7 @@ impl<A: Allocator + Copy> Rig<A> {
     }
 
     /// The connected server processes the next request.
-    fn process(&mut self, alloc: A) -> Result<String<A>, Stop>
+    fn process(&mut self, alloc: A) -> Result<String<A>, LineStop>
         ensures ok { IfOk result (λ text. DoesBench ProcessLine (scene_of self.old) (scene_of self.new) (string_bytes text)) }
         ensures err { IfErr result IsWant }
         ensures halt { IfErr result (IfHalted ⊥) }
@@ -93,7 +93,7 @@ impl<A: Allocator + Copy> Rig<A> {
     }
 
     /// Bytes of the connected server come, if there are any.
-    fn deliver(&mut self, alloc: A, most: usize) -> Result<String<A>, Stop>
+    fn deliver(&mut self, alloc: A, most: usize) -> Result<String<A>, LineStop>
         ensures ok { IfOk result (λ text. Delivers most (scene_of self.old) (scene_of self.new) (string_bytes text)) }
         ensures err { IfErr result IsWant }
         ensures halt { IfErr result (IfHalted (HaltsAt (Bytes (take most (scene_of self.old).bench.connection.output)) (scene_of self.old).view (scene_of self.new).view)) }
@@ -106,7 +106,7 @@ impl<A: Allocator + Copy> Rig<A> {
     }
 
     /// The client is asked. The path of the call is looked up by `good` from now on.
-    fn call(&mut self, alloc: A, asked: Asked<A>) -> Result<String<A>, Stop>
+    fn call(&mut self, alloc: A, asked: Asked<A>) -> Result<String<A>, LineStop>
         ensures ok { IfOk result (λ text. Calls (asked_of asked) (scene_of self.old) (scene_of self.new) (string_bytes text)) }
         ensures err { IfErr result IsWant }
         ensures halt { IfErr result (IfHalted (HaltsAt (Call (asked_of asked).ticket (asked_of asked).call) (scene_of self.old).view (scene_of self.new).view)) }
@@ -116,7 +116,7 @@ impl<A: Allocator + Copy> Rig<A> {
     }
 
     /// Another client takes up the session. No server is connected.
-    fn rejoin(&mut self, alloc: A) -> Result<String<A>, Stop>
+    fn rejoin(&mut self, alloc: A) -> Result<String<A>, LineStop>
         ensures ok { IfOk result (λ text. Rejoins (scene_of self.old) (scene_of self.new) (string_bytes text)) }
         ensures err { IfErr result IsWant }
         ensures halt { IfErr result (IfHalted ⊥) }
@@ -140,7 +140,7 @@ impl<A: Allocator + Copy> Rig<A> {
     }
 
     /// Does with the client what a line says.
-    fn drive(&mut self, alloc: A, line: ClientLine<A>) -> Result<String<A>, Stop>
+    fn drive(&mut self, alloc: A, line: ClientLine<A>) -> Result<String<A>, LineStop>
         ensures ok { IfOk result (λ text. DoesClientLine (client_value_of line) (scene_of self.old) (scene_of self.new) (string_bytes text)) }
         ensures err { IfErr result IsWant }
         ensures halt { IfErr result (IfHalted (HaltsClient (client_value_of line) (scene_of self.old).view (scene_of self.new).view)) }
@@ -161,7 +161,7 @@ impl<A: Allocator + Copy> Rig<A> {
 
     /// Does what a line says, and gives what is to be printed. Where that is answered by a halt, the line brings an input, and the
     /// client has halted at it.
-    pub fn perform(&mut self, alloc: A, line: BenchLine<A>) -> Result<String<A>, Stop>
+    pub fn perform(&mut self, alloc: A, line: BenchLine<A>) -> Result<String<A>, LineStop>
         ensures ok { IfOk result (λ text. DoesBench (bench_value_of line) (scene_of self.old) (scene_of self.new) (string_bytes text)) }
         ensures err { IfErr result IsWant }
         ensures halt { IfErr result (IfHalted (HaltsBench (bench_value_of line) (scene_of self.old) (scene_of self.new))) }

@@ -8,7 +8,7 @@ use Rattle.zk_turns.specs.View.{View, Cache, view_at}
 use Rattle.zk_turns.specs.Rule.{Stands, forgotten}
 use Rattle.zk_turns.proofs.Stepped.{one_turn as turn_stands}
 use Rattle.zk_script.specs.Pieces.{words_of}
-use Rattle.zk_script.specs.declared.stop.Stop.{Stop}
+use Rattle.zk_script.specs.declared.stop.LineStop.{LineStop}
 use Rattle.zk_replay.specs.ClientLines.{ClientValue, CutLine, NowLine, CallLine, PeekLine, LastLine, ForgetLine, SavedLine}
 use Rattle.zk_replay.specs.ReplayLines.{DriveValue, OpenedLine, BytesLine, ClientValueLine, ReplayValue, Begins, Drives, says_at}
 use Rattle.zk_replay.specs.Shown.{TellsAll, TellsKept, kept_line, last_line, saved_line}
@@ -17,7 +17,7 @@ use Rattle.zk_replay.specs.Replays.{Moves, Position, rules}
 use Rattle.zk_script.specs.Scripts.{IsDue}
 use Rattle.zk_script.specs.Said.{DoesSome}
 use Rattle.zk_script.specs.Stops.{IfHalted, IsDueBy}
-use Rattle.zk_script.specs.declared.stop.Stop.TheVariants as stops
+use Rattle.zk_script.specs.declared.stop.LineStop.TheVariants as stops
 use Rattle.zk_replay.specs.Courses.{Course, and_then, due_to, AddsTurn, AddsClient, AddsDrive, Adds, StandsBy, Follows}
 
 -- nothing has happened to a client that was just made
@@ -136,7 +136,7 @@ follows line course old new text s takes =
     }
 
 -- what a line makes a player print
-pub followed : {Y : Type 0} (line : Text) (old new : Option View) (r : Result (String Y) Stop)
+pub followed : {Y : Type 0} (line : Text) (old new : Option View) (r : Result (String Y) LineStop)
     → IfOk r (λ text. TakesLine line old new (string_bytes text))
     → IfOk r (λ text. (course : Option Course) → StandsBy course old → Follows line course new (string_bytes text))
 followed line old new (Ok text) takes = λ course s. follows line course old new (string_bytes text) s takes
@@ -151,7 +151,7 @@ moved line old before after text takes goes is s =
     (record { view = after; course = follows.next }, record { takes = rw (← is) takes; adds = follows.adds; stands = follows.stands }, (refl, follows.stands))
 
 -- and why a line is not done there
-pub due : (line : Text) (old : Position) (before after : Option View) (stop : Stop) → IsDueBy (says_at (words_of line) (is_some before)) stop
+pub due : (line : Text) (old : Position) (before after : Option View) (stop : LineStop) → IsDueBy (says_at (words_of line) (is_some before)) stop
     → IfHalted (HaltsLine line before after) stop → before ≡ old.view → IsDue rules line old stop
 due line old before after (stops.Refused fault) refused halted is = rw (← is) refused
 due line old before after stops.Halted refused halted is = (after, rw (← is) halted)

@@ -5,14 +5,14 @@ use Rattle.std.specs.Option.{option_map}
 use Rattle.zk_nodes.specs.Path.{Text}
 use Rattle.zk_turns.specs.View.{View, view_at}
 use Rattle.zk_script.specs.declared.script_fault.ScriptFault.{ScriptFault}
-use Rattle.zk_script.specs.declared.stop.Stop.{Stop}
+use Rattle.zk_script.specs.declared.stop.LineStop.{LineStop}
 use Rattle.zk_replay.specs.declared.begin_line.BeginKeyword.{BeginKeyword}
 use Rattle.zk_replay.specs.declared.player.Keyword.TheVariants as keyword
 use Rattle.zk_replay.specs.ReplayLines.{BeginValue, ReplayValue, Begins, begin_line_at, placed_at, says_at}
 use Rattle.zk_script.specs.Said.{something}
 use Rattle.zk_replay.specs.Played.{DoesSaid, TakesWords, start_of}
 
-pub taken : {Y : Type 0} (words : List Text) (old new : Option View) (said : Result ReplayValue ScriptFault) (r : Result (String Y) Stop)
+pub taken : {Y : Type 0} (words : List Text) (old new : Option View) (said : Result ReplayValue ScriptFault) (r : Result (String Y) LineStop)
     → says_at words (is_some old) ≡ something said
     → IfOk r (λ text. DoesSaid said old new (string_bytes text)) → IfOk r (λ text. TakesWords words old new (string_bytes text))
 taken words old new said (Ok text) is does = record { what = Some does.value; says = is ∙ ap something does.says; does = does.does }

@@ -18,7 +18,7 @@ use crate::peeks::{data_line, last_line, names_line, saved_line};
 use std::alloc::{AllocError, Allocator};
 use zk_client::{Client, Input};
 use zk_nodes::{Path, Side};
-use zk_script::stop::Stop;
+use zk_script::stop::LineStop;
 use zk_session::Saved;
 
 /// The client that a line makes.
@@ -52,13 +52,13 @@ fn stepped<A: Allocator + Copy>(
     alloc: A,
     client: &mut Client<A>,
     input: Input<A>,
-) -> Result<String<A>, Stop>
+) -> Result<String<A>, LineStop>
     ensures ok { IfOk result (λ text. TakesTurn (input_view input) (view_of client.old) (view_of client.new) (string_bytes text)) }
     ensures err { IfErr result IsWant }
     ensures halt { IfErr result (IfHalted (HaltsAt (input_view input) (view_of client.old) (view_of client.new))) }
 {
     let Ok(outputs) = client.step(input) else {
-        return Err(Stop::Halted);
+        return Err(LineStop::Halted);
     };
     let text = outputs_text(alloc, outputs.as_slice())?;
     Ok(text)
@@ -85,7 +85,7 @@ pub fn driven<A: Allocator + Copy>(
     alloc: A,
     client: &mut Client<A>,
     line: ClientLine<A>,
-) -> Result<String<A>, Stop>
+) -> Result<String<A>, LineStop>
     ensures ok { IfOk result (λ text. DoesClient (client_value_of line) (view_of client.old) (view_of client.new) (string_bytes text)) }
     ensures err { IfErr result IsWant }
     ensures halt { IfErr result (IfHalted (HaltsClient (client_value_of line) (view_of client.old) (view_of client.new))) }
@@ -113,7 +113,7 @@ pub(crate) fn replayed<A: Allocator + Copy>(
     alloc: A,
     client: &mut Client<A>,
     line: DriveLine<A>,
-) -> Result<String<A>, Stop>
+) -> Result<String<A>, LineStop>
     ensures ok { IfOk result (λ text. DoesDrive (drive_value_of line) (view_of client.old) (view_of client.new) (string_bytes text)) }
     ensures err { IfErr result IsWant }
     ensures halt { IfErr result (IfHalted (HaltsDrive (drive_value_of line) (view_of client.old) (view_of client.new))) }

@@ -18,7 +18,7 @@ use zk_script::pieces::words_of;
 use zk_script::reads::split_keyword;
 use zk_script::script::LineReader;
 use zk_script::script_fault::ScriptFault;
-use zk_script::stop::Stop;
+use zk_script::stop::LineStop;
 
 /// What a line does, by its first word.
 #[derive(Clone, Copy)]
@@ -57,13 +57,18 @@ impl<A: Allocator + Copy> Player<A> {
     }
 
     /// Makes the client. Only the first line does.
-    fn begin(&mut self, alloc: A, word: BeginKeyword, words: &[&[u8]]) -> Result<String<A>, Stop>
+    fn begin(
+        &mut self,
+        alloc: A,
+        word: BeginKeyword,
+        words: &[&[u8]],
+    ) -> Result<String<A>, LineStop>
         ensures ok { IfOk result (λ text. DoesSaid (placed_at (made.Begin word) (is_some (view_of_player self.old)) (map (λ w. w.now) words.now)) (view_of_player self.old) (view_of_player self.new) (string_bytes text)) }
         ensures err { IfErr result (IsDueBy (placed_at (made.Begin word) (is_some (view_of_player self.old)) (map (λ w. w.now) words.now))) }
         ensures halt { IfErr result (IfHalted (HaltsSaid (placed_at (made.Begin word) (is_some (view_of_player self.old)) (map (λ w. w.now) words.now)) (view_of_player self.old) (view_of_player self.new))) }
     {
         if self.client.is_some() {
-            return Err(Stop::Refused(ScriptFault::Place));
+            return Err(LineStop::Refused(ScriptFault::Place));
         }
         let line = parse_begin_line(alloc, word, words)?;
         self.client = Some(make_client(alloc, line)?);
@@ -71,20 +76,30 @@ impl<A: Allocator + Copy> Player<A> {
     }
 
     /// Does with the client what the words say.
-    fn drive(&mut self, alloc: A, word: DriveKeyword, words: &[&[u8]]) -> Result<String<A>, Stop>
+    fn drive(
+        &mut self,
+        alloc: A,
+        word: DriveKeyword,
+        words: &[&[u8]],
+    ) -> Result<String<A>, LineStop>
         ensures ok { IfOk result (λ text. DoesSaid (placed_at (made.Drive word) (is_some (view_of_player self.old)) (map (λ w. w.now) words.now)) (view_of_player self.old) (view_of_player self.new) (string_bytes text)) }
         ensures err { IfErr result (IsDueBy (placed_at (made.Drive word) (is_some (view_of_player self.old)) (map (λ w. w.now) words.now))) }
         ensures halt { IfErr result (IfHalted (HaltsSaid (placed_at (made.Drive word) (is_some (view_of_player self.old)) (map (λ w. w.now) words.now)) (view_of_player self.old) (view_of_player self.new))) }
     {
         let Some(client) = &mut self.client else {
-            return Err(Stop::Refused(ScriptFault::Place));
+            return Err(LineStop::Refused(ScriptFault::Place));
         };
         let line = parse_drive_line(alloc, word, words)?;
         replayed(alloc, client, line)
     }
 
     /// Does what the words after a keyword say.
-    fn take(&mut self, alloc: A, keyword: Keyword, words: &[&[u8]]) -> Result<String<A>, Stop>
+    fn perform(
+        &mut self,
+        alloc: A,
+        keyword: Keyword,
+        words: &[&[u8]],
+    ) -> Result<String<A>, LineStop>
         ensures ok { IfOk result (λ text. DoesSaid (placed_at keyword (is_some (view_of_player self.old)) (map (λ w. w.now) words.now)) (view_of_player self.old) (view_of_player self.new) (string_bytes text)) }
         ensures err { IfErr result (IsDueBy (placed_at keyword (is_some (view_of_player self.old)) (map (λ w. w.now) words.now))) }
         ensures halt { IfErr result (IfHalted (HaltsSaid (placed_at keyword (is_some (view_of_player self.old)) (map (λ w. w.now) words.now)) (view_of_player self.old) (view_of_player self.new))) }
@@ -96,7 +111,7 @@ impl<A: Allocator + Copy> Player<A> {
     }
 
     /// Does what the words of a line say.
-    fn take_words(&mut self, alloc: A, words: &[&[u8]]) -> Result<String<A>, Stop>
+    fn take_words(&mut self, alloc: A, words: &[&[u8]]) -> Result<String<A>, LineStop>
         ensures ok { IfOk result (λ text. TakesWords (map (λ w. w.now) words.now) (view_of_player self.old) (view_of_player self.new) (string_bytes text)) }
         ensures err { IfErr result (IsDueBy (says_at (map (λ w. w.now) words.now) (is_some (view_of_player self.old)))) }
         ensures halt { IfErr result (IfHalted (HaltsWords (map (λ w. w.now) words.now) (view_of_player self.old) (view_of_player self.new))) }
@@ -105,13 +120,13 @@ impl<A: Allocator + Copy> Player<A> {
             return Ok(String::new(alloc));
         };
         let keyword = Keyword::named(first).ok_or(ScriptFault::Unknown)?;
-        self.take(alloc, keyword, behind)
+        self.perform(alloc, keyword, behind)
     }
 
     /// Does what a line says, and gives what is to be printed: the lines of what the client says, or of a look-up. An empty line
     /// and one that begins with `#` say nothing. The first reason that applies refuses a line. Wherever what has happened has led
     /// the client, what is printed is what the definitions give for it, and the client stands where the line leads.
-    pub fn read_line(&mut self, alloc: A, line: &[u8]) -> Result<String<A>, Stop>
+    pub fn read_line(&mut self, alloc: A, line: &[u8]) -> Result<String<A>, LineStop>
         ensures ok { IfOk result (λ text. TakesLine line.now (view_of_player self.old) (view_of_player self.new) (string_bytes text)) }
         ensures stands { IfOk result (λ text. (course : Option Course) → StandsBy course (view_of_player self.old) → Follows line.now course (view_of_player self.new) (string_bytes text)) }
         ensures err { IfErr result (IsDueBy (says_at (words_of line.now) (is_some (view_of_player self.old)))) }
@@ -129,7 +144,7 @@ impl<A: Allocator + Copy> LineReader<A> for Player<A> {
 
     ghost stands = { IsAt };
 
-    fn read(&mut self, alloc: A, line: &[u8]) -> Result<String<A>, Stop> {
+    fn read(&mut self, alloc: A, line: &[u8]) -> Result<String<A>, LineStop> {
         match self.read_line(alloc, line) {
             Ok(text) => Ok(text),
             Err(stop) => Err(stop),

@@ -6,8 +6,8 @@ use Rattle.std.proofs.Math.Seq.{drop-cons}
 use Rattle.std.proofs.lemmas.Fn.{FoldsTo-push}
 use Rattle.std.proofs.lemmas.List.{map-append, take_more, take_all, take-append-drop, length-take, length-map}
 use Rattle.zk_nodes.specs.Path.{Text}
-use Rattle.zk_script.specs.declared.stop.Stop.{Stop}
-use Rattle.zk_script.specs.declared.stop.Stop.TheVariants as stops
+use Rattle.zk_script.specs.declared.stop.LineStop.{LineStop}
+use Rattle.zk_script.specs.declared.stop.LineStop.TheVariants as stops
 use Rattle.zk_script.specs.Scripts.{Rules, Progress, Prints, PrintsFirst, Goes, IsDue, IsTranscript, progress, end_at}
 
 -- the bytes of lent lines
@@ -37,7 +37,7 @@ parted lines at none within =
     ∙ (map-append (λ p. p.now) (take at lines) (drop at lines) ∙ ap (λ rest. map (λ p. p.now) (take at lines) ++ map (λ p. p.now) rest) left)
 
 -- what stands when the line after those is not done
-pub stopped : {S : Type 0} (rules : Rules S) (here : Progress S) (lines : List (Bor Text)) (at : ℕ) (none : Bor Text) (end : S) (text : List ℕ) (stop : Stop)
+pub stopped : {S : Type 0} (rules : Rules S) (here : Progress S) (lines : List (Bor Text)) (at : ℕ) (none : Bor Text) (end : S) (text : List ℕ) (stop : LineStop)
     → at < length lines → FoldsTo (Goes rules) here (texts (take at lines)) (progress end text) → IsDue rules (get_or lines at none).now end stop
     → IsTranscript rules here (texts lines) text (end_at (at + 1) stop)
 stopped {S} rules here lines at none end text stop within taken due = go stop due
@@ -45,7 +45,7 @@ stopped {S} rules here lines at none end text stop within taken due = go stop du
     prints : Prints rules here (texts (take at lines)) text
     prints = record { end = end; taken = taken }
 
-    go : (s : Stop) → IsDue rules (get_or lines at none).now end s → IsTranscript rules here (texts lines) text (end_at (at + 1) s)
+    go : (s : LineStop) → IsDue rules (get_or lines at none).now end s → IsTranscript rules here (texts lines) text (end_at (at + 1) s)
     go (stops.Refused why) refuses = record {
       before = texts (take at lines);
       line = (get_or lines at none).now;

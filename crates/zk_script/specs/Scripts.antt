@@ -6,8 +6,8 @@ use Rattle.zk_nodes.specs.Path.{Text}
 use Rattle.zk_script.specs.declared.script.End.{End}
 use Rattle.zk_script.specs.declared.script.End.TheVariants as ends
 use Rattle.zk_script.specs.declared.script_fault.ScriptFault.{ScriptFault}
-use Rattle.zk_script.specs.declared.stop.Stop.{Stop}
-use Rattle.zk_script.specs.declared.stop.Stop.TheVariants as stops
+use Rattle.zk_script.specs.declared.stop.LineStop.{LineStop}
+use Rattle.zk_script.specs.declared.stop.LineStop.TheVariants as stops
 use Rattle.zk_script.specs.Pieces.{pieces_at}
 use Rattle.zk_script.specs.ScriptFaults.{script_fault_text}
 
@@ -69,13 +69,13 @@ IsTranscript rules here lines text ends.Halted = HaltsIn rules here lines text
 IsTranscript rules here lines text ends.Memory = PrintsFirst rules here lines text
 
 -- why a line is not done, if memory did not run out elsewhere
-abbrev pub IsDue : {S : Type 0} → Rules S → Text → S → Stop → Type 0
+abbrev pub IsDue : {S : Type 0} → Rules S → Text → S → LineStop → Type 0
 IsDue rules line old (stops.Refused fault) = rules.Refuses line old fault
 IsDue rules line old stops.Halted = rules.Halts line old
 IsDue rules line old stops.Memory = ⊤
 
 -- how lines end at the line of this number, which is not done
-abbrev pub end_at : ℕ → Stop → End
+abbrev pub end_at : ℕ → LineStop → End
 end_at number (stops.Refused why) = ends.Refused number why
 end_at number stops.Halted = ends.Halted
 end_at number stops.Memory = ends.Memory

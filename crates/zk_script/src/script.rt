@@ -5,7 +5,7 @@ ghost use Rattle.zk_script.specs.Scripts.{end_at, lines_of, progress, Goes, IsDu
 
 use crate::pieces::lines_of;
 use crate::script_fault::ScriptFault;
-use crate::stop::Stop;
+use crate::stop::LineStop;
 use std::alloc::Allocator;
 
 /// How the lines of a script ended.
@@ -41,7 +41,7 @@ pub trait LineReader<A: Allocator + Copy> {
 
     /// Does what a line says, and gives what is to be printed. The first reason that applies refuses a line. A halt is the answer
     /// only where the client has halted at what the line says.
-    fn read(&mut self, alloc: A, line: &[u8]) -> Result<String<A>, Stop>
+    fn read(&mut self, alloc: A, line: &[u8]) -> Result<String<A>, LineStop>
         ensures ok { (old : Position) → stands self.old old → IfOk result (λ text. (new : Position) × rules.Takes line.now old new (string_bytes text) × stands self.new new) }
         ensures err { (old : Position) → stands self.old old → IfErr result (IsDue rules line.now old) };
 }
@@ -52,7 +52,7 @@ fn read_line<A: Allocator + Copy, R: LineReader<A>>(
     reader: &mut R,
     line: &[u8],
     text: &mut String<A>,
-) -> Result<(), Stop>
+) -> Result<(), LineStop>
     ensures ok { (old : R.Position) → R.stands reader.old old → OnOk result ((new : R.Position) × Goes R.rules (progress old (string_bytes text.old)) line.now (progress new (string_bytes text.new)) × R.stands reader.new new) }
     ensures err { (old : R.Position) → R.stands reader.old old → IfErr result (IsDue R.rules line.now old) }
     ensures same { OnErr result (string_bytes text.new ≡ string_bytes text.old) }
@@ -60,18 +60,18 @@ fn read_line<A: Allocator + Copy, R: LineReader<A>>(
     let printed = reader.read(alloc, line)?;
     match text.push_str(printed.as_str()) {
         Ok(()) => Ok(()),
-        Err(_) => Err(Stop::Memory),
+        Err(_) => Err(LineStop::Memory),
     }
 }
 
 /// How lines end at the line of this number, which is not done.
-pub fn end_at(number: usize, stop: Stop) -> End
+pub fn end_at(number: usize, stop: LineStop) -> End
     ensures { result ≡ end_at number stop }
 {
     match stop {
-        Stop::Refused(why) => End::Refused { number, why },
-        Stop::Halted => End::Halted,
-        Stop::Memory => End::Memory,
+        LineStop::Refused(why) => End::Refused { number, why },
+        LineStop::Halted => End::Halted,
+        LineStop::Memory => End::Memory,
     }
 }
 

@@ -2,14 +2,14 @@
 
 ghost use Rattle.std.specs.Prelude.{◌≡◌};
 ghost use Rattle.zk_script.specs.Stops.{stop_of};
-ghost use Rattle.zk_script.specs.declared.stop.Stop.TheVariants as stops;
+ghost use Rattle.zk_script.specs.declared.stop.LineStop.TheVariants as stops;
 
 use crate::script_fault::ScriptFault;
 use std::alloc::AllocError;
 
 /// Why a line is not done.
 #[derive(Clone, Copy)]
-pub enum Stop {
+pub enum LineStop {
     /// Its words are refused.
     Refused(ScriptFault),
     /// A step of the client ran out of memory.
@@ -18,21 +18,21 @@ pub enum Stop {
     Memory,
 }
 
-impl From<ScriptFault> for Stop {
+impl From<ScriptFault> for LineStop {
     ghost from_gives = { λ fault stop. stop ≡ stop_of fault };
 
-    fn from(fault: ScriptFault) -> Stop {
+    fn from(fault: ScriptFault) -> LineStop {
         match fault {
-            ScriptFault::Memory => Stop::Memory,
-            fault => Stop::Refused(fault),
+            ScriptFault::Memory => LineStop::Memory,
+            fault => LineStop::Refused(fault),
         }
     }
 }
 
-impl From<AllocError> for Stop {
+impl From<AllocError> for LineStop {
     ghost from_gives = { λ _ stop. stop ≡ stops.Memory };
 
-    fn from(_e: AllocError) -> Stop {
-        Stop::Memory
+    fn from(_e: AllocError) -> LineStop {
+        LineStop::Memory
     }
 }

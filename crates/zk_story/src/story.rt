@@ -17,7 +17,7 @@ use zk_script::pieces::words_of;
 use zk_script::reads::split_keyword;
 use zk_script::script::LineReader;
 use zk_script::script_fault::ScriptFault;
-use zk_script::stop::Stop;
+use zk_script::stop::LineStop;
 
 /// A history, and whether it was asked: from then on it takes look-ups alone.
 #[derive(Drop)]
@@ -89,7 +89,7 @@ impl<A: Allocator + Copy> Story<A> {
     }
 
     /// Does what a line says, and answers it: a look-up by a line, all else by nothing.
-    fn take(&mut self, alloc: A, line: HistoryLine<A>) -> Result<String<A>, ScriptFault>
+    fn perform(&mut self, alloc: A, line: HistoryLine<A>) -> Result<String<A>, ScriptFault>
         ensures ok { IfOk result (λ answer. Takes (value_of line) (position_of self.old) (position_of self.new) (string_bytes answer)) }
         ensures refused { IfErr result (IsRefused (value_of line) self.old.history) }
         ensures err { OnErr result (self.new ≡ self.old) }
@@ -136,7 +136,7 @@ impl<A: Allocator + Copy> Story<A> {
     {
         let words = words_of(alloc, line)?;
         match self.said(alloc, words.as_slice())? {
-            Some(line) => self.take(alloc, line),
+            Some(line) => self.perform(alloc, line),
             None => Ok(String::new(alloc)),
         }
     }
@@ -149,10 +149,10 @@ impl<A: Allocator + Copy> LineReader<A> for Story<A> {
 
     ghost stands = { λ story position. position_of story ≡ position };
 
-    fn read(&mut self, alloc: A, line: &[u8]) -> Result<String<A>, Stop> {
+    fn read(&mut self, alloc: A, line: &[u8]) -> Result<String<A>, LineStop> {
         match self.read_line(alloc, line) {
             Ok(answer) => Ok(answer),
-            Err(fault) => Err(Stop::from(fault)),
+            Err(fault) => Err(LineStop::from(fault)),
         }
     }
 }

@@ -17,7 +17,7 @@ use zk_records::RequestHeader;
 use zk_script::pieces::words_of;
 use zk_script::script::LineReader;
 use zk_script::script_fault::ScriptFault;
-use zk_script::stop::Stop;
+use zk_script::stop::LineStop;
 
 /// What came in one direction: how many bytes, and how many of them were whole frames.
 #[derive(Drop)]
@@ -117,7 +117,7 @@ fn tell_frames<A: Allocator + Copy>(
 }
 
 /// Takes bytes of a direction, and gives the lines of the frames that are whole with them.
-fn hear<A: Allocator + Copy>(
+fn read_bytes<A: Allocator + Copy>(
     alloc: A,
     way: Way,
     flow: &mut Flow<A>,
@@ -205,18 +205,18 @@ impl<A: Allocator + Copy> Stream<A> {
     }
 
     /// Does what a line says, and gives what is told.
-    fn take(&mut self, alloc: A, line: Line<A>) -> Result<String<A>, AllocError>
+    fn perform(&mut self, alloc: A, line: Line<A>) -> Result<String<A>, AllocError>
         ensures { IfOk result (λ text. Does (says_of line) (position_of self.old) (position_of self.new) (string_bytes text)) }
     {
         match line {
-            Line::Came(Way::Client, bytes) => hear(
+            Line::Came(Way::Client, bytes) => read_bytes(
                 alloc,
                 Way::Client,
                 &mut self.client,
                 &mut self.asked,
                 bytes.as_slice(),
             ),
-            Line::Came(Way::Server, bytes) => hear(
+            Line::Came(Way::Server, bytes) => read_bytes(
                 alloc,
                 Way::Server,
                 &mut self.server,
@@ -234,7 +234,7 @@ impl<A: Allocator + Copy> Stream<A> {
     {
         let words = words_of(alloc, line)?;
         match parse_line(alloc, words.as_slice())? {
-            Some(line) => Ok(self.take(alloc, line)?),
+            Some(line) => Ok(self.perform(alloc, line)?),
             None => Ok(String::new(alloc)),
         }
     }
@@ -247,10 +247,10 @@ impl<A: Allocator + Copy> LineReader<A> for Stream<A> {
 
     ghost stands = { λ stream position. position_of stream ≡ position };
 
-    fn read(&mut self, alloc: A, line: &[u8]) -> Result<String<A>, Stop> {
+    fn read(&mut self, alloc: A, line: &[u8]) -> Result<String<A>, LineStop> {
         match self.read_line(alloc, line) {
             Ok(text) => Ok(text),
-            Err(fault) => Err(Stop::from(fault)),
+            Err(fault) => Err(LineStop::from(fault)),
         }
     }
 }

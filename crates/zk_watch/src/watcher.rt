@@ -121,7 +121,7 @@ impl<'a, A: Allocator + Copy, D: Dial + Drop, C: Clock + Drop> Watcher<'a, A, D,
     }
 
     /// What is printed of a turn, after this time, and where nothing waits to be told after it, of what is kept.
-    fn tell(&mut self, turn: &Turn<A>, ms: u64) -> Result<String<A>, AllocError>
+    fn printed_turn(&mut self, turn: &Turn<A>, ms: u64) -> Result<String<A>, AllocError>
         ensures engine { self.new.driver.engine ≡ self.old.driver.engine }
         ensures accepted { self.new.is_accepted ≡ self.old.is_accepted }
         ensures style { self.new.style ≡ self.old.style }
@@ -147,13 +147,13 @@ impl<'a, A: Allocator + Copy, D: Dial + Drop, C: Clock + Drop> Watcher<'a, A, D,
     }
 
     /// One turn, and what is printed of it. Whether the moment has come, and nothing waits to be told.
-    fn hear(&mut self, until: u64) -> Result<(bool, String<A>), Failure>
+    fn run_turn(&mut self, until: u64) -> Result<(bool, String<A>), Failure>
         ensures ok { IfOk result (λ heard. Heard until heard.0 (stand_of D.Stream.remaining D.Stream.contents self.old.driver.engine self.old.watched.items self.old.is_accepted self.old.style self.old.trees) (string_bytes heard.1) (stand_of D.Stream.remaining D.Stream.contents self.new.driver.engine self.new.watched.items self.new.is_accepted self.new.style self.new.trees)) }
         ensures err { IfErr result (λ why. why ≢ Failure.Stream) }
     {
         let turn = self.driver.turn(until)?;
         let ms = self.elapsed();
-        let text = self.tell(&turn, ms)?;
+        let text = self.printed_turn(&turn, ms)?;
         self.note(&turn);
         Ok((is_come(&turn), text))
     }
@@ -241,7 +241,7 @@ impl<'a, A: Allocator + Copy, D: Dial + Drop, C: Clock + Drop> Watcher<'a, A, D,
         ensures come { IfOk result (λ is_over. is_over ≡ true → HasCome until (stand_of D.Stream.remaining D.Stream.contents self.new.driver.engine self.new.watched.items self.new.is_accepted self.new.style self.new.trees)) }
         ensures err { IfErr result (λ why. why ≢ Failure.Stream → out.new ≡ out.old) }
     {
-        let (is_over, mut text) = self.hear(until)?;
+        let (is_over, mut text) = self.run_turn(until)?;
         let more = self.tend(is_over)?;
         text.push_str(more.as_str())?;
         write(out, text.as_str())?;

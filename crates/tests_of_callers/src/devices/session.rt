@@ -2,7 +2,7 @@
 
 use crate::devices::events::Event;
 use crate::devices::told::{
-    tell, tell_collected, tell_holder, tell_kept, tell_number, tell_shown, tell_standing,
+    tell_collected, tell_holder, tell_kept, tell_number, tell_outputs, tell_shown, tell_standing,
 };
 use anyhow::Result;
 use std::alloc::Global;
@@ -84,8 +84,8 @@ impl Session {
     }
 
     /// Tells what the device says, and lets the server process what goes to it.
-    fn hear(&mut self, told: &mut String) -> Result<()> {
-        let frames = tell(self.alloc, &mut self.device, told)?;
+    fn pass_on_outputs(&mut self, told: &mut String) -> Result<()> {
+        let frames = tell_outputs(self.alloc, &mut self.device, told)?;
         let received = self.bench.receive(frames.as_slice());
         drop(frames);
         received?;
@@ -98,7 +98,7 @@ impl Session {
     /// Goes on until the server has nothing to say, whose bytes come in pieces of this length at most.
     fn settle(&mut self, piece: usize, told: &mut String) -> Result<()> {
         for _ in 0..PIECES {
-            self.hear(told)?;
+            self.pass_on_outputs(told)?;
             let bytes = self.bench.output(piece)?;
             if bytes.is_empty() {
                 return Ok(());

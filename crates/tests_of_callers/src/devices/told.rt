@@ -93,7 +93,7 @@ fn tell_flat(alloc: Global, flat: Flat, device: &Device, told: &mut String) -> R
 }
 
 /// Tells the outputs of the last step except frames, and gives these, joined.
-pub fn tell(alloc: Global, device: &mut Device, told: &mut String) -> Result<Vec<u8>> {
+pub fn tell_outputs(alloc: Global, device: &mut Device, told: &mut String) -> Result<Vec<u8>> {
     let mut frames = Vec::new(alloc);
     for _ in 0..OUTPUTS {
         let Some(flat) = device.next() else {

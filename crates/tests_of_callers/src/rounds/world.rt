@@ -180,7 +180,7 @@ impl<'t> World<'t> {
     }
 
     /// Does what the device says at a step.
-    fn hear(&mut self, done: Result<(), Refusal>) -> Result<(), AllocError> {
+    fn perform_actions(&mut self, done: Result<(), Refusal>) -> Result<(), AllocError> {
         or_end(done)?;
         let mut room = [0; ROOM];
         for _ in 0..ACTIONS {
@@ -228,7 +228,7 @@ impl<'t> World<'t> {
             return Ok(());
         }
         let done = self.device.bytes_at(self.alloc, self.now, &bytes[..passed]);
-        self.hear(done)
+        self.perform_actions(done)
     }
 
     /// What is under way goes on by a step. Whether there was something.
@@ -252,7 +252,7 @@ impl<'t> World<'t> {
             }
             _ => return Ok(false),
         };
-        self.hear(done)?;
+        self.perform_actions(done)?;
         Ok(true)
     }
 
@@ -263,7 +263,7 @@ impl<'t> World<'t> {
         };
         self.now = self.now.max(moment);
         let done = self.device.tick(self.now);
-        self.hear(done)?;
+        self.perform_actions(done)?;
         Ok(true)
     }
 
@@ -350,7 +350,7 @@ impl<'t> World<'t> {
             }
             _ => return Ok(false),
         };
-        self.hear(done)?;
+        self.perform_actions(done)?;
         Ok(true)
     }
 

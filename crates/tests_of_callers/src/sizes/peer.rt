@@ -83,7 +83,10 @@ impl<A: Allocator + Copy> Peer<A> {
     }
 
     /// A frame comes, once it is spelled. How long its payload is, and what was said.
-    pub fn hear(&mut self, spelled: Result<Vec<u8, A>, AllocError>) -> Result<(usize, Count)> {
+    pub fn receive_spelled(
+        &mut self,
+        spelled: Result<Vec<u8, A>, AllocError>,
+    ) -> Result<(usize, Count)> {
         let frame = spelled?;
         let length = frame.len().saturating_sub(LENGTH);
         let heard = self.receive(frame.as_slice());
@@ -94,7 +97,7 @@ impl<A: Allocator + Copy> Peer<A> {
     /// A connection begins, and its session is accepted with a password of this many bytes. How many frames are sent after it.
     pub fn connect(&mut self, password: usize) -> Result<usize> {
         self.step(Input::Opened, &mut NOTHING)?;
-        let (_, count) = self.hear(accepted(self.alloc, password))?;
+        let (_, count) = self.receive_spelled(accepted(self.alloc, password))?;
         Ok(count.frames)
     }
 

@@ -150,7 +150,7 @@ fn path_of<A: Allocator + Copy>(alloc: A, text: &str) -> Result<Path<A>, History
 }
 
 // Gives a history what a line does.
-fn take<A: Allocator + Copy>(
+fn perform<A: Allocator + Copy>(
     alloc: A,
     history: &mut History<A>,
     line: &Line,
@@ -184,10 +184,10 @@ fn take_all<A: Allocator + Copy>(
 ) -> bool {
     let mut is = true;
     for line in lines {
-        let mut done = take(alloc, history, line);
+        let mut done = perform(alloc, history, line);
         if done == Err(HistoryFault::Memory) {
             *refusals = refusals.saturating_add(1);
-            done = take(alloc, history, line);
+            done = perform(alloc, history, line);
         }
         is = is && done.is_ok();
     }
@@ -327,7 +327,7 @@ fn tells_transactions(rt: HostRuntime) {
 fn refuses_by_number(rt: HostRuntime) {
     for (lines, last, told) in &REFUSED {
         let mut history = history_of(&rt, *lines);
-        let came = take(rt.alloc(), &mut history, last);
+        let came = perform(rt.alloc(), &mut history, last);
         drop(history);
         let fault = came.expect_err(&rt, told);
         holds(&rt, fault.code() == *told, *told);

@@ -29,16 +29,16 @@ returns-in_default-clause-tells g c =
 
 pub returns-in-Set-clause-left : goal.returns-in-Set-clause-left
 returns-in-Set-clause-left g c =
-    c.tell.ensures.left ∙ ap (λ t. leaves_at DataChanged (path_of t) (watched c.args.connection.now.watches)) c.as_str.ensures.text
+    c.send_event.ensures.left ∙ ap (λ t. leaves_at DataChanged (path_of t) (watched c.args.connection.now.watches)) c.as_str.ensures.text
     ∙ left_set (path_of c.in-Set.path) (option_map (λ v. v.items) c.in-Set.field-1) (watched c.args.connection.now.watches)
     ∙ ap (λ ch. leaves_set (change_of ch) (watched c.args.connection.now.watches)) (sym c.in-Set.is)
 
-left_on : (g : _) (c : goal.In_ok-tell-2 g) → watched c.tell-2.new.connection.watches ≡ leaves_at c.match-change.event.0 (path_of c.match-change.event.1.now) (watched c.args.connection.now.watches)
-left_on g c = c.tell-2.ensures.left ∙ ap (λ t. leaves_at c.match-change.event.0 (path_of t) (watched c.args.connection.now.watches)) c.as_str-2.ensures.text
+left_on : (g : _) (c : goal.In_ok-send_event-2 g) → watched c.send_event-2.new.connection.watches ≡ leaves_at c.match-change.event.0 (path_of c.match-change.event.1.now) (watched c.args.connection.now.watches)
+left_on g c = c.send_event-2.ensures.left ∙ ap (λ t. leaves_at c.match-change.event.0 (path_of t) (watched c.args.connection.now.watches)) c.as_str-2.ensures.text
 
 pub returns-clause-left : goal.returns-clause-left
 returns-clause-left g c =
-    c.tell-3.ensures.left ∙ ap (leaves_at ChildrenChanged (path_of c.in-Some.parent.now)) (left_on g c)
+    c.send_event-3.ensures.left ∙ ap (leaves_at ChildrenChanged (path_of c.in-Some.parent.now)) (left_on g c)
     ∙ moved_left c.match-change.event.0 (path_of c.match-change.event.1.now) (path_of c.in-Some.parent.now) (change_of c.args.change.now) (watched c.args.connection.now.watches) (moves g (goal.at.returns-clause-left g c).After-parent) (sym c.in-Some.ensures.names)
 
 pub returns-clause-tells : goal.returns-clause-tells
@@ -48,9 +48,9 @@ returns-clause-tells g c =
     let above = path_of c.in-Some.parent.now in
     let w = watched c.args.connection.now.watches in
     let old = c.args.connection.now.output.items in
-    let mid = c.tell-2.new.connection.output.items in
-    let new = c.tell-3.new.connection.output.items in
-    let first : Tells (fires_at event at w) old mid = subst (λ t. Tells (fires_at event (path_of t) w) old mid) c.as_str-2.ensures.text c.in_ok-tell.ensures.tells in
-    let second : Tells (fires_at ChildrenChanged above (leaves_at event at w)) mid new = subst (λ v. Tells (fires_at ChildrenChanged above v) mid new) (left_on g c) c.in_ok-tell-2.ensures.tells in
+    let mid = c.send_event-2.new.connection.output.items in
+    let new = c.send_event-3.new.connection.output.items in
+    let first : Tells (fires_at event at w) old mid = subst (λ t. Tells (fires_at event (path_of t) w) old mid) c.as_str-2.ensures.text c.in_ok-send_event.ensures.tells in
+    let second : Tells (fires_at ChildrenChanged above (leaves_at event at w)) mid new = subst (λ v. Tells (fires_at ChildrenChanged above v) mid new) (left_on g c) c.in_ok-send_event-2.ensures.tells in
     subst (λ (f : List Notice). Tells f old new) (moved_fires event at above (change_of c.args.change.now) w (moves g (goal.at.returns-clause-tells g c).After-parent) (sym c.in-Some.ensures.names))
     (tells_both (fires_at event at w) (fires_at ChildrenChanged above (leaves_at event at w)) old mid new first second)

@@ -4,8 +4,8 @@ use Rattle.zk_turns.specs.Turns.{Turn}
 use Rattle.zk_turns.specs.Rule.{Rule}
 use Rattle.zk_client.specs.Clients.{view_of}
 use Rattle.zk_client.specs.Views.{input_view, said, turn_of}
-use Rattle.zk_script.specs.declared.stop.Stop.{Stop}
-use Rattle.zk_script.specs.declared.stop.Stop.TheVariants.{Memory}
+use Rattle.zk_script.specs.declared.stop.LineStop.{LineStop}
+use Rattle.zk_script.specs.declared.stop.LineStop.TheVariants.{Memory}
 use Rattle.zk_live.specs.Trails.{is_given, trail_of, Fails, Hears, IsLoud}
 use Rattle.zk_live.proofs.TrailLemmas.{if_err, lost_turn, on_ok}
 use Rattle.zk_live.specs.Flowing.{flow_of}
@@ -29,14 +29,14 @@ returns-clause-err g c =
     let turn : Turn = turn_of c.args.input c.in-Ok.made.items in
     let rule : Rule old.view turn new.view = rw c.deliver.ensures.client c.in-Ok.ensures.rule in
     if_err (λ stop. (stop ≡ Memory) × (c.deliver.new.outputs.items ≡ c.args.outputs.now.items)) (λ stop. Fails stop old new) c.deliver.result
-    (λ (stop : Stop) (h : (stop ≡ Memory) × (c.deliver.new.outputs.items ≡ c.args.outputs.now.items)). lost_turn stop old new turn h.0 rule (ap said h.1)) c.deliver.ensures.err
+    (λ (stop : LineStop) (h : (stop ≡ Memory) × (c.deliver.new.outputs.items ≡ c.args.outputs.now.items)). lost_turn stop old new turn h.0 rule (ap said h.1)) c.deliver.ensures.err
 
 pub returns-clause-loud : goal.returns-clause-loud
 returns-clause-loud g c =
     let view = view_of c.args.self.now.client in
     let input = input_view c.args.input in
     if_err (λ stop. (stop ≡ Memory) × (c.deliver.new.outputs.items ≡ c.args.outputs.now.items)) (λ stop. IsLoud stop view input) c.deliver.result
-    (λ (stop : Stop) (h : (stop ≡ Memory) × (c.deliver.new.outputs.items ≡ c.args.outputs.now.items)). subst (λ (s : Stop). IsLoud s view input) (sym h.0) tt)
+    (λ (stop : LineStop) (h : (stop ≡ Memory) × (c.deliver.new.outputs.items ≡ c.args.outputs.now.items)). subst (λ (s : LineStop). IsLoud s view input) (sym h.0) tt)
     c.deliver.ensures.err
 
 pub returns-clause-flows : goal.returns-clause-flows

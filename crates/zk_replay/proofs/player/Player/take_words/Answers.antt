@@ -11,4 +11,4 @@ returns-clause-ok g c =
     let begun = is_some (view_of_player c.args.self.now) in
     let said = placed_at c.in_ok-keyword.keyword begun (map (λ w. w.now) c.in-Some.behind.now) in
     let says : says_at words begun ≡ something said = search rules in
-    taken words (view_of_player c.args.self.now) (view_of_player c.take.new.self) said c.take.result says c.take.ensures.ok
+    taken words (view_of_player c.args.self.now) (view_of_player c.perform.new.self) said c.perform.result says c.perform.ensures.ok

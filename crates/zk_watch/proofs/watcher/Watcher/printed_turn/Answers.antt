@@ -2,7 +2,7 @@ use Rattle.std.specs.Prelude.{string_bytes}
 use Rattle.zk_client.specs.Clients.{view_of}
 use Rattle.zk_agent.specs.Telling.{told_by}
 use Rattle.zk_watch.proofs.Telling.{tells}
-use Rattle.zk_watch.proofs.watcher.Watcher.tell.Goals as goal
+use Rattle.zk_watch.proofs.watcher.Watcher.printed_turn.Goals as goal
 
 pub returns-clause-tells : goal.returns-clause-tells
 returns-clause-tells g c =

@@ -3,7 +3,7 @@ use Rattle.std.proofs.Common.{refl}
 use Rattle.zk_story.specs.Stories as story
 use Rattle.zk_rehearse.specs.Scenes.{scene_of}
 use Rattle.zk_rehearse.proofs.DueLemmas.{told, history_due, never_halts}
-use Rattle.zk_rehearse.proofs.rehearsal.Rehearsal.tell.Goals as goal
+use Rattle.zk_rehearse.proofs.rehearsal.Rehearsal.read_history.Goals as goal
 
 pub returns-clause-ok : goal.returns-clause-ok
 returns-clause-ok g c =

@@ -6,7 +6,7 @@ use Rattle.zk_driver.specs.Flowing.{flow_of}
 use Rattle.zk_driver.proofs.Running.{next_run, runs_same}
 use Rattle.zk_ask.specs.Asking.{Answered, Late, passes}
 use Rattle.zk_ask.proofs.Hearing.{answered, late, later}
-use Rattle.zk_ask.proofs.came.hear.Goals as goal
+use Rattle.zk_ask.proofs.came.wait_for_answer.Goals as goal
 
 pub returns-in-Some-Answer-clause-hears : goal.returns-in-Some-Answer-clause-hears
 returns-in-Some-Answer-clause-hears g c =

@@ -1,7 +1,7 @@
 use Rattle.std.proofs.Common.{sym, refl, ◌∙◌}
 use Rattle.zk_bench.specs.Serving.{watched}
 use Rattle.zk_bench.proofs.Watched.{tells_event, tells_no_event}
-use Rattle.zk_bench.proofs.notices.tell.Goals as goal
+use Rattle.zk_bench.proofs.notices.send_event.Goals as goal
 
 pub returns-in_err-send_notice-clause-left : goal.returns-in_err-send_notice-clause-left
 returns-in_err-send_notice-clause-left g c = c.fire.ensures.left c.requires

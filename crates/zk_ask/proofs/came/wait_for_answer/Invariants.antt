@@ -2,7 +2,7 @@ use Rattle.std.proofs.Common.{None}
 use Rattle.zk_driver.specs.Driving.{course_of, Course}
 use Rattle.zk_driver.specs.Flowing.{flow_of, Runs}
 use Rattle.zk_ask.specs.Asking.{Coming, Hears}
-use Rattle.zk_ask.proofs.came.hear.Given as goal
+use Rattle.zk_ask.proofs.came.wait_for_answer.Given as goal
 
 -- what is heard from here on is heard from the beginning on, and the driver ran so far
 abbrev pub invariant-loop : goal.invariant-loop
