@@ -1,5 +1,6 @@
 -- Each call waits or is settled, and never both.
-use Rattle.std.proofs.Common.{zero-add, ◌≡◌, ◌++◌, ◌+◌, ℕ, Bool, true, false, cond, ◌&&◌, not, List, [], ◌∷◌, Option, Some, None, map, refl, sym, ap, ◌∙◌, arith}
+use Rattle.std.proofs.Common.{zero-add, ◌≡◌, ◌++◌, ◌+◌, ℕ, Bool, true, false, cond, ◌&&◌, not, List, [], ◌∷◌, Option, Some, None, map, refl}
+use Rattle.std.proofs.Common.{sym, ap, ◌∙◌, arith}
 use Rattle.std.specs.Prelude.{◌==◌}
 use Rattle.std.specs.List.{count_by, filter, flat_map, FoldsTo}
 use Rattle.std.proofs.lemmas.Bool.Decides.{Decides-eqb}
@@ -16,13 +17,16 @@ use Rattle.zk_follow.specs.Following.{news_in}
 use Rattle.zk_line.specs.declared.entry.Entry.{Entry}
 use Rattle.zk_line.specs.declared.entry.Ending.{Ending}
 use Rattle.zk_line.specs.declared.entry.Ending.TheVariants.{Lost, LostOf, Late, Expired}
-use Rattle.zk_line.specs.Lines.{after_answer, answered, ended, ended_of, first_handed, first_where, goes_back, is_ended, left, settles_one, waits_turn}
+use Rattle.zk_line.specs.Lines.{after_answer, answered, ended, ended_of, first_handed, first_where, goes_back, is_ended, left, settles_one}
+use Rattle.zk_line.specs.Lines.{waits_turn}
 use Rattle.zk_dialler.specs.declared.dialler.Phase.{Phase}
 use Rattle.zk_dialler.specs.declared.dialler.Phase.TheVariants.{Waiting, Dialling, Open}
 use Rattle.zk_dialler.specs.Dialling.{is_open}
 use Rattle.zk_agent.specs.declared.input.Input.{Input as Happens}
 use Rattle.zk_agent.specs.declared.input.Input.TheVariants as happens
-use Rattle.zk_agent.specs.Agents.{Comes, Move, Hears, Hands, Renews, Follows, Unfollows, Asks, GivesUp, Tires, Opened, Ended as Over, HungUp, Closes, Addressed, Decides, Does, HearsSo, LeavesWhere, LetsGoWhere, Trail, asks_for, bytes_at, given_of, how_many_asked, how_many_ended, is_given, opened_at}
+use Rattle.zk_agent.specs.Agents.{Comes, Move, Hears, Hands, Renews, Follows, Unfollows, Asks, GivesUp, Tires, Opened, Ended as Over}
+use Rattle.zk_agent.specs.Agents.{HungUp, Closes, Addressed, Decides, Does, HearsSo, LeavesWhere, LetsGoWhere, Trail, asks_for, bytes_at}
+use Rattle.zk_agent.specs.Agents.{given_of, how_many_asked, how_many_ended, is_given, opened_at}
 use Rattle.zk_agent.specs.Calls.{answers, closings, endings, handed, hears, hears_all, how_many, tells, tells_all}
 use Rattle.zk_agent.specs.Telling.{Told, Says, HangsUp, Begins, closed_told, due_told, ended_told, is_end_of, news_told}
 
@@ -34,15 +38,18 @@ count_cons p x xs = sum_by-cons (λ y. cond (p y) 1 0) x xs
 count_append : {X : Type 0} (p : X → Bool) (xs ys : List X) → count_by p (xs ++ ys) ≡ count_by p xs + count_by p ys
 count_append p xs ys = sum_by-append (λ y. cond (p y) 1 0) xs ys
 
-count_map : {X Y : Type 0} (p : Y → Bool) (q : X → Bool) (f : X → Y) → ((x : X) → p (f x) ≡ q x) → (xs : List X) → count_by p (map f xs) ≡ count_by q xs
+count_map : {X Y : Type 0} (p : Y → Bool) (q : X → Bool) (f : X → Y) → ((x : X) → p (f x) ≡ q x) → (xs : List X)
+    → count_by p (map f xs) ≡ count_by q xs
 count_map p q f same [] = refl
 count_map p q f same (x ∷ xs) =
-    count_cons p (f x) (map f xs) ∙ ap (λ b. cond b 1 0 + count_by p (map f xs)) (same x) ∙ ap (λ n. cond (q x) 1 0 + n) (count_map p q f same xs) ∙ sym (count_cons q x xs)
+    count_cons p (f x) (map f xs) ∙ ap (λ b. cond b 1 0 + count_by p (map f xs)) (same x)
+    ∙ ap (λ n. cond (q x) 1 0 + n) (count_map p q f same xs) ∙ sym (count_cons q x xs)
 
 count_none : {X Y : Type 0} (p : Y → Bool) (f : X → Y) → ((x : X) → p (f x) ≡ false) → (xs : List X) → count_by p (map f xs) ≡ 0
 count_none p f none [] = refl
 count_none p f none (x ∷ xs) =
-    count_cons p (f x) (map f xs) ∙ ap (λ b. cond b 1 0 + count_by p (map f xs)) (none x) ∙ zero-add (count_by p (map f xs)) ∙ count_none p f none xs
+    count_cons p (f x) (map f xs) ∙ ap (λ b. cond b 1 0 + count_by p (map f xs)) (none x) ∙ zero-add (count_by p (map f xs))
+    ∙ count_none p f none xs
 
 same_ticket : (sent : Bool) (mine its : ℕ) → (sent && (mine == its)) ≡ true → mine ≡ its
 same_ticket true mine its e = (Decides-eqb mine its).0 e
@@ -71,14 +78,19 @@ asks_alone ticket (GivesUp now ∷ moves) = asks_alone ticket moves
 asks_alone ticket (Tires now ∷ moves) = asks_alone ticket moves
 asks_alone ticket (Decides now due ∷ moves) = asks_alone ticket moves
 asks_alone ticket (Closes ∷ moves) = asks_alone ticket moves
-asks_alone ticket (Hears now input ∷ moves) = both_more (asks_for ticket) (Hears now input) (filter is_given moves) moves (asks_alone ticket moves)
-asks_alone ticket (Follows its side path ∷ moves) = both_more (asks_for ticket) (Follows its side path) (filter is_given moves) moves (asks_alone ticket moves)
-asks_alone ticket (Unfollows its ∷ moves) = both_more (asks_for ticket) (Unfollows its) (filter is_given moves) moves (asks_alone ticket moves)
-asks_alone ticket (Asks its asked until ∷ moves) = both_more (asks_for ticket) (Asks its asked until) (filter is_given moves) moves (asks_alone ticket moves)
+asks_alone ticket (Hears now input ∷ moves) =
+    both_more (asks_for ticket) (Hears now input) (filter is_given moves) moves (asks_alone ticket moves)
+asks_alone ticket (Follows its side path ∷ moves) =
+    both_more (asks_for ticket) (Follows its side path) (filter is_given moves) moves (asks_alone ticket moves)
+asks_alone ticket (Unfollows its ∷ moves) =
+    both_more (asks_for ticket) (Unfollows its) (filter is_given moves) moves (asks_alone ticket moves)
+asks_alone ticket (Asks its asked until ∷ moves) =
+    both_more (asks_for ticket) (Asks its asked until) (filter is_given moves) moves (asks_alone ticket moves)
 asks_alone ticket (Opened now ∷ moves) = both_more (asks_for ticket) (Opened now) (filter is_given moves) moves (asks_alone ticket moves)
 asks_alone ticket (Over now ∷ moves) = both_more (asks_for ticket) (Over now) (filter is_given moves) moves (asks_alone ticket moves)
 asks_alone ticket (HungUp ∷ moves) = both_more (asks_for ticket) HungUp (filter is_given moves) moves (asks_alone ticket moves)
-asks_alone ticket (Addressed count ∷ moves) = both_more (asks_for ticket) (Addressed count) (filter is_given moves) moves (asks_alone ticket moves)
+asks_alone ticket (Addressed count ∷ moves) =
+    both_more (asks_for ticket) (Addressed count) (filter is_given moves) moves (asks_alone ticket moves)
 
 -- an input asks its call, and no other
 bytes_ask : (ticket : ℕ) (is_there : Bool) (now : ℕ) (bytes : List ℕ) → count_by (asks_for ticket) (bytes_at is_there now bytes) ≡ 0
@@ -90,7 +102,8 @@ opened_ask ticket Waiting now = refl
 opened_ask ticket (Dialling began until) now = refl
 opened_ask ticket Open now = refl
 
-pub asks_its : {A : Type 0} (ticket : ℕ) (phase : Phase) (now : ℕ) (input : Happens A) → count_by (asks_for ticket) (given_of phase now input) ≡ how_many_asked ticket input
+pub asks_its : {A : Type 0} (ticket : ℕ) (phase : Phase) (now : ℕ) (input : Happens A)
+    → count_by (asks_for ticket) (given_of phase now input) ≡ how_many_asked ticket input
 asks_its ticket phase now happens.Opened = opened_ask ticket phase now
 asks_its ticket phase now happens.Failed = refl
 asks_its ticket phase now (happens.Bytes bytes) = bytes_ask ticket (is_open phase) now bytes.items
@@ -98,7 +111,8 @@ asks_its ticket phase now happens.Cut = refl
 asks_its ticket phase now happens.Moment = refl
 asks_its ticket phase now (happens.Addresses count) = refl
 asks_its ticket phase now (happens.Call its call until) =
-    count_cons (asks_for ticket) (Asks its (call_view call) until) (Hears now (turns.Now now) ∷ []) ∙ (let none : count_by (asks_for ticket) (Hears now (turns.Now now) ∷ []) ≡ 0 = refl in omega (arith, none))
+    count_cons (asks_for ticket) (Asks its (call_view call) until) (Hears now (turns.Now now) ∷ [])
+    ∙ (let none : count_by (asks_for ticket) (Hears now (turns.Now now) ∷ []) ≡ 0 = refl in omega (arith, none))
 asks_its ticket phase now (happens.Follow its side path) = refl
 asks_its ticket phase now (happens.Unfollow its) = refl
 
@@ -114,9 +128,11 @@ module _ {A : Type 0} (ticket : ℕ) where
   end_of_ended Lost entry = refl
   end_of_ended (LostOf its) entry = refl
 
-  count_endings : (ending : Ending) (entries : List (Entry A)) → how_many_ended ticket (endings ending entries) ≡ how_many ticket (ended ending entries)
+  count_endings : (ending : Ending) (entries : List (Entry A))
+      → how_many_ended ticket (endings ending entries) ≡ how_many ticket (ended ending entries)
   count_endings ending entries =
-      count_map (is_end_of ticket) (λ one. is_end_of ticket (ended_told ending one)) (ended_told ending) (λ one. refl) (map ended_of (ended ending entries))
+      count_map (is_end_of ticket) (λ one. is_end_of ticket (ended_told ending one)) (ended_told ending) (λ one. refl)
+      (map ended_of (ended ending entries))
       ∙ count_map (λ one. is_end_of ticket (ended_told ending one)) is_its ended_of (end_of_ended ending) (ended ending entries)
 
   count_closings : (entries : List (Entry A)) → how_many_ended ticket (closings entries) ≡ how_many ticket entries
@@ -124,55 +140,67 @@ module _ {A : Type 0} (ticket : ℕ) where
       count_map (is_end_of ticket) (λ one. is_end_of ticket (closed_told one)) closed_told (λ one. refl) (map ended_of entries)
       ∙ count_map (λ one. is_end_of ticket (closed_told one)) is_its ended_of (λ entry. refl) entries
 
-  pub ended_or_left : (ending : Ending) (entries : List (Entry A)) → how_many_ended ticket (endings ending entries) + how_many ticket (left ending entries) ≡ how_many ticket entries
+  pub ended_or_left : (ending : Ending) (entries : List (Entry A))
+      → how_many_ended ticket (endings ending entries) + how_many ticket (left ending entries) ≡ how_many ticket entries
   ended_or_left ending entries =
       ap (λ n. n + how_many ticket (left ending entries)) (count_endings ending entries)
-      ∙ sum_by-filter_both (is_ended ending) (λ entry. not (is_ended ending entry)) (λ entry. refl) (λ entry. cond (is_its entry) 1 0) entries
+      ∙ sum_by-filter_both (is_ended ending) (λ entry. not (is_ended ending entry)) (λ entry. refl)
+      (λ entry. cond (is_its entry) 1 0) entries
 
   -- ---- an answer
 
   abbrev Answered : (its : ℕ) → Outcome → (first : Option (Entry A)) → (after before : List (Entry A)) → Type 0
   Answered its outcome first after before =
-      how_many_ended ticket (cond (settles_one outcome first) (Says (Answer its outcome) ∷ []) []) + how_many ticket after ≡ how_many ticket before
+      how_many_ended ticket (cond (settles_one outcome first) (Says (Answer its outcome) ∷ []) []) + how_many ticket after
+      ≡ how_many ticket before
 
   of_one : (its : ℕ) (outcome : Outcome) (entry : Entry A) (entries : List (Entry A)) → is_ended (LostOf its) entry ≡ true
       → Answered its outcome (Some entry) (after_answer outcome entry ++ entries) (entry ∷ entries)
   of_one its outcome entry entries is = by (goes_back (call_view entry.call) outcome)
     where
       by : (back : Bool)
-          → how_many_ended ticket (cond (not back) (Says (Answer its outcome) ∷ []) []) + how_many ticket (cond back (record entry { is_sent = false } ∷ []) [] ++ entries) ≡ how_many ticket (entry ∷ entries)
+          → how_many_ended ticket (cond (not back) (Says (Answer its outcome) ∷ []) [])
+          + how_many ticket (cond back (record entry { is_sent = false } ∷ []) [] ++ entries) ≡ how_many ticket (entry ∷ entries)
       by true =
-          zero-add (how_many ticket (record entry { is_sent = false } ∷ entries)) ∙ count_cons is_its (record entry { is_sent = false }) entries ∙ sym (count_cons is_its entry entries)
+          zero-add (how_many ticket (record entry { is_sent = false } ∷ entries))
+          ∙ count_cons is_its (record entry { is_sent = false }) entries ∙ sym (count_cons is_its entry entries)
       by false =
           let same = same_ticket entry.is_sent entry.ticket its is in
           let there : how_many ticket (entry ∷ entries) ≡ cond (its == ticket) 1 0 + how_many ticket entries =
           count_cons is_its entry entries ∙ ap (λ n. cond (n == ticket) 1 0 + how_many ticket entries) same in
-          let here : how_many_ended ticket (Says (Answer its outcome) ∷ []) ≡ cond (its == ticket) 1 0 + 0 = count_cons (is_end_of ticket) (Says (Answer its outcome)) [] in
+          let here : how_many_ended ticket (Says (Answer its outcome) ∷ []) ≡ cond (its == ticket) 1 0 + 0 =
+          count_cons (is_end_of ticket) (Says (Answer its outcome)) [] in
           omega (arith, there, here)
 
-  of_others : (its : ℕ) (outcome : Outcome) (entry : Entry A) (entries : List (Entry A)) (first : Option (Entry A)) (after : List (Entry A)) → Answered its outcome first after entries
+  of_others : (its : ℕ) (outcome : Outcome) (entry : Entry A) (entries : List (Entry A)) (first : Option (Entry A)) (after : List (Entry A))
+      → Answered its outcome first after entries
       → Answered its outcome first (entry ∷ after) (entry ∷ entries)
   of_others its outcome entry entries first after rest =
       let here = count_cons is_its entry after in
       let there = count_cons is_its entry entries in omega (arith, rest, here, there)
 
-  pub answered_or_left : (its : ℕ) (outcome : Outcome) (entries : List (Entry A)) → how_many_ended ticket (answers its outcome entries) + how_many ticket (answered its outcome entries) ≡ how_many ticket entries
+  pub answered_or_left : (its : ℕ) (outcome : Outcome) (entries : List (Entry A))
+      → how_many_ended ticket (answers its outcome entries) + how_many ticket (answered its outcome entries) ≡ how_many ticket entries
   answered_or_left its outcome [] = refl
   answered_or_left its outcome (entry ∷ entries) = by (answered_or_left its outcome entries) (is_ended (LostOf its) entry) refl
     where
-      by : Answered its outcome (first_where (is_ended (LostOf its)) entries) (answered its outcome entries) entries → (found : Bool) → is_ended (LostOf its) entry ≡ found
+      by : Answered its outcome (first_where (is_ended (LostOf its)) entries) (answered its outcome entries) entries → (found : Bool)
+          → is_ended (LostOf its) entry ≡ found
           → Answered its outcome (cond found (Some entry) (first_where (is_ended (LostOf its)) entries))
           (cond found (after_answer outcome entry ++ entries) (entry ∷ answered its outcome entries)) (entry ∷ entries)
       by rest true is = of_one its outcome entry entries is
-      by rest false is = of_others its outcome entry entries (first_where (is_ended (LostOf its)) entries) (answered its outcome entries) rest
+      by rest false is =
+          of_others its outcome entry entries (first_where (is_ended (LostOf its)) entries) (answered its outcome entries) rest
 
   -- ---- outputs
 
-  pub heard_or_left : (entries : List (Entry A)) (output : Output) → how_many_ended ticket (tells entries output) + how_many ticket (hears entries output) ≡ how_many ticket entries
+  pub heard_or_left : (entries : List (Entry A)) (output : Output)
+      → how_many_ended ticket (tells entries output) + how_many ticket (hears entries output) ≡ how_many ticket entries
   heard_or_left entries (Answer its outcome) =
       let first = answered_or_left its outcome entries in
       let others = ended_or_left (LostOf its) (answered its outcome entries) in
-      let both = count_append (is_end_of ticket) (answers its outcome entries) (endings (LostOf its) (answered its outcome entries)) in omega (arith, first, others, both)
+      let both = count_append (is_end_of ticket) (answers its outcome entries) (endings (LostOf its) (answered its outcome entries)) in
+      omega (arith, first, others, both)
   heard_or_left entries (Enters state) =
       let others = ended_or_left Lost entries in
       let none = says_no_end ticket (Says (Enters state)) refl in
@@ -181,12 +209,14 @@ module _ {A : Type 0} (ticket : ℕ) where
   heard_or_left entries (Report path side event) = zero-add (how_many ticket entries)
   heard_or_left entries (Drop fault) = zero-add (how_many ticket entries)
 
-  pub all_heard_or_left : (outputs : List Output) (entries : List (Entry A)) → how_many_ended ticket (tells_all entries outputs) + how_many ticket (hears_all entries outputs) ≡ how_many ticket entries
+  pub all_heard_or_left : (outputs : List Output) (entries : List (Entry A))
+      → how_many_ended ticket (tells_all entries outputs) + how_many ticket (hears_all entries outputs) ≡ how_many ticket entries
   all_heard_or_left [] entries = zero-add (how_many ticket entries)
   all_heard_or_left (output ∷ outputs) entries =
       let first = heard_or_left entries output in
       let rest = all_heard_or_left outputs (hears entries output) in
-      let both = count_append (is_end_of ticket) (tells entries output) (tells_all (hears entries output) outputs) in omega (arith, first, rest, both)
+      let both = count_append (is_end_of ticket) (tells entries output) (tells_all (hears entries output) outputs) in
+      omega (arith, first, rest, both)
 
   -- ---- a call that is handed over
 
@@ -195,9 +225,11 @@ module _ {A : Type 0} (ticket : ℕ) where
   still_there (entry ∷ entries) = by (still_there entries) (waits_turn entry)
     where
       by : how_many ticket (first_handed entries) ≡ how_many ticket entries → (waits : Bool)
-          → how_many ticket (cond waits (record entry { is_sent = true } ∷ entries) (entry ∷ first_handed entries)) ≡ how_many ticket (entry ∷ entries)
+          → how_many ticket (cond waits (record entry { is_sent = true } ∷ entries) (entry ∷ first_handed entries))
+          ≡ how_many ticket (entry ∷ entries)
       by rest true = count_cons is_its (record entry { is_sent = true }) entries ∙ sym (count_cons is_its entry entries)
-      by rest false = count_cons is_its entry (first_handed entries) ∙ ap (λ n. cond (is_its entry) 1 0 + n) rest ∙ sym (count_cons is_its entry entries)
+      by rest false = count_cons is_its entry (first_handed entries) ∙ ap (λ n. cond (is_its entry) 1 0 + n) rest
+          ∙ sym (count_cons is_its entry entries)
 
   pub as_many_handed : (input : Input) (entries : List (Entry A)) → how_many ticket (handed input entries) ≡ how_many ticket entries
   as_many_handed (turns.Call its asked) entries = still_there entries
@@ -208,7 +240,8 @@ module _ {A : Type 0} (ticket : ℕ) where
   abbrev total : Trail A → ℕ
   total trail = how_many ticket trail.line + how_many_ended ticket trail.told
 
-  let_go_same : (is_there : Bool) (timeout now : ℕ) (before after : Dialler A) (told new_told : List Told) → LetsGoWhere is_there timeout now before after told new_told
+  let_go_same : (is_there : Bool) (timeout now : ℕ) (before after : Dialler A) (told new_told : List Told)
+      → LetsGoWhere is_there timeout now before after told new_told
       → how_many_ended ticket new_told ≡ how_many_ended ticket told
   let_go_same true timeout now before after told new_told goes =
       let both = count_append (is_end_of ticket) told (HangsUp ∷ []) in
@@ -223,7 +256,8 @@ module _ {A : Type 0} (ticket : ℕ) where
       let said = tells_all line takes.given in
       let news = map news_told (flat_map (news_in new.view takes.given) takes.stepped) in
       let left : how_many ticket new.line ≡ how_many ticket (hears_all line takes.given) = ap (how_many ticket) takes.line in
-      let told : how_many_ended ticket does.told ≡ how_many_ended ticket ((old.told ++ said) ++ news) = ap (how_many_ended ticket) takes.told in
+      let told : how_many_ended ticket does.told ≡ how_many_ended ticket ((old.told ++ said) ++ news) =
+      ap (how_many_ended ticket) takes.told in
       let last = let_go_same _ new.view.saved.session.timeout now _ new.dialler does.told new.told does.lets_go in
       let a = count_append (is_end_of ticket) (old.told ++ said) news in
       let b = count_append (is_end_of ticket) old.told said in
@@ -246,7 +280,8 @@ module _ {A : Type 0} (ticket : ℕ) where
   moved (Hands now its asked) old new does = let same = heard_same now (turns.Call its asked) old new does in omega (arith, same)
   moved Renews old new does =
       let line : how_many ticket new.line ≡ 0 = ap (how_many ticket) does.line in
-      let told : how_many_ended ticket new.told ≡ how_many_ended ticket ((old.told ++ endings Expired old.line) ++ Begins ∷ []) = ap (how_many_ended ticket) does.told in
+      let told : how_many_ended ticket new.told ≡ how_many_ended ticket ((old.told ++ endings Expired old.line) ++ Begins ∷ []) =
+      ap (how_many_ended ticket) does.told in
       let a = count_append (is_end_of ticket) (old.told ++ endings Expired old.line) (Begins ∷ []) in
       let b = count_append (is_end_of ticket) old.told (endings Expired old.line) in
       let none : how_many_ended ticket (Begins ∷ []) ≡ 0 = refl in
@@ -257,15 +292,18 @@ module _ {A : Type 0} (ticket : ℕ) where
   moved (Asks its asked until) old new does =
       let same : total new ≡ total (record old { line = old.line ++ does.entry ∷ [] }) = ap total does.last in
       let more = count_append is_its old.line (does.entry ∷ []) in
-      let one : how_many ticket (does.entry ∷ []) ≡ cond (its == ticket) 1 0 + 0 = count_cons is_its does.entry [] ∙ ap (λ n. cond (n == ticket) 1 0 + 0) does.its_ticket in omega (arith, same, more, one)
+      let one : how_many ticket (does.entry ∷ []) ≡ cond (its == ticket) 1 0 + 0 =
+      count_cons is_its does.entry [] ∙ ap (λ n. cond (n == ticket) 1 0 + 0) does.its_ticket in omega (arith, same, more, one)
   moved (GivesUp now) old new does =
-      let same : total new ≡ total (record old { line = left (Late now) old.line; told = old.told ++ endings (Late now) old.line }) = ap total does in
+      let same : total new ≡ total (record old { line = left (Late now) old.line; told = old.told ++ endings (Late now) old.line }) =
+      ap total does in
       let more = count_append (is_end_of ticket) old.told (endings (Late now) old.line) in
       let all = ended_or_left (Late now) old.line in omega (arith, same, more, all)
   moved (Tires now) old new does =
       let same : total new ≡ total does.after = ap total does.last in
       let heard = heard_same now turns.Cut does.between does.after does.hears in
-      let hung : total does.between ≡ total (record old { dialler = does.between.dialler; told = old.told ++ HangsUp ∷ [] }) = ap total does.hangs in
+      let hung : total does.between
+      ≡ total (record old { dialler = does.between.dialler; told = old.told ++ HangsUp ∷ [] }) = ap total does.hangs in
       let more = count_append (is_end_of ticket) old.told (HangsUp ∷ []) in
       let none : how_many_ended ticket (HangsUp ∷ []) ≡ 0 = refl in omega (arith, same, heard, hung, more, none)
   moved (Opened now) old new does = let same : total new ≡ total old = ap total does.1 in omega (arith, same)
@@ -285,7 +323,8 @@ module _ {A : Type 0} (ticket : ℕ) where
       let all = count_closings old.line in
       let none : how_many {A = A} ticket [] ≡ 0 = refl in omega (arith, same, more, all, none)
 
-  moved_all : (moves : List Move) (old new : Trail A) → FoldsTo Does old moves new → total new ≡ total old + count_by (asks_for ticket) moves
+  moved_all : (moves : List Move) (old new : Trail A)
+      → FoldsTo Does old moves new → total new ≡ total old + count_by (asks_for ticket) moves
   moved_all [] old new same = let is : total new ≡ total old = ap total (sym same) in omega (arith, is)
   moved_all (move ∷ moves) old new does =
       let first = moved move old does.0 does.1 in

@@ -15,10 +15,13 @@ one_came now None other = refl
 one_came now (Some moment) None = or_false (nat_le moment now)
 one_came now (Some moment) (Some other) = by (nat_le moment now) (nat_le other now) refl refl
   where
-    by : (a b : Bool) → nat_le moment now ≡ a → nat_le other now ≡ b → nat_le (min moment other) now ≡ (nat_le moment now || nat_le other now)
+    by : (a b : Bool) → nat_le moment now ≡ a → nat_le other now ≡ b
+        → nat_le (min moment other) now ≡ (nat_le moment now || nat_le other now)
     by true b e f = let g : nat_le (min moment other) now ≡ true = grind (arith, nat_tests) in g ∙ ap (λ x. x || nat_le other now) (sym e)
-    by false true e f = let g : nat_le (min moment other) now ≡ true = grind (arith, nat_tests) in g ∙ sym (ap (λ x. x || nat_le other now) e ∙ f)
-    by false false e f = let g : nat_le (min moment other) now ≡ false = grind (arith, nat_tests) in g ∙ sym (ap (λ x. x || nat_le other now) e ∙ f)
+    by false true e f = let g : nat_le (min moment other) now ≡ true = grind (arith, nat_tests) in
+        g ∙ sym (ap (λ x. x || nat_le other now) e ∙ f)
+    by false false e f = let g : nat_le (min moment other) now ≡ false = grind (arith, nat_tests) in
+        g ∙ sym (ap (λ x. x || nat_le other now) e ∙ f)
 
 first_false : (a b : Bool) → (a || b) ≡ false → a ≡ false
 first_false true b e = e
@@ -35,7 +38,8 @@ at_itself : (moment : ℕ) → nat_le moment moment ≡ true
 at_itself moment = grind (arith, nat_tests)
 
 -- of five moments
-module _ (first : ℕ) (due attempt again limit answer : Option ℕ) (is : Some first ≡ first_of (first_of (first_of (first_of due attempt) again) limit) answer) where
+module _ (first : ℕ) (due attempt again limit answer : Option ℕ)
+    (is : Some first ≡ first_of (first_of (first_of (first_of due attempt) again) limit) answer) where
   abbrev two : Option ℕ
   two = first_of due attempt
 
@@ -46,12 +50,17 @@ module _ (first : ℕ) (due attempt again limit answer : Option ℕ) (is : Some 
   four = first_of three limit
 
   pub none_came : (now : ℕ) → now < first
-      → (has_come now due ≡ false) × ((has_come now attempt ≡ false) × ((has_come now again ≡ false) × ((has_come now limit ≡ false) × (has_come now answer ≡ false))))
+      → (has_come now due ≡ false) × ((has_come now attempt ≡ false)
+      × ((has_come now again ≡ false) × ((has_come now limit ≡ false) × (has_come now answer ≡ false))))
   none_came now before =
-      let of_five : (has_come now four || has_come now answer) ≡ false = sym (one_came now four answer) ∙ ap (has_come now) (sym is) ∙ not_yet now first before in
-      let all : (has_come now three || has_come now limit) ≡ false = sym (one_came now three limit) ∙ first_false (has_come now four) (has_come now answer) of_five in
-      let of_three : (has_come now two || has_come now again) ≡ false = sym (one_came now two again) ∙ first_false (has_come now three) (has_come now limit) all in
-      let of_two : (has_come now due || has_come now attempt) ≡ false = sym (one_came now due attempt) ∙ first_false (has_come now two) (has_come now again) of_three in (
+      let of_five : (has_come now four || has_come now answer) ≡ false =
+      sym (one_came now four answer) ∙ ap (has_come now) (sym is) ∙ not_yet now first before in
+      let all : (has_come now three || has_come now limit) ≡ false =
+      sym (one_came now three limit) ∙ first_false (has_come now four) (has_come now answer) of_five in
+      let of_three : (has_come now two || has_come now again) ≡ false =
+      sym (one_came now two again) ∙ first_false (has_come now three) (has_come now limit) all in
+      let of_two : (has_come now due || has_come now attempt) ≡ false =
+      sym (one_came now due attempt) ∙ first_false (has_come now two) (has_come now again) of_three in (
         first_false (has_come now due) (has_come now attempt) of_two,
         (
           second_false (has_come now due) (has_come now attempt) of_two,
@@ -63,14 +72,17 @@ module _ (first : ℕ) (due attempt again limit answer : Option ℕ) (is : Some 
       )
 
   came : (moment other : Option ℕ) → has_come first other ≡ false → has_come first moment ≡ has_come first (first_of moment other)
-  came moment other not_other = or_false (has_come first moment) ∙ ap (λ b. has_come first moment || b) (sym not_other) ∙ sym (one_came first moment other)
+  came moment other not_other =
+      or_false (has_come first moment) ∙ ap (λ b. has_come first moment || b) (sym not_other) ∙ sym (one_came first moment other)
 
   -- where the others have not come, the first is the one that is due
-  pub is_first : (has_come first attempt ≡ false) → (has_come first again ≡ false) → (has_come first limit ≡ false) → (has_come first answer ≡ false) → due ≡ Some first
+  pub is_first : (has_come first attempt ≡ false) → (has_come first again ≡ false) → (has_come first limit ≡ false)
+      → (has_come first answer ≡ false) → due ≡ Some first
   is_first attempt_not again_not limit_not answer_not = by due refl
     where
       due_came : has_come first due ≡ true
-      due_came = came due attempt attempt_not ∙ came two again again_not ∙ came three limit limit_not ∙ came four answer answer_not ∙ ap (has_come first) (sym is) ∙ at_itself first
+      due_came = came due attempt attempt_not ∙ came two again again_not ∙ came three limit limit_not ∙ came four answer answer_not
+          ∙ ap (has_come first) (sym is) ∙ at_itself first
 
       by : (d : Option ℕ) → due ≡ d → due ≡ Some first
       by None e = absurd (let f : false ≡ true = ap (has_come first) (sym e) ∙ due_came in cc)
@@ -86,7 +98,8 @@ module _ (first : ℕ) (due attempt again limit answer : Option ℕ) (is : Some 
           same moment past not_before = grind (arith, nat_tests)
 
 -- what is known of a moment at which nothing is due
-pub quiet_by : (P : ℕ → Type 0) (due : Option ℕ) → IfSome due (λ first. (moment : ℕ) → moment < first → P moment) → (due ≡ None → (moment : ℕ) → moment < 2 ^ 64 → P moment)
+pub quiet_by : (P : ℕ → Type 0) (due : Option ℕ) → IfSome due (λ first. (moment : ℕ) → moment < first → P moment)
+    → (due ≡ None → (moment : ℕ) → moment < 2 ^ 64 → P moment)
     → (moment : ℕ) → moment < 2 ^ 64 → has_come moment due ≡ false → P moment
 quiet_by P None before never moment fits not_come = never refl moment fits
 quiet_by P (Some first) before never moment fits not_come = let early : moment < first = grind (arith, nat_tests) in before moment early
@@ -100,7 +113,8 @@ neither None (Some b) is = absurd cc
 neither (Some a) None is = absurd cc
 neither (Some a) (Some b) is = absurd cc
 
-pub none_left : (due attempt again limit answer : Option ℕ) → None ≡ first_of (first_of (first_of (first_of due attempt) again) limit) answer
+pub none_left : (due attempt again limit answer : Option ℕ)
+    → None ≡ first_of (first_of (first_of (first_of due attempt) again) limit) answer
     → (due ≡ None) × ((attempt ≡ None) × ((again ≡ None) × ((limit ≡ None) × (answer ≡ None))))
 none_left due attempt again limit answer is =
     let fourth = neither (first_of (first_of (first_of due attempt) again) limit) answer is in

@@ -1,5 +1,6 @@
 -- A call is handed over.
-use Rattle.std.proofs.Common.{◌≡◌, ◌≢◌, ◌<◌, ◌+◌, arith, cond, inl, inr, ℕ, Bool, true, false, not, List, [], Option, Some, None, refl, sym, ap, subst, ◌∙◌}
+use Rattle.std.proofs.Common.{◌≡◌, ◌≢◌, ◌<◌, ◌+◌, arith, cond, inl, inr, ℕ, Bool, true, false, not, List, [], Option, Some, None, refl, sym}
+use Rattle.std.proofs.Common.{ap, subst, ◌∙◌}
 use Rattle.std.specs.Prelude.{All}
 use Rattle.std.specs.List.{list_any}
 use Rattle.zk_session.specs.declared.states.State.{State}
@@ -21,8 +22,10 @@ use Rattle.zk_agent.proofs.Moves.{nothing, one, taken_by, trail_eq}
 use Rattle.zk_agent.proofs.Turning.{steps_away}
 
 -- what counts as handed over waits for its reply
-pub hands_asked : {A : Type 0} (now : ℕ) (view : View) (subjects : List (Subject A)) (line : List (Entry A)) (told : List Told) (after : View) (new_subjects : List (Subject A))
-    (new_line : List (Entry A)) (new_told : List Told) (heard : Option Heard) → HandsOver now view subjects line told after new_subjects new_line new_told heard
+pub hands_asked : {A : Type 0} (now : ℕ) (view : View) (subjects : List (Subject A)) (line : List (Entry A)) (told : List Told)
+    (after : View) (new_subjects : List (Subject A))
+    (new_line : List (Entry A)) (new_told : List Told) (heard : Option Heard)
+    → HandsOver now view subjects line told after new_subjects new_line new_told heard
     → All (IsAsked view) line → All (IsAsked after) new_line
 hands_asked now view subjects line told after new_subjects new_line new_told None hands all =
     subst (λ v. All (IsAsked v) new_line) (sym hands.1) (subst (All (IsAsked view)) (sym hands.3) all)
@@ -42,12 +45,16 @@ sends_nothing {A} now old new same done = record {
 pub hands_as : {A : Type 0} (now : ℕ) (old new : Trail A) (heard it : Option Heard) → heard ≡ it
     → HandsOver now old.view old.subjects old.line old.told new.view new.subjects new.line new.told heard
     → HandsOver now old.view old.subjects old.line old.told new.view new.subjects new.line new.told it
-hands_as now old new heard it is hands = subst (HandsOver now old.view old.subjects old.line old.told new.view new.subjects new.line new.told) is hands
+hands_as now old new heard it is hands =
+    subst (HandsOver now old.view old.subjects old.line old.told new.view new.subjects new.line new.told) is hands
 
-pub sends_none : {A : Type 0} (now : ℕ) (old new : Trail A) → HandsOver now old.view old.subjects old.line old.told new.view new.subjects new.line new.told None → new.dialler ≡ old.dialler → new.timeout ≡ old.timeout → new.waits ≡ old.waits
+pub sends_none : {A : Type 0} (now : ℕ) (old new : Trail A)
+    → HandsOver now old.view old.subjects old.line old.told new.view new.subjects new.line new.told None → new.dialler ≡ old.dialler
+    → new.timeout ≡ old.timeout → new.waits ≡ old.waits
     → Sends now old new false
 sends_none {A} now old new hands same same_timeout same_waits =
-    sends_nothing now old new (trail_eq old new hands.1 hands.2 hands.3 same same_timeout same_waits hands.4) (inl (ap next_call hands.3 ∙ hands.0))
+    sends_nothing now old new (trail_eq old new hands.1 hands.2 hands.3 same same_timeout same_waits hands.4)
+    (inl (ap next_call hands.3 ∙ hands.0))
 
 is_not_back : (b : Bool) → not b ≡ true → b ≡ false
 is_not_back false e = refl
@@ -60,7 +67,8 @@ goes_back_is false e = absurd cc
 pub sends_one : {A : Type 0} (now : ℕ) (old between new : Trail A) (heard : Heard) → old.view.standing.state ≡ Connected
     → HandsOver now old.view old.subjects old.line old.told between.view between.subjects between.line between.told (Some heard)
     → new.view ≡ between.view → new.subjects ≡ between.subjects → new.line ≡ between.line → new.timeout ≡ old.timeout
-    → LetsGo heard.is_over between.view.saved.session.timeout now (noted between.view.saved.session.timeout now between.view.standing.state (row_after heard.ends_row old.dialler)) new.dialler
+    → LetsGo heard.is_over between.view.saved.session.timeout now
+    (noted between.view.saved.session.timeout now between.view.standing.state (row_after heard.ends_row old.dialler)) new.dialler
     between.told new.told
     → new.waits ≡ waited_after now heard.sent old.waits
     → Sends now old new (not heard.goes_back)
@@ -71,13 +79,16 @@ sends_one {A} now old between new heard connected hands same_view same_subjects 
     let line = same_line ∙ takes.line in
     record {
       comes = one now (Hands now hands.0 hands.1) old new refl refl
-          (taken_by now input old new between (first_handed old.line) heard (connected, hands.2) refl takes same_view same_subjects same_line same_timeout goes waits);
+          (taken_by now input old new between (first_handed old.line) heard
+          (connected, hands.2) refl takes same_view same_subjects same_line same_timeout goes waits);
       limits = still_in_time now old.line new.line takes.given line;
       ends = λ state final is.
-          call_so state final now old.view hands.0 hands.1 old.subjects between.view takes.given takes.stepped takes.steps (sym (ap (λ (v : View). v.standing.state) same_view) ∙ is);
+          call_so state final now old.view hands.0 hands.1 old.subjects between.view takes.given takes.stepped takes.steps
+          (sym (ap (λ (v : View). v.standing.state) same_view) ∙ is);
       more = λ e. fewer_wait (hands.0, hands.1) old.line new.line takes.given hands.2 line (sym says ∙ is_not_back heard.goes_back e);
       none = λ e. subst (λ v. IsDone v new.line) (sym same_view)
-          (inr (steps_away now old.view hands.0 hands.1 old.subjects between.view takes.given takes.stepped takes.steps (sym says ∙ goes_back_is heard.goes_back e)));
+          (inr (steps_away now old.view hands.0 hands.1 old.subjects between.view takes.given takes.stepped takes.steps
+          (sym says ∙ goes_back_is heard.goes_back e)));
     }
 
 pub not_connected : (state : State) → is_connected state ≡ false → state ≢ Connected
@@ -88,7 +99,8 @@ is_there Connected is = refl
 is_there _ is = absurd cc
 
 -- what is left of the loop
-pub fewer_left : (goes_on more : Bool) (before after : ℕ) → goes_on ≡ true → (more ≡ true → after < before) → cond more (after + 1) 0 < cond goes_on (before + 1) 0
+pub fewer_left : (goes_on more : Bool) (before after : ℕ) → goes_on ≡ true → (more ≡ true → after < before)
+    → cond more (after + 1) 0 < cond goes_on (before + 1) 0
 fewer_left goes_on more before after on fewer = subst (λ b. cond more (after + 1) 0 < cond b (before + 1) 0) (sym on) (by more refl)
   where
     by : (b : Bool) → more ≡ b → cond b (after + 1) 0 < before + 1

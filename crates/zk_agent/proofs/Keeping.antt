@@ -1,5 +1,6 @@
 -- A call that was handed over goes on waiting for its reply, until the line hears an answer to it.
-use Rattle.std.proofs.Common.{◌≡◌, ◌<◌, ◌++◌, ℕ, zero, suc, ℤ, Bool, true, false, cond, ◌&&◌, ◌||◌, not, List, [], ◌∷◌, refl, sym, ap, ◌∙◌, eq-eqb, arith}
+use Rattle.std.proofs.Common.{◌≡◌, ◌<◌, ◌++◌, ℕ, zero, suc, ℤ, Bool, true, false, cond, ◌&&◌, ◌||◌, not, List, [], ◌∷◌, refl, sym, ap, ◌∙◌}
+use Rattle.std.proofs.Common.{eq-eqb, arith}
 use Rattle.std.specs.Prelude.{◌==◌, All, bytes_eq, length}
 use Rattle.std.specs.List.{list_any, AllByRecursion}
 use Rattle.std.proofs.lemmas.Bool.Decides.{Decides-eqb}
@@ -58,11 +59,14 @@ is_path path other e = (bytes_eq-Decides path other).0 e
 
 is_that : (question other : Question) → is_question question other ≡ true → question ≡ other
 is_that (Exists path watch) (Exists other its) e =
-    ap (λ p. Exists p watch) (is_path path other (first_of (bytes_eq path other) (is_same watch its) e)) ∙ ap (Exists other) (is_watch watch its (second_of (bytes_eq path other) (is_same watch its) e))
+    ap (λ p. Exists p watch) (is_path path other (first_of (bytes_eq path other) (is_same watch its) e))
+    ∙ ap (Exists other) (is_watch watch its (second_of (bytes_eq path other) (is_same watch its) e))
 is_that (GetData path watch) (GetData other its) e =
-    ap (λ p. GetData p watch) (is_path path other (first_of (bytes_eq path other) (is_same watch its) e)) ∙ ap (GetData other) (is_watch watch its (second_of (bytes_eq path other) (is_same watch its) e))
+    ap (λ p. GetData p watch) (is_path path other (first_of (bytes_eq path other) (is_same watch its) e))
+    ∙ ap (GetData other) (is_watch watch its (second_of (bytes_eq path other) (is_same watch its) e))
 is_that (GetChildren path watch) (GetChildren other its) e =
-    ap (λ p. GetChildren p watch) (is_path path other (first_of (bytes_eq path other) (is_same watch its) e)) ∙ ap (GetChildren other) (is_watch watch its (second_of (bytes_eq path other) (is_same watch its) e))
+    ap (λ p. GetChildren p watch) (is_path path other (first_of (bytes_eq path other) (is_same watch its) e))
+    ∙ ap (GetChildren other) (is_watch watch its (second_of (bytes_eq path other) (is_same watch its) e))
 is_that (SetData path) (SetData other) e = ap SetData (is_path path other e)
 is_that (Create path) (Create other) e = ap Create (is_path path other e)
 is_that (Delete path) (Delete other) e = ap Delete (is_path path other e)
@@ -78,13 +82,15 @@ module _ {A : Type 0} (entry : Entry A) where
   question = question_of (call_view entry.call)
 
   is_its : (xid : ℤ) → is_call_of entry (record { xid = xid; waiting = Call_waits entry.ticket question }) ≡ true
-  is_its xid = both (entry.ticket == entry.ticket) (is_question question question) (eq-eqb entry.ticket entry.ticket refl) (same_question question)
+  is_its xid =
+      both (entry.ticket == entry.ticket) (is_question question question) (eq-eqb entry.ticket entry.ticket refl) (same_question question)
 
   pub is_found : (pending : List Pending) → Waits entry.ticket question pending → list_any (is_call_of entry) pending ≡ true
   is_found pending w =
       let call : Pending = record { xid = w.0; waiting = Call_waits entry.ticket question } in
       ap (list_any (is_call_of entry)) w.3 ∙ list_any-append (is_call_of entry) w.1 (call ∷ w.2)
-      ∙ either (list_any (is_call_of entry) w.1) (list_any (is_call_of entry) (call ∷ w.2)) (ap (λ b. b || list_any (is_call_of entry) w.2) (is_its w.0))
+      ∙ either (list_any (is_call_of entry) w.1) (list_any (is_call_of entry) (call ∷ w.2))
+      (ap (λ b. b || list_any (is_call_of entry) w.2) (is_its w.0))
 
   one_waits : (xid : ℤ) (waiting : Waiting) (after : List Pending) → is_call_of entry (record { xid = xid; waiting = waiting }) ≡ true
       → Waits entry.ticket question (record { xid = xid; waiting = waiting } ∷ after)
@@ -95,7 +101,8 @@ module _ {A : Type 0} (entry : Entry A) where
         xid,
         [],
         after,
-        ap (λ t. record { xid = xid; waiting = Call_waits t asked } ∷ after) (sym same) ∙ ap (λ q. record { xid = xid; waiting = Call_waits entry.ticket q } ∷ after) (sym is),
+        ap (λ t. record { xid = xid; waiting = Call_waits t asked } ∷ after) (sym same)
+            ∙ ap (λ q. record { xid = xid; waiting = Call_waits entry.ticket q } ∷ after) (sym is),
       )
 
   pub is_there : (pending : List Pending) → list_any (is_call_of entry) pending ≡ true → Waits entry.ticket question pending
@@ -110,15 +117,20 @@ module _ {A : Type 0} (entry : Entry A) where
           (rest.0, first ∷ rest.1, rest.2, ap (λ more. first ∷ more) rest.3)
 
   -- after a turn, unless that answered it or entered another state
-  pub pending_on : (view : View) (turn : Turn) (after : View) → Rule view turn after → Silent entry.ticket turn.outputs → IsPending view entry → IsPending after entry
-  pending_on view turn after rule silent waits = is_found after.pending (keeps_turn entry.ticket question view turn after rule silent (is_there view.pending waits))
+  pub pending_on : (view : View) (turn : Turn) (after : View)
+      → Rule view turn after → Silent entry.ticket turn.outputs → IsPending view entry → IsPending after entry
+  pending_on view turn after rule silent waits =
+      is_found after.pending (keeps_turn entry.ticket question view turn after rule silent (is_there view.pending waits))
 
 -- ---- each of a list, by recursion
 
 module _ {X : Type 0} (P : X → Type 0) where
   pub all_of : (xs : List X) → All P xs → AllByRecursion P xs
   all_of [] all = tt
-  all_of (x ∷ xs) all = (all 0 x (let l : 0 < length (x ∷ xs) = omega arith in l), all_of xs (λ k d below. all (suc k) d (let l : suc k < length (x ∷ xs) = omega (arith, below) in l)))
+  all_of (x ∷ xs) all = (
+    all 0 x (let l : 0 < length (x ∷ xs) = omega arith in l),
+    all_of xs (λ k d below. all (suc k) d (let l : suc k < length (x ∷ xs) = omega (arith, below) in l)),
+  )
 
   pub of_all : (xs : List X) → AllByRecursion P xs → All P xs
   of_all [] each k d below = absurd (omega arith)
@@ -135,34 +147,42 @@ abbrev pub Held : {A : Type 0} → (Entry A → Type 0) → Entry A → Type 0
 Held Q entry = entry.is_sent ≡ true → Q entry
 
 module _ {A : Type 0} (Q : Entry A → Type 0) where
-  others : (ticket : ℕ) (entry : Entry A) → Held Q entry → not (is_ended (LostOf ticket) entry) ≡ true → IsLeft Q (λ e. (e.ticket == ticket) ≡ false) entry
+  others : (ticket : ℕ) (entry : Entry A)
+      → Held Q entry → not (is_ended (LostOf ticket) entry) ≡ true → IsLeft Q (λ e. (e.ticket == ticket) ≡ false) entry
   others ticket entry q other sent = (q sent, by (entry.ticket == ticket) refl)
     where
       by : (same : Bool) → (entry.ticket == ticket) ≡ same → (entry.ticket == ticket) ≡ false
       by false e = e
-      by true e = absurd (let f : not (true && true) ≡ true = ap (λ b. not (b && true)) (sym sent) ∙ ap (λ b. not (entry.is_sent && b)) (sym e) ∙ other in cc)
+      by true e = absurd (let f : not (true && true) ≡ true =
+          ap (λ b. not (b && true)) (sym sent) ∙ ap (λ b. not (entry.is_sent && b)) (sym e) ∙ other in cc)
 
-  left_of : (ticket : ℕ) (entries : List (Entry A)) → AllByRecursion (Held Q) entries → AllByRecursion (IsLeft Q (λ e. (e.ticket == ticket) ≡ false)) (left (LostOf ticket) entries)
+  left_of : (ticket : ℕ) (entries : List (Entry A))
+      → AllByRecursion (Held Q) entries → AllByRecursion (IsLeft Q (λ e. (e.ticket == ticket) ≡ false)) (left (LostOf ticket) entries)
   left_of ticket [] all = tt
   left_of ticket (entry ∷ entries) all = by (left_of ticket entries all.1) (not (is_ended (LostOf ticket) entry)) refl
     where
-      by : AllByRecursion (IsLeft Q (λ e. (e.ticket == ticket) ≡ false)) (left (LostOf ticket) entries) → (stays : Bool) → not (is_ended (LostOf ticket) entry) ≡ stays
-          → AllByRecursion (IsLeft Q (λ e. (e.ticket == ticket) ≡ false)) (cond stays (entry ∷ left (LostOf ticket) entries) (left (LostOf ticket) entries))
+      by : AllByRecursion (IsLeft Q (λ e. (e.ticket == ticket) ≡ false)) (left (LostOf ticket) entries) → (stays : Bool)
+          → not (is_ended (LostOf ticket) entry) ≡ stays
+          → AllByRecursion (IsLeft Q (λ e. (e.ticket == ticket) ≡ false))
+          (cond stays (entry ∷ left (LostOf ticket) entries) (left (LostOf ticket) entries))
       by rest true e = (others ticket entry all.0 e, rest)
       by rest false e = rest
 
-  back_held : (outcome : Outcome) (entry : Entry A) (entries : List (Entry A)) → AllByRecursion (Held Q) entries → AllByRecursion (Held Q) (after_answer outcome entry ++ entries)
+  back_held : (outcome : Outcome) (entry : Entry A) (entries : List (Entry A))
+      → AllByRecursion (Held Q) entries → AllByRecursion (Held Q) (after_answer outcome entry ++ entries)
   back_held outcome entry entries all = by (goes_back (call_view entry.call) outcome)
     where
       by : (back : Bool) → AllByRecursion (Held Q) (cond back (record entry { is_sent = false } ∷ []) [] ++ entries)
       by true = ((λ sent. absurd cc), all)
       by false = all
 
-  answered_held : (ticket : ℕ) (outcome : Outcome) (entries : List (Entry A)) → AllByRecursion (Held Q) entries → AllByRecursion (Held Q) (answered ticket outcome entries)
+  answered_held : (ticket : ℕ) (outcome : Outcome) (entries : List (Entry A))
+      → AllByRecursion (Held Q) entries → AllByRecursion (Held Q) (answered ticket outcome entries)
   answered_held ticket outcome [] all = tt
   answered_held ticket outcome (entry ∷ entries) all = by (answered_held ticket outcome entries all.1) (is_ended (LostOf ticket) entry)
     where
-      by : AllByRecursion (Held Q) (answered ticket outcome entries) → (found : Bool) → AllByRecursion (Held Q) (cond found (after_answer outcome entry ++ entries) (entry ∷ answered ticket outcome entries))
+      by : AllByRecursion (Held Q) (answered ticket outcome entries) → (found : Bool)
+          → AllByRecursion (Held Q) (cond found (after_answer outcome entry ++ entries) (entry ∷ answered ticket outcome entries))
       by rest true = back_held outcome entry entries all.1
       by rest false = (all.0, rest)
 
@@ -170,17 +190,21 @@ module _ {A : Type 0} (Q : Entry A → Type 0) where
   none_held R [] = tt
   none_held R (entry ∷ entries) = by (none_held R entries) entry.is_sent refl
     where
-      by : AllByRecursion (IsLeft Q R) (left Lost entries) → (sent : Bool) → entry.is_sent ≡ sent → AllByRecursion (IsLeft Q R) (cond (not sent) (entry ∷ left Lost entries) (left Lost entries))
+      by : AllByRecursion (IsLeft Q R) (left Lost entries) → (sent : Bool)
+          → entry.is_sent ≡ sent → AllByRecursion (IsLeft Q R) (cond (not sent) (entry ∷ left Lost entries) (left Lost entries))
       by rest true e = rest
       by rest false e = ((λ sent. absurd (let f : false ≡ true = sym e ∙ sent in cc)), rest)
 
-  as_held : (output : Output) (entries : List (Entry A)) → ((entry : Entry A) → ends_wait entry.ticket output ≡ false) → AllByRecursion (Held Q) entries
+  as_held : (output : Output) (entries : List (Entry A)) → ((entry : Entry A) → ends_wait entry.ticket output ≡ false)
+      → AllByRecursion (Held Q) entries
       → AllByRecursion (IsLeft Q (λ e. ends_wait e.ticket output ≡ false)) entries
   as_held output [] quiet all = tt
   as_held output (entry ∷ entries) quiet all = ((λ sent. (all.0 sent, quiet entry)), as_held output entries quiet all.1)
 
-  heard_left : (output : Output) (entries : List (Entry A)) → AllByRecursion (Held Q) entries → AllByRecursion (IsLeft Q (λ e. ends_wait e.ticket output ≡ false)) (hears entries output)
-  heard_left (Answer ticket outcome) entries all = left_of ticket (answered ticket outcome entries) (answered_held ticket outcome entries all)
+  heard_left : (output : Output) (entries : List (Entry A))
+      → AllByRecursion (Held Q) entries → AllByRecursion (IsLeft Q (λ e. ends_wait e.ticket output ≡ false)) (hears entries output)
+  heard_left (Answer ticket outcome) entries all =
+      left_of ticket (answered ticket outcome entries) (answered_held ticket outcome entries all)
   heard_left (Enters state) entries all = none_held (λ e. ends_wait e.ticket (Enters state) ≡ false) entries
   heard_left (Send bytes) entries all = as_held (Send bytes) entries (λ e. refl) all
   heard_left (Report path side event) entries all = as_held (Report path side event) entries (λ e. refl) all
@@ -190,12 +214,14 @@ abbrev pub Quiet : {A : Type 0} → (Entry A → Type 0) → List Output → Ent
 Quiet Q outputs entry = entry.is_sent ≡ true → Q entry × Silent entry.ticket outputs
 
 module _ {A : Type 0} where
-  pub each_held : (P R : Entry A → Type 0) → ((entry : Entry A) → P entry → R entry) → (entries : List (Entry A)) → AllByRecursion P entries → AllByRecursion R entries
+  pub each_held : (P R : Entry A → Type 0) → ((entry : Entry A) → P entry → R entry) → (entries : List (Entry A))
+      → AllByRecursion P entries → AllByRecursion R entries
   each_held P R to [] all = tt
   each_held P R to (entry ∷ entries) all = (to entry all.0, each_held P R to entries all.1)
 
   -- where a call still counts as handed over, it did before, and no output has ended its wait
-  pub all_heard_left : (Q : Entry A → Type 0) (outputs : List Output) (entries : List (Entry A)) → AllByRecursion (Held Q) entries → AllByRecursion (Quiet Q outputs) (hears_all entries outputs)
+  pub all_heard_left : (Q : Entry A → Type 0) (outputs : List Output) (entries : List (Entry A))
+      → AllByRecursion (Held Q) entries → AllByRecursion (Quiet Q outputs) (hears_all entries outputs)
   all_heard_left Q [] entries all = each_held (Held Q) (Quiet Q []) (λ entry q sent. (q sent, tt)) entries all
   all_heard_left Q (output ∷ outputs) entries all =
       each_held (Quiet (λ e. Q e × (ends_wait e.ticket output ≡ false)) outputs) (Quiet Q (output ∷ outputs))

@@ -1,5 +1,6 @@
 -- Moves, one after the other.
-use Rattle.std.proofs.Common.{◌≡◌, ◌≢◌, ◌++◌, ◌⊎◌, inl, inr, ℕ, ℤ, Bool, true, false, cond, ◌&&◌, List, [], ◌∷◌, Option, map, refl, sym, ap, subst, ◌∙◌}
+use Rattle.std.proofs.Common.{◌≡◌, ◌≢◌, ◌++◌, ◌⊎◌, inl, inr, ℕ, ℤ, Bool, true, false, cond, ◌&&◌, List, [], ◌∷◌, Option, map, refl, sym, ap}
+use Rattle.std.proofs.Common.{subst, ◌∙◌}
 use Rattle.std.specs.Prelude.{Result, Ok, Err, OnOk, All, is_some}
 use Rattle.std.specs.List.{filter, list_any, AllByRecursion, FoldsTo}
 use Rattle.std.proofs.lemmas.List.{append-nil}
@@ -23,7 +24,9 @@ use Rattle.zk_follow.specs.Following.{due_again, told_of, IsFollowed}
 use Rattle.zk_line.specs.declared.entry.Entry.{Entry}
 use Rattle.zk_line.specs.declared.entry.Ending.TheVariants as ending
 use Rattle.zk_agent.specs.declared.replies.Heard.{Heard}
-use Rattle.zk_agent.specs.Agents.{Trail, Move, Hears, Hands, Renews, Follows, Unfollows, Asks, GivesUp, Tires, Opened, Ended, HungUp, Closes, Addressed, Decides, Does, IsAt, IsLed, IsShut, Comes, HearsSo, LeavesWhere, MayHear, MayTake, LetsGo, LetsGoWhere, TakesSo, is_connected, is_given, noted, opened_at, over_at, row_after}
+use Rattle.zk_agent.specs.Agents.{Trail, Move, Hears, Hands, Renews, Follows, Unfollows, Asks, GivesUp, Tires, Opened, Ended, HungUp}
+use Rattle.zk_agent.specs.Agents.{Closes, Addressed, Decides, Does, IsAt, IsLed, IsShut, Comes, HearsSo, LeavesWhere, MayHear, MayTake}
+use Rattle.zk_agent.specs.Agents.{LetsGo, LetsGoWhere, TakesSo, is_connected, is_given, noted, opened_at, over_at, row_after}
 use Rattle.zk_agent.specs.Calls.{closings, endings, handed}
 use Rattle.zk_agent.specs.Replies.{is_over}
 use Rattle.zk_agent.specs.Telling.{Told, Begins, due_told}
@@ -35,23 +38,27 @@ use Rattle.zk_agent.proofs.Closing.{is_bytes, steps_closed}
 fresh : (start : Start) → Stands start [] (view_at start [])
 fresh start = record { standing = refl; saved = refl; lists = refl; cache = refl; going = λ goes_on. refl; said = tt; asked = tt }
 
-led_on : (turns : List Turn) (old new : View) → FoldsTo Rule old turns new → (start : Start) (items : List Item) → Stands start items old → IsLed new
+led_on : (turns : List Turn) (old new : View) → FoldsTo Rule old turns new → (start : Start) (items : List Item)
+    → Stands start items old → IsLed new
 led_on [] old new same start items stands = (start, items, subst (Stands start items) same stands)
 led_on (turn ∷ turns) old new chain start items stands =
     led_on turns chain.0 new chain.2 start (Turned turn ∷ items) (one_turn start items old chain.0 turn stands chain.1)
 
 led_hears : {A : Type 0} (now : ℕ) (input : Input) (old new : Trail A) → HearsSo now input old new → IsLed old.view → IsLed new.view
 led_hears now input old new does led =
-    led_on (record { input = Now now; outputs = does.takes.steps.first } ∷ record { input = input; outputs = does.takes.steps.second } ∷ does.takes.steps.calls) old.view new.view does.takes.steps.chain led.0 led.1 led.2
+    led_on (record { input = Now now; outputs = does.takes.steps.first } ∷ record { input = input; outputs = does.takes.steps.second }
+    ∷ does.takes.steps.calls) old.view new.view does.takes.steps.chain led.0 led.1 led.2
 
 led_leaves : {A : Type 0} (is_lost : Bool) (now : ℕ) (old new : Trail A) → LeavesWhere is_lost now old new → IsLed old.view → IsLed new.view
 led_leaves true now old new leaves led = led_hears now turns.Cut old new leaves led
 led_leaves {A} false now old new same led = subst (λ (t : Trail A). IsLed t.view) (sym same) led
 
 led_by : {A : Type 0} (move : Move) (old new : Trail A) → Does old move new → IsLed old.view → IsLed new.view
-led_by (Hears now input) old new does led = led_leaves does.hears.heard.is_lost now does.between new does.leaves (led_hears now input old does.between does.hears led)
+led_by (Hears now input) old new does led =
+    led_leaves does.hears.heard.is_lost now does.between new does.leaves (led_hears now input old does.between does.hears led)
 led_by (Hands now ticket asked) old new does led = led_hears now (turns.Call ticket asked) old new does led
-led_by Renews old new does led = subst IsLed (sym does.view) (renewed_start old.timeout old.view, [], fresh (renewed_start old.timeout old.view))
+led_by Renews old new does led =
+    subst IsLed (sym does.view) (renewed_start old.timeout old.view, [], fresh (renewed_start old.timeout old.view))
 led_by {A} (Follows ticket side path) old new does led = subst IsLed (sym (ap (λ (t : Trail A). t.view) does)) led
 led_by {A} (Unfollows ticket) old new does led = subst IsLed (sym (ap (λ (t : Trail A). t.view) does)) led
 led_by {A} (Asks ticket asked until) old new does led = subst IsLed (sym (ap (λ (t : Trail A). t.view) does.last)) led
@@ -87,12 +94,14 @@ EndsAt phase timeout now old new = elim phase [
   | Open ↦ new ≡ record old { phase = Waiting }
 ]
 
-ends_waiting : {A : Type 0} (phase : Phase) (timeout now : ℕ) (old new : Dialler A) → old.phase ≡ phase → EndsAt phase timeout now old new → new.phase ≡ Waiting
+ends_waiting : {A : Type 0} (phase : Phase) (timeout now : ℕ) (old new : Dialler A)
+    → old.phase ≡ phase → EndsAt phase timeout now old new → new.phase ≡ Waiting
 ends_waiting {A} Waiting timeout now old new is same = ap (λ (d : Dialler A). d.phase) same ∙ is
 ends_waiting (Dialling began until) timeout now old new is ends = ends.phase
 ends_waiting {A} Open timeout now old new is same = ap (λ (d : Dialler A). d.phase) same
 
-goes_waiting : {A : Type 0} (is_there : Bool) (timeout now : ℕ) (old new : Dialler A) (before after : List Told) → LetsGoWhere is_there timeout now old new before after
+goes_waiting : {A : Type 0} (is_there : Bool) (timeout now : ℕ) (old new : Dialler A) (before after : List Told)
+    → LetsGoWhere is_there timeout now old new before after
     → (old.phase ≡ Waiting) ⊎ (is_there ≡ true) → new.phase ≡ Waiting
 goes_waiting true timeout now old new before after goes why = ends_waiting old.phase timeout now old new refl goes.0
 goes_waiting {A} false timeout now old new before after goes (inl waits) = ap (λ (d : Dialler A). d.phase) goes.0 ∙ waits
@@ -106,7 +115,8 @@ same_by : {A : Type 0} (b : Bool) (x y : Dialler A) (phase : Phase) → x.phase 
 same_by true x y phase e f = e
 same_by false x y phase e f = f
 
-noted_phase : {A : Type 0} (timeout now : ℕ) (state : State) (ends_row : Bool) (dialler : Dialler A) → (noted timeout now state (row_after ends_row dialler)).phase ≡ dialler.phase
+noted_phase : {A : Type 0} (timeout now : ℕ) (state : State) (ends_row : Bool) (dialler : Dialler A)
+    → (noted timeout now state (row_after ends_row dialler)).phase ≡ dialler.phase
 noted_phase timeout now state ends_row dialler =
     let row : (row_after ends_row dialler).phase ≡ dialler.phase = same_by ends_row _ dialler dialler.phase refl refl in
     same_by (is_connected state) _ (row_after ends_row dialler) dialler.phase row row
@@ -117,7 +127,8 @@ may_open _ old may is = absurd cc
 
 shut_hears : {A : Type 0} (now : ℕ) (input : Input) (old new : Trail A) → HearsSo now input old new → IsShut old → IsShut new
 shut_hears {A} now input old new does shut closed =
-    goes_waiting (does.heard.is_over && is_open dialler.phase) new.view.saved.session.timeout now dialler new.dialler does.told new.told does.lets_go
+    goes_waiting (does.heard.is_over && is_open dialler.phase) new.view.saved.session.timeout now dialler new.dialler
+    does.told new.told does.lets_go
     (by (steps_closed now old.view input old.subjects new.view does.takes.given does.takes.stepped does.takes.steps closed))
   where
     dialler : Dialler A
@@ -130,7 +141,8 @@ shut_hears {A} now input old new does shut closed =
         → (dialler.phase ≡ Waiting) ⊎ ((does.heard.is_over && is_open dialler.phase) ≡ true)
     by (inl was) = inl (same ∙ shut was)
     by (inr over) =
-        inr (both does.heard.is_over (is_open dialler.phase) (ap (λ (h : Heard). h.is_over) does.takes.heard ∙ over.1) (ap is_open same ∙ may_open input old does.may over.0))
+        inr (both does.heard.is_over (is_open dialler.phase) (ap (λ (h : Heard). h.is_over) does.takes.heard ∙ over.1)
+        (ap is_open same ∙ may_open input old does.may over.0))
 
 shut_leaves : {A : Type 0} (is_lost : Bool) (now : ℕ) (old new : Trail A) → LeavesWhere is_lost now old new → IsShut old → IsShut new
 shut_leaves true now old new leaves shut = shut_hears now turns.Cut old new leaves shut
@@ -138,25 +150,33 @@ shut_leaves {A} false now old new same shut = subst IsShut (sym same) shut
 
 opens_never : {A : Type 0} (timeout now : ℕ) (old new : Dialler A) → old.phase ≡ Waiting → Opens timeout now old new true → ⊥
 opens_never timeout now old new waits opens =
-    let never : true ≡ false × new ≡ old = subst (λ phase. OpensAt phase timeout now old new true) waits opens in let f : true ≡ false = never.0 in cc
+    let never : true ≡ false × new ≡ old = subst (λ phase. OpensAt phase timeout now old new true) waits opens in
+    let f : true ≡ false = never.0 in cc
 
 shut_by : {A : Type 0} (move : Move) (old new : Trail A) → Does old move new → IsShut old → IsShut new
-shut_by (Hears now input) old new does shut = shut_leaves does.hears.heard.is_lost now does.between new does.leaves (shut_hears now input old does.between does.hears shut)
+shut_by (Hears now input) old new does shut =
+    shut_leaves does.hears.heard.is_lost now does.between new does.leaves (shut_hears now input old does.between does.hears shut)
 shut_by (Hands now ticket asked) old new does shut = shut_hears now (turns.Call ticket asked) old new does shut
-shut_by Renews old new does shut = λ closed. absurd (let f : Idle ≡ Closed = sym (ap (λ (v : View). v.standing.state) does.view) ∙ closed in cc)
+shut_by Renews old new does shut =
+    λ closed. absurd (let f : Idle ≡ Closed = sym (ap (λ (v : View). v.standing.state) does.view) ∙ closed in cc)
 shut_by (Follows ticket side path) old new does shut = subst IsShut (sym does) shut
 shut_by (Unfollows ticket) old new does shut = subst IsShut (sym does) shut
 shut_by (Asks ticket asked until) old new does shut = subst IsShut (sym does.last) shut
 shut_by (GivesUp now) old new does shut = subst IsShut (sym does) shut
 shut_by (Tires now) old new does shut =
     subst IsShut (sym does.last)
-    (shut_hears now turns.Cut does.between does.after does.hears (λ closed. ends_waiting old.dialler.phase old.view.saved.session.timeout now old.dialler does.between.dialler refl does.ends))
+    (shut_hears now turns.Cut does.between does.after does.hears
+    (λ closed. ends_waiting old.dialler.phase old.view.saved.session.timeout now old.dialler does.between.dialler refl does.ends))
 shut_by {A} (Opened now) old new does shut =
-    λ closed. absurd (opens_never old.view.saved.session.timeout now old.dialler new.dialler (shut (sym (ap (λ (t : Trail A). t.view.standing.state) does.1) ∙ closed)) does.0)
-shut_by (Ended now) old new does shut = λ closed. ends_waiting old.dialler.phase old.view.saved.session.timeout now old.dialler new.dialler refl does.0
+    λ closed. absurd (opens_never old.view.saved.session.timeout now old.dialler new.dialler
+    (shut (sym (ap (λ (t : Trail A). t.view.standing.state) does.1) ∙ closed)) does.0)
+shut_by (Ended now) old new does shut =
+    λ closed. ends_waiting old.dialler.phase old.view.saved.session.timeout now old.dialler new.dialler refl does.0
 shut_by HungUp old new does shut = subst IsShut (sym does) shut
-shut_by {A} (Addressed count) old new does shut = λ closed. does.0.phase ∙ shut (sym (ap (λ (t : Trail A). t.view.standing.state) does.1) ∙ closed)
-shut_by {A} (Decides now due) old new does shut = λ closed. absurd (does.goes_on (sym (ap (λ (t : Trail A). t.view.standing.state) does.last) ∙ closed))
+shut_by {A} (Addressed count) old new does shut =
+    λ closed. does.0.phase ∙ shut (sym (ap (λ (t : Trail A). t.view.standing.state) does.1) ∙ closed)
+shut_by {A} (Decides now due) old new does shut =
+    λ closed. absurd (does.goes_on (sym (ap (λ (t : Trail A). t.view.standing.state) does.last) ∙ closed))
 shut_by Closes old new does shut = subst IsShut (sym does.last) shut
 
 shut_through : {A : Type 0} (moves : List Move) (old new : Trail A) → FoldsTo Does old moves new → IsShut old → IsShut new
@@ -177,7 +197,8 @@ stays_by {A} (Follows ticket side path) old new does = ap (λ (t : Trail A). t.t
 stays_by {A} (Unfollows ticket) old new does = ap (λ (t : Trail A). t.timeout) does
 stays_by {A} (Asks ticket asked until) old new does = ap (λ (t : Trail A). t.timeout) does.last
 stays_by {A} (GivesUp now) old new does = ap (λ (t : Trail A). t.timeout) does
-stays_by {A} (Tires now) old new does = ap (λ (t : Trail A). t.timeout) does.last ∙ does.hears.timeout ∙ ap (λ (t : Trail A). t.timeout) does.hangs
+stays_by {A} (Tires now) old new does =
+    ap (λ (t : Trail A). t.timeout) does.last ∙ does.hears.timeout ∙ ap (λ (t : Trail A). t.timeout) does.hangs
 stays_by {A} (Opened now) old new does = ap (λ (t : Trail A). t.timeout) does.1
 stays_by {A} (Ended now) old new does = ap (λ (t : Trail A). t.timeout) does.1
 stays_by {A} HungUp old new does = ap (λ (t : Trail A). t.timeout) does
@@ -191,94 +212,136 @@ stays_through (move ∷ moves) old new does = stays_through moves does.0 new doe
 
 -- ---- moves
 
-does_on : {A : Type 0} (moves more : List Move) (old between new : Trail A) → FoldsTo Does old moves between → FoldsTo Does between more new → FoldsTo Does old (moves ++ more) new
+does_on : {A : Type 0} (moves more : List Move) (old between new : Trail A)
+    → FoldsTo Does old moves between → FoldsTo Does between more new → FoldsTo Does old (moves ++ more) new
 does_on [] more old between new same rest = rw same rest
 does_on (move ∷ moves) more old between new does rest = (does.0, does.1, does_on moves more does.0 between new does.2 rest)
 
-at_on : (now : ℕ) (moves more : List Move) → AllByRecursion (IsAt now) moves → AllByRecursion (IsAt now) more → AllByRecursion (IsAt now) (moves ++ more)
+at_on : (now : ℕ) (moves more : List Move)
+    → AllByRecursion (IsAt now) moves → AllByRecursion (IsAt now) more → AllByRecursion (IsAt now) (moves ++ more)
 at_on now [] more all rest = rest
 at_on now (move ∷ moves) more all rest = (all.0, at_on now moves more all.1 rest)
 
-come : {A : Type 0} (now : ℕ) (given moves : List Move) (old new : Trail A) → FoldsTo Does old moves new → filter is_given moves ≡ given → AllByRecursion (IsAt now) moves → Comes now given old new
+come : {A : Type 0} (now : ℕ) (given moves : List Move) (old new : Trail A)
+    → FoldsTo Does old moves new → filter is_given moves ≡ given → AllByRecursion (IsAt now) moves → Comes now given old new
 come now given moves old new does comes at =
-    record { moves = moves; does = does; comes = comes; at = at; led = led_through moves old new does; shut = shut_through moves old new does; timeout = stays_through moves old new does }
+    record {
+      moves = moves;
+      does = does;
+      comes = comes;
+      at = at;
+      led = led_through moves old new does;
+      shut = shut_through moves old new does;
+      timeout = stays_through moves old new does;
+    }
 
 -- nothing came
 pub nothing : {A : Type 0} (now : ℕ) (here : Trail A) → Comes now [] here here
 nothing now here = come now [] [] here here refl refl tt
 
 -- a move of its own, and one that comes from outside
-pub one : {A : Type 0} (now : ℕ) (move : Move) (old new : Trail A) → is_given move ≡ false → IsAt now move → Does old move new → Comes now [] old new
+pub one : {A : Type 0} (now : ℕ) (move : Move) (old new : Trail A)
+    → is_given move ≡ false → IsAt now move → Does old move new → Comes now [] old new
 one now move old new own at does = come now [] (move ∷ []) old new (new, does, refl) (ap (λ b. cond b (move ∷ []) []) own) (at, tt)
 
-pub gives : {A : Type 0} (now : ℕ) (move : Move) (old new : Trail A) → is_given move ≡ true → IsAt now move → Does old move new → Comes now (move ∷ []) old new
-gives now move old new given at does = come now (move ∷ []) (move ∷ []) old new (new, does, refl) (ap (λ b. cond b (move ∷ []) []) given) (at, tt)
+pub gives : {A : Type 0} (now : ℕ) (move : Move) (old new : Trail A)
+    → is_given move ≡ true → IsAt now move → Does old move new → Comes now (move ∷ []) old new
+gives now move old new given at does =
+    come now (move ∷ []) (move ∷ []) old new (new, does, refl) (ap (λ b. cond b (move ∷ []) []) given) (at, tt)
 
 -- what comes first, and what comes after it
-pub after : {A : Type 0} (now : ℕ) (given more : List Move) (old between new : Trail A) → Comes now given old between → Comes now more between new → Comes now (given ++ more) old new
+pub after : {A : Type 0} (now : ℕ) (given more : List Move) (old between new : Trail A)
+    → Comes now given old between → Comes now more between new → Comes now (given ++ more) old new
 after now given more old between new first rest =
     come now (given ++ more) (first.moves ++ rest.moves) old new (does_on first.moves rest.moves old between new first.does rest.does)
-    (filter-append is_given first.moves rest.moves ∙ ap (λ ms. ms ++ filter is_given rest.moves) first.comes ∙ ap (λ ms. given ++ ms) rest.comes)
+    (filter-append is_given first.moves rest.moves ∙ ap (λ ms. ms ++ filter is_given rest.moves) first.comes
+    ∙ ap (λ ms. given ++ ms) rest.comes)
     (at_on now first.moves rest.moves first.at rest.at)
 
 -- what comes after it is of its own
-pub then_none : {A : Type 0} (now : ℕ) (given : List Move) (old between new : Trail A) → Comes now given old between → Comes now [] between new → Comes now given old new
-then_none now given old between new first rest = subst (λ ms. Comes now ms old new) (append-nil given) (after now given [] old between new first rest)
+pub then_none : {A : Type 0} (now : ℕ) (given : List Move) (old between new : Trail A)
+    → Comes now given old between → Comes now [] between new → Comes now given old new
+then_none now given old between new first rest =
+    subst (λ ms. Comes now ms old new) (append-nil given) (after now given [] old between new first rest)
 
-pub ok_after : {A X E : Type 0} (result : Result X E) (now : ℕ) (given more : List Move) (old between new : Trail A) → Comes now given old between → OnOk result (Comes now more between new)
+pub ok_after : {A X E : Type 0} (result : Result X E) (now : ℕ) (given more : List Move) (old between new : Trail A)
+    → Comes now given old between → OnOk result (Comes now more between new)
     → OnOk result (Comes now (given ++ more) old new)
 ok_after (Ok x) now given more old between new first rest = after now given more old between new first rest
 ok_after (Err e) now given more old between new first rest = tt
 
 -- six parts, of which the first alone comes from outside
-pub in_turn : {A : Type 0} (now : ℕ) (given : List Move) (first second third fourth fifth sixth last : Trail A) → Comes now given first second → Comes now [] second third
-    → Comes now [] third fourth → Comes now [] fourth fifth → Comes now [] fifth sixth → Comes now [] sixth last → Comes now given first last
+pub in_turn : {A : Type 0} (now : ℕ) (given : List Move) (first second third fourth fifth sixth last : Trail A)
+    → Comes now given first second → Comes now [] second third
+    → Comes now [] third fourth → Comes now [] fourth fifth → Comes now [] fifth sixth → Comes now [] sixth last
+    → Comes now given first last
 in_turn now given first second third fourth fifth sixth last a b c d e f =
     then_none now given first sixth last
-    (then_none now given first fifth sixth (then_none now given first fourth fifth (then_none now given first third fourth (then_none now given first second third a b) c) d) e) f
+    (then_none now given first fifth sixth (then_none now given first fourth fifth
+    (then_none now given first third fourth (then_none now given first second third a b) c) d) e) f
 
 -- ---- single moves
 
 abbrev trail : {A : Type 0} → View → List (Subject A) → List (Entry A) → Dialler A → ℤ → Waited → List Told → Trail A
-trail view subjects line dialler timeout waits told = record { view = view; subjects = subjects; line = line; dialler = dialler; timeout = timeout; waits = waits; told = told }
+trail view subjects line dialler timeout waits told =
+    record { view = view; subjects = subjects; line = line; dialler = dialler; timeout = timeout; waits = waits; told = told }
 
-pub trail_eq : {A : Type 0} (old new : Trail A) → new.view ≡ old.view → new.subjects ≡ old.subjects → new.line ≡ old.line → new.dialler ≡ old.dialler → new.timeout ≡ old.timeout
+pub trail_eq : {A : Type 0} (old new : Trail A)
+    → new.view ≡ old.view → new.subjects ≡ old.subjects → new.line ≡ old.line → new.dialler ≡ old.dialler → new.timeout ≡ old.timeout
     → new.waits ≡ old.waits → new.told ≡ old.told → new ≡ old
 trail_eq old new v s l d m w t =
-    ap (λ x. trail x new.subjects new.line new.dialler new.timeout new.waits new.told) v ∙ ap (λ x. trail old.view x new.line new.dialler new.timeout new.waits new.told) s
-    ∙ ap (λ x. trail old.view old.subjects x new.dialler new.timeout new.waits new.told) l ∙ ap (λ x. trail old.view old.subjects old.line x new.timeout new.waits new.told) d
-    ∙ ap (λ x. trail old.view old.subjects old.line old.dialler x new.waits new.told) m ∙ ap (λ x. trail old.view old.subjects old.line old.dialler old.timeout x new.told) w
+    ap (λ x. trail x new.subjects new.line new.dialler new.timeout new.waits new.told) v
+    ∙ ap (λ x. trail old.view x new.line new.dialler new.timeout new.waits new.told) s
+    ∙ ap (λ x. trail old.view old.subjects x new.dialler new.timeout new.waits new.told) l
+    ∙ ap (λ x. trail old.view old.subjects old.line x new.timeout new.waits new.told) d
+    ∙ ap (λ x. trail old.view old.subjects old.line old.dialler x new.waits new.told) m
+    ∙ ap (λ x. trail old.view old.subjects old.line old.dialler old.timeout x new.told) w
     ∙ ap (λ x. trail old.view old.subjects old.line old.dialler old.timeout old.waits x) t
 
-pub opened : {A : Type 0} (old new : Trail A) (timeout now : ℕ) (ours : Bool) → timeout ≡ old.view.saved.session.timeout → ours ≡ true → Opens timeout now old.dialler new.dialler ours
+pub opened : {A : Type 0} (old new : Trail A) (timeout now : ℕ) (ours : Bool)
+    → timeout ≡ old.view.saved.session.timeout → ours ≡ true → Opens timeout now old.dialler new.dialler ours
     → new ≡ record old { dialler = new.dialler } → Comes now (Opened now ∷ []) old new
 opened old new timeout now ours is asked opens rest =
-    gives now (Opened now) old new refl refl (subst (λ t. Opens t now old.dialler new.dialler true) is (subst (Opens timeout now old.dialler new.dialler) asked opens), rest)
+    gives now (Opened now) old new refl refl
+    (subst (λ t. Opens t now old.dialler new.dialler true) is (subst (Opens timeout now old.dialler new.dialler) asked opens), rest)
 
-pub ended : {A : Type 0} (old new : Trail A) (timeout now : ℕ) → timeout ≡ old.view.saved.session.timeout → Ends timeout now old.dialler new.dialler → new ≡ record old { dialler = new.dialler }
+pub ended : {A : Type 0} (old new : Trail A) (timeout now : ℕ)
+    → timeout ≡ old.view.saved.session.timeout → Ends timeout now old.dialler new.dialler → new ≡ record old { dialler = new.dialler }
     → Comes now (Ended now ∷ []) old new
-ended old new timeout now is ends rest = gives now (Ended now) old new refl refl (subst (λ t. Ends t now old.dialler new.dialler) is ends, rest)
+ended old new timeout now is ends rest =
+    gives now (Ended now) old new refl refl (subst (λ t. Ends t now old.dialler new.dialler) is ends, rest)
 
-pub decided : {A : Type 0} (old new : Trail A) (timeout now : ℕ) (due : Option Due) → old.view.standing.state ≢ Closed → timeout ≡ old.view.saved.session.timeout
-    → DialsWell timeout now old.dialler new.dialler due → is_some due ≡ is_due now old.dialler → new ≡ record old { dialler = new.dialler; told = old.told ++ due_told due } → Comes now [] old new
+pub decided : {A : Type 0} (old new : Trail A) (timeout now : ℕ) (due : Option Due)
+    → old.view.standing.state ≢ Closed → timeout ≡ old.view.saved.session.timeout
+    → DialsWell timeout now old.dialler new.dialler due → is_some due ≡ is_due now old.dialler
+    → new ≡ record old { dialler = new.dialler; told = old.told ++ due_told due } → Comes now [] old new
 decided old new timeout now due goes_on is dials all rest =
-    one now (Decides now due) old new refl refl (record { goes_on = goes_on; all = all; dials = subst (λ t. DialsWell t now old.dialler new.dialler due) is dials; last = rest })
+    one now (Decides now due) old new refl refl
+    (record { goes_on = goes_on; all = all; dials = subst (λ t. DialsWell t now old.dialler new.dialler due) is dials; last = rest })
 
-pub closed : {A X E : Type 0} (result : Result X E) (now : ℕ) (old new : Trail A) → old.view.standing.state ≡ Closed → new.view ≡ old.view → new.subjects ≡ old.subjects
-    → OnOk result (new.line ≡ []) → new.dialler ≡ old.dialler → new.timeout ≡ old.timeout → new.waits ≡ old.waits → OnOk result (new.told ≡ old.told ++ closings old.line)
+pub closed : {A X E : Type 0} (result : Result X E) (now : ℕ) (old new : Trail A)
+    → old.view.standing.state ≡ Closed → new.view ≡ old.view → new.subjects ≡ old.subjects
+    → OnOk result (new.line ≡ []) → new.dialler ≡ old.dialler → new.timeout ≡ old.timeout → new.waits ≡ old.waits
+    → OnOk result (new.told ≡ old.told ++ closings old.line)
     → OnOk result (Comes now [] old new)
 closed (Ok x) now old new is v s l d m w t =
-    one now Closes old new refl tt (record { closed = is; last = trail_eq (record old { line = []; told = old.told ++ closings old.line }) new v s l d m w t })
+    one now Closes old new refl tt
+    (record { closed = is; last = trail_eq (record old { line = []; told = old.told ++ closings old.line }) new v s l d m w t })
 closed (Err e) now old new is v s l d m w t = tt
 
-pub renewed : {A X E : Type 0} (result : Result X E) (now : ℕ) (old new : Trail A) → old.view.standing.state ≡ Expired → OnOk result (new.view ≡ view_at (renewed_start old.timeout old.view) [])
-    → OnOk result (new.subjects ≡ map due_again old.subjects) → OnOk result (new.dialler ≡ record old.dialler { backoff = row_ended old.dialler.backoff }) → new.timeout ≡ old.timeout
-    → new.waits ≡ old.waits → OnOk result (new.line ≡ []) → OnOk result (new.told ≡ (old.told ++ endings ending.Expired old.line) ++ Begins ∷ []) → OnOk result (Comes now [] old new)
+pub renewed : {A X E : Type 0} (result : Result X E) (now : ℕ) (old new : Trail A)
+    → old.view.standing.state ≡ Expired → OnOk result (new.view ≡ view_at (renewed_start old.timeout old.view) [])
+    → OnOk result (new.subjects ≡ map due_again old.subjects)
+    → OnOk result (new.dialler ≡ record old.dialler { backoff = row_ended old.dialler.backoff }) → new.timeout ≡ old.timeout
+    → new.waits ≡ old.waits → OnOk result (new.line ≡ [])
+    → OnOk result (new.told ≡ (old.told ++ endings ending.Expired old.line) ++ Begins ∷ []) → OnOk result (Comes now [] old new)
 renewed (Ok x) now old new expired v s d m w l t =
-    one now Renews old new refl tt (record { expired = expired; view = v; timeout = m; waits = w; subjects = s; dialler = d; line = l; told = t })
+    one now Renews old new refl tt
+    (record { expired = expired; view = v; timeout = m; waits = w; subjects = s; dialler = d; line = l; told = t })
 renewed (Err e) now old new expired v s d m w l t = tt
 
-pub begun : {X E : Type 0} (result : Result X E) (timeout : ℤ) (old new : View) → OnOk result (new ≡ view_at (renewed_start timeout old) []) → OnOk result (new.standing.state ≢ Expired)
+pub begun : {X E : Type 0} (result : Result X E) (timeout : ℤ) (old new : View) → OnOk result (new ≡ view_at (renewed_start timeout old) [])
+    → OnOk result (new.standing.state ≢ Expired)
 begun (Ok x) timeout old new is = λ expired. let f : Idle ≡ Expired = sym (ap (λ (v : View). v.standing.state) is) ∙ expired in cc
 begun (Err e) timeout old new is = tt
 
@@ -299,12 +362,14 @@ not_handed (turns.Call ticket asked) is_open line may = absurd may
 not_handed (turns.Now moment) is_open line may = refl
 not_handed (turns.Cut) is_open line may = refl
 
--- The client and the line are as it left them, with what was done about the connection after it, and with whether a server says that the session
--- is not its own.
-pub taken_and : {A : Type 0} (now : ℕ) (input : Input) (old new between : Trail A) (line : List (Entry A)) (heard : Heard) → MayHear input old → line ≡ handed input old.line
+-- The client and the line are as it left them, with what was done about the connection after it, and with whether a server says that the
+-- session is not its own.
+pub taken_and : {A : Type 0} (now : ℕ) (input : Input) (old new between : Trail A) (line : List (Entry A)) (heard : Heard)
+    → MayHear input old → line ≡ handed input old.line
     → TakesSo now input old.view old.subjects line old.told between.view between.subjects between.line between.told heard
     → new.view ≡ between.view → new.subjects ≡ between.subjects → new.line ≡ between.line → new.timeout ≡ old.timeout
-    → LetsGo heard.is_over between.view.saved.session.timeout now (noted between.view.saved.session.timeout now between.view.standing.state (row_after heard.ends_row old.dialler)) new.dialler
+    → LetsGo heard.is_over between.view.saved.session.timeout now
+    (noted between.view.saved.session.timeout now between.view.standing.state (row_after heard.ends_row old.dialler)) new.dialler
     between.told new.told
     → new.waits ≡ waited_after now heard.sent (heard_input old.waits input)
     → (hears : HearsSo now input old new) × (hears.heard.is_lost ≡ heard.is_lost)
@@ -317,18 +382,22 @@ taken_and {A} now input old new between line heard may is takes same_view same_s
     takes = subst (λ es. TakesSo now input old.view old.subjects es old.told new.view new.subjects new.line between.told heard) is
         (subst (λ v. TakesSo now input old.view old.subjects line old.told v new.subjects new.line between.told heard) (sym same_view)
         (subst (λ ss. TakesSo now input old.view old.subjects line old.told between.view ss new.line between.told heard) (sym same_subjects)
-        (subst (λ es. TakesSo now input old.view old.subjects line old.told between.view between.subjects es between.told heard) (sym same_line) takes)));
-    lets_go = subst (λ (v : View). LetsGo heard.is_over v.saved.session.timeout now (noted v.saved.session.timeout now v.standing.state (row_after heard.ends_row old.dialler)) new.dialler between.told new.told)
+        (subst (λ es. TakesSo now input old.view old.subjects line old.told between.view between.subjects es between.told heard)
+        (sym same_line) takes)));
+    lets_go = subst (λ (v : View). LetsGo heard.is_over v.saved.session.timeout now
+        (noted v.saved.session.timeout now v.standing.state (row_after heard.ends_row old.dialler)) new.dialler between.told new.told)
         (sym same_view) goes;
     waits = waits;
   },
   refl,
 )
 
-pub taken_by : {A : Type 0} (now : ℕ) (input : Input) (old new between : Trail A) (line : List (Entry A)) (heard : Heard) → MayHear input old → line ≡ handed input old.line
+pub taken_by : {A : Type 0} (now : ℕ) (input : Input) (old new between : Trail A) (line : List (Entry A)) (heard : Heard)
+    → MayHear input old → line ≡ handed input old.line
     → TakesSo now input old.view old.subjects line old.told between.view between.subjects between.line between.told heard
     → new.view ≡ between.view → new.subjects ≡ between.subjects → new.line ≡ between.line → new.timeout ≡ old.timeout
-    → LetsGo heard.is_over between.view.saved.session.timeout now (noted between.view.saved.session.timeout now between.view.standing.state (row_after heard.ends_row old.dialler)) new.dialler
+    → LetsGo heard.is_over between.view.saved.session.timeout now
+    (noted between.view.saved.session.timeout now between.view.standing.state (row_after heard.ends_row old.dialler)) new.dialler
     between.told new.told
     → new.waits ≡ waited_after now heard.sent (heard_input old.waits input)
     → HearsSo now input old new
@@ -336,24 +405,31 @@ taken_by now input old new between line heard may is takes same_view same_subjec
     (taken_and now input old new between line heard may is takes same_view same_subjects same_line same_timeout goes waits).0
 
 -- it hears, and is told of the end of the connection where that is to be
-pub hears_and : {A : Type 0} (now : ℕ) (input : Input) (old new : Trail A) (is_lost : Bool) (hears : HearsSo now input old new) → hears.heard.is_lost ≡ is_lost → is_lost ≡ false
+pub hears_and : {A : Type 0} (now : ℕ) (input : Input) (old new : Trail A) (is_lost : Bool) (hears : HearsSo now input old new)
+    → hears.heard.is_lost ≡ is_lost → is_lost ≡ false
     → Comes now (Hears now input ∷ []) old new
 hears_and now input old new is_lost hears is lost =
-    gives now (Hears now input) old new refl refl (record { between = new; hears = hears; leaves = subst (λ b. LeavesWhere b now new new) (sym (is ∙ lost)) refl })
+    gives now (Hears now input) old new refl refl
+    (record { between = new; hears = hears; leaves = subst (λ b. LeavesWhere b now new new) (sym (is ∙ lost)) refl })
 
-pub hears_then : {A X E : Type 0} (result : Result X E) (now : ℕ) (input : Input) (old between new : Trail A) (is_lost : Bool) (hears : HearsSo now input old between) → hears.heard.is_lost ≡ is_lost
+pub hears_then : {A X E : Type 0} (result : Result X E) (now : ℕ) (input : Input) (old between new : Trail A) (is_lost : Bool)
+    (hears : HearsSo now input old between) → hears.heard.is_lost ≡ is_lost
     → is_lost ≡ true → OnOk result (HearsSo now turns.Cut between new) → OnOk result (Comes now (Hears now input ∷ []) old new)
 hears_then (Ok x) now input old between new is_lost hears is lost cut =
-    gives now (Hears now input) old new refl refl (record { between = between; hears = hears; leaves = subst (λ b. LeavesWhere b now between new) (sym (is ∙ lost)) cut })
+    gives now (Hears now input) old new refl refl
+    (record { between = between; hears = hears; leaves = subst (λ b. LeavesWhere b now between new) (sym (is ∙ lost)) cut })
 hears_then (Err e) now input old between new is_lost hears is lost cut = tt
 
 -- to be told of leaves a subject followed
-pub followed_told : {A : Type 0} (now : ℕ) (view after : View) (stepped new : List (Subject A)) → after ≡ view → new ≡ map (told_of view) stepped → All (IsFollowed now view) stepped
+pub followed_told : {A : Type 0} (now : ℕ) (view after : View) (stepped new : List (Subject A))
+    → after ≡ view → new ≡ map (told_of view) stepped → All (IsFollowed now view) stepped
     → All (IsFollowed now after) new
 followed_told now view after stepped new is told all =
-    subst (All (IsFollowed now after)) (sym told) (subst (λ v. All (IsFollowed now v) (map (told_of view) stepped)) (sym is) (All-map (IsFollowed now view) (told_of view) stepped all))
+    subst (All (IsFollowed now after)) (sym told) (subst (λ v. All (IsFollowed now v) (map (told_of view) stepped)) (sym is)
+    (All-map (IsFollowed now view) (told_of view) stepped all))
 
-pub followed_ok : {X E : Type 0} (P : ℕ → Type 0) (result : Result X E) (now : ℕ) → OnOk result ((moment : ℕ) → P moment) → OnOk result (P now)
+pub followed_ok : {X E : Type 0} (P : ℕ → Type 0) (result : Result X E) (now : ℕ)
+    → OnOk result ((moment : ℕ) → P moment) → OnOk result (P now)
 followed_ok P (Ok x) now all = all now
 followed_ok P (Err e) now all = tt
 
@@ -369,7 +445,8 @@ ours_makes {A} timeout now old new is_ours opens ours = by old.phase opens
     by (Dialling began until) h = refl
     by Open h = absurd (let e : true ≡ false = sym ours ∙ h.0 in cc)
 
-pub late_makes : {A : Type 0} (timeout now : ℕ) (old new : Dialler A) (is_ours : Bool) → Opens timeout now old new is_ours → is_ours ≡ false → HungUp ∷ over_at now ≡ opened_at old.phase now
+pub late_makes : {A : Type 0} (timeout now : ℕ) (old new : Dialler A) (is_ours : Bool)
+    → Opens timeout now old new is_ours → is_ours ≡ false → HungUp ∷ over_at now ≡ opened_at old.phase now
 late_makes {A} timeout now old new is_ours opens late = by old.phase opens
   where
     by : (phase : Phase) → OpensAt phase timeout now old new is_ours → HungUp ∷ over_at now ≡ opened_at phase now
@@ -377,7 +454,8 @@ late_makes {A} timeout now old new is_ours opens late = by old.phase opens
     by (Dialling began until) h = absurd (let e : true ≡ false = sym h.0 ∙ late in cc)
     by Open h = refl
 
-pub ours_is_open : {A : Type 0} (timeout now : ℕ) (old new : Dialler A) (is_ours : Bool) → Opens timeout now old new is_ours → is_ours ≡ true → is_open new.phase ≡ true
+pub ours_is_open : {A : Type 0} (timeout now : ℕ) (old new : Dialler A) (is_ours : Bool)
+    → Opens timeout now old new is_ours → is_ours ≡ true → is_open new.phase ≡ true
 ours_is_open {A} timeout now old new is_ours opens ours = by old.phase opens
   where
     by : (phase : Phase) → OpensAt phase timeout now old new is_ours → is_open new.phase ≡ true
@@ -385,7 +463,8 @@ ours_is_open {A} timeout now old new is_ours opens ours = by old.phase opens
     by (Dialling began until) h = ap is_open h.1.phase
     by Open h = absurd (let e : true ≡ false = sym ours ∙ h.0 in cc)
 
-pub late_is_same : {A : Type 0} (timeout now : ℕ) (old new : Dialler A) (is_ours : Bool) → Opens timeout now old new is_ours → is_ours ≡ false → new ≡ old
+pub late_is_same : {A : Type 0} (timeout now : ℕ) (old new : Dialler A) (is_ours : Bool)
+    → Opens timeout now old new is_ours → is_ours ≡ false → new ≡ old
 late_is_same {A} timeout now old new is_ours opens late = by old.phase opens
   where
     by : (phase : Phase) → OpensAt phase timeout now old new is_ours → new ≡ old

@@ -1,5 +1,6 @@
 -- How far an agent has come, move by move.
-use Rattle.std.specs.Prelude.{◌≡◌, ◌≢◌, ◌<◌, ◌==◌, All, ⊤, ℕ, ℤ, ◌&&◌, Bool, true, false, if◌then◌else◌, List, [], ◌∷◌, ◌++◌, map, Option, Some, None, is_some}
+use Rattle.std.specs.Prelude.{◌≡◌, ◌≢◌, ◌<◌, ◌==◌, All, ⊤, ℕ, ℤ, ◌&&◌, Bool, true, false, if◌then◌else◌, List, [], ◌∷◌, ◌++◌, map, Option}
+use Rattle.std.specs.Prelude.{Some, None, is_some}
 use Rattle.std.specs.List.{count_by, filter, flat_map, AllByRecursion, FoldsTo}
 use Rattle.std.specs.List.Sorted.{IsPermutation}
 use Rattle.zk_nodes.specs.Path.{Text}
@@ -41,8 +42,8 @@ use Rattle.zk_agent.specs.Waits.{Waited, ends_at, heard_input, nothing_waits, wa
 
 -- ---- how far it has come
 
--- A client, the subjects that are followed, the calls that wait, the dialler, the timeout of later sessions, since when what waits for the server,
--- and what the program was told.
+-- A client, the subjects that are followed, the calls that wait, the dialler, the timeout of later sessions, since when what waits for the
+-- server, and what the program was told.
 pub record Trail (A : Type 0) : Type 0 where
   pub view : View
   pub subjects : List (Subject A)
@@ -93,7 +94,8 @@ is_closed Closed = true
 is_closed _ = false
 
 abbrev pub noted : {A : Type 0} → (timeout now : ℕ) → State → Dialler A → Dialler A
-noted timeout now state dialler = if is_connected state then record dialler { backoff = connected_at timeout now dialler.backoff } else dialler
+noted timeout now state dialler =
+    if is_connected state then record dialler { backoff = connected_at timeout now dialler.backoff } else dialler
 
 -- A connection that is over is let go, and the program is told so.
 abbrev pub LetsGoWhere : {A : Type 0} → (is_there : Bool) → (timeout now : ℕ) → (old new : Dialler A) → (before after : List Told) → Type 0
@@ -120,7 +122,8 @@ MayTake _ is_open = ⊤
 
 -- The client takes an input at a moment, and subjects are read. What it says is told, in order, and then what there is to tell of the
 -- subjects. The line, which is this one once the client takes the input, hears the answers, in the same order.
-pub record TakesSo {A : Type 0} (now : ℕ) (input : Input) (old_view : View) (old_subjects : List (Subject A)) (old_line : List (Entry A)) (old_told : List Told)
+pub record TakesSo {A : Type 0} (now : ℕ) (input : Input) (old_view : View) (old_subjects : List (Subject A))
+    (old_line : List (Entry A)) (old_told : List Told)
     (new_view : View) (new_subjects : List (Subject A)) (new_line : List (Entry A)) (new_told : List Told) (says : Heard) : Type 0 where
   pub given : List Output
   pub stepped : List (Subject A)
@@ -131,7 +134,8 @@ pub record TakesSo {A : Type 0} (now : ℕ) (input : Input) (old_view : View) (o
   pub heard : says ≡ heard_in given
 
 -- The call is handed over whose turn it is, if there is one.
-abbrev pub HandsOver : {A : Type 0} → (now : ℕ) → View → List (Subject A) → List (Entry A) → List Told → View → List (Subject A) → List (Entry A) → List Told → Option Heard → Type 0
+abbrev pub HandsOver : {A : Type 0} → (now : ℕ) → View → List (Subject A) → List (Entry A) → List Told → View → List (Subject A)
+    → List (Entry A) → List Told → Option Heard → Type 0
 HandsOver now view subjects line told new_view new_subjects new_line new_told None =
     (next_call line ≡ None) × (new_view ≡ view) × (new_subjects ≡ subjects) × (new_line ≡ line) × (new_told ≡ told)
 HandsOver now view subjects line told new_view new_subjects new_line new_told (Some heard) =
@@ -159,8 +163,8 @@ pub record HearsOn {A : Type 0} (now : ℕ) (input : Input) (old new : Trail A) 
   pub hears : HearsSo now input old between
   pub leaves : LeavesWhere hears.heard.is_lost now between new
 
--- Another session begins, after an expiry alone, and asks for the agent's timeout. The last seen zxid is kept, each subject is to be read, and a row of failures ends. Each call
--- that waits is answered before, that the session has expired.
+-- Another session begins, after an expiry alone, and asks for the agent's timeout. The last seen zxid is kept, each subject is to be read,
+-- and a row of failures ends. Each call that waits is answered before, that the session has expired.
 pub record RenewsSo {A : Type 0} (old new : Trail A) : Type 0 where
   pub expired : old.view.standing.state ≡ Expired
   pub view : new.view ≡ view_at (renewed_start old.timeout old.view) []
@@ -220,12 +224,24 @@ Does old (Hears now input) new = HearsOn now input old new
 Does old (Hands now ticket asked) new = HearsSo now (turns.Call ticket asked) old new
 Does old Renews new = RenewsSo old new
 Does old (Follows ticket side path) new =
-    new ≡ record old { subjects = old.subjects ++ record { ticket = ticket; side = side; path = path; progress = progress.Due; is_missing = false; is_there = false; told = None } ∷ [] }
+    new ≡ record old {
+      subjects = old.subjects ++ record {
+        ticket = ticket;
+        side = side;
+        path = path;
+        progress = progress.Due;
+        is_missing = false;
+        is_there = false;
+        told = None;
+      } ∷ [];
+    }
 Does old (Unfollows ticket) new = new ≡ record old { subjects = unfollowed ticket old.subjects }
 Does old (Asks ticket asked until) new = AsksSo ticket asked until old new
-Does old (GivesUp now) new = new ≡ record old { line = left (ending.Late now) old.line; told = old.told ++ endings (ending.Late now) old.line }
+Does old (GivesUp now) new =
+    new ≡ record old { line = left (ending.Late now) old.line; told = old.told ++ endings (ending.Late now) old.line }
 Does old (Tires now) new = TiresSo now old new
-Does old (Opened now) new = Opens old.view.saved.session.timeout now old.dialler new.dialler true × (new ≡ record old { dialler = new.dialler })
+Does old (Opened now) new =
+    Opens old.view.saved.session.timeout now old.dialler new.dialler true × (new ≡ record old { dialler = new.dialler })
 Does old (Ended now) new = Ends old.view.saved.session.timeout now old.dialler new.dialler × (new ≡ record old { dialler = new.dialler })
 Does old HungUp new = new ≡ record old { told = old.told ++ HangsUp ∷ [] }
 Does old (Addressed count) new = AddressesSo count old.dialler new.dialler × (new ≡ record old { dialler = new.dialler })
@@ -290,8 +306,8 @@ given_of phase now (happens.Call ticket call until) = Asks ticket (call_view cal
 given_of phase now (happens.Follow ticket side path) = Follows ticket side path ∷ Hears now (turns.Now now) ∷ []
 given_of phase now (happens.Unfollow ticket) = Unfollows ticket ∷ Hears now (turns.Now now) ∷ []
 
--- Moves, the oldest first, all at one moment. Those that come from outside are these, and no other. A client that was led stands where it was
--- led, after a close there is no connection, and the timeout of later sessions stays.
+-- Moves, the oldest first, all at one moment. Those that come from outside are these, and no other. A client that was led stands where it
+-- was led, after a close there is no connection, and the timeout of later sessions stays.
 pub record Comes {A : Type 0} (now : ℕ) (given : List Move) (old new : Trail A) : Type 0 where
   pub moves : List Move
   pub does : FoldsTo Does old moves new
@@ -310,8 +326,8 @@ pub record IsDecided {A : Type 0} (now : ℕ) (new : Trail A) : Type 0 where
   pub rest : List Told
   pub told : new.told ≡ rest ++ due_told due
 
--- Calls are handed over, at most one: no limit comes with it, and no end of the session. Another one may be where fewer wait for their turn; else none waits, or none can
--- be handed over.
+-- Calls are handed over, at most one: no limit comes with it, and no end of the session. Another one may be where fewer wait for their
+-- turn; else none waits, or none can be handed over.
 pub record Sends {A : Type 0} (now : ℕ) (old new : Trail A) (goes_on : Bool) : Type 0 where
   pub comes : Comes now [] old new
   pub limits : All (IsInTime now) old.line → All (IsInTime now) new.line
@@ -345,12 +361,13 @@ how_many_ended ticket told = count_by (is_end_of ticket) told
 
 -- ---- moments
 
--- Nothing is due at a moment: no ping, no silence, no attempt, no end of one, no read of a subject that was refused, no limit of a call, and no
--- end of the wait for an answer.
+-- Nothing is due at a moment: no ping, no silence, no attempt, no end of one, no read of a subject that was refused, no limit of a call,
+-- and no end of the wait for an answer.
 abbrev pub NothingOpen : {A : Type 0} → Agent A → (moment : ℕ) → Type 0
 NothingOpen agent moment =
     NothingIsDue (view_of agent.asker.follower.client) moment × (has_come moment (first_moment agent.dialler) ≡ false)
-    × (has_come moment (first_again agent.asker.follower.subjects.items) ≡ false) × (has_come moment (first_limit agent.asker.line.entries.items) ≡ false)
+    × (has_come moment (first_again agent.asker.follower.subjects.items) ≡ false)
+    × (has_come moment (first_limit agent.asker.line.entries.items) ≡ false)
     × (has_come moment (ends_at (view_of agent.asker.follower.client).saved.session.timeout (waited_of agent.waits)) ≡ false)
 
 -- After a close nothing is due any more.
@@ -363,7 +380,8 @@ NothingAt agent moment = NothingIn (is_closed (view_of agent.asker.follower.clie
 
 -- No call, no ping and no request for the session waits for its answer since two thirds of the timeout.
 abbrev pub IsAnswered : {A : Type 0} → Agent A → Type 0
-IsAnswered agent = has_come agent.latest (ends_at (view_of agent.asker.follower.client).saved.session.timeout (waited_of agent.waits)) ≡ false
+IsAnswered agent =
+    has_come agent.latest (ends_at (view_of agent.asker.follower.client).saved.session.timeout (waited_of agent.waits)) ≡ false
 
 -- when the server was heard last, once bytes have come on a connection that is there
 abbrev pub heard_after : {A : Type 0} → (is_open : Bool) → (now : ℕ) → Happens A → Option ℕ → Option ℕ

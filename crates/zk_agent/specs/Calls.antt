@@ -1,5 +1,6 @@
 -- What becomes of the calls of a program.
-use Rattle.std.specs.Prelude.{◌≡◌, ◌≢◌, ◌⊎◌, ◌&&◌, ◌==◌, not, ℕ, Bool, true, false, List, [], ◌∷◌, ◌++◌, fold, map, None, bytes_eq, if◌then◌else◌}
+use Rattle.std.specs.Prelude.{◌≡◌, ◌≢◌, ◌⊎◌, ◌&&◌, ◌==◌, not, ℕ, Bool, true, false, List, [], ◌∷◌, ◌++◌, fold, map, None, bytes_eq}
+use Rattle.std.specs.Prelude.{if◌then◌else◌}
 use Rattle.std.specs.List.{count_by, list_any}
 use Rattle.zk_session.specs.declared.states.State.TheVariants.{Connected}
 use Rattle.zk_conversation.specs.Pending.{Pending, Part_waits, Call_waits}
@@ -17,9 +18,9 @@ use Rattle.zk_agent.specs.Telling.{Told, Says, closed_told, ended_told}
 
 -- ---- what the client says of them
 
--- What an output makes of the line: an answer is to the first call of its ticket that was handed over, which is settled or waits for its turn
--- again. With another state no call that was handed over waits any more: the client has answered each before. No two calls have one ticket,
--- and where two have, what cannot be told apart is lost.
+-- What an output makes of the line: an answer is to the first call of its ticket that was handed over, which is settled or waits for its
+-- turn again. With another state no call that was handed over waits any more: the client has answered each before. No two calls have one
+-- ticket, and where two have, what cannot be told apart is lost.
 abbrev pub hears : {A : Type 0} → List (Entry A) → Output → List (Entry A)
 hears entries (Answer ticket outcome) = left (LostOf ticket) (answered ticket outcome entries)
 hears entries (Enters state) = left Lost entries
@@ -41,8 +42,8 @@ closings entries = map closed_told (map ended_of entries)
 abbrev pub answers : {A : Type 0} → (ticket : ℕ) → Outcome → List (Entry A) → List Told
 answers ticket outcome entries = if settles ticket outcome entries then Says (Answer ticket outcome) ∷ [] else []
 
--- What a program is told of an output: all that the client says, but of the answers those alone that settle a call of the program. The others
--- answer reads of subjects, calls that have timed out, and calls that wait for their turn again.
+-- What a program is told of an output: all that the client says, but of the answers those alone that settle a call of the program. The
+-- others answer reads of subjects, calls that have timed out, and calls that wait for their turn again.
 abbrev pub tells : {A : Type 0} → List (Entry A) → Output → List Told
 tells entries (Answer ticket outcome) = answers ticket outcome entries ++ endings (LostOf ticket) (answered ticket outcome entries)
 tells entries (Enters state) = endings Lost entries ++ Says (Enters state) ∷ []
@@ -75,7 +76,11 @@ is_question question other = false
 
 -- whether what waits for its reply is this call, by its ticket and its question
 abbrev pub is_call_of : {A : Type 0} → Entry A → Pending → Bool
-is_call_of entry pending = elim pending.waiting [ Part_waits last ↦ false | Call_waits its question ↦ (entry.ticket == its) && is_question (question_of (call_view entry.call)) question ]
+is_call_of entry pending = elim pending.waiting [
+  | Part_waits last ↦ false
+  | Call_waits its question ↦
+      (entry.ticket == its) && is_question (question_of (call_view entry.call)) question
+]
 
 abbrev pub IsPending : {A : Type 0} → View → Entry A → Type 0
 IsPending view entry = list_any (is_call_of entry) view.pending ≡ true

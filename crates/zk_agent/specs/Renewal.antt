@@ -15,5 +15,6 @@ use Rattle.zk_laws.specs.Served.{Served}
 -- Under servers of a history each reply that is taken has a zxid of at least the one that a client began with.
 abbrev pub AdmitsNothingOlder : Start → Type 0
 AdmitsNothingOlder start = (h : History) → IsHistory h → (items : List Item) (view : View) → Stands start items view → Served h start items
-    → (ticket : ℕ) (question : Question) (zxid : ℤ) (result : Result) → Among (Took (Replies ticket question zxid result)) (past_of start items)
+    → (ticket : ℕ) (question : Question) (zxid : ℤ) (result : Result)
+    → Among (Took (Replies ticket question zxid result)) (past_of start items)
     → from_zero start.last ≤ from_zero zxid

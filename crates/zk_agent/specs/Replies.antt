@@ -37,4 +37,10 @@ is_back _ = false
 
 -- what outputs say of all that
 abbrev pub heard_in : List Output → Heard
-heard_in given = record { ends_row = ends_row given; is_over = list_any is_over given; is_lost = list_any is_lost given; goes_back = list_any is_back given; sent = sent_in given }
+heard_in given = record {
+  ends_row = ends_row given;
+  is_over = list_any is_over given;
+  is_lost = list_any is_lost given;
+  goes_back = list_any is_back given;
+  sent = sent_in given;
+}

@@ -1,5 +1,6 @@
 -- What waits for the server's answer on a connection, and since when: by the frames that were sent and the bytes that came.
-use Rattle.std.specs.Prelude.{◌+◌, ◌-◌, ◌*◌, ◌/◌, ◌%◌, ◌^◌, ◌==◌, ◌&&◌, ◌++◌, max, min, nat_lt, nat_le, ℕ, Bool, true, false, if◌then◌else◌, List, [], ◌∷◌, drop, fold, length, replicate, take, Option, Some, None}
+use Rattle.std.specs.Prelude.{◌+◌, ◌-◌, ◌*◌, ◌/◌, ◌%◌, ◌^◌, ◌==◌, ◌&&◌, ◌++◌, max, min, nat_lt, nat_le, ℕ, Bool, true, false, if◌then◌else◌}
+use Rattle.std.specs.Prelude.{List, [], ◌∷◌, drop, fold, length, replicate, take, Option, Some, None}
 use Rattle.std.specs.Int.{w64, from_be_bytes}
 use Rattle.zk_session.specs.declared.states.State.{State}
 use Rattle.zk_session.specs.declared.states.State.TheVariants.{Connecting, Connected}
@@ -124,7 +125,8 @@ waited_after now sent waited = with_sent now sent (kept_if sent.is_over waited)
 
 -- ---- until when
 
--- How long each may wait: two thirds of the timeout, rounded up, and a second at least, so that no server that grants less locks anybody out.
+-- How long each may wait: two thirds of the timeout, rounded up, and a second at least, so that no server that grants less locks anybody
+-- out.
 abbrev pub patience : (timeout : ℕ) → ℕ
 patience timeout = max ((2 * timeout + 2) / 3) 1000
 

@@ -27,7 +27,9 @@ fn report<A: Allocator + Copy>(
     outputs: Vec<Output<A>, A>,
     actions: &mut Vec<Action<A>, A>,
 ) -> Result<(), AllocError>
-    ensures told { OnOk result (told_by actions.new.items ≡ (told_by actions.old.items ++ tells_all line.old.entries.items (said outputs.items)) ++ map news_told (flat_map (news_in (view_of follower.old.client) (said outputs.items)) follower.old.subjects.items)) }
+    ensures told { OnOk result
+        (told_by actions.new.items ≡ (told_by actions.old.items ++ tells_all line.old.entries.items (said outputs.items))
+        ++ map news_told (flat_map (news_in (view_of follower.old.client) (said outputs.items)) follower.old.subjects.items)) }
     ensures line { OnOk result (line.new.entries.items ≡ hears_all line.old.entries.items (said outputs.items)) }
     ensures subjects { OnOk result (follower.new.subjects.items ≡ map (told_of (view_of follower.old.client)) follower.old.subjects.items) }
     ensures client { follower.new.client ≡ follower.old.client }
@@ -47,7 +49,8 @@ pub(crate) fn advance<A: Allocator + Copy>(
     input: Input<A>,
     actions: &mut Vec<Action<A>, A>,
 ) -> Result<Heard, FollowerStop>
-    ensures takes { IfOk result (λ heard. TakesSo now (input_view input) (view_of follower.old.client) follower.old.subjects.items line.old.entries.items (told_by actions.old.items)
+    ensures takes { IfOk result (λ heard. TakesSo now (input_view input)
+        (view_of follower.old.client) follower.old.subjects.items line.old.entries.items (told_by actions.old.items)
         (view_of follower.new.client) follower.new.subjects.items line.new.entries.items (told_by actions.new.items) heard) }
     ensures followed { OnOk result (All (IsFollowed now (view_of follower.new.client)) follower.new.subjects.items) }
 {
@@ -65,9 +68,11 @@ pub(crate) fn hand_over<A: Allocator + Copy>(
     now: u64,
     actions: &mut Vec<Action<A>, A>,
 ) -> Result<Option<Heard>, FollowerStop>
-    ensures hands { IfOk result (λ heard. HandsOver now (view_of follower.old.client) follower.old.subjects.items line.old.entries.items (told_by actions.old.items)
+    ensures hands { IfOk result
+        (λ heard. HandsOver now (view_of follower.old.client) follower.old.subjects.items line.old.entries.items (told_by actions.old.items)
         (view_of follower.new.client) follower.new.subjects.items line.new.entries.items (told_by actions.new.items) heard) }
-    ensures followed { IfOk result (λ heard. OnSome heard (All (IsFollowed now (view_of follower.new.client)) follower.new.subjects.items)) }
+    ensures followed { IfOk result
+        (λ heard. OnSome heard (All (IsFollowed now (view_of follower.new.client)) follower.new.subjects.items)) }
 {
     let Some((ticket, call)) = line.next()? else {
         return Ok(None);

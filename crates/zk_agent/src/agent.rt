@@ -37,7 +37,8 @@ pub struct Agent<A: Allocator + Copy = Global> {
 }
 
 impl<A: Allocator + Copy> Agent<A> {
-    ghost use Rattle.std.specs.Prelude.{◌≡◌, ◌≢◌, ◌≤◌, ◌<◌, ◌+◌, ◌<ℤ◌, ◌≤ℤ◌, ◌^◌, ◌++◌, ◌∷◌, ℕ, true, false, map, max, length, pos, unsigned_abs, [], None, IfOk, IfSome, OnOk, All};
+    ghost use Rattle.std.specs.Prelude.{◌≡◌, ◌≢◌, ◌≤◌, ◌<◌, ◌+◌, ◌<ℤ◌, ◌≤ℤ◌, ◌^◌, ◌++◌, ◌∷◌, ℕ, true, false, map, max, length, pos};
+    ghost use Rattle.std.specs.Prelude.{unsigned_abs, [], None, IfOk, IfSome, OnOk, All};
     ghost use Rattle.std.specs.List.Sorted.{IsPermutation};
     ghost use Rattle.zk_turns.specs.Turns as turns;
     ghost use Rattle.zk_turns.specs.View.{view_at};
@@ -52,7 +53,9 @@ impl<A: Allocator + Copy> Agent<A> {
     ghost use Rattle.zk_follow.specs.Following.{due_again, IsFollowed};
     ghost use Rattle.zk_conversation.specs.Views.{call_view};
     ghost use Rattle.zk_line.specs.declared.entry.Ending.TheVariants as ending;
-    ghost use Rattle.zk_agent.specs.Agents.{bytes_at, given_of, heard_after, how_many_asked, how_many_ended, is_closed, opened_at, over_at, trail_of, Addressed, Asks, Comes, Follows, Hears, IsAnswered, IsDecided, IsLed, NothingAt, NothingOpen, Unfollows};
+    ghost use Rattle.zk_agent.specs.Agents.{bytes_at, given_of, heard_after, how_many_asked, how_many_ended, is_closed, opened_at, over_at};
+    ghost use Rattle.zk_agent.specs.Agents.{trail_of, Addressed, Asks, Comes, Follows, Hears, IsAnswered, IsDecided, IsLed, NothingAt};
+    ghost use Rattle.zk_agent.specs.Agents.{NothingOpen, Unfollows};
     ghost use Rattle.zk_agent.specs.Calls.{endings, how_many, IsInTime, IsServed};
     ghost use Rattle.zk_agent.specs.Telling.{told_by, Begins};
     ghost use Rattle.zk_agent.specs.Waits.{nothing_waits, waited_of};
@@ -69,10 +72,21 @@ impl<A: Allocator + Copy> Agent<A> {
         ensures timeout { IfOk result (λ agent. agent.timeout_ms ≡ settings.timeout_ms) }
         ensures waits { IfOk result (λ agent. waited_of agent.waits ≡ nothing_waits) }
         ensures phase { IfOk result (λ agent. agent.dialler.phase ≡ Waiting) }
-        ensures order { IfOk result (λ agent. agent.dialler.ring.order.items ≡ shuffled settings.seed settings.addresses (numbers settings.addresses)) }
+        ensures order { IfOk result
+            (λ agent. agent.dialler.ring.order.items ≡ shuffled settings.seed settings.addresses (numbers settings.addresses)) }
         ensures each { IfOk result (λ agent. IsPermutation (numbers settings.addresses) agent.dialler.ring.order.items) }
         ensures first { IfOk result (λ agent. agent.dialler.ring.next ≡ 0) }
-        ensures backoff { IfOk result (λ agent. agent.dialler.backoff ≡ record { chance = record { state = state_after settings.addresses settings.seed }; failures = 0; connected = None; ended = 0; least = 0; moment = 0 }) }
+        ensures backoff { IfOk result (λ agent. agent.dialler.backoff ≡ record {
+          chance = record {
+            state =
+                state_after settings.addresses settings.seed;
+          };
+          failures = 0;
+          connected = None;
+          ended = 0;
+          least = 0;
+          moment = 0;
+        }) }
     {
         Ok(Agent {
             alloc,
@@ -121,12 +135,14 @@ impl<A: Allocator + Copy> Agent<A> {
         self.heard_at
     }
 
-    /// Takes the stale answers out of what the client keeps: without that they take memory until their paths are read again, or the session is
-    /// over. What is good stays. It is no step: nothing is told, and it takes no memory.
+    /// Takes the stale answers out of what the client keeps: without that they take memory until their paths are read again, or the session
+    /// is over. What is good stays. It is no step: nothing is told, and it takes no memory.
     pub fn forget_stale(&mut self)
-        ensures view { view_of self.new.asker.follower.client ≡ record (view_of self.old.asker.follower.client) { cache = forgotten (view_of self.old.asker.follower.client).cache } }
+        ensures view { view_of self.new.asker.follower.client
+            ≡ record (view_of self.old.asker.follower.client) { cache = forgotten (view_of self.old.asker.follower.client).cache } }
         ensures led { IsLed (view_of self.old.asker.follower.client) → IsLed (view_of self.new.asker.follower.client) }
-        ensures followed { (now : ℕ) → All (IsFollowed now (view_of self.old.asker.follower.client)) self.old.asker.follower.subjects.items → All (IsFollowed now (view_of self.new.asker.follower.client)) self.new.asker.follower.subjects.items }
+        ensures followed { (now : ℕ) → All (IsFollowed now (view_of self.old.asker.follower.client)) self.old.asker.follower.subjects.items
+            → All (IsFollowed now (view_of self.new.asker.follower.client)) self.new.asker.follower.subjects.items }
         ensures subjects { self.new.asker.follower.subjects ≡ self.old.asker.follower.subjects }
         ensures calls { self.new.asker.line ≡ self.old.asker.line }
         ensures dialler { self.new.dialler ≡ self.old.dialler }
@@ -138,8 +154,8 @@ impl<A: Allocator + Copy> Agent<A> {
         self.asker.forget_stale();
     }
 
-    /// The first moment at which something is due: at the latest then a step is to be made, by [`Input::Moment`] if nothing else happens. It
-    /// may be past; there is none where nothing will be due, as after a close.
+    /// The first moment at which something is due: at the latest then a step is to be made, by [`Input::Moment`] if nothing else happens.
+    /// It may be past; there is none where nothing will be due, as after a close.
     pub fn deadline(&self) -> Option<u64>
         ensures before { IfSome result (λ first. (moment : ℕ) → moment < 2 ^ 64 → moment < first → NothingAt self.now moment) }
         ensures due { IfSome result (λ first. ¬ (NothingAt self.now first)) }
@@ -171,17 +187,23 @@ impl<A: Allocator + Copy> Agent<A> {
     ///
     /// An error means that memory ran out. The agent is of no use then: begin with another one, from what was saved.
     pub fn step(&mut self, now: u64, input: Input<A>) -> Result<Vec<Action<A>, A>, FollowerStop>
-        ensures comes { IfOk result (λ actions. Comes (max self.old.latest now) (given_of self.old.dialler.phase (max self.old.latest now) input) (trail_of self.old []) (trail_of self.new actions.items)) }
-        ensures followed { OnOk result (All (IsFollowed self.new.latest (view_of self.new.asker.follower.client)) self.new.asker.follower.subjects.items) }
-        ensures calls { IfOk result (λ actions. (ticket : ℕ) → how_many ticket self.new.asker.line.entries.items + how_many_ended ticket (told_by actions.items) ≡ how_many ticket self.old.asker.line.entries.items + how_many_asked ticket input) }
+        ensures comes { IfOk result (λ actions. Comes (max self.old.latest now)
+            (given_of self.old.dialler.phase (max self.old.latest now) input) (trail_of self.old []) (trail_of self.new actions.items)) }
+        ensures followed { OnOk result
+            (All (IsFollowed self.new.latest (view_of self.new.asker.follower.client)) self.new.asker.follower.subjects.items) }
+        ensures calls { IfOk result (λ actions. (ticket : ℕ) → how_many ticket self.new.asker.line.entries.items + how_many_ended ticket
+            (told_by actions.items) ≡ how_many ticket self.old.asker.line.entries.items + how_many_asked ticket input) }
         ensures served { OnOk result (All (IsServed (view_of self.new.asker.follower.client)) self.new.asker.line.entries.items) }
         ensures limits { OnOk result (All (IsInTime self.new.latest) self.new.asker.line.entries.items) }
-        ensures closed { OnOk result ((view_of self.new.asker.follower.client).standing.state ≡ Closed → self.new.asker.line.entries.items ≡ []) }
+        ensures closed { OnOk result
+            ((view_of self.new.asker.follower.client).standing.state ≡ Closed → self.new.asker.line.entries.items ≡ []) }
         ensures renewed { OnOk result ((view_of self.new.asker.follower.client).standing.state ≢ Expired) }
-        ensures dials { IfOk result (λ actions. (view_of self.new.asker.follower.client).standing.state ≢ Closed → IsDecided (max self.old.latest now) (trail_of self.new actions.items)) }
+        ensures dials { IfOk result (λ actions. (view_of self.new.asker.follower.client).standing.state ≢ Closed
+            → IsDecided (max self.old.latest now) (trail_of self.new actions.items)) }
         ensures answers { OnOk result (IsAnswered self.new) }
         ensures latest { OnOk result (self.new.latest ≡ max self.old.latest now) }
-        ensures heard { OnOk result (self.new.heard_at ≡ heard_after (is_open self.old.dialler.phase) (max self.old.latest now) input self.old.heard_at) }
+        ensures heard { OnOk result
+            (self.new.heard_at ≡ heard_after (is_open self.old.dialler.phase) (max self.old.latest now) input self.old.heard_at) }
     {
         let now = self.latest.max(now);
         let heard_at = heard_moment(self.dialler.is_open(), now, &input, self.heard_at);
@@ -204,8 +226,10 @@ impl<A: Allocator + Copy> Agent<A> {
         input: Input<A>,
         actions: &mut Vec<Action<A>, A>,
     ) -> Result<(), FollowerStop>
-        ensures comes { OnOk result (Comes now (given_of self.old.dialler.phase now input) (trail_of self.old actions.old.items) (trail_of self.new actions.new.items)) }
-        ensures followed { OnOk result (All (IsFollowed now (view_of self.new.asker.follower.client)) self.new.asker.follower.subjects.items) }
+        ensures comes { OnOk result (Comes now (given_of self.old.dialler.phase now input) (trail_of self.old actions.old.items)
+            (trail_of self.new actions.new.items)) }
+        ensures followed { OnOk result
+            (All (IsFollowed now (view_of self.new.asker.follower.client)) self.new.asker.follower.subjects.items) }
     {
         match input {
             Input::Opened => self.open(now, actions),
@@ -225,8 +249,10 @@ impl<A: Allocator + Copy> Agent<A> {
 
     /// The connection that was asked for is there, or another one, which is hung up.
     fn open(&mut self, now: u64, actions: &mut Vec<Action<A>, A>) -> Result<(), FollowerStop>
-        ensures comes { OnOk result (Comes now (opened_at self.old.dialler.phase now) (trail_of self.old actions.old.items) (trail_of self.new actions.new.items)) }
-        ensures followed { OnOk result (All (IsFollowed now (view_of self.new.asker.follower.client)) self.new.asker.follower.subjects.items) }
+        ensures comes { OnOk result
+            (Comes now (opened_at self.old.dialler.phase now) (trail_of self.old actions.old.items) (trail_of self.new actions.new.items)) }
+        ensures followed { OnOk result
+            (All (IsFollowed now (view_of self.new.asker.follower.client)) self.new.asker.follower.subjects.items) }
     {
         let timeout_ms = self.timeout_ms();
         if self.dialler.open(timeout_ms, now) {
@@ -239,7 +265,8 @@ impl<A: Allocator + Copy> Agent<A> {
     /// The attempt has failed, or the connection is over.
     fn end(&mut self, now: u64, actions: &mut Vec<Action<A>, A>) -> Result<(), FollowerStop>
         ensures comes { OnOk result (Comes now (over_at now) (trail_of self.old actions.old.items) (trail_of self.new actions.new.items)) }
-        ensures followed { OnOk result (All (IsFollowed now (view_of self.new.asker.follower.client)) self.new.asker.follower.subjects.items) }
+        ensures followed { OnOk result
+            (All (IsFollowed now (view_of self.new.asker.follower.client)) self.new.asker.follower.subjects.items) }
     {
         let timeout_ms = self.timeout_ms();
         self.dialler.end(timeout_ms, now);
@@ -253,8 +280,10 @@ impl<A: Allocator + Copy> Agent<A> {
         bytes: Vec<u8, A>,
         actions: &mut Vec<Action<A>, A>,
     ) -> Result<(), FollowerStop>
-        ensures comes { OnOk result (Comes now (bytes_at (is_open self.old.dialler.phase) now bytes.items) (trail_of self.old actions.old.items) (trail_of self.new actions.new.items)) }
-        ensures followed { OnOk result (All (IsFollowed now (view_of self.new.asker.follower.client)) self.new.asker.follower.subjects.items) }
+        ensures comes { OnOk result (Comes now (bytes_at (is_open self.old.dialler.phase) now bytes.items)
+            (trail_of self.old actions.old.items) (trail_of self.new actions.new.items)) }
+        ensures followed { OnOk result
+            (All (IsFollowed now (view_of self.new.asker.follower.client)) self.new.asker.follower.subjects.items) }
     {
         if self.dialler.is_open() {
             return self.step_client(now, zk_client::Input::Bytes(bytes), actions);
@@ -269,8 +298,10 @@ impl<A: Allocator + Copy> Agent<A> {
         count: usize,
         actions: &mut Vec<Action<A>, A>,
     ) -> Result<(), FollowerStop>
-        ensures comes { OnOk result (Comes now (Addressed count ∷ Hears now (turns.Now now) ∷ []) (trail_of self.old actions.old.items) (trail_of self.new actions.new.items)) }
-        ensures followed { OnOk result (All (IsFollowed now (view_of self.new.asker.follower.client)) self.new.asker.follower.subjects.items) }
+        ensures comes { OnOk result (Comes now (Addressed count ∷ Hears now (turns.Now now) ∷ []) (trail_of self.old actions.old.items)
+            (trail_of self.new actions.new.items)) }
+        ensures followed { OnOk result
+            (All (IsFollowed now (view_of self.new.asker.follower.client)) self.new.asker.follower.subjects.items) }
     {
         self.dialler.set_addresses(self.alloc, count)?;
         self.step_client(now, zk_client::Input::Now(now), actions)
@@ -285,8 +316,10 @@ impl<A: Allocator + Copy> Agent<A> {
         until: Option<u64>,
         actions: &mut Vec<Action<A>, A>,
     ) -> Result<(), FollowerStop>
-        ensures comes { OnOk result (Comes now (Asks ticket (call_view call) until ∷ Hears now (turns.Now now) ∷ []) (trail_of self.old actions.old.items) (trail_of self.new actions.new.items)) }
-        ensures followed { OnOk result (All (IsFollowed now (view_of self.new.asker.follower.client)) self.new.asker.follower.subjects.items) }
+        ensures comes { OnOk result (Comes now (Asks ticket (call_view call) until ∷ Hears now (turns.Now now) ∷ [])
+            (trail_of self.old actions.old.items) (trail_of self.new actions.new.items)) }
+        ensures followed { OnOk result
+            (All (IsFollowed now (view_of self.new.asker.follower.client)) self.new.asker.follower.subjects.items) }
     {
         self.asker.ask(ticket, call, until)?;
         self.step_client(now, zk_client::Input::Now(now), actions)
@@ -301,8 +334,10 @@ impl<A: Allocator + Copy> Agent<A> {
         path: Path<A>,
         actions: &mut Vec<Action<A>, A>,
     ) -> Result<(), FollowerStop>
-        ensures comes { OnOk result (Comes now (Follows ticket side path ∷ Hears now (turns.Now now) ∷ []) (trail_of self.old actions.old.items) (trail_of self.new actions.new.items)) }
-        ensures followed { OnOk result (All (IsFollowed now (view_of self.new.asker.follower.client)) self.new.asker.follower.subjects.items) }
+        ensures comes { OnOk result (Comes now (Follows ticket side path ∷ Hears now (turns.Now now) ∷ [])
+            (trail_of self.old actions.old.items) (trail_of self.new actions.new.items)) }
+        ensures followed { OnOk result
+            (All (IsFollowed now (view_of self.new.asker.follower.client)) self.new.asker.follower.subjects.items) }
     {
         self.asker.follow(ticket, side, path)?;
         self.step_client(now, zk_client::Input::Now(now), actions)
@@ -315,8 +350,10 @@ impl<A: Allocator + Copy> Agent<A> {
         ticket: u64,
         actions: &mut Vec<Action<A>, A>,
     ) -> Result<(), FollowerStop>
-        ensures comes { OnOk result (Comes now (Unfollows ticket ∷ Hears now (turns.Now now) ∷ []) (trail_of self.old actions.old.items) (trail_of self.new actions.new.items)) }
-        ensures followed { OnOk result (All (IsFollowed now (view_of self.new.asker.follower.client)) self.new.asker.follower.subjects.items) }
+        ensures comes { OnOk result (Comes now (Unfollows ticket ∷ Hears now (turns.Now now) ∷ []) (trail_of self.old actions.old.items)
+            (trail_of self.new actions.new.items)) }
+        ensures followed { OnOk result
+            (All (IsFollowed now (view_of self.new.asker.follower.client)) self.new.asker.follower.subjects.items) }
     {
         self.asker.unfollow(ticket);
         self.step_client(now, zk_client::Input::Now(now), actions)
@@ -324,14 +361,17 @@ impl<A: Allocator + Copy> Agent<A> {
 
     /// Another session begins.
     fn begin(&mut self, actions: &mut Vec<Action<A>, A>) -> Result<(), FollowerStop>
-        ensures view { OnOk result (view_of self.new.asker.follower.client ≡ view_at (renewed_start self.old.timeout_ms (view_of self.old.asker.follower.client)) []) }
+        ensures view { OnOk result (view_of self.new.asker.follower.client
+            ≡ view_at (renewed_start self.old.timeout_ms (view_of self.old.asker.follower.client)) []) }
         ensures subjects { OnOk result (self.new.asker.follower.subjects.items ≡ map due_again self.old.asker.follower.subjects.items) }
         ensures dialler { OnOk result (self.new.dialler ≡ record self.old.dialler { backoff = row_ended self.old.dialler.backoff }) }
         ensures timeout { self.new.timeout_ms ≡ self.old.timeout_ms }
         ensures waits { self.new.waits ≡ self.old.waits }
         ensures line { OnOk result (self.new.asker.line.entries.items ≡ []) }
-        ensures told { OnOk result (told_by actions.new.items ≡ (told_by actions.old.items ++ endings ending.Expired self.old.asker.line.entries.items) ++ Begins ∷ []) }
-        ensures followed { OnOk result ((now : ℕ) → All (IsFollowed now (view_of self.new.asker.follower.client)) self.new.asker.follower.subjects.items) }
+        ensures told { OnOk result (told_by actions.new.items
+            ≡ (told_by actions.old.items ++ endings ending.Expired self.old.asker.line.entries.items) ++ Begins ∷ []) }
+        ensures followed { OnOk result
+            ((now : ℕ) → All (IsFollowed now (view_of self.new.asker.follower.client)) self.new.asker.follower.subjects.items) }
     {
         self.asker.renew(self.timeout_ms, actions)?;
         self.dialler.answered();
@@ -353,7 +393,8 @@ impl<A: Allocator + Copy> Agent<A> {
     fn renew(&mut self, actions: &mut Vec<Action<A>, A>) -> Result<(), FollowerStop>
         ensures comes { (now : ℕ) → OnOk result (Comes now [] (trail_of self.old actions.old.items) (trail_of self.new actions.new.items)) }
         ensures renewed { OnOk result ((view_of self.new.asker.follower.client).standing.state ≢ Expired) }
-        ensures followed { (now : ℕ) → All (IsFollowed now (view_of self.old.asker.follower.client)) self.old.asker.follower.subjects.items → OnOk result (All (IsFollowed now (view_of self.new.asker.follower.client)) self.new.asker.follower.subjects.items) }
+        ensures followed { (now : ℕ) → All (IsFollowed now (view_of self.old.asker.follower.client)) self.old.asker.follower.subjects.items
+            → OnOk result (All (IsFollowed now (view_of self.new.asker.follower.client)) self.new.asker.follower.subjects.items) }
     {
         if self.is_expired() {
             return self.begin(actions);
@@ -365,7 +406,8 @@ impl<A: Allocator + Copy> Agent<A> {
     fn give_up(&mut self, now: u64, actions: &mut Vec<Action<A>, A>) -> Result<(), AllocError>
         ensures comes { OnOk result (Comes now [] (trail_of self.old actions.old.items) (trail_of self.new actions.new.items)) }
         ensures limits { OnOk result (All (IsInTime now) self.new.asker.line.entries.items) }
-        ensures closed { (view_of self.old.asker.follower.client).standing.state ≡ Closed → OnOk result (self.new.asker.line.entries.items ≡ []) }
+        ensures closed { (view_of self.old.asker.follower.client).standing.state ≡ Closed
+            → OnOk result (self.new.asker.line.entries.items ≡ []) }
         ensures follower { self.new.asker.follower ≡ self.old.asker.follower }
     {
         if self.is_closed() {
@@ -377,7 +419,8 @@ impl<A: Allocator + Copy> Agent<A> {
     /// Asks for a connection, or gives an attempt up, where its moment has come, and not after a close.
     fn dial(&mut self, now: u64, actions: &mut Vec<Action<A>, A>) -> Result<(), AllocError>
         ensures comes { OnOk result (Comes now [] (trail_of self.old actions.old.items) (trail_of self.new actions.new.items)) }
-        ensures dials { (view_of self.new.asker.follower.client).standing.state ≢ Closed → OnOk result (IsDecided now (trail_of self.new actions.new.items)) }
+        ensures dials { (view_of self.new.asker.follower.client).standing.state ≢ Closed
+            → OnOk result (IsDecided now (trail_of self.new actions.new.items)) }
         ensures asker { self.new.asker ≡ self.old.asker }
         ensures waits { self.new.waits ≡ self.old.waits }
     {

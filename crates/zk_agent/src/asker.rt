@@ -14,8 +14,8 @@ use zk_client::{Call, Client, Input, Path, Side};
 use zk_follow::{Follower, FollowerStop};
 use zk_line::{Ending, Line};
 
-/// A client with what it is asked for its program: subjects that are followed, and calls. Where a call counts as handed over, the client waits
-/// for its reply.
+/// A client with what it is asked for its program: subjects that are followed, and calls. Where a call counts as handed over, the client
+/// waits for its reply.
 #[derive(Drop)]
 pub(crate) struct Asker<A: Allocator + Copy = Global> {
     alloc: A,
@@ -65,8 +65,10 @@ impl<A: Allocator + Copy> Asker<A> {
         input: Input<A>,
         actions: &mut Vec<Action<A>, A>,
     ) -> Result<Heard, FollowerStop>
-        ensures takes { IfOk result (λ heard. TakesSo now (input_view input) (view_of self.old.follower.client) self.old.follower.subjects.items self.old.line.entries.items (told_by actions.old.items)
-            (view_of self.new.follower.client) self.new.follower.subjects.items self.new.line.entries.items (told_by actions.new.items) heard) }
+        ensures takes { IfOk result (λ heard. TakesSo now (input_view input)
+            (view_of self.old.follower.client) self.old.follower.subjects.items self.old.line.entries.items (told_by actions.old.items)
+            (view_of self.new.follower.client) self.new.follower.subjects.items self.new.line.entries.items
+            (told_by actions.new.items) heard) }
         ensures followed { OnOk result (All (IsFollowed now (view_of self.new.follower.client)) self.new.follower.subjects.items) }
     {
         match advance(
@@ -91,9 +93,12 @@ impl<A: Allocator + Copy> Asker<A> {
         now: u64,
         actions: &mut Vec<Action<A>, A>,
     ) -> Result<Option<Heard>, FollowerStop>
-        ensures hands { IfOk result (λ heard. HandsOver now (view_of self.old.follower.client) self.old.follower.subjects.items self.old.line.entries.items (told_by actions.old.items)
-            (view_of self.new.follower.client) self.new.follower.subjects.items self.new.line.entries.items (told_by actions.new.items) heard) }
-        ensures followed { IfOk result (λ heard. OnSome heard (All (IsFollowed now (view_of self.new.follower.client)) self.new.follower.subjects.items)) }
+        ensures hands { IfOk result (λ heard. HandsOver now
+            (view_of self.old.follower.client) self.old.follower.subjects.items self.old.line.entries.items (told_by actions.old.items)
+            (view_of self.new.follower.client) self.new.follower.subjects.items self.new.line.entries.items
+            (told_by actions.new.items) heard) }
+        ensures followed { IfOk result
+            (λ heard. OnSome heard (All (IsFollowed now (view_of self.new.follower.client)) self.new.follower.subjects.items)) }
     {
         match hand_over(self.alloc, &mut self.follower, &mut self.line, now, actions) {
             Ok(heard) => Ok(heard),
@@ -112,7 +117,15 @@ impl<A: Allocator + Copy> Asker<A> {
         path: Path<A>,
     ) -> Result<(), AllocError>
         ensures client { self.new.follower.client ≡ self.old.follower.client }
-        ensures subjects { OnOk result (self.new.follower.subjects.items ≡ self.old.follower.subjects.items ++ record { ticket = ticket; side = side; path = path; progress = progress.Due; is_missing = false; is_there = false; told = None } ∷ []) }
+        ensures subjects { OnOk result (self.new.follower.subjects.items ≡ self.old.follower.subjects.items ++ record {
+          ticket = ticket;
+          side = side;
+          path = path;
+          progress = progress.Due;
+          is_missing = false;
+          is_there = false;
+          told = None;
+        } ∷ []) }
         ensures line { self.new.line ≡ self.old.line }
     {
         self.follower.follow(ticket, side, path)
@@ -129,11 +142,14 @@ impl<A: Allocator + Copy> Asker<A> {
 
     /// Takes the stale answers out of what the client keeps.
     pub(crate) fn forget_stale(&mut self)
-        ensures view { view_of self.new.follower.client ≡ record (view_of self.old.follower.client) { cache = forgotten (view_of self.old.follower.client).cache } }
-        ensures stands { (start : Start) (items : List Item) → Stands start items (view_of self.old.follower.client) → Stands start (Forgets ∷ items) (view_of self.new.follower.client) }
+        ensures view { view_of self.new.follower.client
+            ≡ record (view_of self.old.follower.client) { cache = forgotten (view_of self.old.follower.client).cache } }
+        ensures stands { (start : Start) (items : List Item) → Stands start items (view_of self.old.follower.client)
+            → Stands start (Forgets ∷ items) (view_of self.new.follower.client) }
         ensures subjects { self.new.follower.subjects ≡ self.old.follower.subjects }
         ensures line { self.new.line ≡ self.old.line }
-        ensures followed { (now : ℕ) → All (IsFollowed now (view_of self.old.follower.client)) self.old.follower.subjects.items → All (IsFollowed now (view_of self.new.follower.client)) self.new.follower.subjects.items }
+        ensures followed { (now : ℕ) → All (IsFollowed now (view_of self.old.follower.client)) self.old.follower.subjects.items
+            → All (IsFollowed now (view_of self.new.follower.client)) self.new.follower.subjects.items }
     {
         self.follower.forget_stale();
     }
@@ -145,7 +161,8 @@ impl<A: Allocator + Copy> Asker<A> {
         call: Call<A>,
         until: Option<u64>,
     ) -> Result<(), AllocError>
-        ensures line { OnOk result (self.new.line.entries.items ≡ self.old.line.entries.items ++ record { ticket = ticket; call = call; until = until; is_sent = false } ∷ []) }
+        ensures line { OnOk result (self.new.line.entries.items
+            ≡ self.old.line.entries.items ++ record { ticket = ticket; call = call; until = until; is_sent = false } ∷ []) }
         ensures follower { self.new.follower ≡ self.old.follower }
     {
         self.line.ask(ticket, call, until)
@@ -158,7 +175,8 @@ impl<A: Allocator + Copy> Asker<A> {
         actions: &mut Vec<Action<A>, A>,
     ) -> Result<(), AllocError>
         ensures line { OnOk result (self.new.line.entries.items ≡ left (Ending.Late now) self.old.line.entries.items) }
-        ensures told { OnOk result (told_by actions.new.items ≡ told_by actions.old.items ++ endings (Ending.Late now) self.old.line.entries.items) }
+        ensures told { OnOk result
+            (told_by actions.new.items ≡ told_by actions.old.items ++ endings (Ending.Late now) self.old.line.entries.items) }
         ensures follower { self.new.follower ≡ self.old.follower }
     {
         match end_calls(&mut self.line, Ending::Late(now), actions) {
@@ -192,11 +210,14 @@ impl<A: Allocator + Copy> Asker<A> {
         actions: &mut Vec<Action<A>, A>,
     ) -> Result<(), AllocError>
         requires { pos 0 <ℤ timeout_ms }
-        ensures client { OnOk result (view_of self.new.follower.client ≡ view_at (renewed_start timeout_ms (view_of self.old.follower.client)) []) }
+        ensures client { OnOk result
+            (view_of self.new.follower.client ≡ view_at (renewed_start timeout_ms (view_of self.old.follower.client)) []) }
         ensures subjects { OnOk result (self.new.follower.subjects.items ≡ map due_again self.old.follower.subjects.items) }
-        ensures followed { OnOk result ((now : ℕ) → All (IsFollowed now (view_of self.new.follower.client)) self.new.follower.subjects.items) }
+        ensures followed { OnOk result
+            ((now : ℕ) → All (IsFollowed now (view_of self.new.follower.client)) self.new.follower.subjects.items) }
         ensures line { OnOk result (self.new.line.entries.items ≡ []) }
-        ensures told { OnOk result (told_by actions.new.items ≡ told_by actions.old.items ++ endings Ending.Expired self.old.line.entries.items) }
+        ensures told { OnOk result
+            (told_by actions.new.items ≡ told_by actions.old.items ++ endings Ending.Expired self.old.line.entries.items) }
     {
         match begin(&mut self.follower, &mut self.line, timeout_ms, actions) {
             Ok(()) => Ok(()),

@@ -92,7 +92,8 @@ fn push_answer<A: Allocator + Copy>(
     actions: &mut Vec<Action<A>, A>,
 ) -> Result<(), AllocError>
     ensures line { OnOk result (line.new.entries.items ≡ answered ticket (outcome_view outcome) line.old.entries.items) }
-    ensures told { OnOk result (told_by actions.new.items ≡ told_by actions.old.items ++ answers ticket (outcome_view outcome) line.old.entries.items) }
+    ensures told { OnOk result
+        (told_by actions.new.items ≡ told_by actions.old.items ++ answers ticket (outcome_view outcome) line.old.entries.items) }
 {
     match line.answer(ticket, outcome) {
         Some(outcome) => push(actions, Action::Answer { ticket, outcome }),
@@ -107,7 +108,8 @@ fn push_output<A: Allocator + Copy>(
     actions: &mut Vec<Action<A>, A>,
 ) -> Result<(), AllocError>
     ensures line { OnOk result (line.new.entries.items ≡ hears line.old.entries.items (output_view output)) }
-    ensures told { OnOk result (told_by actions.new.items ≡ told_by actions.old.items ++ tells line.old.entries.items (output_view output)) }
+    ensures told { OnOk result
+        (told_by actions.new.items ≡ told_by actions.old.items ++ tells line.old.entries.items (output_view output)) }
 {
     match output {
         Output::Send(bytes) => push(actions, Action::Send(bytes)),
@@ -131,7 +133,8 @@ pub(crate) fn push_outputs<A: Allocator + Copy>(
     actions: &mut Vec<Action<A>, A>,
 ) -> Result<(), AllocError>
     ensures line { OnOk result (line.new.entries.items ≡ hears_all line.old.entries.items (said outputs.items)) }
-    ensures told { OnOk result (told_by actions.new.items ≡ told_by actions.old.items ++ tells_all line.old.entries.items (said outputs.items)) }
+    ensures told { OnOk result
+        (told_by actions.new.items ≡ told_by actions.old.items ++ tells_all line.old.entries.items (said outputs.items)) }
 {
     let mut left = VecDeque::from_vec(outputs);
     while let Some(output) = left.pop_front() {

@@ -41,7 +41,8 @@ impl<A: Allocator + Copy> Agent<A> {
         now: u64,
         actions: &mut Vec<Action<A>, A>,
     ) -> Result<(), AllocError>
-        ensures ends { OnOk result (Ends (view_of self.old.asker.follower.client).saved.session.timeout now self.old.dialler self.new.dialler) }
+        ensures ends { OnOk result
+            (Ends (view_of self.old.asker.follower.client).saved.session.timeout now self.old.dialler self.new.dialler) }
         ensures told { OnOk result (told_by actions.new.items ≡ told_by actions.old.items ++ HangsUp ∷ []) }
         ensures timeout { self.new.timeout_ms ≡ self.old.timeout_ms }
         ensures asker { self.new.asker ≡ self.old.asker }
@@ -66,7 +67,8 @@ impl<A: Allocator + Copy> Agent<A> {
         now: u64,
         actions: &mut Vec<Action<A>, A>,
     ) -> Result<(), AllocError>
-        ensures goes { OnOk result (LetsGo is_over (view_of self.old.asker.follower.client).saved.session.timeout now self.old.dialler self.new.dialler (told_by actions.old.items) (told_by actions.new.items)) }
+        ensures goes { OnOk result (LetsGo is_over (view_of self.old.asker.follower.client).saved.session.timeout now self.old.dialler
+            self.new.dialler (told_by actions.old.items) (told_by actions.new.items)) }
         ensures timeout { self.new.timeout_ms ≡ self.old.timeout_ms }
         ensures asker { self.new.asker ≡ self.old.asker }
         ensures waits { self.new.waits ≡ self.old.waits }
@@ -91,7 +93,8 @@ impl<A: Allocator + Copy> Agent<A> {
 
     /// So does a connection that has lived for a third of the timeout.
     fn note_state(&mut self, now: u64)
-        ensures dialler { self.new.dialler ≡ noted (view_of self.old.asker.follower.client).saved.session.timeout now (view_of self.old.asker.follower.client).standing.state self.old.dialler }
+        ensures dialler { self.new.dialler ≡ noted (view_of self.old.asker.follower.client).saved.session.timeout now
+            (view_of self.old.asker.follower.client).standing.state self.old.dialler }
         ensures timeout { self.new.timeout_ms ≡ self.old.timeout_ms }
         ensures asker { self.new.asker ≡ self.old.asker }
         ensures waits { self.new.waits ≡ self.old.waits }
@@ -102,8 +105,8 @@ impl<A: Allocator + Copy> Agent<A> {
         }
     }
 
-    /// Does what the client's outputs ask for: notes what ends a row of failures, lets a connection go that is over, and notes what waits for its
-    /// answer.
+    /// Does what the client's outputs ask for: notes what ends a row of failures, lets a connection go that is over, and notes what waits
+    /// for its answer.
     pub(crate) fn heed(
         &mut self,
         now: u64,
@@ -111,7 +114,8 @@ impl<A: Allocator + Copy> Agent<A> {
         actions: &mut Vec<Action<A>, A>,
     ) -> Result<(), AllocError>
         ensures goes { OnOk result (LetsGo heard.is_over (view_of self.old.asker.follower.client).saved.session.timeout now
-            (noted (view_of self.old.asker.follower.client).saved.session.timeout now (view_of self.old.asker.follower.client).standing.state (row_after heard.ends_row self.old.dialler)) self.new.dialler
+            (noted (view_of self.old.asker.follower.client).saved.session.timeout now
+            (view_of self.old.asker.follower.client).standing.state (row_after heard.ends_row self.old.dialler)) self.new.dialler
             (told_by actions.old.items) (told_by actions.new.items)) }
         ensures timeout { self.new.timeout_ms ≡ self.old.timeout_ms }
         ensures asker { self.new.asker ≡ self.old.asker }
@@ -133,8 +137,10 @@ impl<A: Allocator + Copy> Agent<A> {
         actions: &mut Vec<Action<A>, A>,
     ) -> Result<bool, FollowerStop>
         requires { MayTake (input_view input) (is_open self.old.dialler.phase) }
-        ensures hears { IfOk result (λ is_lost. (hears : HearsSo now (input_view input) (trail_of self.old actions.old.items) (trail_of self.new actions.new.items)) × (hears.heard.is_lost ≡ is_lost)) }
-        ensures followed { OnOk result (All (IsFollowed now (view_of self.new.asker.follower.client)) self.new.asker.follower.subjects.items) }
+        ensures hears { IfOk result (λ is_lost. (hears : HearsSo now (input_view input) (trail_of self.old actions.old.items)
+            (trail_of self.new actions.new.items)) × (hears.heard.is_lost ≡ is_lost)) }
+        ensures followed { OnOk result
+            (All (IsFollowed now (view_of self.new.asker.follower.client)) self.new.asker.follower.subjects.items) }
     {
         note_answers(&mut self.waits, &input);
         let heard = self.asker.step(now, input, actions)?;
@@ -149,7 +155,8 @@ impl<A: Allocator + Copy> Agent<A> {
         actions: &mut Vec<Action<A>, A>,
     ) -> Result<(), FollowerStop>
         ensures hears { OnOk result (HearsSo now Cut (trail_of self.old actions.old.items) (trail_of self.new actions.new.items)) }
-        ensures followed { OnOk result (All (IsFollowed now (view_of self.new.asker.follower.client)) self.new.asker.follower.subjects.items) }
+        ensures followed { OnOk result
+            (All (IsFollowed now (view_of self.new.asker.follower.client)) self.new.asker.follower.subjects.items) }
     {
         let _is_lost = self.hear_once(now, Input::Cut, actions)?;
         Ok(())
@@ -163,8 +170,10 @@ impl<A: Allocator + Copy> Agent<A> {
         actions: &mut Vec<Action<A>, A>,
     ) -> Result<(), FollowerStop>
         requires { MayTake (input_view input) (is_open self.old.dialler.phase) }
-        ensures comes { OnOk result (Comes now (Hears now (input_view input) ∷ []) (trail_of self.old actions.old.items) (trail_of self.new actions.new.items)) }
-        ensures followed { OnOk result (All (IsFollowed now (view_of self.new.asker.follower.client)) self.new.asker.follower.subjects.items) }
+        ensures comes { OnOk result
+            (Comes now (Hears now (input_view input) ∷ []) (trail_of self.old actions.old.items) (trail_of self.new actions.new.items)) }
+        ensures followed { OnOk result
+            (All (IsFollowed now (view_of self.new.asker.follower.client)) self.new.asker.follower.subjects.items) }
     {
         let is_lost = self.hear_once(now, input, actions)?;
         if is_lost {

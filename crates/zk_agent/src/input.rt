@@ -22,9 +22,9 @@ pub enum Input<A: Allocator + Copy = Global> {
     Moment,
     /// The list of addresses is another one, of this many: they are dialled in a new order. A connection that is there stays.
     Addresses(usize),
-    /// A call is asked. It is handed to the client as soon as a server has accepted the connection and fewer than 1,024 calls are on their way,
-    /// after those that were asked before; and it waits to this moment at most, where there is one. No other call or subject has or had the
-    /// ticket.
+    /// A call is asked. It is handed to the client as soon as a server has accepted the connection and fewer than 1,024 calls are on their
+    /// way, after those that were asked before; and it waits to this moment at most, where there is one. No other call or subject has or
+    /// had the ticket.
     Call {
         ticket: u64,
         call: Call<A>,

@@ -8,8 +8,8 @@
 //! Subjects that the program follows are kept good, as in `zk_follow`. After an expiry another session begins by itself, with the last
 //! seen zxid, so that no server which is behind it admits it.
 //!
-//! Calls of the program wait in one line, in the order of asking, until the client can take them; each is answered once, or times out. A read
-//! whose reply is lost with its connection is asked again, in its place; a write is not.
+//! Calls of the program wait in one line, in the order of asking, until the client can take them; each is answered once, or times out. A
+//! read whose reply is lost with its connection is asked again, in its place; a write is not.
 //!
 //! After a close nothing is asked for and nothing is due: a call is answered at once that the session is closed.
 #![tactic(auto)]

@@ -16,12 +16,14 @@ impl<A: Allocator + Copy> Agent<A> {
     ghost use Rattle.zk_agent.specs.Agents.{trail_of, Comes, Sends};
     ghost use Rattle.zk_agent.specs.Calls.{how_many_wait, IsDone, IsInTime};
 
-    /// Hands the call over whose turn it is, where a server has accepted the connection. Whether another one may be: a call was handed over, and
-    /// the client has not said that it cannot be sent now.
+    /// Hands the call over whose turn it is, where a server has accepted the connection. Whether another one may be: a call was handed
+    /// over, and the client has not said that it cannot be sent now.
     fn send_one(&mut self, now: u64, actions: &mut Vec<Action<A>, A>) -> Result<bool, FollowerStop>
         requires { (view_of self.old.asker.follower.client).standing.state ≡ Connected }
-        ensures sends { IfOk result (λ goes_on. Sends now (trail_of self.old actions.old.items) (trail_of self.new actions.new.items) goes_on) }
-        ensures followed { All (IsFollowed now (view_of self.old.asker.follower.client)) self.old.asker.follower.subjects.items → OnOk result (All (IsFollowed now (view_of self.new.asker.follower.client)) self.new.asker.follower.subjects.items) }
+        ensures sends { IfOk result
+            (λ goes_on. Sends now (trail_of self.old actions.old.items) (trail_of self.new actions.new.items) goes_on) }
+        ensures followed { All (IsFollowed now (view_of self.old.asker.follower.client)) self.old.asker.follower.subjects.items
+            → OnOk result (All (IsFollowed now (view_of self.new.asker.follower.client)) self.new.asker.follower.subjects.items) }
     {
         let Some(heard) = self.asker.hand_over(now, actions)? else {
             return Ok(false);
@@ -32,8 +34,10 @@ impl<A: Allocator + Copy> Agent<A> {
 
     /// The same where it is not known that a server has.
     fn try_one(&mut self, now: u64, actions: &mut Vec<Action<A>, A>) -> Result<bool, FollowerStop>
-        ensures sends { IfOk result (λ goes_on. Sends now (trail_of self.old actions.old.items) (trail_of self.new actions.new.items) goes_on) }
-        ensures followed { All (IsFollowed now (view_of self.old.asker.follower.client)) self.old.asker.follower.subjects.items → OnOk result (All (IsFollowed now (view_of self.new.asker.follower.client)) self.new.asker.follower.subjects.items) }
+        ensures sends { IfOk result
+            (λ goes_on. Sends now (trail_of self.old actions.old.items) (trail_of self.new actions.new.items) goes_on) }
+        ensures followed { All (IsFollowed now (view_of self.old.asker.follower.client)) self.old.asker.follower.subjects.items
+            → OnOk result (All (IsFollowed now (view_of self.new.asker.follower.client)) self.new.asker.follower.subjects.items) }
         ensures same { (view_of self.old.asker.follower.client).standing.state ≢ Connected → self.new.asker ≡ self.old.asker }
     {
         if is_connected(self.state()) {
@@ -49,11 +53,14 @@ impl<A: Allocator + Copy> Agent<A> {
         actions: &mut Vec<Action<A>, A>,
     ) -> Result<(), FollowerStop>
         ensures comes { OnOk result (Comes now [] (trail_of self.old actions.old.items) (trail_of self.new actions.new.items)) }
-        ensures followed { All (IsFollowed now (view_of self.old.asker.follower.client)) self.old.asker.follower.subjects.items → OnOk result (All (IsFollowed now (view_of self.new.asker.follower.client)) self.new.asker.follower.subjects.items) }
-        ensures limits { All (IsInTime now) self.old.asker.line.entries.items → OnOk result (All (IsInTime now) self.new.asker.line.entries.items) }
+        ensures followed { All (IsFollowed now (view_of self.old.asker.follower.client)) self.old.asker.follower.subjects.items
+            → OnOk result (All (IsFollowed now (view_of self.new.asker.follower.client)) self.new.asker.follower.subjects.items) }
+        ensures limits { All (IsInTime now) self.old.asker.line.entries.items
+            → OnOk result (All (IsInTime now) self.new.asker.line.entries.items) }
         ensures done { OnOk result (IsDone (view_of self.new.asker.follower.client) self.new.asker.line.entries.items) }
         ensures same { (view_of self.old.asker.follower.client).standing.state ≢ Connected → self.new.asker ≡ self.old.asker }
-        ensures ends { (state : State) → is_final state ≡ true → OnOk result ((view_of self.new.asker.follower.client).standing.state ≡ state → (view_of self.old.asker.follower.client).standing.state ≡ state) }
+        ensures ends { (state : State) → is_final state ≡ true → OnOk result ((view_of self.new.asker.follower.client).standing.state
+            ≡ state → (view_of self.old.asker.follower.client).standing.state ≡ state) }
     {
         let mut goes_on = true;
         while goes_on {

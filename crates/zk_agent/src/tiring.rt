@@ -20,7 +20,8 @@ impl<A: Allocator + Copy> Agent<A> {
     fn leave(&mut self, now: u64, actions: &mut Vec<Action<A>, A>) -> Result<(), FollowerStop>
         requires { has_come now (ends_of (trail_of self.old actions.old.items)) ≡ true }
         ensures tired { OnOk result (Tired now (trail_of self.old actions.old.items) (trail_of self.new actions.new.items)) }
-        ensures followed { OnOk result (All (IsFollowed now (view_of self.new.asker.follower.client)) self.new.asker.follower.subjects.items) }
+        ensures followed { OnOk result
+            (All (IsFollowed now (view_of self.new.asker.follower.client)) self.new.asker.follower.subjects.items) }
     {
         self.hang_up(now, actions)?;
         self.hear_cut(now, actions)?;
@@ -30,7 +31,8 @@ impl<A: Allocator + Copy> Agent<A> {
 
     /// Whether a call or a ping has waited for two thirds of the timeout.
     fn is_late(&self, now: u64) -> bool
-        ensures { result ≡ has_come now (ends_at (view_of self.now.asker.follower.client).saved.session.timeout (waited_of self.now.waits)) }
+        ensures { result
+            ≡ has_come now (ends_at (view_of self.now.asker.follower.client).saved.session.timeout (waited_of self.now.waits)) }
     {
         let timeout_ms = self.timeout_ms();
         let moment = self.waits.ends_at(timeout_ms);
@@ -44,7 +46,8 @@ impl<A: Allocator + Copy> Agent<A> {
         actions: &mut Vec<Action<A>, A>,
     ) -> Result<(), FollowerStop>
         ensures tired { OnOk result (Tired now (trail_of self.old actions.old.items) (trail_of self.new actions.new.items)) }
-        ensures followed { All (IsFollowed now (view_of self.old.asker.follower.client)) self.old.asker.follower.subjects.items → OnOk result (All (IsFollowed now (view_of self.new.asker.follower.client)) self.new.asker.follower.subjects.items) }
+        ensures followed { All (IsFollowed now (view_of self.old.asker.follower.client)) self.old.asker.follower.subjects.items
+            → OnOk result (All (IsFollowed now (view_of self.new.asker.follower.client)) self.new.asker.follower.subjects.items) }
     {
         if self.is_late(now) {
             return self.leave(now, actions);

@@ -1,7 +1,8 @@
 //! What waits for the server's answer on a connection, and since when.
 
 ghost use Rattle.std.specs.Prelude.{◌≡◌, ◌++◌, ◌∷◌, [], drop, replicate, OnOk};
-ghost use Rattle.zk_agent.specs.Waits.{answered_by, end_of, ends_at, heard_byte, heard_bytes, is_of_call, is_of_ping, kept_if, nothing_waits, patience, waited_after, waited_of, with_sent};
+ghost use Rattle.zk_agent.specs.Waits.{answered_by, end_of, ends_at, heard_byte, heard_bytes, is_of_call, is_of_ping, kept_if};
+ghost use Rattle.zk_agent.specs.Waits.{nothing_waits, patience, waited_after, waited_of, with_sent};
 
 use crate::frames::{Frames, is_of_call, is_of_ping};
 use crate::moments::first_of;

@@ -40,9 +40,11 @@ not-closing (Delete path) e = refl
 
 -- the view after a reply to another question: that after a write, but for what the reply leaves
 abbrev other_reply : View → Question → ℤ → Result → View
-other_reply view question zxid result = record (next_reply view (SetData []) zxid result) { lists = after_reply question result view.lists; cache = kept_after question result view.cache }
+other_reply view question zxid result = record (next_reply view (SetData []) zxid result)
+    { lists = after_reply question result view.lists; cache = kept_after question result view.cache }
 
-reply-next : (view : View) (question : Question) (zxid : ℤ) (result : Result) → closes question ≡ false → next_reply view question zxid result ≡ other_reply view question zxid result
+reply-next : (view : View) (question : Question) (zxid : ℤ) (result : Result)
+    → closes question ≡ false → next_reply view question zxid result ≡ other_reply view question zxid result
 reply-next view Close zxid result e = absurd cc
 reply-next view (Exists path watch) zxid result e = refl
 reply-next view (GetData path watch) zxid result e = refl
@@ -52,51 +54,76 @@ reply-next view (Create path) zxid result e = refl
 reply-next view (Delete path) zxid result e = refl
 
 -- the lists, by what the reply leaves
-pub left-lists : (known : Option (Left Answer)) (children : Option (Left Names)) (question : Question) (result : Result) (lists : Lists) → known ≡ leaves_data question result → children ≡ leaves_child question result
+pub left-lists : (known : Option (Left Answer)) (children : Option (Left Names)) (question : Question) (result : Result) (lists : Lists)
+    → known ≡ leaves_data question result → children ≡ leaves_child question result
     → with_children children (with_node known lists) ≡ after_reply question result lists
 left-lists known children question result lists d e = λ i. with_children (e i) (with_node (d i) lists)
 
-answered-view : (held : List ℕ) (halted : Bool) (kept : SessionView) (talk : Talk) (lists : Lists) (answers : Answers) (pending : List Pending) (xid : ℤ) (ticket : ℕ) (question : Question) (zxid : ℤ) (result : Result)
-    (new : SessionView) (after : Lists) (then_kept : Answers) → closes question ≡ false → pending ≡ record { xid = xid; waiting = Call_waits ticket question } ∷ talk.pending
+answered-view : (held : List ℕ) (halted : Bool) (kept : SessionView) (talk : Talk) (lists : Lists) (answers : Answers)
+    (pending : List Pending) (xid : ℤ) (ticket : ℕ) (question : Question) (zxid : ℤ) (result : Result)
+    (new : SessionView) (after : Lists) (then_kept : Answers) → closes question ≡ false
+    → pending ≡ record { xid = xid; waiting = Call_waits ticket question } ∷ talk.pending
     → new ≡ session.next (session.Sees zxid) kept → after ≡ after_reply question result lists
     → ((text : Text) → data_kept then_kept text ≡ keep_node (leaves_data question result) text (data_kept answers text))
     → ((text : Text) → names_kept then_kept text ≡ keep_children (leaves_child question result) text (names_kept answers text))
-    → shown [] halted new talk after then_kept ≡ next (while_pending pending (shown held halted kept talk lists answers)) (Took (Replies ticket question zxid result))
-answered-view held halted kept talk lists answers pending xid ticket question zxid result new after then_kept other left e f nodes children =
+    → shown [] halted new talk after then_kept
+    ≡ next (while_pending pending (shown held halted kept talk lists answers)) (Took (Replies ticket question zxid result))
+answered-view held halted kept talk lists answers pending xid ticket question zxid result new after then_kept other
+    left e f nodes children =
     let before = while_pending pending (shown held halted kept talk lists answers) in
     view_ext (shown [] halted new talk after then_kept) (other_reply before question zxid result)
-    (ap (λ (k : SessionView). record { halted = halted; state = k.state }) e) (ap (λ (k : SessionView). k.saved) e) (ap (λ (k : SessionView). k.moments) e)
-    (ap (λ (p : List Pending). drop 1 p) (sym left)) refl refl f (cache-ext (cache_of then_kept) (kept_after question result (cache_of answers)) nodes children)
+    (ap (λ (k : SessionView). record { halted = halted; state = k.state }) e) (ap (λ (k : SessionView). k.saved) e)
+    (ap (λ (k : SessionView). k.moments) e)
+    (ap (λ (p : List Pending). drop 1 p) (sym left)) refl refl f
+    (cache-ext (cache_of then_kept) (kept_after question result (cache_of answers)) nodes children)
     ∙ sym (reply-next before question zxid result other)
 
 -- the same, by what the reply leaves on either side
-pub left-view : (held : List ℕ) (halted : Bool) (kept : SessionView) (talk : Talk) (lists : Lists) (answers : Answers) (pending : List Pending) (xid : ℤ) (ticket : ℕ) (question : Question) (zxid : ℤ) (result : Result)
-    (new : SessionView) (after : Lists) (then_kept : Answers) (known : Option (Left Answer)) (children : Option (Left Names)) → closes question ≡ false → pending ≡ record { xid = xid; waiting = Call_waits ticket question } ∷ talk.pending
-    → new ≡ session.next (session.Sees zxid) kept → known ≡ leaves_data question result → children ≡ leaves_child question result → after ≡ with_children children (with_node known lists)
-    → ((text : Text) → data_kept then_kept text ≡ keep_node known text (data_kept answers text)) → ((text : Text) → names_kept then_kept text ≡ keep_children children text (names_kept answers text))
-    → shown [] halted new talk after then_kept ≡ next (while_pending pending (shown held halted kept talk lists answers)) (Took (Replies ticket question zxid result))
-left-view held halted kept talk lists answers pending xid ticket question zxid result new after then_kept known children other left e on_data on_child f nodes names =
-    answered-view held halted kept talk lists answers pending xid ticket question zxid result new after then_kept other left e (f ∙ left-lists known children question result lists on_data on_child)
+pub left-view : (held : List ℕ) (halted : Bool) (kept : SessionView) (talk : Talk) (lists : Lists) (answers : Answers)
+    (pending : List Pending) (xid : ℤ) (ticket : ℕ) (question : Question) (zxid : ℤ) (result : Result)
+    (new : SessionView) (after : Lists) (then_kept : Answers) (known : Option (Left Answer)) (children : Option (Left Names))
+    → closes question ≡ false → pending ≡ record { xid = xid; waiting = Call_waits ticket question } ∷ talk.pending
+    → new ≡ session.next (session.Sees zxid) kept → known ≡ leaves_data question result → children ≡ leaves_child question result
+    → after ≡ with_children children (with_node known lists)
+    → ((text : Text) → data_kept then_kept text ≡ keep_node known text (data_kept answers text))
+    → ((text : Text) → names_kept then_kept text ≡ keep_children children text (names_kept answers text))
+    → shown [] halted new talk after then_kept
+    ≡ next (while_pending pending (shown held halted kept talk lists answers)) (Took (Replies ticket question zxid result))
+left-view held halted kept talk lists answers pending xid ticket question zxid result new after then_kept known children other left e
+    on_data on_child f nodes names =
+    answered-view held halted kept talk lists answers pending xid ticket question zxid result new after then_kept other left e
+    (f ∙ left-lists known children question result lists on_data on_child)
     (λ text. nodes text ∙ ap (λ (l : Option (Left Answer)). keep_node l text (data_kept answers text)) on_data)
     (λ text. names text ∙ ap (λ (l : Option (Left Names)). keep_children l text (names_kept answers text)) on_child)
 
 closed-state : (state : State) (saved : Saved) (moments : Moments) (zxid : ℤ) → state ≡ Connected
     → session.next session.Closes (session.next (session.Sees zxid) (record { state = state; saved = saved; moments = moments }))
-    ≡ record { state = Closed; saved = record { asked = saved.asked; session = saved.session; last = int_max zxid saved.last }; moments = moments }
+    ≡ record {
+      state = Closed;
+      saved = record { asked = saved.asked; session = saved.session; last = int_max zxid saved.last };
+      moments = moments;
+    }
 closed-state Connected saved moments zxid e = refl
 closed-state Idle saved moments zxid e = absurd cc
 closed-state Connecting saved moments zxid e = absurd cc
 closed-state Expired saved moments zxid e = absurd cc
 closed-state Closed saved moments zxid e = refl
 
-pub closed-view : (held : List ℕ) (halted : Bool) (kept : SessionView) (talk : Talk) (lists : Lists) (answers : Answers) (pending : List Pending) (ticket : ℕ) (question : Question) (zxid : ℤ) (result : Result)
-    (still : Bool) (saw new : SessionView) (after : Talk) (gone : Lists) (nothing : Answers) → still ≡ halted → closes question ≡ true → kept.state ≡ Connected
-    → saw ≡ session.next (session.Sees zxid) kept → new ≡ session.next session.Closes saw → after.pending ≡ [] → after.xid ≡ talk.xid → gone ≡ no_lists → nothing ≡ no_answers
-    → shown [] still new after gone nothing ≡ next (while_pending pending (shown held halted kept talk lists answers)) (Took (Replies ticket question zxid result))
-closed-view held halted kept talk lists answers pending ticket question zxid result still saw new after gone nothing same close at e f quiet xid g h =
+pub closed-view : (held : List ℕ) (halted : Bool) (kept : SessionView) (talk : Talk) (lists : Lists) (answers : Answers)
+    (pending : List Pending) (ticket : ℕ) (question : Question) (zxid : ℤ) (result : Result)
+    (still : Bool) (saw new : SessionView) (after : Talk) (gone : Lists) (nothing : Answers) → still ≡ halted → closes question ≡ true
+    → kept.state ≡ Connected
+    → saw ≡ session.next (session.Sees zxid) kept → new ≡ session.next session.Closes saw → after.pending ≡ [] → after.xid ≡ talk.xid
+    → gone ≡ no_lists → nothing ≡ no_answers
+    → shown [] still new after gone nothing
+    ≡ next (while_pending pending (shown held halted kept talk lists answers)) (Took (Replies ticket question zxid result))
+closed-view held halted kept talk lists answers pending ticket question zxid result still saw new after gone nothing same
+    close at e f quiet xid g h =
     let before = while_pending pending (shown held halted kept talk lists answers) in
     let is = f ∙ ap (λ (k : SessionView). session.next session.Closes k) e ∙ closed-state kept.state kept.saved kept.moments zxid at in
     view_ext (shown [] still new after gone nothing) (next_reply before Close zxid result)
-    (ap (λ (h : Bool). record { halted = h; state = new.state }) same ∙ ap (λ (k : SessionView). record { halted = halted; state = k.state }) is) (ap (λ (k : SessionView). k.saved) is) (ap (λ (k : SessionView). k.moments) is)
+    (ap (λ (h : Bool). record { halted = h; state = new.state }) same
+    ∙ ap (λ (k : SessionView). record { halted = halted; state = k.state }) is) (ap (λ (k : SessionView). k.saved) is)
+    (ap (λ (k : SessionView). k.moments) is)
     quiet refl xid g (nothing-kept nothing h)
     ∙ ap (λ (q : Question). next_reply before q zxid result) (sym (is-close question close))

@@ -15,33 +15,40 @@ on_ok (Ok x) P Q is follows = follows is
 on_ok (Err e) P Q is follows = tt
 
 -- What was added to nothing is what the turn gave.
-pub alone : (view after : View) (input : Input) (before now : List Output) → before ≡ [] → Adds view input before now after → Rule view (record { input = input; outputs = now }) after
+pub alone : (view after : View) (input : Input) (before now : List Output)
+    → before ≡ [] → Adds view input before now after → Rule view (record { input = input; outputs = now }) after
 alone view after input before now none adds =
     subst (λ l. Rule view (record { input = input; outputs = l }) after) (sym (adds.added ∙ ap (λ l. l ++ adds.outputs) none)) adds.rule
 
-module _ (moment : ℕ) (input : Input) (view between after : View) (before first now : List Output) (none : before ≡ []) (tells : Adds view (Now moment) before first between) (takes : Adds between input first now after) where
+module _ (moment : ℕ) (input : Input) (view between after : View) (before first now : List Output) (none : before ≡ [])
+    (tells : Adds view (Now moment) before first between) (takes : Adds between input first now after) where
   joined : now ≡ tells.outputs ++ takes.outputs
   joined = takes.added ∙ ap (λ l. l ++ takes.outputs) (tells.added ∙ ap (λ l. l ++ tells.outputs) none)
 
   pub both : RuleAt moment view (record { input = input; outputs = now }) after
-  both = record { first = tells.outputs; second = takes.outputs; between = between; outputs = joined; tells = tells.rule; takes = takes.rule }
+  both =
+      record { first = tells.outputs; second = takes.outputs; between = between; outputs = joined; tells = tells.rule; takes = takes.rule }
 
-  pub stands_behind : (start : Start) (items : List Item) → Stands start items view → StandsAt start items moment (record { input = input; outputs = now }) after
+  pub stands_behind : (start : Start) (items : List Item)
+      → Stands start items view → StandsAt start items moment (record { input = input; outputs = now }) after
   stands_behind start items s = record {
     first = tells.outputs;
     second = takes.outputs;
     outputs = joined;
-    stands = one_turn start (Turned (record { input = Now moment; outputs = tells.outputs }) ∷ items) between after (record { input = input; outputs = takes.outputs })
+    stands = one_turn start (Turned (record { input = Now moment; outputs = tells.outputs }) ∷ items) between after
+        (record { input = input; outputs = takes.outputs })
         (one_turn start items view between (record { input = Now moment; outputs = tells.outputs }) s tells.rule) takes.rule;
   }
 
-pub halts_behind : (moment : ℕ) (view between after : View) (before first : List Output) → Adds view (Now moment) before first between → HaltsAs between after → HaltsAt moment view after
+pub halts_behind : (moment : ℕ) (view between after : View) (before first : List Output)
+    → Adds view (Now moment) before first between → HaltsAs between after → HaltsAt moment view after
 halts_behind moment view between after before first tells halts = inr (tells.outputs, between, tells.rule, halts)
 
 -- ---- a moment alone does not halt
 
 still : (view : View) (up silent ping : Bool)
-    → (after_all view (if up then (if silent then Dropped Silent ∷ [] else (if ping then Pinged ∷ [] else [])) else [])).standing.halted ≡ view.standing.halted
+    → (after_all view (if up then (if silent then Dropped Silent ∷ [] else (if ping then Pinged ∷ [] else [])) else [])).standing.halted
+    ≡ view.standing.halted
 still view false silent ping = refl
 still view true true ping = refl
 still view true false true = refl
@@ -52,10 +59,12 @@ goes_on view moment e =
     let now = max moment view.moments.now in
     let caused = if_open view.standing.state (due view now) in
     ap (λ (h : Bool). (after_all view (if h then [] else Ticked moment ∷ caused)).standing.halted) e
-    ∙ still (next view (Ticked moment)) (is_open view.standing.state) (nat_le (2 * timeout_of view) (3 * (now - view.moments.heard))) (is_talking view.standing.state && nat_le (timeout_of view) (3 * (now - view.moments.sent)))
+    ∙ still (next view (Ticked moment)) (is_open view.standing.state) (nat_le (2 * timeout_of view) (3 * (now - view.moments.heard)))
+    (is_talking view.standing.state && nat_le (timeout_of view) (3 * (now - view.moments.sent)))
     ∙ e
 
 -- where nothing comes of both, nothing comes of the input after the moment
-pub quiet_behind : (moment : ℕ) (input : Input) (view between : View) (before first : List Output) → IsQuietAt view moment input → Adds view (Now moment) before first between → IsQuiet between input
+pub quiet_behind : (moment : ℕ) (input : Input) (view between : View) (before first : List Output)
+    → IsQuietAt view moment input → Adds view (Now moment) before first between → IsQuiet between input
 quiet_behind moment input view between before first quiet tells =
     subst (λ v. IsQuiet v input) (sym tells.rule.next) (goes_on view moment quiet.0, quiet.2)

@@ -1,5 +1,6 @@
 -- What a payload brings, and what it finds.
-use Rattle.std.proofs.Common.{◌≡◌, ℕ, ◌+◌, ◌≤◌, Bool, List, ◌∷◌, ◌++◌, length, drop, Result, Ok, Err, refl, ap, sym, subst, ◌∙◌, arith, length-append}
+use Rattle.std.proofs.Common.{◌≡◌, ℕ, ◌+◌, ◌≤◌, Bool, List, ◌∷◌, ◌++◌, length, drop, Result, Ok, Err, refl, ap, sym, subst, ◌∙◌, arith}
+use Rattle.std.proofs.Common.{length-append}
 use Rattle.zk_jute.specs.declared.fault.TakeError.{TakeError}
 use Rattle.zk_jute.specs.Spelling.{IsBytes, spelling}
 use Rattle.zk_records.specs.Layouts.{connect_response_front}
@@ -12,7 +13,8 @@ use Rattle.zk_conversation.specs.declared.phase.Phase.TheVariants.{Opening, Talk
 use Rattle.zk_conversation.specs.declared.fault.TalkFault.{TalkFault}
 use Rattle.zk_conversation.specs.Pending.{Talk, Pending}
 use Rattle.zk_conversation.specs.Results.{response_password}
-use Rattle.zk_conversation.specs.Arriving.{Arrived, Connected, Replied, Watches_set, Notice, Pong, Skipped, arriving, first_arriving, pending_after, talk_after}
+use Rattle.zk_conversation.specs.Arriving.{Arrived, Connected, Replied, Watches_set, Notice, Pong, Skipped, arriving, first_arriving}
+use Rattle.zk_conversation.specs.Arriving.{pending_after, talk_after}
 use Rattle.zk_watches.specs.Lists.{Lists}
 use Rattle.zk_cache.specs.Cache.{Answers}
 use Rattle.zk_turns.specs.Taken.{phase_of}
@@ -30,7 +32,8 @@ use Rattle.zk_limits.specs.declared.limits.TheConstants.{LONGEST_INCOMING, LONGE
 length-front : (response : Response) → length (spelling connect_response_front response.front) ≡ 20 + length (response_password response)
 length-front response = simp (length-append, length-int, length-long, length-counted) (omega arith)
 
-password-short : (payload : List ℕ) (response : Response) (ignored : List ℕ) → IsPayload payload response ignored → length payload ≤ LONGEST_INCOMING → length (response_password response) ≤ LONGEST_PASSWORD
+password-short : (payload : List ℕ) (response : Response) (ignored : List ℕ)
+    → IsPayload payload response ignored → length payload ≤ LONGEST_INCOMING → length (response_password response) ≤ LONGEST_PASSWORD
 password-short payload response ignored is le =
     let front = length-front response in
     let a = ap length is.whole in
@@ -40,11 +43,13 @@ password-short payload response ignored is le =
 
 -- ---- what arrives while Connecting
 
-by-first : (read : Result (Response × List ℕ) TakeError) (arrived : Arrived) → first_arriving read ≡ Ok arrived → (response : Response) × (arrived ≡ Connected response)
+by-first : (read : Result (Response × List ℕ) TakeError) (arrived : Arrived)
+    → first_arriving read ≡ Ok arrived → (response : Response) × (arrived ≡ Connected response)
 by-first (Ok found) arrived e = (found.0, let same : arrived ≡ Connected found.0 = cc in same)
 by-first (Err fault) arrived e = absurd cc
 
-first-comes : (pending : List Pending) (payload : List ℕ) (arrived : Arrived) → arriving Opening pending payload ≡ Ok arrived → (response : Response) × (arrived ≡ Connected response)
+first-comes : (pending : List Pending) (payload : List ℕ) (arrived : Arrived)
+    → arriving Opening pending payload ≡ Ok arrived → (response : Response) × (arrived ≡ Connected response)
 unfolding arriving
 first-comes pending payload arrived e = by-first (response_at (length payload) payload) arrived e
 
@@ -53,7 +58,8 @@ first-comes pending payload arrived e = by-first (response_at (length payload) p
 left-of : {oldest : Pending} (pending more : List Pending) → pending ≡ oldest ∷ more → pending ≡ oldest ∷ drop 1 pending
 left-of {oldest} pending more e = e ∙ ap (λ (m : List Pending). oldest ∷ m) (sym (ap (λ (p : List Pending). drop 1 p) e))
 
-leaves : (arrived : Arrived) (pending : List Pending) → IsOf Talking pending arrived → IsLeft arrived pending (pending_after arrived pending)
+leaves : (arrived : Arrived) (pending : List Pending)
+    → IsOf Talking pending arrived → IsLeft arrived pending (pending_after arrived pending)
 leaves (Connected response) pending is = absurd is
 leaves (Replied ticket question zxid result) pending is = (is.0, left-of pending is.1 is.2)
 leaves (Watches_set last zxid err) pending is = (is.0, left-of pending is.1 is.2)
@@ -61,45 +67,64 @@ leaves (Notice event path) pending is = refl
 leaves Pong pending is = refl
 leaves Skipped pending is = refl
 
-of-later : (pending : List Pending) (payload : List ℕ) (arrived : Arrived) → arriving Talking pending payload ≡ Ok arrived → IsOf Talking pending arrived
-of-later pending payload arrived e = let P : Result Arrived TalkFault → Type 0 = λ r. AreOf Talking pending r in subst P e (of_arriving Talking pending payload)
+of-later : (pending : List Pending) (payload : List ℕ) (arrived : Arrived)
+    → arriving Talking pending payload ≡ Ok arrived → IsOf Talking pending arrived
+of-later pending payload arrived e = let P : Result Arrived TalkFault → Type 0 = λ r. AreOf Talking pending r in
+    subst P e (of_arriving Talking pending payload)
 
 -- a payload was read
 pub record Comes (arrived : Arrived) (kept : SessionView) (talk : Talk) (lists : Lists) : Type 0 where
   pub left : IsLeft arrived talk.pending (pending_after arrived talk.pending)
   pub has : HasArrived arrived kept (talk_after arrived talk) lists
 
-later-has : (arrived : Arrived) (kept : SessionView) (talk : Talk) (lists : Lists) → IsSound kept talk lists → kept.state ≡ Is_connected → IsOf Talking talk.pending arrived
+later-has : (arrived : Arrived) (kept : SessionView) (talk : Talk) (lists : Lists)
+    → IsSound kept talk lists → kept.state ≡ Is_connected → IsOf Talking talk.pending arrived
     → IsLeft arrived talk.pending (pending_after arrived talk.pending) → HasArrived arrived kept (talk_after arrived talk) lists
 later-has (Connected response) kept talk lists sound at is left = absurd is
-later-has (Replied ticket question zxid result) kept talk lists sound at is left = record { before = talk.pending; left = left; room = sound.room; phase = refl; comes = at; short = sound.tied.short }
-later-has (Watches_set last zxid err) kept talk lists sound at is left = record { before = talk.pending; left = left; room = sound.room; phase = refl; comes = at; short = sound.tied.short }
-later-has (Notice event path) kept talk lists sound at is left = record { before = talk.pending; left = left; room = sound.room; phase = refl; comes = at; short = sound.tied.short }
-later-has Pong kept talk lists sound at is left = record { before = talk.pending; left = left; room = sound.room; phase = refl; comes = at; short = sound.tied.short }
-later-has Skipped kept talk lists sound at is left = record { before = talk.pending; left = left; room = sound.room; phase = refl; comes = at; short = sound.tied.short }
+later-has (Replied ticket question zxid result) kept talk lists sound at is left =
+    record { before = talk.pending; left = left; room = sound.room; phase = refl; comes = at; short = sound.tied.short }
+later-has (Watches_set last zxid err) kept talk lists sound at is left =
+    record { before = talk.pending; left = left; room = sound.room; phase = refl; comes = at; short = sound.tied.short }
+later-has (Notice event path) kept talk lists sound at is left =
+    record { before = talk.pending; left = left; room = sound.room; phase = refl; comes = at; short = sound.tied.short }
+later-has Pong kept talk lists sound at is left =
+    record { before = talk.pending; left = left; room = sound.room; phase = refl; comes = at; short = sound.tied.short }
+later-has Skipped kept talk lists sound at is left =
+    record { before = talk.pending; left = left; room = sound.room; phase = refl; comes = at; short = sound.tied.short }
 
-while-connected : (arrived : Arrived) (kept : SessionView) (talk : Talk) (lists : Lists) (payload : List ℕ) → IsSound kept talk lists → kept.state ≡ Is_connected → arriving talk.phase talk.pending payload ≡ Ok arrived → Comes arrived kept talk lists
+while-connected : (arrived : Arrived) (kept : SessionView) (talk : Talk) (lists : Lists) (payload : List ℕ) → IsSound kept talk lists
+    → kept.state ≡ Is_connected → arriving talk.phase talk.pending payload ≡ Ok arrived → Comes arrived kept talk lists
 while-connected arrived kept talk lists payload sound at e =
     let phase : talk.phase ≡ Talking = sound.tied.phase ∙ ap phase_of at in
     let is = of-later talk.pending payload arrived (ap (λ (p : Phase). arriving p talk.pending payload) (sym phase) ∙ e) in
     let left = leaves arrived talk.pending is in
     record { left = left; has = later-has arrived kept talk lists sound at is left }
 
-first-has : (response : Response) (kept : SessionView) (talk : Talk) (lists : Lists) → IsSound kept talk lists → kept.state ≡ Connecting → talk.phase ≡ Opening → length (response_password response) ≤ LONGEST_PASSWORD → Comes (Connected response) kept talk lists
+first-has : (response : Response) (kept : SessionView) (talk : Talk) (lists : Lists) → IsSound kept talk lists → kept.state ≡ Connecting
+    → talk.phase ≡ Opening → length (response_password response) ≤ LONGEST_PASSWORD → Comes (Connected response) kept talk lists
 first-has response kept talk lists sound at phase short =
     let quiet : length talk.pending ≡ 0 = sound.tied.quiet (λ e. let clash : Opening ≡ Talking = sym phase ∙ e in absurd cc) in
     record {
       left = refl;
-      has = record { before = talk.pending; left = refl; room = sound.room; phase = refl; comes = (at, quiet, short); short = sound.tied.short };
+      has = record {
+        before = talk.pending;
+        left = refl;
+        room = sound.room;
+        phase = refl;
+        comes = (at, quiet, short);
+        short = sound.tied.short;
+      };
     }
 
-while-connecting : (arrived : Arrived) (kept : SessionView) (talk : Talk) (lists : Lists) (payload : List ℕ) → IsSound kept talk lists → kept.state ≡ Connecting → IsBytes payload → length payload ≤ LONGEST_INCOMING
+while-connecting : (arrived : Arrived) (kept : SessionView) (talk : Talk) (lists : Lists) (payload : List ℕ)
+    → IsSound kept talk lists → kept.state ≡ Connecting → IsBytes payload → length payload ≤ LONGEST_INCOMING
     → arriving talk.phase talk.pending payload ≡ Ok arrived → Comes arrived kept talk lists
 while-connecting arrived kept talk lists payload sound at are le e =
     let phase : talk.phase ≡ Opening = sound.tied.phase ∙ ap phase_of at in
     let read : arriving Opening talk.pending payload ≡ Ok arrived = ap (λ (p : Phase). arriving p talk.pending payload) (sym phase) ∙ e in
     let first = first-comes talk.pending payload arrived read in
-    let spelt = first_spelt talk.pending payload first.0 are (read ∙ ap (λ (a : Arrived). let r : Result Arrived TalkFault = Ok a in r) first.1) in
+    let spelt =
+    first_spelt talk.pending payload first.0 are (read ∙ ap (λ (a : Arrived). let r : Result Arrived TalkFault = Ok a in r) first.1) in
     let P : Arrived → Type 0 = λ a. Comes a kept talk lists in
     subst P (sym first.1) (first-has first.0 kept talk lists sound at phase (password-short payload first.0 spelt.0 spelt.1 le))
 
@@ -110,19 +135,26 @@ open-state Idle up P a b = absurd cc
 open-state Expired up P a b = absurd cc
 open-state Is_closed up P a b = absurd cc
 
-pub comes : (arrived : Arrived) (kept : SessionView) (talk : Talk) (lists : Lists) (payload : List ℕ) → IsSound kept talk lists → IsOpen kept.state → IsBytes payload → length payload ≤ LONGEST_INCOMING
+pub comes : (arrived : Arrived) (kept : SessionView) (talk : Talk) (lists : Lists) (payload : List ℕ)
+    → IsSound kept talk lists → IsOpen kept.state → IsBytes payload → length payload ≤ LONGEST_INCOMING
     → arriving talk.phase talk.pending payload ≡ Ok arrived → Comes arrived kept talk lists
 comes arrived kept talk lists payload sound up are le e =
-    open-state kept.state up (Comes arrived kept talk lists) (λ at. while-connecting arrived kept talk lists payload sound at are le e) (λ at. while-connected arrived kept talk lists payload sound at e)
+    open-state kept.state up (Comes arrived kept talk lists) (λ at. while-connecting arrived kept talk lists payload sound at are le e)
+    (λ at. while-connected arrived kept talk lists payload sound at e)
 
 -- ---- what happens by it
 
-pub arrives : (held : List ℕ) (halted : Bool) (kept : SessionView) (talk : Talk) (lists : Lists) (answers : Answers) (payload : List ℕ) (read : Result Arrived TalkFault) → IsSound kept talk lists
-    → arriving talk.phase talk.pending payload ≡ read → arrival (shown held halted kept talk lists answers) payload ≡ happening_of kept.saved.last read
+pub arrives : (held : List ℕ) (halted : Bool) (kept : SessionView) (talk : Talk) (lists : Lists) (answers : Answers) (payload : List ℕ)
+    (read : Result Arrived TalkFault) → IsSound kept talk lists
+    → arriving talk.phase talk.pending payload ≡ read
+    → arrival (shown held halted kept talk lists answers) payload ≡ happening_of kept.saved.last read
 arrives held halted kept talk lists answers payload read sound e =
-    ap (λ (p : Phase). happening_of kept.saved.last (arriving p talk.pending payload)) (sym sound.tied.phase) ∙ ap (happening_of kept.saved.last) e
+    ap (λ (p : Phase). happening_of kept.saved.last (arriving p talk.pending payload)) (sym sound.tied.phase)
+    ∙ ap (happening_of kept.saved.last) e
 
 -- the view before, by what is left
-pub before-it : (held : List ℕ) (halted : Bool) (kept : SessionView) (talk mid : Talk) (lists : Lists) (answers : Answers) (arrived : Arrived) → mid ≡ talk_after arrived talk
+pub before-it : (held : List ℕ) (halted : Bool) (kept : SessionView) (talk mid : Talk) (lists : Lists) (answers : Answers)
+    (arrived : Arrived) → mid ≡ talk_after arrived talk
     → while_pending talk.pending (shown held halted kept mid lists answers) ≡ shown held halted kept talk lists answers
-before-it held halted kept talk mid lists answers arrived e = ap (λ (t : Talk). while_pending talk.pending (shown held halted kept t lists answers)) e
+before-it held halted kept talk mid lists answers arrived e =
+    ap (λ (t : Talk). while_pending talk.pending (shown held halted kept t lists answers)) e

@@ -26,13 +26,17 @@ module _ (held : List ℕ) (kept : SessionView) (talk : Talk) (lists : Lists) (a
   abbrev due_then : (moment : ℕ) → Due
   due_then moment = session.due (session.next (session.Ticks moment) kept)
 
-  quiet_at : (halted : Bool) (moment : ℕ) → halted ≡ false → session.is_due_at kept moment ≡ false → NothingIsDue (shown held halted kept talk lists answers) moment
+  quiet_at : (halted : Bool) (moment : ℕ)
+      → halted ≡ false → session.is_due_at kept moment ≡ false → NothingIsDue (shown held halted kept talk lists answers) moment
   quiet_at true moment goes_on quiet = absurd cc
-  quiet_at false moment goes_on quiet = due-in held false kept.state kept.saved kept.moments talk lists answers moment ∙ nothing-happens (due_then moment) quiet
+  quiet_at false moment goes_on quiet =
+      due-in held false kept.state kept.saved kept.moments talk lists answers moment ∙ nothing-happens (due_then moment) quiet
 
-  due_at : (halted : Bool) (moment : ℕ) → halted ≡ false → session.is_due_at kept moment ≡ true → NothingIsDue (shown held halted kept talk lists answers) moment → ⊥
+  due_at : (halted : Bool) (moment : ℕ)
+      → halted ≡ false → session.is_due_at kept moment ≡ true → NothingIsDue (shown held halted kept talk lists answers) moment → ⊥
   due_at true moment goes_on due none = absurd cc
-  due_at false moment goes_on due none = something-happens (due_then moment) due (sym (due-in held false kept.state kept.saved kept.moments talk lists answers moment) ∙ none)
+  due_at false moment goes_on due none =
+      something-happens (due_then moment) due (sym (due-in held false kept.state kept.saved kept.moments talk lists answers moment) ∙ none)
 
   pub none_before : (halted : Bool) (first : Option ℕ) → halted ≡ false → session.IsFirst (session.is_due_at kept) first
       → IfSome first (λ first. (moment : ℕ) → moment < first → NothingIsDue (shown held halted kept talk lists answers) moment)

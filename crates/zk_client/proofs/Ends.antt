@@ -22,7 +22,8 @@ none-there [] e = refl
 none-there (x ∷ xs) e = absurd (omega arith)
 
 expired-state : (state : State) (saved : Saved) (moments : Moments) → state ≡ Connecting
-    → session.next session.Expires (record { state = state; saved = saved; moments = moments }) ≡ record { state = Expired; saved = saved; moments = moments }
+    → session.next session.Expires (record { state = state; saved = saved; moments = moments })
+    ≡ record { state = Expired; saved = saved; moments = moments }
 expired-state Connecting saved moments e = refl
 expired-state Idle saved moments e = absurd cc
 expired-state Connected saved moments e = absurd cc
@@ -34,16 +35,24 @@ not-above (pos zero) le = refl
 not-above (pos (suc n)) le = absurd (omega (arith, ints))
 not-above (negsuc n) le = refl
 
-pub expired-session : (kept new : SessionView) (response : Response) → kept.state ≡ Connecting → response.time_out ≤ℤ pos 0 → new ≡ session.next (event_of response) kept
+pub expired-session : (kept new : SessionView) (response : Response)
+    → kept.state ≡ Connecting → response.time_out ≤ℤ pos 0 → new ≡ session.next (event_of response) kept
     → new ≡ record { state = Expired; saved = kept.saved; moments = kept.moments }
 expired-session kept new response at over e =
-    e ∙ ap (λ b. session.next (if b then session.Welcomes (record { timeout = unsigned_abs response.time_out; session = response.session_id; password = response.password.now }) else session.Expires) kept) (not-above response.time_out over)
+    e ∙ ap (λ b. session.next (if b then session.Welcomes (record {
+      timeout = unsigned_abs response.time_out;
+      session = response.session_id;
+      password = response.password.now;
+    }) else session.Expires) kept) (not-above response.time_out over)
     ∙ expired-state kept.state kept.saved kept.moments at
 
-pub expired-view : (held : List ℕ) (halted : Bool) (kept : SessionView) (talk : Talk) (lists : Lists) (answers : Answers) (pending : List Pending) (response : Response) (new : SessionView) (cut : Talk) (gone : Lists) (nothing : Answers)
-    → kept.state ≡ Connecting → response.time_out ≤ℤ pos 0 → new ≡ session.next (event_of response) kept → cut ≡ cut_off talk → length talk.pending ≡ 0 → gone ≡ no_lists → nothing ≡ no_answers
+pub expired-view : (held : List ℕ) (halted : Bool) (kept : SessionView) (talk : Talk) (lists : Lists) (answers : Answers)
+    (pending : List Pending) (response : Response) (new : SessionView) (cut : Talk) (gone : Lists) (nothing : Answers)
+    → kept.state ≡ Connecting → response.time_out ≤ℤ pos 0 → new ≡ session.next (event_of response) kept → cut ≡ cut_off talk
+    → length talk.pending ≡ 0 → gone ≡ no_lists → nothing ≡ no_answers
     → shown [] halted new cut gone nothing ≡ next (while_pending pending (shown held halted kept talk lists answers)) (Took Expiry)
 expired-view held halted kept talk lists answers pending response new cut gone nothing at over e f quiet g h =
     let is = expired-session kept new response at over e in
-    view_ext _ _ (ap (λ (k : SessionView). record { halted = halted; state = k.state }) is) (ap (λ (k : SessionView). k.saved) is) (ap (λ (k : SessionView). k.moments) is)
+    view_ext _ _ (ap (λ (k : SessionView). record { halted = halted; state = k.state }) is) (ap (λ (k : SessionView). k.saved) is)
+    (ap (λ (k : SessionView). k.moments) is)
     (ap (λ (t : Talk). t.pending) f ∙ none-there talk.pending quiet) refl (ap (λ (t : Talk). t.xid) f) g (nothing-kept nothing h)

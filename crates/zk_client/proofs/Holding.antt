@@ -27,10 +27,14 @@ marked P a b e both = (λ yes. both.0 (sym e ∙ yes), λ p. e ∙ both.1 p)
 
 exact_here : (start : Start) (items : List Item) (view : View) → Stands start items view → IsExact start items view
 exact_here start items view s = record {
-  nodes = λ path. marked (IsGoodSince Data path (past_of start items)) (is_marked_good (view.cache.nodes path)) (is_good Data path (past_of start items))
-      (ap (λ (c : Cache). is_marked_good (c.nodes path)) s.cache ∙ data_marks path (past_of start items)) (is_good_since Data path (past_of start items));
-  children = λ path. marked (IsGoodSince Child path (past_of start items)) (is_marked_good (view.cache.children path)) (is_good Child path (past_of start items))
-      (ap (λ (c : Cache). is_marked_good (c.children path)) s.cache ∙ child_marks path (past_of start items)) (is_good_since Child path (past_of start items));
+  nodes = λ path. marked (IsGoodSince Data path (past_of start items)) (is_marked_good (view.cache.nodes path))
+      (is_good Data path (past_of start items))
+      (ap (λ (c : Cache). is_marked_good (c.nodes path)) s.cache ∙ data_marks path (past_of start items))
+      (is_good_since Data path (past_of start items));
+  children = λ path. marked (IsGoodSince Child path (past_of start items)) (is_marked_good (view.cache.children path))
+      (is_good Child path (past_of start items))
+      (ap (λ (c : Cache). is_marked_good (c.children path)) s.cache ∙ child_marks path (past_of start items))
+      (is_good_since Child path (past_of start items));
   last = subst (λ z. IsLastSeen start (past_of start items) z) (sym (ap (λ v. v.last) s.saved)) (is_last_seen start (past_of start items));
   reports = reports_are start items view s;
   emptied_nodes = λ over path. ap (λ (c : Cache). c.nodes path) s.cache ∙ (nothing_kept start items over).nodes path;
@@ -56,14 +60,17 @@ le_through a b c x y = grind (arith, ints)
 rises : (start : Start) (more items : List Item) → last_of start (past_of start items) ≤ℤ last_of start (past_of start (more ++ items))
 rises start [] items = ≤ℤ_refl (last_of start (past_of start items))
 rises start (item ∷ more) items =
-    le_through (last_of start (past_of start items)) (last_of start (past_of start (more ++ items))) (last_of start (past_of start (item ∷ (more ++ items))))
+    le_through (last_of start (past_of start items)) (last_of start (past_of start (more ++ items)))
+    (last_of start (past_of start (item ∷ (more ++ items))))
     (rises start more items) (last_rises start item (more ++ items))
 
-rising_here : (start : Start) (turns marks items : List Item) (before after : View) → Stands start items before → Stands start (marks ++ (turns ++ items)) after → before.saved.last ≤ℤ after.saved.last
+rising_here : (start : Start) (turns marks items : List Item) (before after : View)
+    → Stands start items before → Stands start (marks ++ (turns ++ items)) after → before.saved.last ≤ℤ after.saved.last
 rising_here start turns marks items before after s t =
     subst (λ z. z ≤ℤ after.saved.last) (sym (ap (λ v. v.last) s.saved))
     (subst (λ z. last_of start (past_of start items) ≤ℤ z) (sym (ap (λ v. v.last) t.saved))
-    (le_through (last_of start (past_of start items)) (last_of start (past_of start (turns ++ items))) (last_of start (past_of start (marks ++ (turns ++ items))))
+    (le_through (last_of start (past_of start items)) (last_of start (past_of start (turns ++ items)))
+    (last_of start (past_of start (marks ++ (turns ++ items))))
     (rises start turns items) (rises start marks (turns ++ items))))
 
 -- how far a run is
@@ -80,7 +87,8 @@ pub at_first : (before : View) (told : Option Told) → HasCome before before to
 at_first before told = record { turns = []; stands = λ start items s. s; tells = tells_none told }
 
 -- one more turn is told
-tells_more : (told now mid new : Option Told) (turns : List Turn) (input : Input) (outputs : List Output) → TellsAll told turns [] now → HandsOut now (Some input) mid → IsGiven mid outputs new
+tells_more : (told now mid new : Option Told) (turns : List Turn) (input : Input) (outputs : List Output)
+    → TellsAll told turns [] now → HandsOut now (Some input) mid → IsGiven mid outputs new
     → TellsAll told (record { input = input; outputs = outputs } ∷ turns) [] new
 tells_more None None None None turns input outputs t hands given = refl
 tells_more None None None (Some new) turns input outputs t hands given = given
@@ -98,8 +106,10 @@ tells_more (Some old) (Some now) (Some mid) (Some new) turns input outputs t han
       ap (λ (d : Told). d.turns) k ∙ ap (λ l. record { input = input; outputs = outputs } ∷ l) t.1,
     )
 
-pub further : (before now after : View) (told told_now mid new : Option Told) (input : Input) (outputs : List Output) → HasCome before now told told_now → HandsOut told_now (Some input) mid
-    → ((start : Start) (items : List Item) → Stands start items now → Stands start (Turned (record { input = input; outputs = outputs }) ∷ items) after)
+pub further : (before now after : View) (told told_now mid new : Option Told) (input : Input) (outputs : List Output)
+    → HasCome before now told told_now → HandsOut told_now (Some input) mid
+    → ((start : Start) (items : List Item) → Stands start items now
+    → Stands start (Turned (record { input = input; outputs = outputs }) ∷ items) after)
     → IsGiven mid outputs new → HasCome before after told new
 further before now after told told_now mid new input outputs come hands step given = record {
   turns = record { input = input; outputs = outputs } ∷ come.turns;
@@ -108,7 +118,8 @@ further before now after told told_now mid new input outputs come hands step giv
 }
 
 -- no input is left
-tells_same : (told now new : Option Told) (turns : List Turn) → TellsAll told turns [] now → HandsOut now None new → TellsAll told turns [] new × NoneIsLeft new
+tells_same : (told now new : Option Told) (turns : List Turn)
+    → TellsAll told turns [] now → HandsOut now None new → TellsAll told turns [] new × NoneIsLeft new
 tells_same None None None turns t hands = (refl, tt)
 tells_same None None (Some new) turns t hands = absurd cc
 tells_same None (Some now) new turns t hands = absurd cc
@@ -118,7 +129,8 @@ tells_same (Some old) (Some now) (Some new) turns t hands =
     let n : new ≡ now = cc in
     (subst (λ d. TellsAll (Some old) turns [] (Some d)) (sym n) t, ap (λ (d : Told). d.coming) n ∙ hands.0)
 
-pub ended : (before now : View) (told told_now new : Option Told) → HasCome before now told told_now → HandsOut told_now None new → RanWhole before told now new
+pub ended : (before now : View) (told told_now new : Option Told)
+    → HasCome before now told told_now → HandsOut told_now None new → RanWhole before told now new
 ended before now told told_now new come hands =
     let t = tells_same told told_now new come.turns come.tells hands in
     record {
@@ -132,16 +144,20 @@ ended before now told told_now new come hands =
     }
 
 -- the last input is no turn
-tells_last : (told now new : Option Told) (turns : List Turn) (input : Input) → TellsAll told turns [] now → HandsOut now (Some input) new → TellsAll told turns (input ∷ []) new
+tells_last : (told now new : Option Told) (turns : List Turn) (input : Input)
+    → TellsAll told turns [] now → HandsOut now (Some input) new → TellsAll told turns (input ∷ []) new
 tells_last None None new turns input t hands = hands
 tells_last None (Some now) new turns input t hands = absurd cc
 tells_last (Some old) None new turns input t hands = absurd t
 tells_last (Some old) (Some now) None turns input t hands = let n = hands.2 in absurd cc
 tells_last (Some old) (Some now) (Some new) turns input t hands =
-    let n : new ≡ record { coming = hands.0; asked = Some input; turns = now.turns } = cc in
-    (t.0 ∙ ap (λ l. inputs_then turns l) hands.1 ∙ ap (λ (d : Told). inputs_then turns (input ∷ d.coming)) (sym n), ap (λ (d : Told). d.turns) n ∙ t.1)
+    let n : new ≡ record { coming = hands.0; asked = Some input; turns = now.turns } = cc in (
+      t.0 ∙ ap (λ l. inputs_then turns l) hands.1 ∙ ap (λ (d : Told). inputs_then turns (input ∷ d.coming)) (sym n),
+      ap (λ (d : Told). d.turns) n ∙ t.1,
+    )
 
-pub halted : (before now after : View) (told told_now new : Option Told) (input : Input) → HasCome before now told told_now → HandsOut told_now (Some input) new → HaltsAs now after → RanUntilHalt before told after new
+pub halted : (before now after : View) (told told_now new : Option Told) (input : Input)
+    → HasCome before now told told_now → HandsOut told_now (Some input) new → HaltsAs now after → RanUntilHalt before told after new
 halted before now after told told_now new input come hands h = record {
   turns = come.turns;
   leads = record {

@@ -2,7 +2,8 @@
 use Rattle.std.proofs.Common.{◌≡◌, ℕ, ℤ, suc, ◌<◌, ◌≤◌, List, [], ◌∷◌, ◌++◌, length, Option, Some, None, refl, ap, sym, ◌∙◌, arith}
 use Rattle.std.specs.Prelude.{is_some, if◌then◌else◌}
 use Rattle.std.specs.List.{flat_map}
-use Rattle.zk_conversation.specs.Pending.{Talk, Pending, Waiting, Part_waits, Call_waits, ticket_of, or_else, first_ticket, after_ticket, taken_ticket, talk_taken}
+use Rattle.zk_conversation.specs.Pending.{Talk, Pending, Waiting, Part_waits, Call_waits, ticket_of, or_else, first_ticket, after_ticket}
+use Rattle.zk_conversation.specs.Pending.{taken_ticket, talk_taken}
 use Rattle.zk_conversation.specs.declared.phase.Phase.{Phase}
 use Rattle.zk_conversation.specs.declared.phase.Phase.TheVariants.{Closed, Opening, Talking}
 use Rattle.zk_turns.specs.Turns.{Output, Answer, ConnectionLoss}
@@ -13,8 +14,10 @@ abbrev pub loss_of : Option ℕ → List Output
 loss_of None = []
 loss_of (Some ticket) = Answer ticket ConnectionLoss ∷ []
 
-losses-first : (xid : ℤ) (waiting : Waiting) (more : List Pending) → flat_map loss more ≡ loss_of (first_ticket more) ++ flat_map loss (after_ticket more)
-    → flat_map loss (record { xid = xid; waiting = waiting } ∷ more) ≡ loss_of (or_else (ticket_of waiting) (first_ticket more)) ++ flat_map loss (if is_some (ticket_of waiting) then more else after_ticket more)
+losses-first : (xid : ℤ) (waiting : Waiting) (more : List Pending)
+    → flat_map loss more ≡ loss_of (first_ticket more) ++ flat_map loss (after_ticket more)
+    → flat_map loss (record { xid = xid; waiting = waiting } ∷ more) ≡ loss_of (or_else (ticket_of waiting) (first_ticket more))
+    ++ flat_map loss (if is_some (ticket_of waiting) then more else after_ticket more)
 losses-first xid (Part_waits last) more ih = ih
 losses-first xid (Call_waits ticket question) more ih = refl
 
@@ -22,12 +25,15 @@ pub losses-taken : (pending : List Pending) → flat_map loss pending ≡ loss_o
 losses-taken [] = refl
 losses-taken (oldest ∷ more) = losses-first oldest.xid oldest.waiting more (losses-taken more)
 
-shorter-first : (waiting : Waiting) (more : List Pending) (ticket : ℕ) → (first_ticket more ≡ Some ticket → length (after_ticket more) < length more)
-    → or_else (ticket_of waiting) (first_ticket more) ≡ Some ticket → length (if is_some (ticket_of waiting) then more else after_ticket more) < suc (length more)
+shorter-first : (waiting : Waiting) (more : List Pending) (ticket : ℕ)
+    → (first_ticket more ≡ Some ticket → length (after_ticket more) < length more)
+    → or_else (ticket_of waiting) (first_ticket more) ≡ Some ticket
+    → length (if is_some (ticket_of waiting) then more else after_ticket more) < suc (length more)
 shorter-first (Part_waits last) more ticket ih e = let h = ih e in omega arith
 shorter-first (Call_waits other question) more ticket ih e = omega arith
 
-pub taken-shorter : (pending : List Pending) (ticket : ℕ) → first_ticket pending ≡ Some ticket → length (after_ticket pending) < length pending
+pub taken-shorter : (pending : List Pending) (ticket : ℕ)
+    → first_ticket pending ≡ Some ticket → length (after_ticket pending) < length pending
 taken-shorter [] ticket e = absurd cc
 taken-shorter (oldest ∷ more) ticket e = shorter-first oldest.waiting more ticket (taken-shorter more ticket) e
 
@@ -45,7 +51,8 @@ pub record IsTaken (talk : Talk) : Type 0 where
   pub ticket : taken_ticket talk ≡ first_ticket talk.pending
   pub rest : talk_taken talk ≡ record { phase = Closed; pending = after_ticket talk.pending; xid = talk.xid }
 
-taken-over : (phase : Phase) (pending : List Pending) (xid : ℕ) → phase ≡ Closed → IsTaken (record { phase = phase; pending = pending; xid = xid })
+taken-over : (phase : Phase) (pending : List Pending) (xid : ℕ)
+    → phase ≡ Closed → IsTaken (record { phase = phase; pending = pending; xid = xid })
 taken-over Closed pending xid e = record { ticket = refl; rest = refl }
 taken-over Opening pending xid e = absurd cc
 taken-over Talking pending xid e = absurd cc
@@ -60,7 +67,8 @@ pub record TakesOne (old new : Talk) (ticket : ℕ) : Type 0 where
   pub shorter : suc (length new.pending) ≤ length old.pending
   pub told : flat_map loss old.pending ≡ Answer ticket ConnectionLoss ∷ flat_map loss new.pending
 
-pub takes-one : (old new : Talk) (ticket : ℕ) → old.phase ≡ Closed → Some ticket ≡ taken_ticket old → new ≡ talk_taken old → TakesOne old new ticket
+pub takes-one : (old new : Talk) (ticket : ℕ)
+    → old.phase ≡ Closed → Some ticket ≡ taken_ticket old → new ≡ talk_taken old → TakesOne old new ticket
 takes-one old new ticket over is rest =
     let t = taken-is old over in
     let here : first_ticket old.pending ≡ Some ticket = sym t.ticket ∙ sym is in
@@ -70,7 +78,8 @@ takes-one old new ticket over is rest =
       phase = ap (λ (t : Talk). t.phase) after;
       xid = ap (λ (t : Talk). t.xid) after;
       shorter = rw left (taken-shorter old.pending ticket here);
-      told = losses-taken old.pending ∙ ap (λ o. loss_of o ++ flat_map loss (after_ticket old.pending)) here ∙ ap (λ p. Answer ticket ConnectionLoss ∷ flat_map loss p) (sym left);
+      told = losses-taken old.pending ∙ ap (λ o. loss_of o ++ flat_map loss (after_ticket old.pending)) here
+          ∙ ap (λ p. Answer ticket ConnectionLoss ∷ flat_map loss p) (sym left);
     }
 
 -- None was there, and nothing is left.

@@ -1,5 +1,6 @@
 -- What is put away is read again, and what is read was spelled so.
-use Rattle.std.proofs.Common.{◌≡◌, ℕ, zero, suc, ◌<◌, ◌≤◌, ℤ, pos, negsuc, ◌≤ℤ◌, Bool, true, false, List, [], ◌∷◌, ◌++◌, length, Some, None, Result, Ok, Err, refl, sym, ap, subst, ◌∙◌, arith}
+use Rattle.std.proofs.Common.{◌≡◌, ℕ, zero, suc, ◌<◌, ◌≤◌, ℤ, pos, negsuc, ◌≤ℤ◌, Bool, true, false, List, [], ◌∷◌, ◌++◌, length, Some, None}
+use Rattle.std.proofs.Common.{Result, Ok, Err, refl, sym, ap, subst, ◌∙◌, arith}
 use Rattle.std.specs.Prelude.{IfOk, MatchResult, int_lt, nat_lt, if◌then◌else◌}
 use Rattle.std.specs.Int.{w32, w64, byte_at, bytes_high_first, cast_unsigned}
 use Rattle.std.proofs.lemmas.Bool.{le-ltb}
@@ -14,7 +15,8 @@ use Rattle.zk_jute.specs.Spelling.{IsBytes, Fits, spelling, long_bytes, int_byte
 use Rattle.zk_jute.specs.declared.fault.TakeError.{TakeError}
 use Rattle.zk_client.specs.declared.saved_fault.SavedFault.{SavedFault}
 use Rattle.zk_client.specs.declared.saved_fault.SavedFault.TheVariants.{Memory}
-use Rattle.zk_client.specs.SavedSessions.{PutAway, IsInRange, CanBePutAway, Gives, bytes_read, fields_of, put_away, record_read, saved_bytes, saved_layout, saved_text}
+use Rattle.zk_client.specs.SavedSessions.{PutAway, IsInRange, CanBePutAway, Gives, bytes_read, fields_of, put_away, record_read}
+use Rattle.zk_client.specs.SavedSessions.{saved_bytes, saved_layout, saved_text}
 use Rattle.zk_limits.specs.declared.limits.TheConstants.{LONGEST_PASSWORD}
 
 -- ---- bytes
@@ -67,26 +69,31 @@ bytes_read-saved_bytes value bytes can e =
     let short : length value.password ≤ LONGEST_PASSWORD = can.in_range.short in
     let fits : Fits saved_layout (fields_of value) = (can.session, (omega arith, can.last)) in
     let again : reading saved_layout (length bytes) bytes ≡ Ok (fields_of value, []) =
-    ap (reading saved_layout (length bytes)) (e ∙ sym (append-nil (saved_bytes value))) ∙ (reads saved_layout (length bytes)).again (fields_of value) [] fits in
+    ap (reading saved_layout (length bytes)) (e ∙ sym (append-nil (saved_bytes value)))
+    ∙ (reads saved_layout (length bytes)).again (fields_of value) [] fits in
     ap record_read again ∙ put_away-in_range value can.in_range
 
 -- reading gives what was put away, unless memory runs out
 pub only_saved : (value : PutAway) (bytes : List ℕ) (result : Result PutAway SavedFault) → CanBePutAway value → bytes ≡ saved_bytes value
     → Gives (bytes_read bytes) result → MatchResult result (λ saved. saved ≡ value) (λ fault. fault ≡ Memory)
-only_saved value bytes result can e gives = subst (λ (read : Result PutAway SavedFault). Gives read result) (bytes_read-saved_bytes value bytes can e) gives
+only_saved value bytes result can e gives =
+    subst (λ (read : Result PutAway SavedFault). Gives read result) (bytes_read-saved_bytes value bytes can e) gives
 
 -- the digits of what was put away stand for its bytes
-pub decode_of-saved_text : (value : PutAway) (text : List ℕ) → CanBePutAway value → text ≡ saved_text value → decode_of text ≡ Ok (saved_bytes value)
+pub decode_of-saved_text : (value : PutAway) (text : List ℕ)
+    → CanBePutAway value → text ≡ saved_text value → decode_of text ≡ Ok (saved_bytes value)
 decode_of-saved_text value text can e = ap decode_of e ∙ decode_of-encode_lower (saved_bytes value) (IsBytes-saved_bytes value can.bytes)
 
 -- ---- what is read was spelled so
 
-chosen : (long below : Bool) (first second : SavedFault) (value saved : PutAway) → Gives (if long then Err first else if below then Err second else Ok value) (Ok saved) → saved ≡ value
+chosen : (long below : Bool) (first second : SavedFault) (value saved : PutAway)
+    → Gives (if long then Err first else if below then Err second else Ok value) (Ok saved) → saved ≡ value
 chosen true below first second value saved gives = absurd cc
 chosen false true first second value saved gives = absurd cc
 chosen false false first second value saved gives = gives
 
-found_in : (bytes : List ℕ) (read : Result (Value saved_layout × List ℕ) TakeError) → ((found : Value saved_layout × List ℕ) → read ≡ Ok found → bytes ≡ spelling saved_layout found.0 ++ found.1)
+found_in : (bytes : List ℕ) (read : Result (Value saved_layout × List ℕ) TakeError)
+    → ((found : Value saved_layout × List ℕ) → read ≡ Ok found → bytes ≡ spelling saved_layout found.0 ++ found.1)
     → (saved : PutAway) → Gives (record_read read) (Ok saved) → bytes ≡ saved_bytes saved
 found_in bytes (Ok ((session, (Some password, last)), [])) spelled saved gives =
     let value : PutAway = record { session = session; password = password; last = last } in
@@ -96,7 +103,9 @@ found_in bytes (Ok ((session, (None, last)), [])) spelled saved gives = absurd c
 found_in bytes (Ok (fields, b ∷ rest)) spelled saved gives = absurd cc
 found_in bytes (Err fault) spelled saved gives = absurd cc
 
-pub found_saved : (bytes : List ℕ) (result : Result PutAway SavedFault) → IsBytes bytes → Gives (bytes_read bytes) result → IfOk result (λ saved. bytes ≡ saved_bytes saved)
+pub found_saved : (bytes : List ℕ) (result : Result PutAway SavedFault)
+    → IsBytes bytes → Gives (bytes_read bytes) result → IfOk result (λ saved. bytes ≡ saved_bytes saved)
 found_saved bytes (Ok saved) fits gives =
-    found_in bytes (reading saved_layout (length bytes) bytes) (λ found e. ((reads saved_layout (length bytes)).takes bytes found fits e).0.parts) saved gives
+    found_in bytes (reading saved_layout (length bytes) bytes)
+    (λ found e. ((reads saved_layout (length bytes)).takes bytes found fits e).0.parts) saved gives
 found_saved bytes (Err fault) fits gives = tt

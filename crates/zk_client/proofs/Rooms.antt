@@ -1,5 +1,6 @@
 -- The paths that are watched and those that are to be stay within the most.
-use Rattle.std.proofs.Common.{◌≡◌, ℕ, suc, ◌+◌, ◌≤◌, Bool, true, false, List, [], ◌∷◌, ◌++◌, length, Option, Some, None, refl, ap, sym, ◌∙◌, cond, not, arith, length-append}
+use Rattle.std.proofs.Common.{◌≡◌, ℕ, suc, ◌+◌, ◌≤◌, Bool, true, false, List, [], ◌∷◌, ◌++◌, length, Option, Some, None, refl, ap, sym, ◌∙◌}
+use Rattle.std.proofs.Common.{cond, not, arith, length-append}
 use Rattle.std.specs.Prelude.{bytes_eq}
 use Rattle.zk_nodes.specs.declared.side.Side.TheVariants.{Data, Child}
 use Rattle.zk_records.specs.declared.event.Event.{Event}
@@ -68,7 +69,8 @@ fired-data : (b : Bool) (path : List ℕ) (paths : List (List ℕ)) → length (
 fired-data true path paths = without-le path paths
 fired-data false path paths = omega arith
 
-pub fired-room : (lists : Lists) (event : Event) (path : List ℕ) (pending : List Pending) → HasRoom lists pending → HasRoom (fired lists event path) pending
+pub fired-room : (lists : Lists) (event : Event) (path : List ℕ) (pending : List Pending)
+    → HasRoom lists pending → HasRoom (fired lists event path) pending
 fired-room lists event path pending room =
     let a = fired-data (concerns event Data) path lists.data_watches in
     let b = fired-data (concerns event Data) path lists.exist_watches in
@@ -82,15 +84,18 @@ fired-room lists event path pending room =
 pub reply-room : (xid : _) (ticket : ℕ) (question : Question) (result : Result) (lists : Lists) (rest : List Pending)
     → HasRoom lists (record { xid = xid; waiting = Call_waits ticket question } ∷ rest) → HasRoom (after_reply question result lists) rest
 reply-room xid ticket (Exists path true) result lists rest room =
-    let a = node-on-data (leaves_data (Exists path true) result) lists in let b = node-on-child (leaves_data (Exists path true) result) lists in
+    let a = node-on-data (leaves_data (Exists path true) result) lists in
+    let b = node-on-child (leaves_data (Exists path true) result) lists in
     let d = room.on_data in let e = room.on_child in record { on_data = omega arith; on_child = omega arith }
 reply-room xid ticket (Exists path false) result lists rest room = record { on_data = room.on_data; on_child = room.on_child }
 reply-room xid ticket (GetData path true) result lists rest room =
-    let a = node-on-data (leaves_data (GetData path true) result) lists in let b = node-on-child (leaves_data (GetData path true) result) lists in
+    let a = node-on-data (leaves_data (GetData path true) result) lists in
+    let b = node-on-child (leaves_data (GetData path true) result) lists in
     let d = room.on_data in let e = room.on_child in record { on_data = omega arith; on_child = omega arith }
 reply-room xid ticket (GetData path false) result lists rest room = record { on_data = room.on_data; on_child = room.on_child }
 reply-room xid ticket (GetChildren path true) result lists rest room =
-    let a = children-on-child (leaves_child (GetChildren path true) result) lists in let b = children-on-data (leaves_child (GetChildren path true) result) lists in
+    let a = children-on-child (leaves_child (GetChildren path true) result) lists in
+    let b = children-on-data (leaves_child (GetChildren path true) result) lists in
     let d = room.on_data in let e = room.on_child in record { on_data = omega arith; on_child = omega arith }
 reply-room xid ticket (GetChildren path false) result lists rest room = record { on_data = room.on_data; on_child = room.on_child }
 reply-room xid ticket (SetData path) result lists rest room = record { on_data = room.on_data; on_child = room.on_child }
@@ -128,5 +133,6 @@ room-for xid ticket Close lists rest room side e = absurd cc
 
 -- ---- where a client talks
 
-pub tied-talking : (kept : SessionView) (talk : Talk) → talk.phase ≡ Talking → kept.state ≡ Connected → length kept.saved.session.password ≤ LONGEST_PASSWORD → IsTied kept talk
+pub tied-talking : (kept : SessionView) (talk : Talk)
+    → talk.phase ≡ Talking → kept.state ≡ Connected → length kept.saved.session.password ≤ LONGEST_PASSWORD → IsTied kept talk
 tied-talking kept talk phase state short = record { phase = phase ∙ ap phase_of (sym state); quiet = λ n. absurd (n phase); short = short }

@@ -18,14 +18,17 @@ use Rattle.zk_limits.specs.declared.limits.TheConstants.{LONGEST_PASSWORD}
 abbrev pub beginning : Start → SessionView
 beginning start = kept_start start.timeout start.session start.password start.last
 
-pub begins-view : (start : Start) (kept : SessionView) (talk : Talk) (lists : Lists) (answers : Answers) (held : Held) → kept ≡ beginning start → talk ≡ new_talk → lists ≡ no_lists → answers ≡ no_answers → held ≡ reading []
+pub begins-view : (start : Start) (kept : SessionView) (talk : Talk) (lists : Lists) (answers : Answers) (held : Held)
+    → kept ≡ beginning start → talk ≡ new_talk → lists ≡ no_lists → answers ≡ no_answers → held ≡ reading []
     → shown held.bytes false kept talk lists answers ≡ view_at start []
 begins-view start kept talk lists answers held e f g h i =
     view_ext (shown held.bytes false kept talk lists answers) (view_at start [])
-    (ap (λ (k : SessionView). let s : Standing = record { halted = false; state = k.state } in s) e) (ap (λ (k : SessionView). k.saved) e) (ap (λ (k : SessionView). k.moments) e)
+    (ap (λ (k : SessionView). let s : Standing = record { halted = false; state = k.state } in s) e) (ap (λ (k : SessionView). k.saved) e)
+    (ap (λ (k : SessionView). k.moments) e)
     (ap (λ (t : Talk). t.pending) f) (ap (λ (r : Held). r.bytes) i) (ap (λ (t : Talk). t.xid) f) g (nothing-kept answers h)
 
-begins-sound : (start : Start) (kept : SessionView) (talk : Talk) (lists : Lists) → length start.password ≤ LONGEST_PASSWORD → kept ≡ beginning start → talk ≡ new_talk → lists ≡ no_lists → IsSound kept talk lists
+begins-sound : (start : Start) (kept : SessionView) (talk : Talk) (lists : Lists)
+    → length start.password ≤ LONGEST_PASSWORD → kept ≡ beginning start → talk ≡ new_talk → lists ≡ no_lists → IsSound kept talk lists
 begins-sound start kept talk lists short e f g = rw (e, f, g) (record {
   tied = record { phase = refl; quiet = λ n. refl; short = short };
   room = record { on_data = omega arith; on_child = omega arith };
@@ -35,18 +38,22 @@ begins-reading : (held : Held) → held ≡ reading [] → IsReading held
 begins-reading held e = rw e (record { clean = refl; less = nothing-held })
 
 -- both
-pub begins : (start : Start) (kept : SessionView) (talk : Talk) (lists : Lists) (held : Held) → length start.password ≤ LONGEST_PASSWORD → kept ≡ beginning start → talk ≡ new_talk → lists ≡ no_lists → held ≡ reading []
+pub begins : (start : Start) (kept : SessionView) (talk : Talk) (lists : Lists) (held : Held)
+    → length start.password ≤ LONGEST_PASSWORD → kept ≡ beginning start → talk ≡ new_talk → lists ≡ no_lists → held ≡ reading []
     → IsSound kept talk lists × IsReading held
 begins start kept talk lists held short e f g h = (begins-sound start kept talk lists short e f g, begins-reading held h)
 
 saved-ext : (a b : Saved) → origin_of a ≡ origin_of b → a.last ≡ b.last → a ≡ b
 saved-ext a b e f = λ i. record { asked = (e i).asked; session = (e i).session; last = f i }
 
-pub halts : (held then_held : List ℕ) (halted then_halted : Bool) (kept new : SessionView) (talk then_talk : Talk) (lists gone : Lists) (answers nothing : Answers)
-    → then_halted ≡ true → new.state ≡ kept.state → new.saved.last ≡ kept.saved.last → origin_of new.saved ≡ origin_of kept.saved → gone ≡ no_lists → nothing ≡ no_answers
+pub halts : (held then_held : List ℕ) (halted then_halted : Bool) (kept new : SessionView) (talk then_talk : Talk) (lists gone : Lists)
+    (answers nothing : Answers)
+    → then_halted ≡ true → new.state ≡ kept.state → new.saved.last ≡ kept.saved.last → origin_of new.saved ≡ origin_of kept.saved
+    → gone ≡ no_lists → nothing ≡ no_answers
     → HaltsAs (shown held halted kept talk lists answers) (shown then_held then_halted new then_talk gone nothing)
 halts held then_held halted then_halted kept new talk then_talk lists gone answers nothing h state last origin e f = record {
-  standing = ap (λ (b : Bool). let s : Standing = record { halted = b; state = new.state } in s) h ∙ ap (λ s. let t : Standing = record { halted = true; state = s } in t) state;
+  standing = ap (λ (b : Bool). let s : Standing = record { halted = b; state = new.state } in s) h
+      ∙ ap (λ s. let t : Standing = record { halted = true; state = s } in t) state;
   saved = saved-ext new.saved kept.saved origin last;
   lists = e;
   cache = nothing-kept nothing f;

@@ -13,7 +13,8 @@ view_of client = view_with client.reader.bytes client.core
 
 -- a saved session to begin with
 abbrev pub saved_start : (timeout : ℤ) → Saved → Start
-saved_start timeout saved = record { timeout = unsigned_abs timeout; session = saved.session; password = saved.password.now; last = saved.last_zxid }
+saved_start timeout saved =
+    record { timeout = unsigned_abs timeout; session = saved.session; password = saved.password.now; last = saved.last_zxid }
 
 -- What a client begins with that goes on after this one: no session, as a new client, and the last seen zxid.
 abbrev pub renewed_start : (timeout : ℤ) → View → Start

@@ -3,13 +3,15 @@ use Rattle.std.specs.Prelude.{ℕ, List, ◌++◌, codes, Option, Some, None}
 use Rattle.std.specs.Fmt.{signed_decimal}
 use Rattle.zk_frames.specs.FaultText.{frame_fault_words, frame_fault_code}
 use Rattle.zk_conversation.specs.FaultText.{talk_fault_words, talk_fault_code}
-use Rattle.zk_turns.specs.Turns.{Fault, Framed, Talked, Silent, Behind, WatchesRefused, Outcome, Replied, ConnectionLoss, SessionExpired, SessionClosed, NotConnected, TooManyWatches, TooLarge, TooManyPending}
+use Rattle.zk_turns.specs.Turns.{Fault, Framed, Talked, Silent, Behind, WatchesRefused, Outcome, Replied, ConnectionLoss, SessionExpired}
+use Rattle.zk_turns.specs.Turns.{SessionClosed, NotConnected, TooManyWatches, TooLarge, TooManyPending}
 
 abbrev pub fault_words : Fault → List ℕ
 fault_words (Framed fault) = frame_fault_words fault
 fault_words (Talked fault) = talk_fault_words fault
 fault_words Silent = codes "nothing was heard for two thirds of the timeout"
-fault_words (Behind seen came) = codes "zxid " ++ (signed_decimal seen ++ (codes " was seen, and a reply to a watched read has zxid " ++ signed_decimal came))
+fault_words (Behind seen came) =
+    codes "zxid " ++ (signed_decimal seen ++ (codes " was seen, and a reply to a watched read has zxid " ++ signed_decimal came))
 fault_words (WatchesRefused code) = codes "setWatches was refused with code " ++ signed_decimal code
 
 abbrev pub fault_code : Fault → List ℕ

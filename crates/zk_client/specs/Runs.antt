@@ -21,7 +21,8 @@ use Rattle.zk_client.specs.Outsides.{Told, TellsAll, NoneIsLeft}
 -- is too long. And where all that the server sent was taken, each good answer is what it would answer.
 pub record IsTrueToServers (start : Start) (items : List Item) (view : View) : Type 0 where
   pub coherent : (h : History) → IsHistory h → (served : Served h start items) → Headline h start items view served.entries
-  pub quiet : (h : History) → IsHistory h → (entries : List Entry) → IsServing h start entries → items_in entries ≡ items → IsQuietAt h start entries → IsTrueOf (tree_of h entries) view.cache
+  pub quiet : (h : History) → IsHistory h → (entries : List Entry)
+      → IsServing h start entries → items_in entries ≡ items → IsQuietAt h start entries → IsTrueOf (tree_of h entries) view.cache
 
 -- Whatever came: an answer is marked good exactly where a reply left its watch and nothing has ended it since; the last seen zxid is
 -- the greatest of those that count; each notice that ended what was good was reported once, and nothing else; after an expiry, a

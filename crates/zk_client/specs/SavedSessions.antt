@@ -1,5 +1,6 @@
 -- A session that is put away, and its spelling as bytes and as text.
-use Rattle.std.specs.Prelude.{◌≡◌, ◌≢◌, ◌≤◌, ℕ, ℤ, pos, ◌≤ℤ◌, int_lt, nat_lt, if◌then◌else◌, List, [], ◌∷◌, ◌++◌, length, codes, Some, None, Result, Ok, Err, MatchResult, FitsSigned}
+use Rattle.std.specs.Prelude.{◌≡◌, ◌≢◌, ◌≤◌, ℕ, ℤ, pos, ◌≤ℤ◌, int_lt, nat_lt, if◌then◌else◌, List, [], ◌∷◌, ◌++◌, length, codes, Some, None}
+use Rattle.std.specs.Prelude.{Result, Ok, Err, MatchResult, FitsSigned}
 use Rattle.std.specs.Fmt.{decimal, signed_decimal}
 use Rattle.std.specs.Int.{w64}
 use Rattle.hex.specs.Hex.{decode_of, encode_lower}
@@ -11,7 +12,8 @@ use Rattle.zk_jute.specs.Reading.{reading}
 use Rattle.zk_jute.specs.Spelling.{IsBytes, spelling}
 use Rattle.zk_jute.specs.declared.fault.TakeError.{TakeError}
 use Rattle.zk_client.specs.declared.saved_fault.SavedFault.{SavedFault}
-use Rattle.zk_client.specs.declared.saved_fault.SavedFault.TheVariants.{NotHex, OddDigits, Unread, BytesBehind, NoPassword, LongPassword, NegativeZxid, Memory}
+use Rattle.zk_client.specs.declared.saved_fault.SavedFault.TheVariants.{NotHex, OddDigits, Unread, BytesBehind, NoPassword, LongPassword}
+use Rattle.zk_client.specs.declared.saved_fault.SavedFault.TheVariants.{NegativeZxid, Memory}
 use Rattle.zk_limits.specs.declared.limits.TheConstants.{LONGEST_PASSWORD}
 
 -- what is put away: the session's id, its password, and the last seen zxid
@@ -108,4 +110,5 @@ saved_fault_text Memory = codes "out of memory"
 
 -- how {:?} shows a saved session: without its password
 abbrev pub saved_debug_text : PutAway → List ℕ
-saved_debug_text value = codes "SavedSession { session: " ++ (signed_decimal value.session ++ (codes ", last_zxid: " ++ (signed_decimal value.last ++ codes ", .. }")))
+saved_debug_text value = codes "SavedSession { session: "
+    ++ (signed_decimal value.session ++ (codes ", last_zxid: " ++ (signed_decimal value.last ++ codes ", .. }")))

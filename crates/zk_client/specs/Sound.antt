@@ -42,7 +42,8 @@ pub record IsReading (held : Held) : Type 0 where
 
 -- What arrived took its request out of what was pending.
 abbrev pub IsLeft : Arrived → List Pending → List Pending → Type 0
-IsLeft (Replied ticket question zxid result) pending rest = (xid : _) × (pending ≡ record { xid = xid; waiting = Call_waits ticket question } ∷ rest)
+IsLeft (Replied ticket question zxid result) pending rest =
+    (xid : _) × (pending ≡ record { xid = xid; waiting = Call_waits ticket question } ∷ rest)
 IsLeft (Watches_set last zxid err) pending rest = (xid : _) × (pending ≡ record { xid = xid; waiting = Part_waits last } ∷ rest)
 IsLeft _ pending rest = pending ≡ rest
 
@@ -52,7 +53,8 @@ HasRoomFor side lists = (other : Side) → side ≡ Some other → count_of list
 
 -- where what arrives finds the session: only while it is Connecting it is the first message
 abbrev pub ComesTo : Arrived → State → List Pending → Type 0
-ComesTo (Connected response) state pending = (state ≡ Connecting) × (length pending ≡ 0) × (length (response_password response) ≤ LONGEST_PASSWORD)
+ComesTo (Connected response) state pending =
+    (state ≡ Connecting) × (length pending ≡ 0) × (length (response_password response) ≤ LONGEST_PASSWORD)
 ComesTo _ state pending = state ≡ Is_connected
 
 -- A payload was read, and what arrived has its effect yet.

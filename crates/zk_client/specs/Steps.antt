@@ -1,5 +1,6 @@
 -- Parts of one step.
-use Rattle.std.specs.Prelude.{◌≡◌, ℕ, Bool, negsuc, ◌+◌, ◌<◌, ◌≤◌, pos, List, [], ◌∷◌, ◌++◌, length, Option, Some, None, unsigned_abs, true, false}
+use Rattle.std.specs.Prelude.{◌≡◌, ℕ, Bool, negsuc, ◌+◌, ◌<◌, ◌≤◌, pos, List, [], ◌∷◌, ◌++◌, length, Option, Some, None, unsigned_abs, true}
+use Rattle.std.specs.Prelude.{false}
 use Rattle.std.specs.Ordering.{int_eq}
 use Rattle.zk_nodes.specs.declared.side.Side.{Side}
 use Rattle.zk_records.specs.declared.code.Code.{Code}
@@ -22,7 +23,8 @@ use Rattle.zk_limits.specs.declared.limits.TheConstants.{LONGEST_OUTGOING, MOST_
 pub record IsSendable (view : View) (call : Call) : Type 0 where
   pub talks : view.standing.state ≡ Connected
   pub few : calls_pending view.pending < MOST_PENDING
-  pub room : (side : Side) → watched_side (question_of call) ≡ Some side → count_of view.lists side + watches_pending side view.pending < MOST_PATHS
+  pub room : (side : Side)
+      → watched_side (question_of call) ≡ Some side → count_of view.lists side + watches_pending side view.pending < MOST_PATHS
   pub fits : length (call_payload (pos view.xid) call) ≤ LONGEST_OUTGOING
 
 abbrev pub is_no_node : Code → Bool

@@ -1,6 +1,7 @@
 //! What payloads bring.
 
-ghost use Rattle.std.specs.Prelude.{◌≡◌, ◌≢◌, ◌≤◌, ℕ, ℤ, List, [], ◌∷◌, ◌++◌, map, OnOk, OnErr, IfOk, length, true, false, if◌then◌else◌, ◌≤ℤ◌, ◌<ℤ◌, pos, ◌&&◌, bytes_eq};
+ghost use Rattle.std.specs.Prelude.{◌≡◌, ◌≢◌, ◌≤◌, ℕ, ℤ, List, [], ◌∷◌, ◌++◌, map, OnOk, OnErr, IfOk, length, true, false, if◌then◌else◌};
+ghost use Rattle.std.specs.Prelude.{◌≤ℤ◌, ◌<ℤ◌, pos, ◌&&◌, bytes_eq};
 ghost use Rattle.zk_frames.specs.Frame.{frame};
 ghost use Rattle.zk_limits.specs.declared.limits.TheConstants.{LONGEST_OUTGOING};
 ghost use Rattle.zk_limits.specs.declared.limits.TheConstants.{LONGEST_INCOMING};
@@ -56,8 +57,10 @@ impl<A: Allocator + Copy> Core<A> {
         requires up { IsOpen self.old.session.state }
         requires admitted { length payload.now ≤ LONGEST_INCOMING }
         ensures sound { OnOk result (CoreIsSound self.new) }
-        ensures next { OnOk result ((held : List ℕ) → view_with [] self.new ≡ next (view_with held self.old) (arrival (view_with held self.old) payload.now)) }
-        ensures says { OnOk result ((held : List ℕ) → said outputs.new.items ≡ said outputs.old.items ++ says (view_with held self.old) (arrival (view_with held self.old) payload.now)) }
+        ensures next { OnOk result
+            ((held : List ℕ) → view_with [] self.new ≡ next (view_with held self.old) (arrival (view_with held self.old) payload.now)) }
+        ensures says { OnOk result ((held : List ℕ) → said outputs.new.items
+            ≡ said outputs.old.items ++ says (view_with held self.old) (arrival (view_with held self.old) payload.now)) }
         ensures origin { origin self.new ≡ origin self.old }
     {
         match self.conversation.arrived(payload) {
@@ -79,10 +82,14 @@ impl<A: Allocator + Copy> Core<A> {
     ) -> Result<(), AllocError>
         requires { CoreHasArrived (arrival_view arrival) self.old }
         ensures sound { OnOk result (CoreIsSound self.new) }
-        ensures next { OnOk result ((held : List ℕ) (pending : List Pending) → IsLeft (arrival_view arrival.entry) pending self.old.conversation.pending →
-            view_with [] self.new ≡ next (while_pending pending (view_with held self.old)) (taken_of self.old.session.saved.last (arrival_view arrival.entry))) }
-        ensures says { OnOk result ((held : List ℕ) (pending : List Pending) → IsLeft (arrival_view arrival.entry) pending self.old.conversation.pending →
-            said outputs.new.items ≡ said outputs.old.items ++ says (while_pending pending (view_with held self.old)) (taken_of self.old.session.saved.last (arrival_view arrival.entry))) }
+        ensures next { OnOk result
+            ((held : List ℕ) (pending : List Pending) → IsLeft (arrival_view arrival.entry) pending self.old.conversation.pending →
+            view_with [] self.new ≡ next (while_pending pending (view_with held self.old))
+            (taken_of self.old.session.saved.last (arrival_view arrival.entry))) }
+        ensures says { OnOk result
+            ((held : List ℕ) (pending : List Pending) → IsLeft (arrival_view arrival.entry) pending self.old.conversation.pending →
+            said outputs.new.items ≡ said outputs.old.items ++ says (while_pending pending (view_with held self.old))
+            (taken_of self.old.session.saved.last (arrival_view arrival.entry))) }
         ensures origin { origin self.new ≡ origin self.old }
     {
         match arrival {
@@ -114,9 +121,11 @@ impl<A: Allocator + Copy> Core<A> {
         requires { CoreHasArrived (Welcomed (lent_response_of response.now)) self.old }
         ensures sound { OnOk result (CoreIsSound self.new) }
         ensures next { OnOk result ((held : List ℕ) (pending : List Pending) → pending ≡ self.old.conversation.pending →
-            view_with [] self.new ≡ next (while_pending pending (view_with held self.old)) (taken_of self.old.session.saved.last (Welcomed (lent_response_of response.now)))) }
+            view_with [] self.new ≡ next (while_pending pending (view_with held self.old))
+            (taken_of self.old.session.saved.last (Welcomed (lent_response_of response.now)))) }
         ensures says { OnOk result ((held : List ℕ) (pending : List Pending) → pending ≡ self.old.conversation.pending →
-            said outputs.new.items ≡ said outputs.old.items ++ says (while_pending pending (view_with held self.old)) (taken_of self.old.session.saved.last (Welcomed (lent_response_of response.now)))) }
+            said outputs.new.items ≡ said outputs.old.items ++ says (while_pending pending (view_with held self.old))
+            (taken_of self.old.session.saved.last (Welcomed (lent_response_of response.now)))) }
         ensures origin { origin self.new ≡ origin self.old }
     {
         let taken = Response {
@@ -142,7 +151,8 @@ impl<A: Allocator + Copy> Core<A> {
         requires short { length self.old.session.saved.session.password ≤ LONGEST_PASSWORD }
         requires over { response.now.time_out ≤ℤ pos 0 }
         ensures sound { OnOk result (CoreIsSound self.new) }
-        ensures next { OnOk result ((held : List ℕ) (pending : List Pending) → view_with [] self.new ≡ next (while_pending pending (view_with held self.old)) (Took Expiry)) }
+        ensures next { OnOk result ((held : List ℕ) (pending : List Pending)
+            → view_with [] self.new ≡ next (while_pending pending (view_with held self.old)) (Took Expiry)) }
         ensures says { OnOk result (said outputs.new.items ≡ said outputs.old.items ++ Enters State.Expired ∷ []) }
         ensures origin { origin self.new ≡ origin self.old }
     {
@@ -166,8 +176,10 @@ impl<A: Allocator + Copy> Core<A> {
         requires short { length response.now.password.now ≤ LONGEST_PASSWORD }
         requires goes_on { pos 0 <ℤ response.now.time_out }
         ensures sound { OnOk result (CoreIsSound self.new) }
-        ensures next { OnOk result ((held : List ℕ) (pending : List Pending) → view_with [] self.new ≡ next (while_pending pending (view_with held self.old)) (Took (Accepted (welcome_of response.now)))) }
-        ensures says { OnOk result (said outputs.new.items ≡ said outputs.old.items ++ (Enters State.Connected ∷ map (part_frame self.old.session.saved.last) (parts self.old.registry))) }
+        ensures next { OnOk result ((held : List ℕ) (pending : List Pending)
+            → view_with [] self.new ≡ next (while_pending pending (view_with held self.old)) (Took (Accepted (welcome_of response.now)))) }
+        ensures says { OnOk result (said outputs.new.items
+            ≡ said outputs.old.items ++ (Enters State.Connected ∷ map (part_frame self.old.session.saved.last) (parts self.old.registry))) }
         ensures origin { origin self.new ≡ origin self.old }
     {
         put_by(self.alloc, &self.session, &mut self.earlier)?;
@@ -189,10 +201,14 @@ impl<A: Allocator + Copy> Core<A> {
     ) -> Result<(), AllocError>
         requires { CoreHasArrived (Part_set last zxid err) self.old }
         ensures sound { OnOk result (CoreIsSound self.new) }
-        ensures next { OnOk result ((held : List ℕ) (pending : List Pending) → IsLeft (Part_set last zxid err) pending self.old.conversation.pending →
-            view_with [] self.new ≡ next (while_pending pending (view_with held self.old)) (taken_of self.old.session.saved.last (Part_set last zxid err))) }
-        ensures says { OnOk result ((held : List ℕ) (pending : List Pending) → IsLeft (Part_set last zxid err) pending self.old.conversation.pending →
-            said outputs.new.items ≡ said outputs.old.items ++ says (while_pending pending (view_with held self.old)) (taken_of self.old.session.saved.last (Part_set last zxid err))) }
+        ensures next { OnOk result
+            ((held : List ℕ) (pending : List Pending) → IsLeft (Part_set last zxid err) pending self.old.conversation.pending →
+            view_with [] self.new
+            ≡ next (while_pending pending (view_with held self.old)) (taken_of self.old.session.saved.last (Part_set last zxid err))) }
+        ensures says { OnOk result
+            ((held : List ℕ) (pending : List Pending) → IsLeft (Part_set last zxid err) pending self.old.conversation.pending →
+            said outputs.new.items ≡ said outputs.old.items
+            ++ says (while_pending pending (view_with held self.old)) (taken_of self.old.session.saved.last (Part_set last zxid err))) }
         ensures origin { origin self.new ≡ origin self.old }
     {
         if err != 0 {
@@ -214,9 +230,11 @@ impl<A: Allocator + Copy> Core<A> {
         requires { CoreHasArrived (Notice event path.now) self.old }
         ensures sound { OnOk result (CoreIsSound self.new) }
         ensures next { OnOk result ((held : List ℕ) (pending : List Pending) → pending ≡ self.old.conversation.pending →
-            view_with [] self.new ≡ next (while_pending pending (view_with held self.old)) (taken_of self.old.session.saved.last (Notice event path.now))) }
+            view_with [] self.new
+            ≡ next (while_pending pending (view_with held self.old)) (taken_of self.old.session.saved.last (Notice event path.now))) }
         ensures says { OnOk result ((held : List ℕ) (pending : List Pending) → pending ≡ self.old.conversation.pending →
-            said outputs.new.items ≡ said outputs.old.items ++ says (while_pending pending (view_with held self.old)) (taken_of self.old.session.saved.last (Notice event path.now))) }
+            said outputs.new.items ≡ said outputs.old.items
+            ++ says (while_pending pending (view_with held self.old)) (taken_of self.old.session.saved.last (Notice event path.now))) }
         ensures origin { origin self.new ≡ origin self.old }
     {
         let fired = self.registry.fire(event, path);
@@ -259,8 +277,10 @@ fn sent_if<A: Allocator>(any: bool, session: &mut Session<A>)
 
 // What is kept of the path is stale on each side that the event is about.
 fn spoil<A: Allocator + Copy>(event: Event, path: &str, cache: &mut Cache<A>)
-    ensures nodes { (text : Text) → data_kept cache.new text ≡ (if concerns event Data && bytes_eq path.now text then stale (data_kept cache.old text) else data_kept cache.old text) }
-    ensures children { (text : Text) → names_kept cache.new text ≡ (if concerns event Child && bytes_eq path.now text then stale (names_kept cache.old text) else names_kept cache.old text) }
+    ensures nodes { (text : Text) → data_kept cache.new text
+        ≡ (if concerns event Data && bytes_eq path.now text then stale (data_kept cache.old text) else data_kept cache.old text) }
+    ensures children { (text : Text) → names_kept cache.new text
+        ≡ (if concerns event Child && bytes_eq path.now text then stale (names_kept cache.old text) else names_kept cache.old text) }
 {
     spoil_side(event.concerns(Side::Data), Side::Data, path, cache);
     spoil_side(event.concerns(Side::Child), Side::Child, path, cache);
@@ -301,7 +321,8 @@ fn send_parts<A: Allocator + Copy>(
 ) -> Result<bool, AllocError>
     requires { conversation.old.phase ≡ Talking }
     ensures phase { OnOk result (conversation.new.phase ≡ Talking) }
-    ensures pending { OnOk result (conversation.new.pending ≡ conversation.old.pending ++ map pending_for (parts_asked (parts registry.now))) }
+    ensures pending { OnOk result
+        (conversation.new.pending ≡ conversation.old.pending ++ map pending_for (parts_asked (parts registry.now))) }
     ensures xid { OnOk result (conversation.new.xid ≡ conversation.old.xid) }
     ensures says { OnOk result (said outputs.new.items ≡ said outputs.old.items ++ map (part_frame last) (parts registry.now)) }
     ensures any { IfOk result (λ any. any ≡ has_any (parts registry.now)) }

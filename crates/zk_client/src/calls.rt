@@ -1,6 +1,7 @@
 //! A call of a caller.
 
-ghost use Rattle.std.specs.Prelude.{◌≡◌, ◌<◌, ◌≤◌, ◌+◌, ℕ, List, [], ◌∷◌, ◌++◌, OnOk, MatchOption, Option, Some, None, pos, length, FitsSigned};
+ghost use Rattle.std.specs.Prelude.{◌≡◌, ◌<◌, ◌≤◌, ◌+◌, ℕ, List, [], ◌∷◌, ◌++◌, OnOk, MatchOption, Option, Some, None, pos, length};
+ghost use Rattle.std.specs.Prelude.{FitsSigned};
 ghost use Rattle.std.specs.Int.{w32};
 ghost use Rattle.zk_nodes.specs.declared.side.Side.{Side as A_side};
 ghost use Rattle.zk_conversation.specs.Calls.{call_payload};
@@ -127,8 +128,10 @@ impl<A: Allocator + Copy> Core<A> {
     ) -> Result<(), AllocError>
         requires sound { CoreIsSound self.old }
         ensures sound { OnOk result (CoreIsSound self.new) }
-        ensures next { OnOk result ((held : List ℕ) → view_with held self.new ≡ after_all (view_with held self.old) (calls ticket (call_view call) (refusal (view_with held self.old) (call_view call)))) }
-        ensures says { OnOk result ((held : List ℕ) → said outputs.new.items ≡ said outputs.old.items ++ says_all (view_with held self.old) (calls ticket (call_view call) (refusal (view_with held self.old) (call_view call)))) }
+        ensures next { OnOk result ((held : List ℕ) → view_with held self.new
+            ≡ after_all (view_with held self.old) (calls ticket (call_view call) (refusal (view_with held self.old) (call_view call)))) }
+        ensures says { OnOk result ((held : List ℕ) → said outputs.new.items ≡ said outputs.old.items
+            ++ says_all (view_with held self.old) (calls ticket (call_view call) (refusal (view_with held self.old) (call_view call)))) }
         ensures origin { origin self.new ≡ origin self.old }
     {
         if let Some(outcome) = self.refusal(&call) {

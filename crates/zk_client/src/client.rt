@@ -32,7 +32,8 @@ pub struct Client<A: Allocator + Copy = Global> {
 }
 
 impl<A: Allocator + Copy> Client<A> {
-    ghost use Rattle.std.specs.Prelude.{◌≡◌, ◌≤◌, ◌<◌, ◌^◌, ◌<ℤ◌, ◌≤ℤ◌, pos, unsigned_abs, length, ℕ, List, [], ◌∷◌, None, IfOk, IfSome, OnOk, OnErr, IsOk, IsErr, true, false, option_map};
+    ghost use Rattle.std.specs.Prelude.{◌≡◌, ◌≤◌, ◌<◌, ◌^◌, ◌<ℤ◌, ◌≤ℤ◌, pos, unsigned_abs, length, ℕ, List, [], ◌∷◌, None, IfOk, IfSome};
+    ghost use Rattle.std.specs.Prelude.{OnOk, OnErr, IsOk, IsErr, true, false, option_map};
     ghost use Rattle.zk_session.specs.Fields.{Saves};
     ghost use Rattle.zk_limits.specs.declared.limits.TheConstants.{LONGEST_PASSWORD};
     ghost use Rattle.zk_cache.specs.Contents.{answer_of, names_in};
@@ -100,7 +101,8 @@ impl<A: Allocator + Copy> Client<A> {
     /// effect takes no memory.
     pub fn step(&mut self, input: Input<A>) -> Result<Vec<Output<A>, A>, Halt>
         ensures rule { IfOk result (λ outputs. Rule (view_of self.old) (turn_of input outputs.items) (view_of self.new)) }
-        ensures stands { IfOk result (λ outputs. (start : Start) (items : List Item) → Stands start items (view_of self.old) → Stands start (Turned (turn_of input outputs.items) ∷ items) (view_of self.new)) }
+        ensures stands { IfOk result (λ outputs. (start : Start) (items : List Item) → Stands start items (view_of self.old)
+            → Stands start (Turned (turn_of input outputs.items) ∷ items) (view_of self.new)) }
         ensures typed { AsksOf IsTyped (input_view input) }
         ensures quiet { IsQuiet (view_of self.old) (input_view input) → IsOk result }
         ensures halt { OnErr result (HaltsAs (view_of self.old) (view_of self.new)) }
@@ -118,7 +120,8 @@ impl<A: Allocator + Copy> Client<A> {
         outputs: &mut Vec<Output<A>, A>,
     ) -> Result<(), Halt>
         ensures rule { OnOk result (Rule (view_of self.old) (turn_of input outputs.new.items) (view_of self.new)) }
-        ensures stands { OnOk result ((start : Start) (items : List Item) → Stands start items (view_of self.old) → Stands start (Turned (turn_of input outputs.new.items) ∷ items) (view_of self.new)) }
+        ensures stands { OnOk result ((start : Start) (items : List Item) → Stands start items (view_of self.old)
+            → Stands start (Turned (turn_of input outputs.new.items) ∷ items) (view_of self.new)) }
         ensures typed { AsksOf IsTyped (input_view input) }
         ensures quiet { IsQuiet (view_of self.old) (input_view input) → IsOk result }
         ensures halt { OnErr result (HaltsAs (view_of self.old) (view_of self.new)) }
@@ -143,7 +146,8 @@ impl<A: Allocator + Copy> Client<A> {
     /// An error is that of [`step`](Client::step): memory ran out; if it came at the input, the moment was a turn, whose outputs are gone.
     pub fn step_at(&mut self, now: u64, input: Input<A>) -> Result<Vec<Output<A>, A>, Halt>
         ensures rule { IfOk result (λ outputs. RuleAt now (view_of self.old) (turn_of input outputs.items) (view_of self.new)) }
-        ensures stands { IfOk result (λ outputs. (start : Start) (items : List Item) → Stands start items (view_of self.old) → StandsAt start items now (turn_of input outputs.items) (view_of self.new)) }
+        ensures stands { IfOk result (λ outputs. (start : Start) (items : List Item) → Stands start items (view_of self.old)
+            → StandsAt start items now (turn_of input outputs.items) (view_of self.new)) }
         ensures typed { AsksOf IsTyped (input_view input) }
         ensures quiet { IsQuietAt (view_of self.old) now (input_view input) → IsOk result }
         ensures halt { OnErr result (HaltsAt now (view_of self.old) (view_of self.new)) }
@@ -163,7 +167,8 @@ impl<A: Allocator + Copy> Client<A> {
         outputs: &mut Vec<Output<A>, A>,
     ) -> Result<(), Halt>
         ensures rule { OnOk result (RuleAt now (view_of self.old) (turn_of input outputs.new.items) (view_of self.new)) }
-        ensures stands { OnOk result ((start : Start) (items : List Item) → Stands start items (view_of self.old) → StandsAt start items now (turn_of input outputs.new.items) (view_of self.new)) }
+        ensures stands { OnOk result ((start : Start) (items : List Item) → Stands start items (view_of self.old)
+            → StandsAt start items now (turn_of input outputs.new.items) (view_of self.new)) }
         ensures typed { AsksOf IsTyped (input_view input) }
         ensures quiet { IsQuietAt (view_of self.old) now (input_view input) → IsOk result }
         ensures halt { OnErr result (HaltsAt now (view_of self.old) (view_of self.new)) }
@@ -187,7 +192,8 @@ impl<A: Allocator + Copy> Client<A> {
     ) -> Result<(), Halt>
         requires { outputs.old.items ≡ [] }
         ensures rule { OnOk result (RuleAt now (view_of self.old) (turn_of input outputs.new.items) (view_of self.new)) }
-        ensures stands { OnOk result ((start : Start) (items : List Item) → Stands start items (view_of self.old) → StandsAt start items now (turn_of input outputs.new.items) (view_of self.new)) }
+        ensures stands { OnOk result ((start : Start) (items : List Item) → Stands start items (view_of self.old)
+            → StandsAt start items now (turn_of input outputs.new.items) (view_of self.new)) }
         ensures typed { AsksOf IsTyped (input_view input) }
         ensures quiet { IsQuietAt (view_of self.old) now (input_view input) → IsOk result }
         ensures halt { OnErr result (HaltsAt now (view_of self.old) (view_of self.new)) }
@@ -202,7 +208,8 @@ impl<A: Allocator + Copy> Client<A> {
 
     /// Takes an input, and adds the outputs that it makes due.
     fn apply_input(&mut self, input: Input<A>, outputs: &mut Vec<Output<A>, A>) -> Result<(), Halt>
-        ensures rule { OnOk result (Adds (view_of self.old) (input_view input) (said outputs.old.items) (said outputs.new.items) (view_of self.new)) }
+        ensures rule { OnOk result
+            (Adds (view_of self.old) (input_view input) (said outputs.old.items) (said outputs.new.items) (view_of self.new)) }
         ensures typed { AsksOf IsTyped (input_view input) }
         ensures quiet { IsQuiet (view_of self.old) (input_view input) → IsOk result }
         ensures halt { OnErr result (HaltsAs (view_of self.old) (view_of self.new)) }
@@ -249,14 +256,16 @@ impl<A: Allocator + Copy> Client<A> {
 
     /// What is kept about the data of a path. It takes no memory.
     pub fn peek_data(&self, path: &Path<A>) -> Option<(&DataAnswer<A>, Mark)>
-        ensures { option_map (λ kept. record { answer = answer_of kept.0.now; mark = kept.1 }) result ≡ (view_of self.now).cache.nodes path.now }
+        ensures { option_map (λ kept. record { answer = answer_of kept.0.now; mark = kept.1 }) result
+            ≡ (view_of self.now).cache.nodes path.now }
     {
         self.core.cache.peek_data(path.as_str())
     }
 
     /// What is kept about the children of a path. It takes no memory.
     pub fn peek_children(&self, path: &Path<A>) -> Option<(&Names<A>, Mark)>
-        ensures { option_map (λ kept. record { answer = names_in kept.0.now; mark = kept.1 }) result ≡ (view_of self.now).cache.children path.now }
+        ensures { option_map (λ kept. record { answer = names_in kept.0.now; mark = kept.1 }) result
+            ≡ (view_of self.now).cache.children path.now }
     {
         self.core.cache.peek_children(path.as_str())
     }
@@ -264,7 +273,8 @@ impl<A: Allocator + Copy> Client<A> {
     /// What is kept about the data of the path with this text, as [`Client::peek_data`] tells it. Whether it is a path's is not
     /// looked at. It takes no memory.
     pub fn peek_data_at(&self, text: &str) -> Option<(&DataAnswer<A>, Mark)>
-        ensures { option_map (λ kept. record { answer = answer_of kept.0.now; mark = kept.1 }) result ≡ (view_of self.now).cache.nodes text.now }
+        ensures { option_map (λ kept. record { answer = answer_of kept.0.now; mark = kept.1 }) result
+            ≡ (view_of self.now).cache.nodes text.now }
     {
         self.core.cache.peek_data(text)
     }
@@ -272,7 +282,8 @@ impl<A: Allocator + Copy> Client<A> {
     /// What is kept about the children of the path with this text, as [`Client::peek_children`] tells it. Whether it is a path's is
     /// not looked at. It takes no memory.
     pub fn peek_children_at(&self, text: &str) -> Option<(&Names<A>, Mark)>
-        ensures { option_map (λ kept. record { answer = names_in kept.0.now; mark = kept.1 }) result ≡ (view_of self.now).cache.children text.now }
+        ensures { option_map (λ kept. record { answer = names_in kept.0.now; mark = kept.1 }) result
+            ≡ (view_of self.now).cache.children text.now }
     {
         self.core.cache.peek_children(text)
     }
@@ -304,7 +315,8 @@ impl<A: Allocator + Copy> Client<A> {
     /// Takes the stale answers out. It takes no memory.
     pub fn forget_stale(&mut self)
         ensures view { view_of self.new ≡ record (view_of self.old) { cache = forgotten (view_of self.old).cache } }
-        ensures stands { (start : Start) (items : List Item) → Stands start items (view_of self.old) → Stands start (Forgets ∷ items) (view_of self.new) }
+        ensures stands { (start : Start) (items : List Item) → Stands start items (view_of self.old)
+            → Stands start (Forgets ∷ items) (view_of self.new) }
     {
         one_forget();
         self.core.forget_stale();

@@ -31,7 +31,8 @@ impl<A: Allocator + Copy> Core<A> {
         requires idle { self.old.session.state ≡ Idle }
         ensures sound { OnOk result (CoreIsSound self.new) }
         ensures next { OnOk result ((held : List ℕ) → view_with [] self.new ≡ next (view_with held self.old) Began) }
-        ensures says { OnOk result ((held : List ℕ) → said outputs.new.items ≡ said outputs.old.items ++ says (view_with held self.old) Began) }
+        ensures says { OnOk result
+            ((held : List ℕ) → said outputs.new.items ≡ said outputs.old.items ++ says (view_with held self.old) Began) }
         ensures origin { origin self.new ≡ origin self.old }
     {
         let asked = self.session.connect_fields();
@@ -54,7 +55,8 @@ impl<A: Allocator + Copy> Core<A> {
         ensures sound { OnOk result (CoreIsSound self.new) }
         ensures idle { OnOk result (self.new.session.state ≡ Idle) }
         ensures next { OnOk result ((held : List ℕ) → view_with [] self.new ≡ next (view_with held self.old) Lost) }
-        ensures says { OnOk result ((held : List ℕ) → said outputs.new.items ≡ said outputs.old.items ++ says (view_with held self.old) Lost) }
+        ensures says { OnOk result
+            ((held : List ℕ) → said outputs.new.items ≡ said outputs.old.items ++ says (view_with held self.old) Lost) }
         ensures origin { origin self.new ≡ origin self.old }
     {
         self.session.cut();
@@ -74,7 +76,8 @@ impl<A: Allocator + Copy> Core<A> {
         ensures sound { OnOk result (CoreIsSound self.new) }
         ensures idle { OnOk result (self.new.session.state ≡ Idle) }
         ensures next { OnOk result ((held : List ℕ) → view_with [] self.new ≡ next (view_with held self.old) (Dropped (fault_view fault))) }
-        ensures says { OnOk result ((held : List ℕ) → said outputs.new.items ≡ said outputs.old.items ++ says (view_with held self.old) (Dropped (fault_view fault))) }
+        ensures says { OnOk result ((held : List ℕ)
+            → said outputs.new.items ≡ said outputs.old.items ++ says (view_with held self.old) (Dropped (fault_view fault))) }
         ensures origin { origin self.new ≡ origin self.old }
     {
         say(outputs, Output::Drop(fault))?;
@@ -91,8 +94,11 @@ impl<A: Allocator + Copy> Core<A> {
         requires sound { CoreIsSound self.old }
         requires up { IsOpen self.old.session.state }
         ensures sound { OnOk result (CoreIsSound self.new) }
-        ensures next { OnOk result ((held : List ℕ) (pending : List Pending) → view_with [] self.new ≡ next (while_pending pending (view_with held self.old)) (Dropped (fault_view fault))) }
-        ensures says { OnOk result ((held : List ℕ) (xid : ℤ) (question : Question) → said outputs.new.items ≡ said outputs.old.items ++ says (while_pending (record { xid = xid; waiting = Call_waits ticket question } ∷ self.old.conversation.pending) (view_with held self.old)) (Dropped (fault_view fault))) }
+        ensures next { OnOk result ((held : List ℕ) (pending : List Pending)
+            → view_with [] self.new ≡ next (while_pending pending (view_with held self.old)) (Dropped (fault_view fault))) }
+        ensures says { OnOk result ((held : List ℕ) (xid : ℤ) (question : Question) → said outputs.new.items ≡ said outputs.old.items
+            ++ says (while_pending (record { xid = xid; waiting = Call_waits ticket question } ∷ self.old.conversation.pending)
+            (view_with held self.old)) (Dropped (fault_view fault))) }
         ensures origin { origin self.new ≡ origin self.old }
     {
         say(outputs, Output::Drop(fault))?;

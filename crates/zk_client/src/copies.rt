@@ -17,7 +17,8 @@ fn copied_names<A: Allocator + Copy>(
     alloc: A,
     names: &[TextRef<'_>],
 ) -> Result<Vec<String<A>, A>, AllocError>
-    ensures { IfOk result (λ copies. map string_bytes copies.items ≡ map (λ name. or_empty (option_map (λ text. text.now) name.text)) names.now) }
+    ensures { IfOk result
+        (λ copies. map string_bytes copies.items ≡ map (λ name. or_empty (option_map (λ text. text.now) name.text)) names.now) }
 {
     let mut copies = Vec::new(alloc);
     for name in names {

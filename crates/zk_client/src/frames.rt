@@ -25,8 +25,10 @@ pub(crate) fn receive_bytes<A: Allocator + Copy>(
     requires goes_on { core.old.halted ≡ false }
     ensures sound { OnOk result (CoreIsSound core.new) }
     ensures reading { OnOk result (IsReading reader.new) }
-    ensures next { OnOk result (view_with reader.new.bytes core.new ≡ after_signals (view_with reader.old.bytes core.old) (map Comes piece.items)) }
-    ensures says { OnOk result (said outputs.new.items ≡ said outputs.old.items ++ says_signals (view_with reader.old.bytes core.old) (map Comes piece.items)) }
+    ensures next { OnOk result
+        (view_with reader.new.bytes core.new ≡ after_signals (view_with reader.old.bytes core.old) (map Comes piece.items)) }
+    ensures says { OnOk result
+        (said outputs.new.items ≡ said outputs.old.items ++ says_signals (view_with reader.old.bytes core.old) (map Comes piece.items)) }
     ensures quiet { ¬ (IsOpen core.old.session.state) → IsOk result }
     ensures origin { origin core.new ≡ origin core.old }
 {
@@ -57,7 +59,8 @@ fn take_frames<A: Allocator + Copy>(
     ensures sound { OnOk result (CoreIsSound core.new) }
     ensures reading { OnOk result (IsReading reader.new) }
     ensures next { OnOk result (view_with reader.new.bytes core.new ≡ after_signals (view_with [] core.old) (map Comes reader.old.bytes)) }
-    ensures says { OnOk result (said outputs.new.items ≡ said outputs.old.items ++ says_signals (view_with [] core.old) (map Comes reader.old.bytes)) }
+    ensures says { OnOk result
+        (said outputs.new.items ≡ said outputs.old.items ++ says_signals (view_with [] core.old) (map Comes reader.old.bytes)) }
     ensures origin { origin core.new ≡ origin core.old }
 {
     while core.session.state().is_open() {

@@ -1,8 +1,8 @@
 //! The laws that a client's turns meet, over definitions alone. They are functions that do nothing: their contracts are the laws.
 //!
 //! Whoever stands where its turns have led, [`holds`]: so of each program that calls [`step`](crate::Client::step) the good answers
-//! are the history's. What a turn by the rule leads to, and what is kept, sent, reported and answered by all that happened: [`one_turn`], [`one_cut`] and
-//! those with them. What servers of the model make of it: [`headline`] and those with it.
+//! are the history's. What a turn by the rule leads to, and what is kept, sent, reported and answered by all that happened: [`one_turn`],
+//! [`one_cut`] and those with them. What servers of the model make of it: [`headline`] and those with it.
 
 ghost use Rattle.std.specs.Prelude.{List};
 ghost use Rattle.zk_turns.specs.Turns.{Start, Item};

@@ -51,7 +51,8 @@ impl<A: Allocator + Copy> Core<A> {
 
     /// Takes the stale answers out.
     pub(crate) fn forget_stale(&mut self)
-        ensures view { (held : List ℕ) → view_with held self.new ≡ record (view_with held self.old) { cache = forgotten (cache_of self.old.cache) } }
+        ensures view { (held : List ℕ)
+            → view_with held self.new ≡ record (view_with held self.old) { cache = forgotten (cache_of self.old.cache) } }
         ensures same { self.new ≡ record self.old { cache = with_good self.old.cache } }
     {
         self.cache.forget_stale();

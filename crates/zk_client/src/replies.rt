@@ -99,7 +99,8 @@ fn keep_node<A: Allocator + Copy>(
 ) -> Result<(), AllocError>
     requires room { count_of registry.old Data < MOST_PATHS }
     ensures lists { OnOk result (registry.new ≡ registered registry.old Data (says_there (answer_of answer)) path.now) }
-    ensures nodes { OnOk result ((text : Text) → data_kept cache.new text ≡ (if bytes_eq path.now text then good (merged (data_kept cache.old text) (answer_of answer)) else data_kept cache.old text)) }
+    ensures nodes { OnOk result ((text : Text) → data_kept cache.new text
+        ≡ (if bytes_eq path.now text then good (merged (data_kept cache.old text) (answer_of answer)) else data_kept cache.old text)) }
     ensures children { OnOk result ((text : Text) → names_kept cache.new text ≡ names_kept cache.old text) }
 {
     let present = is_there(&answer);
@@ -128,7 +129,8 @@ fn keep_names<A: Allocator + Copy>(
     requires room { count_of registry.old Child < MOST_PATHS }
     ensures lists { OnOk result (registry.new ≡ registered registry.old Child true path.now) }
     ensures nodes { OnOk result ((text : Text) → data_kept cache.new text ≡ data_kept cache.old text) }
-    ensures children { OnOk result ((text : Text) → names_kept cache.new text ≡ (if bytes_eq path.now text then good (record { names = set_of names.now; pzxid = pzxid }) else names_kept cache.old text)) }
+    ensures children { OnOk result ((text : Text) → names_kept cache.new text
+        ≡ (if bytes_eq path.now text then good (record { names = set_of names.now; pzxid = pzxid }) else names_kept cache.old text)) }
 {
     registry.watch(Side::Child, path, true)?;
     cache.keep_children(path, names, pzxid)
@@ -143,8 +145,10 @@ fn keep<A: Allocator + Copy>(
 ) -> Result<(), AllocError>
     requires room { count_of registry.old (side_left left) < MOST_PATHS }
     ensures lists { OnOk result (registry.new ≡ with_children (children_left left.entry) (with_node (data_left left.entry) registry.old)) }
-    ensures nodes { OnOk result ((text : Text) → data_kept cache.new text ≡ keep_node (data_left left.entry) text (data_kept cache.old text)) }
-    ensures children { OnOk result ((text : Text) → names_kept cache.new text ≡ keep_children (children_left left.entry) text (names_kept cache.old text)) }
+    ensures nodes { OnOk result
+        ((text : Text) → data_kept cache.new text ≡ keep_node (data_left left.entry) text (data_kept cache.old text)) }
+    ensures children { OnOk result
+        ((text : Text) → names_kept cache.new text ≡ keep_children (children_left left.entry) text (names_kept cache.old text)) }
 {
     match left {
         Left::Absent(path) => keep_node(path, DataAnswer::Absent, registry, cache),
@@ -169,7 +173,8 @@ fn answer<A: Allocator + Copy>(
     found: &ReplyResult<'_, A>,
     outputs: &mut Vec<Output<A>, A>,
 ) -> Result<(), AllocError>
-    ensures { OnOk result (said outputs.new.items ≡ said outputs.old.items ++ Answer ticket (turns.Replied zxid (result_view found.now)) ∷ []) }
+    ensures { OnOk result
+        (said outputs.new.items ≡ said outputs.old.items ++ Answer ticket (turns.Replied zxid (result_view found.now)) ∷ []) }
 {
     let result = copied(alloc, found)?;
     let outcome = Outcome::Replied { zxid, result };
@@ -188,10 +193,14 @@ impl<A: Allocator + Copy> Core<A> {
     ) -> Result<(), AllocError>
         requires { CoreHasArrived (Replied ticket (question_view question.now) zxid (result_view found.now)) self.old }
         ensures sound { OnOk result (CoreIsSound self.new) }
-        ensures next { OnOk result ((held : List ℕ) (pending : List Pending) → IsLeft (Replied ticket (question_view question.now) zxid (result_view found.now)) pending self.old.conversation.pending →
-            view_with [] self.new ≡ next (while_pending pending (view_with held self.old)) (taken_of self.old.session.saved.last (Replied ticket (question_view question.now) zxid (result_view found.now)))) }
-        ensures says { OnOk result ((held : List ℕ) (pending : List Pending) → IsLeft (Replied ticket (question_view question.now) zxid (result_view found.now)) pending self.old.conversation.pending →
-            said outputs.new.items ≡ said outputs.old.items ++ says (while_pending pending (view_with held self.old)) (taken_of self.old.session.saved.last (Replied ticket (question_view question.now) zxid (result_view found.now)))) }
+        ensures next { OnOk result ((held : List ℕ) (pending : List Pending)
+            → IsLeft (Replied ticket (question_view question.now) zxid (result_view found.now)) pending self.old.conversation.pending →
+            view_with [] self.new ≡ next (while_pending pending (view_with held self.old))
+            (taken_of self.old.session.saved.last (Replied ticket (question_view question.now) zxid (result_view found.now)))) }
+        ensures says { OnOk result ((held : List ℕ) (pending : List Pending)
+            → IsLeft (Replied ticket (question_view question.now) zxid (result_view found.now)) pending self.old.conversation.pending →
+            said outputs.new.items ≡ said outputs.old.items ++ says (while_pending pending (view_with held self.old))
+            (taken_of self.old.session.saved.last (Replied ticket (question_view question.now) zxid (result_view found.now)))) }
         ensures origin { origin self.new ≡ origin self.old }
     {
         let seen = self.session.last_zxid();
@@ -217,9 +226,12 @@ impl<A: Allocator + Copy> Core<A> {
         requires data { data_in left ≡ leaves_data (question_view question.now) (result_view found.now) }
         requires child { children_in left ≡ leaves_child (question_view question.now) (result_view found.now) }
         ensures sound { OnOk result (CoreIsSound self.new) }
-        ensures next { OnOk result ((held : List ℕ) (pending : List Pending) → IsLeft (Replied ticket (question_view question.now) zxid (result_view found.now)) pending self.old.conversation.pending →
-            view_with [] self.new ≡ next (while_pending pending (view_with held self.old)) (Took (Replies ticket (question_view question.now) zxid (result_view found.now)))) }
-        ensures says { OnOk result (said outputs.new.items ≡ said outputs.old.items ++ (Answer ticket (turns.Replied zxid (result_view found.now)) ∷ closing (question_view question.now))) }
+        ensures next { OnOk result ((held : List ℕ) (pending : List Pending)
+            → IsLeft (Replied ticket (question_view question.now) zxid (result_view found.now)) pending self.old.conversation.pending →
+            view_with [] self.new ≡ next (while_pending pending (view_with held self.old))
+            (Took (Replies ticket (question_view question.now) zxid (result_view found.now)))) }
+        ensures says { OnOk result (said outputs.new.items ≡ said outputs.old.items
+            ++ (Answer ticket (turns.Replied zxid (result_view found.now)) ∷ closing (question_view question.now))) }
         ensures origin { origin self.new ≡ origin self.old }
     {
         self.session.saw(zxid);

@@ -38,7 +38,8 @@ impl<A: Allocator + Copy> SavedSession<A> {
     ghost use Rattle.std.specs.Prelude.{◌≤◌, ◌≤ℤ◌, ◌%◌, pos, length, Err, IfOk, MatchResult, string_bytes};
     ghost use Rattle.zk_limits.specs.declared.limits.TheConstants.{LONGEST_PASSWORD};
     ghost use Rattle.hex.specs.Hex.{decode_of};
-    ghost use Rattle.zk_client.specs.SavedSessions.{PutAway, CanBePutAway, saved_bytes, saved_text, put_away, bytes_read, text_read, Gives, GivesLater};
+    ghost use Rattle.zk_client.specs.SavedSessions.{PutAway, CanBePutAway, saved_bytes, saved_text, put_away, bytes_read, text_read, Gives};
+    ghost use Rattle.zk_client.specs.SavedSessions.{GivesLater};
 
     /// A session of these three. What a client says of itself becomes one so:
     /// `let saved = client.saved(); SavedSession::new(alloc, saved.session, saved.password, saved.last_zxid)`, and is never
@@ -81,7 +82,8 @@ impl<A: Allocator + Copy> SavedSession<A> {
         // What is read is spelled so.
         ensures found { IfOk result (λ saved. bytes.now ≡ saved_bytes saved) }
         // What is spelled so is read, unless memory runs out.
-        ensures only { (value : PutAway) → CanBePutAway value → bytes.now ≡ saved_bytes value → MatchResult result (λ saved. saved ≡ value) (λ fault. fault ≡ SavedFault.Memory) }
+        ensures only { (value : PutAway) → CanBePutAway value → bytes.now ≡ saved_bytes value
+            → MatchResult result (λ saved. saved ≡ value) (λ fault. fault ≡ SavedFault.Memory) }
     {
         SavedSession::read(alloc, bytes)
     }
@@ -121,7 +123,8 @@ impl<A: Allocator + Copy> SavedSession<A> {
         ensures found { IfOk result (λ saved. decode_of text.now ≡ Ok (saved_bytes saved)) }
         ensures odd { length text.now % 2 ≡ 1 → result ≡ Err (SavedFault.OddDigits (length text.now)) }
         // What is spelled so is read, unless memory runs out.
-        ensures only { (value : PutAway) → CanBePutAway value → text.now ≡ saved_text value → MatchResult result (λ saved. saved ≡ value) (λ fault. fault ≡ SavedFault.Memory) }
+        ensures only { (value : PutAway) → CanBePutAway value → text.now ≡ saved_text value
+            → MatchResult result (λ saved. saved ≡ value) (λ fault. fault ≡ SavedFault.Memory) }
     {
         match hex::decode(alloc, text) {
             Ok(bytes) => SavedSession::from_bytes(alloc, bytes.as_slice()),

@@ -19,7 +19,8 @@ impl<A: Allocator + Copy> Core<A> {
         requires talks { self.old.session.state ≡ Connected }
         ensures sound { OnOk result (CoreIsSound self.new) }
         ensures next { OnOk result ((held : List ℕ) → view_with held self.new ≡ next (view_with held self.old) Pinged) }
-        ensures says { OnOk result ((held : List ℕ) → said outputs.new.items ≡ said outputs.old.items ++ says (view_with held self.old) Pinged) }
+        ensures says { OnOk result
+            ((held : List ℕ) → said outputs.new.items ≡ said outputs.old.items ++ says (view_with held self.old) Pinged) }
         ensures origin { origin self.new ≡ origin self.old }
     {
         let frame = self.conversation.ping()?;

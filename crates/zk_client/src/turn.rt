@@ -45,8 +45,10 @@ pub(crate) fn turn<A: Allocator + Copy>(
     requires goes_on { core.old.halted ≡ false }
     ensures sound { OnOk result (CoreIsSound core.new) }
     ensures reading { OnOk result (IsReading reader.new) }
-    ensures next { OnOk result (view_with reader.new.bytes core.new ≡ after_signals (view_with reader.old.bytes core.old) (signals_of (input_view input))) }
-    ensures says { OnOk result (said outputs.new.items ≡ said outputs.old.items ++ says_signals (view_with reader.old.bytes core.old) (signals_of (input_view input))) }
+    ensures next { OnOk result
+        (view_with reader.new.bytes core.new ≡ after_signals (view_with reader.old.bytes core.old) (signals_of (input_view input))) }
+    ensures says { OnOk result (said outputs.new.items
+        ≡ said outputs.old.items ++ says_signals (view_with reader.old.bytes core.old) (signals_of (input_view input))) }
     ensures quiet { IsQuiet (view_with reader.old.bytes core.old) (input_view input) → IsOk result }
     ensures origin { origin core.new ≡ origin core.old }
 {
@@ -71,7 +73,8 @@ fn opened<A: Allocator + Copy>(
     ensures sound { OnOk result (CoreIsSound core.new) }
     ensures reading { OnOk result (IsReading reader.new) }
     ensures next { OnOk result (view_with reader.new.bytes core.new ≡ after_signals (view_with reader.old.bytes core.old) (Opens ∷ [])) }
-    ensures says { OnOk result (said outputs.new.items ≡ said outputs.old.items ++ says_signals (view_with reader.old.bytes core.old) (Opens ∷ [])) }
+    ensures says { OnOk result
+        (said outputs.new.items ≡ said outputs.old.items ++ says_signals (view_with reader.old.bytes core.old) (Opens ∷ [])) }
     ensures quiet { is_final core.old.session.state ≡ true → IsOk result }
     ensures origin { origin core.new ≡ origin core.old }
 {
@@ -101,7 +104,8 @@ fn cut<A: Allocator + Copy>(
     ensures sound { OnOk result (CoreIsSound core.new) }
     ensures reading { OnOk result (IsReading reader.new) }
     ensures next { OnOk result (view_with reader.new.bytes core.new ≡ after_signals (view_with reader.old.bytes core.old) (Cuts ∷ [])) }
-    ensures says { OnOk result (said outputs.new.items ≡ said outputs.old.items ++ says_signals (view_with reader.old.bytes core.old) (Cuts ∷ [])) }
+    ensures says { OnOk result
+        (said outputs.new.items ≡ said outputs.old.items ++ says_signals (view_with reader.old.bytes core.old) (Cuts ∷ [])) }
     ensures quiet { ¬ (IsOpen core.old.session.state) → IsOk result }
     ensures origin { origin core.new ≡ origin core.old }
 {
@@ -124,8 +128,10 @@ fn now<A: Allocator + Copy>(
     requires goes_on { core.old.halted ≡ false }
     ensures sound { OnOk result (CoreIsSound core.new) }
     ensures reading { OnOk result (IsReading reader.new) }
-    ensures next { OnOk result (view_with reader.new.bytes core.new ≡ after_signals (view_with reader.old.bytes core.old) (Ticks moment ∷ [])) }
-    ensures says { OnOk result (said outputs.new.items ≡ said outputs.old.items ++ says_signals (view_with reader.old.bytes core.old) (Ticks moment ∷ [])) }
+    ensures next { OnOk result
+        (view_with reader.new.bytes core.new ≡ after_signals (view_with reader.old.bytes core.old) (Ticks moment ∷ [])) }
+    ensures says { OnOk result
+        (said outputs.new.items ≡ said outputs.old.items ++ says_signals (view_with reader.old.bytes core.old) (Ticks moment ∷ [])) }
     ensures quiet { NothingIsDue (view_with reader.old.bytes core.old) moment → IsOk result }
     ensures origin { origin core.new ≡ origin core.old }
 {

@@ -1,5 +1,6 @@
 -- Who holds by what a client shows, in one tree, and in a later one.
-use Rattle.std.proofs.Common.{◌≡◌, ◌≢◌, ◌≤◌, ◌<◌, ◌≤ℤ◌, ◌⊎◌, ℕ, ℤ, pos, Bool, true, false, ◌&&◌, not, nat_le, ◌∷◌, Option, Some, None, refl, ap, sym, ◌∙◌, subst, inl, inr, arith}
+use Rattle.std.proofs.Common.{◌≡◌, ◌≢◌, ◌≤◌, ◌<◌, ◌≤ℤ◌, ◌⊎◌, ℕ, ℤ, pos, Bool, true, false, ◌&&◌, not, nat_le, ◌∷◌, Option, Some, None, refl}
+use Rattle.std.proofs.Common.{ap, sym, ◌∙◌, subst, inl, inr, arith}
 use Rattle.std.proofs.lemmas.Bool.{and_parts}
 use Rattle.std.proofs.lemmas.Bool.Decides.{nat_tests, Decides-int_eq}
 use Rattle.std.proofs.lemmas.Int.{ints}
@@ -12,7 +13,8 @@ use Rattle.zk_cache.specs.Kept.{Answer, Absent, Known, Full, as_good}
 use Rattle.zk_laws.specs.Server.{Fits}
 use Rattle.zk_laws.specs.Messages.{from_zero}
 use Rattle.zk_conclusions.specs.Seen.{tree_seen}
-use Rattle.zk_conclusions.specs.Holders.{HasPrefix, is_before, IsHolder, token_of, token_in, HeldIsTrue, OneHolds, OneShows, NamesRise, TokensRise, LaterTokens}
+use Rattle.zk_conclusions.specs.Holders.{HasPrefix, is_before, IsHolder, token_of, token_in, HeldIsTrue, OneHolds, OneShows, NamesRise}
+use Rattle.zk_conclusions.specs.Holders.{TokensRise, LaterTokens}
 use Rattle.zk_conclusions.proofs.Truths.{coherent, names_there}
 use Rattle.zk_conclusions.proofs.Orders.{before_or_same}
 use Rattle.zk_conclusions.proofs.Made.{IsMade, made_before}
@@ -38,26 +40,31 @@ owned_by session token fields e = go (int_eq fields.ephemeral_owner session && n
         let parts = and_parts (int_eq fields.ephemeral_owner session) (not (int_eq session (pos 0))) f in
         record {
           owner = (Decides-int_eq fields.ephemeral_owner session).0 parts.0;
-          owned = λ z. (let k : int_eq session (pos 0) ≡ true = (Decides-int_eq session (pos 0)).1 z in let l : not (int_eq session (pos 0)) ≡ true = parts.1 in absurd cc);
+          owned = λ z. (let k : int_eq session (pos 0) ≡ true = (Decides-int_eq session (pos 0)).1 z in let l : not (int_eq session (pos 0))
+              ≡ true = parts.1 in absurd cc);
           made = the_one fields.czxid token (rw f at e);
         }
     go false f = absurd (no_token token None refl (rw f at e))
 
 -- an answer with a token that fits what there is to see is of a node that is there
-pub node_of : (session token : ℤ) (answer : Answer) (found : Option Node) → token_in session answer ≡ Some token → Fits answer (contents_of found)
+pub node_of : (session token : ℤ) (answer : Answer) (found : Option Node)
+    → token_in session answer ≡ Some token → Fits answer (contents_of found)
     → (node : Node) × (found ≡ Some node) × IsOwned session token (node_fields node)
 node_of session token Absent found e fits = absurd cc
 node_of session token (Known fields) None e fits = absurd fits
 node_of session token (Known fields) (Some node) e fits = (node, refl, subst (IsOwned session token) fits (owned_by session token fields e))
 node_of session token (Full bytes fields) None e fits = absurd fits
-node_of session token (Full bytes fields) (Some node) e fits = (node, refl, subst (IsOwned session token) fits.1 (owned_by session token fields e))
+node_of session token (Full bytes fields) (Some node) e fits =
+    (node, refl, subst (IsOwned session token) fits.1 (owned_by session token fields e))
 
 pub held_here : HeldIsTrue
 held_here h view dir prefix path token seen shows =
     let tree : Tree = tree_seen h view in
     let true_of = coherent h view seen in
-    let found = node_of view.saved.session.session token shows.answer (tree (path_of path)) shows.made (true_of.nodes path (as_good shows.answer) shows.nodes refl) in
-    let listed = names_there shows.names tree (path_of dir) (tree (path_of dir)) (true_of.children dir (as_good shows.names) shows.children refl) in
+    let found = node_of view.saved.session.session token shows.answer (tree (path_of path)) shows.made
+    (true_of.nodes path (as_good shows.answer) shows.nodes refl) in
+    let listed =
+    names_there shows.names tree (path_of dir) (tree (path_of dir)) (true_of.children dir (as_good shows.names) shows.children refl) in
     record {
       own = shows.own;
       below = shows.below;
@@ -71,11 +78,13 @@ held_here h view dir prefix path token seen shows =
     }
 
 -- the node of one that holds is there, under its name
-there_of : (tree : Tree) (dir : NodePath) (prefix : Name) (path : NodePath) (session token : ℤ) (m : IsHolder tree dir prefix path session token) → is_some (tree (m.own ∷ dir)) ≡ true
+there_of : (tree : Tree) (dir : NodePath) (prefix : Name) (path : NodePath) (session token : ℤ)
+    (m : IsHolder tree dir prefix path session token) → is_some (tree (m.own ∷ dir)) ≡ true
 there_of tree dir prefix path session token m = subst (λ (p : NodePath). is_some (tree p) ≡ true) m.below (ap is_some m.there)
 
 pub one_holds : OneHolds
-one_holds tree dir prefix path other session yours token later m y = go (before_or_same m.own y.own (m.first y.own (there_of tree dir prefix other yours later y) y.begins))
+one_holds tree dir prefix path other session yours token later m y =
+    go (before_or_same m.own y.own (m.first y.own (there_of tree dir prefix other yours later y) y.begins))
   where
     go : (is_before m.own y.own ≡ true) ⊎ (m.own ≡ y.own) → (path ≡ other) × (session ≡ yours) × (token ≡ later)
     go (inl before) = let k = y.first m.own (there_of tree dir prefix path session token m) m.begins in absurd cc
@@ -90,7 +99,8 @@ one_shows h one other dir prefix path its token later seen seen_too at shows sho
     let yours = held_here h other dir prefix its later seen_too shows_too in
     let same : IsHolder (tree_seen h other) (path_of dir) prefix (path_of path) one.saved.session.session token =
     subst (λ (z : ℤ). IsHolder (tree_at h (from_zero z)) (path_of dir) prefix (path_of path) one.saved.session.session token) at mine in
-    one_holds (tree_seen h other) (path_of dir) prefix (path_of path) (path_of its) one.saved.session.session other.saved.session.session token later same yours
+    one_holds (tree_seen h other) (path_of dir) prefix (path_of path)
+    (path_of its) one.saved.session.session other.saved.session.session token later same yours
 
 -- the node that is there was made so
 made_node : (n : ℕ) (found : Option Node) → IsMade n found → (node : Node) × (found ≡ Some node) × (node.czxid ≡ n)
@@ -105,8 +115,10 @@ is_by z found node e by = subst (IsAtMost (λ n. n.czxid) z) e by
 
 -- of two nodes that are there at once, the first was not made after the other
 first_made : (h : History) (dir : NodePath) (prefix : Name) (path other : NodePath) (session token : ℤ) (zxid : ℕ) (own : Name) (its : Node)
-    → NamesRise h dir prefix → (m : IsHolder (tree_at h zxid) dir prefix path session token) → other ≡ own ∷ dir → HasPrefix prefix own → tree_at h zxid other ≡ Some its → m.node.czxid ≤ its.czxid
-first_made h dir prefix path other session token zxid own its rises m below begins there = go (before_or_same m.own own (m.first own (ap is_some found) begins))
+    → NamesRise h dir prefix → (m : IsHolder (tree_at h zxid) dir prefix path session token) → other ≡ own ∷ dir → HasPrefix prefix own
+    → tree_at h zxid other ≡ Some its → m.node.czxid ≤ its.czxid
+first_made h dir prefix path other session token zxid own its rises m below begins there =
+    go (before_or_same m.own own (m.first own (ap is_some found) begins))
   where
     found : tree_at h zxid (own ∷ dir) ≡ Some its
     found = subst (λ (p : NodePath). tree_at h zxid p ≡ Some its) below there
@@ -123,13 +135,15 @@ first_made h dir prefix path other session token zxid own its rises m below begi
 
 rises_to : (h : History) (dir : NodePath) (prefix : Name) (path other : NodePath) (session yours token later : ℤ) (zxid beyond : ℕ)
     → IsHistory h → NamesRise h dir prefix → zxid ≤ beyond
-    → (m : IsHolder (tree_at h zxid) dir prefix path session token) → (y : IsHolder (tree_at h beyond) dir prefix other yours later) → m.node.czxid ≤ y.node.czxid
+    → (m : IsHolder (tree_at h zxid) dir prefix path session token) → (y : IsHolder (tree_at h beyond) dir prefix other yours later)
+    → m.node.czxid ≤ y.node.czxid
 rises_to h dir prefix path other session yours token later zxid beyond is rises le m y = go (nat_le y.node.czxid zxid) refl
   where
     go : (b : Bool) → nat_le y.node.czxid zxid ≡ b → m.node.czxid ≤ y.node.czxid
     go true e =
         let small : y.node.czxid ≤ zxid = grind (arith, nat_tests) in
-        let k = made_node y.node.czxid (tree_at h zxid other) (made_before h other y.node.czxid zxid beyond is le small (is_made (tree_at h beyond other) y.node y.there)) in
+        let k = made_node y.node.czxid (tree_at h zxid other)
+        (made_before h other y.node.czxid zxid beyond is le small (is_made (tree_at h beyond other) y.node y.there)) in
         let l : m.node.czxid ≤ k.0.czxid = first_made h dir prefix path other session token zxid y.own k.0 rises m y.below y.begins k.1 in
         let e = k.2 in
         omega arith
@@ -145,5 +159,6 @@ tokens_rise h dir prefix path other session yours token later zxid beyond is ris
 
 pub later_tokens : LaterTokens
 later_tokens h one other dir prefix path its token later seen seen_too rises le shows shows_too =
-    tokens_rise h (path_of dir) prefix (path_of path) (path_of its) one.saved.session.session other.saved.session.session token later (from_zero one.saved.last) (from_zero other.saved.last)
+    tokens_rise h (path_of dir) prefix (path_of path) (path_of its) one.saved.session.session other.saved.session.session token later
+    (from_zero one.saved.last) (from_zero other.saved.last)
     seen.history rises le (held_here h one dir prefix path token seen shows) (held_here h other dir prefix its later seen_too shows_too)

@@ -1,5 +1,6 @@
 -- What is kept of one node, and its children.
-use Rattle.std.proofs.Common.{ℕ, ◌≡◌, ◌≢◌, inl, inr, true, false, List, [], ◌∷◌, ◌++◌, map, Option, Some, None, refl, ap, sym, ◌∙◌, subst, append_assoc, string_bytes}
+use Rattle.std.proofs.Common.{ℕ, ◌≡◌, ◌≢◌, inl, inr, true, false, List, [], ◌∷◌, ◌++◌, map, Option, Some, None, refl, ap, sym, ◌∙◌, subst}
+use Rattle.std.proofs.Common.{append_assoc, string_bytes}
 use Rattle.std.proofs.lemmas.List.{map-append}
 use Rattle.std.proofs.lemmas.Cmp.{nat_list_cmp_total}
 use Rattle.std.specs.Prelude.{String, Result as Outcome, Ok, Err, IfErr}
@@ -42,13 +43,15 @@ says_more TooMany a b c d f g s = g s
 says_more Memory a b c d f g s = tt
 
 -- a refusal that is handed on
-pub handed_on : {T : Type 0} (r : Outcome T NoSubtree) (why : NoSubtree) (a b c d : Type 0) → IsErrAnd r (λ e. e ≡ why) → Says why a b → (a → c) → (b → d) → IfErr r (λ e. Says e c d)
+pub handed_on : {T : Type 0} (r : Outcome T NoSubtree) (why : NoSubtree) (a b c d : Type 0) → IsErrAnd r (λ e. e ≡ why)
+    → Says why a b → (a → c) → (b → d) → IfErr r (λ e. Says e c d)
 handed_on (Ok x) why a b c d is says f g = tt
 handed_on (Err e) why a b c d is says f g = subst (λ (w : NoSubtree). Says w c d) (sym is) (says_more why a b c d f g says)
 
 -- The node
 
-pub full_there : (kept : Option (Kept Answer)) → is_full_good kept ≡ true → (bytes : Option (List ℕ)) × (stat : _) × (kept ≡ good (Full bytes stat))
+pub full_there : (kept : Option (Kept Answer))
+    → is_full_good kept ≡ true → (bytes : Option (List ℕ)) × (stat : _) × (kept ≡ good (Full bytes stat))
 full_there None e = absurd cc
 full_there (Some kept) e = go kept.answer kept.mark e
   where
@@ -76,11 +79,13 @@ no_names cache path names e full = let k : is_marked_good (cache.children path) 
 pub added_none : (path : Text) (names : List Name) → Added path names names []
 added_none path names = record { done = []; whole = refl; fine = tt; made = refl }
 
-pub fine_last : (path : Text) (name : Name) (done : List Name) → AllByRecursion (IsFine path) done → IsFine path name → AllByRecursion (IsFine path) (done ++ name ∷ [])
+pub fine_last : (path : Text) (name : Name) (done : List Name)
+    → AllByRecursion (IsFine path) done → IsFine path name → AllByRecursion (IsFine path) (done ++ name ∷ [])
 fine_last path name [] all fine = (fine, tt)
 fine_last path name (one ∷ more) all fine = (all.0, fine_last path name more all.1 fine)
 
-pub added_one : (path : Text) (names : List Name) (name : Name) (rest : List Name) (children : List Text) → Added path names (name ∷ rest) children → IsFine path name
+pub added_one : (path : Text) (names : List Name) (name : Name) (rest : List Name) (children : List Text)
+    → Added path names (name ∷ rest) children → IsFine path name
     → Added path names rest (children ++ child_text path name ∷ [])
 added_one path names name rest children a fine = record {
   done = a.done ++ name ∷ [];
@@ -93,8 +98,10 @@ among_right : (x : Text) (xs ys : List Text) → Among x ys → Among x (xs ++ y
 among_right x [] ys h = h
 among_right x (z ∷ xs) ys h = inr (among_right x xs ys h)
 
-pub at_fault : (path : Text) (names : List Name) (name : Name) (rest : List Name) (children : List Text) → Added path names (name ∷ rest) children → child_fault path name ≢ None → HasFault path names
-at_fault path names name rest children a fault = record { name = name; among = subst (Among name) (sym a.whole) (among_right name a.done (name ∷ rest) (inl refl)); fault = fault }
+pub at_fault : (path : Text) (names : List Name) (name : Name) (rest : List Name) (children : List Text)
+    → Added path names (name ∷ rest) children → child_fault path name ≢ None → HasFault path names
+at_fault path names name rest children a fault =
+    record { name = name; among = subst (Among name) (sym a.whole) (among_right name a.done (name ∷ rest) (inl refl)); fault = fault }
 
 -- A set of texts and its keys
 
@@ -108,14 +115,16 @@ less_once name (one ∷ more) all (inl e) =
 less_once name (one ∷ more) all (inr there) = less_once name more all.1 there
 
 module _ {A : Type 0} where
-  below_texts : (k : String A) (ks : List (String A)) → AllByRecursion (λ y. string_cmp k y ≡ Less) ks → AllByRecursion (λ y. name_cmp (string_bytes k) y ≡ Less) (map string_bytes ks)
+  below_texts : (k : String A) (ks : List (String A))
+      → AllByRecursion (λ y. string_cmp k y ≡ Less) ks → AllByRecursion (λ y. name_cmp (string_bytes k) y ≡ Less) (map string_bytes ks)
   below_texts k [] below = tt
   below_texts k (y ∷ ys) below = (below.0, below_texts k ys (below.1))
 
   distinct_texts : (ks : List (String A)) → IsStrictlySortedBy string_cmp ks → AreDistinct (map string_bytes ks)
   unfolding IsStrictlySortedBy
   distinct_texts [] ordered = tt
-  distinct_texts (k ∷ ks) ordered = (less_once (string_bytes k) (map string_bytes ks) (below_texts k ks (ordered.0)), distinct_texts ks (ordered.1))
+  distinct_texts (k ∷ ks) ordered =
+      (less_once (string_bytes k) (map string_bytes ks) (below_texts k ks (ordered.0)), distinct_texts ks (ordered.1))
 
   listed : (kept : RustNames A) → IsOrdered string_cmp kept.names → IsListed (names_in kept).names (map string_bytes kept.names.keys)
   listed kept ordered = record {
@@ -123,23 +132,29 @@ module _ {A : Type 0} where
     once = distinct_texts kept.names.keys ordered;
   }
 
-  pub has_children : (cache : Cache) (path : Text) (kept : RustNames A) (children : List Text) → IsOrdered string_cmp kept.names → cache.children path ≡ good (names_in kept)
+  pub has_children : (cache : Cache) (path : Text) (kept : RustNames A) (children : List Text)
+      → IsOrdered string_cmp kept.names → cache.children path ≡ good (names_in kept)
       → Added path (map string_bytes kept.names.keys) [] children → HasChildren cache path children
-  has_children cache path kept children ordered is added = record { names = names_in kept; good = is; listed = map string_bytes kept.names.keys; listing = listed kept ordered; added = added }
+  has_children cache path kept children ordered is added =
+      record { names = names_in kept; good = is; listed = map string_bytes kept.names.keys; listing = listed kept ordered; added = added }
 
-  pub too_many : (cache : Cache) (path : Text) (kept : RustNames A) (room : ℕ) → IsOrdered string_cmp kept.names → cache.children path ≡ good (names_in kept)
+  pub too_many : (cache : Cache) (path : Text) (kept : RustNames A) (room : ℕ)
+      → IsOrdered string_cmp kept.names → cache.children path ≡ good (names_in kept)
       → HasMore path (map string_bytes kept.names.keys) room → HasTooMany cache path room
-  too_many cache path kept room ordered is more = record { names = names_in kept; good = is; listed = map string_bytes kept.names.keys; listing = listed kept ordered; more = more }
+  too_many cache path kept room ordered is more =
+      record { names = names_in kept; good = is; listed = map string_bytes kept.names.keys; listing = listed kept ordered; more = more }
 
   pub not_whole : (cache : Cache) (path : Text) (kept : RustNames A) → IsOrdered string_cmp kept.names → IsFull cache path (names_in kept)
       → HasFault path (map string_bytes kept.names.keys) → IsKeptWhole cache path → ⊥
   not_whole cache path kept ordered full fault whole =
-      let same : names_in kept ≡ whole.names = same_kept (as_good (names_in kept)) whole.names (cache.children path) full.children whole.full.children in
+      let same : names_in kept ≡ whole.names =
+      same_kept (as_good (names_in kept)) whole.names (cache.children path) full.children whole.full.children in
       let has : set.contains (names_in kept).names fault.name ≡ true = ((listed kept ordered).among fault.name).1 fault.among in
       fault.fault (whole.paths fault.name (subst (λ (n : Names). set.contains n.names fault.name ≡ true) same has))
 
   -- one of the good names makes no path
-  pub no_path : (cache : Cache) (path : Text) (kept : RustNames A) → IsOrdered string_cmp kept.names → cache.children path ≡ good (names_in kept)
+  pub no_path : (cache : Cache) (path : Text) (kept : RustNames A)
+      → IsOrdered string_cmp kept.names → cache.children path ≡ good (names_in kept)
       → HasFault path (map string_bytes kept.names.keys) → HasFaultAt cache path
   no_path cache path kept ordered is fault = record {
     name = fault.name;

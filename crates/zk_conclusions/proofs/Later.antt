@@ -1,5 +1,6 @@
 -- The last rival before a name, found name by name.
-use Rattle.std.proofs.Common.{ℕ, zero, suc, ◌≡◌, ◌<◌, ◌≤◌, ◌⊎◌, inl, inr, Bool, true, false, ◌&&◌, List, [], ◌∷◌, map, length, take, get_or, Option, Some, None, String, string_bytes, refl, sym, ap, subst, arith}
+use Rattle.std.proofs.Common.{ℕ, zero, suc, ◌≡◌, ◌<◌, ◌≤◌, ◌⊎◌, inl, inr, Bool, true, false, ◌&&◌, List, [], ◌∷◌, map, length, take, get_or}
+use Rattle.std.proofs.Common.{Option, Some, None, String, string_bytes, refl, sym, ap, subst, arith}
 use Rattle.std.proofs.lemmas.Bool.{and_parts}
 use Rattle.std.specs.Prelude.{IfSome}
 use Rattle.zk_turns.specs.Meaning.{Among}
@@ -10,7 +11,8 @@ use Rattle.zk_conclusions.specs.Predecessors.{IsPredecessor, IsLastOf, Found, na
 use Rattle.zk_conclusions.proofs.Numbered.{before_trans, never_before}
 
 -- the text of the one at a place
-pub text_at : {A : Type 0} (names : List (String A)) (place : ℕ) (x : String A) → place < length names → x ≡ get_or names place x → string_bytes x ≡ get_or (map string_bytes names) place []
+pub text_at : {A : Type 0} (names : List (String A)) (place : ℕ) (x : String A)
+    → place < length names → x ≡ get_or names place x → string_bytes x ≡ get_or (map string_bytes names) place []
 text_at [] place x lt e = absurd (omega arith)
 text_at (s ∷ ss) zero x lt e = ap string_bytes e
 text_at (s ∷ ss) (suc place) x lt e = text_at ss place x (omega arith) e
@@ -19,7 +21,8 @@ pub none_taken : (names : List Name) (name : Name) → Among name (take 0 names)
 none_taken [] name there = there
 none_taken (one ∷ more) name there = there
 
-pub one_more : (names : List Name) (n : ℕ) (name : Name) → n < length names → Among name (take (suc n) names) → Among name (take n names) ⊎ (name ≡ get_or names n [])
+pub one_more : (names : List Name) (n : ℕ) (name : Name) → n < length names → Among name (take (suc n) names)
+    → Among name (take n names) ⊎ (name ≡ get_or names n [])
 one_more [] n name lt there = absurd (omega arith)
 one_more (one ∷ more) zero name lt (inl e) = inr e
 one_more (one ∷ more) zero name lt (inr there) = absurd there
@@ -43,11 +46,13 @@ pub found_none : (kind : Kind) (names : List Name) (own : Name) → Found kind n
 found_none kind names own name there rival = absurd (none_taken names name there)
 
 -- a place that was found is one of the list's
-pub found_within : (kind : Kind) (names : List Name) (own : Name) (count : ℕ) (last : Option ℕ) (room : ℕ) → Found kind names own count last → count < room → IfSome last (λ at. at < room)
+pub found_within : (kind : Kind) (names : List Name) (own : Name) (count : ℕ) (last : Option ℕ) (room : ℕ)
+    → Found kind names own count last → count < room → IfSome last (λ at. at < room)
 found_within kind names own count None room found lt = tt
 found_within kind names own count (Some at) room found lt = let k = found.within in omega arith
 
-pub found_at_end : (kind : Kind) (names : List Name) (own : Name) (count : ℕ) (last : Option ℕ) (room : ℕ) → Found kind names own count last → count ≤ room → IfSome last (λ at. at < room)
+pub found_at_end : (kind : Kind) (names : List Name) (own : Name) (count : ℕ) (last : Option ℕ) (room : ℕ)
+    → Found kind names own count last → count ≤ room → IfSome last (λ at. at < room)
 found_at_end kind names own count None room found le = tt
 found_at_end kind names own count (Some at) room found le = let k = found.within in omega arith
 
@@ -67,14 +72,16 @@ true_both : (a b : Bool) → a ≡ true → b ≡ true → (a && b) ≡ true
 true_both a b e f = rw e f
 
 -- One name more, which is not later: all stays.
-pub found_still : (kind : Kind) (names : List Name) (own : Name) (count : ℕ) (last : Option ℕ) → count < length names → Found kind names own count last
+pub found_still : (kind : Kind) (names : List Name) (own : Name) (count : ℕ) (last : Option ℕ)
+    → count < length names → Found kind names own count last
     → is_later kind names own last (name_at names count) ≡ false → Found kind names own (suc count) last
 found_still kind names own count None lt found none = λ name there rival. elim (one_more names count name lt there) [
   | inl old ↦ found name old rival
   | inr new ↦ not_before (is_before name own) (λ t. (
       let r : is_rival kind (name_at names count) ≡ true = subst (λ (n : Name). is_rival kind n ≡ true) new rival in
       let b : is_before (name_at names count) own ≡ true = subst (λ (n : Name). is_before n own ≡ true) new t in
-      both_false (is_rival kind (name_at names count) && is_before (name_at names count) own) true none (true_both (is_rival kind (name_at names count)) (is_before (name_at names count) own) r b) refl))
+      both_false (is_rival kind (name_at names count) && is_before (name_at names count) own) true none
+      (true_both (is_rival kind (name_at names count)) (is_before (name_at names count) own) r b) refl))
 ]
 found_still kind names own count (Some at) lt found none = record {
   within = let k = found.within in omega arith;
@@ -85,13 +92,16 @@ found_still kind names own count (Some at) lt found none = record {
     | inr new ↦ not_before (is_before (name_at names at) name) (λ t. (
         let r : is_rival kind (name_at names count) ≡ true = subst (λ (n : Name). is_rival kind n ≡ true) new rival in
         let b : is_before (name_at names count) own ≡ true = subst (λ (n : Name). is_before n own ≡ true) new before in
-        let l : is_before (name_at names at) (name_at names count) ≡ true = subst (λ (n : Name). is_before (name_at names at) n ≡ true) new t in
-        both_false (is_rival kind (name_at names count) && is_before (name_at names count) own) (is_before (name_at names at) (name_at names count)) none (true_both (is_rival kind (name_at names count)) (is_before (name_at names count) own) r b) l))
+        let l : is_before (name_at names at) (name_at names count) ≡ true =
+        subst (λ (n : Name). is_before (name_at names at) n ≡ true) new t in
+        both_false (is_rival kind (name_at names count) && is_before (name_at names count) own) (is_before (name_at names at)
+        (name_at names count)) none (true_both (is_rival kind (name_at names count)) (is_before (name_at names count) own) r b) l))
   ];
 }
 
 -- what was found so far stands before one that is later
-before_later : (kind : Kind) (names : List Name) (own : Name) (count : ℕ) (last : Option ℕ) (new : Name) → Found kind names own count last → is_after names last new ≡ true
+before_later : (kind : Kind) (names : List Name) (own : Name) (count : ℕ) (last : Option ℕ) (new : Name)
+    → Found kind names own count last → is_after names last new ≡ true
     → (name : Name) → Among name (take count names) → is_rival kind name ≡ true → is_before name own ≡ true → is_before new name ≡ false
 before_later kind names own count None new found behind name there rival before = let k = found name there rival in absurd cc
 before_later kind names own count (Some at) new found behind name there rival before = not_before (is_before new name) (λ t. (
@@ -100,10 +110,12 @@ before_later kind names own count (Some at) new found behind name there rival be
     absurd cc))
 
 -- One name more, which is later: it is the last.
-pub found_here : (kind : Kind) (names : List Name) (own : Name) (count : ℕ) (last : Option ℕ) → count < length names → Found kind names own count last
+pub found_here : (kind : Kind) (names : List Name) (own : Name) (count : ℕ) (last : Option ℕ)
+    → count < length names → Found kind names own count last
     → is_later kind names own last (name_at names count) ≡ true → IsLastOf kind names own (suc count) count
 found_here kind names own count last lt found later =
-    let parts = and_parts (is_rival kind (name_at names count) && is_before (name_at names count) own) (is_after names last (name_at names count)) later in
+    let parts = and_parts (is_rival kind (name_at names count) && is_before (name_at names count) own)
+    (is_after names last (name_at names count)) later in
     let own_parts = and_parts (is_rival kind (name_at names count)) (is_before (name_at names count) own) parts.0 in
     record {
       within = omega arith;
@@ -116,7 +128,8 @@ found_here kind names own count last lt found later =
     }
 
 -- At the end.
-pub found_some : (kind : Kind) (names : List Name) (own : Name) (count : ℕ) (last : Option ℕ) → count ≡ length names → Found kind names own count last
+pub found_some : (kind : Kind) (names : List Name) (own : Name) (count : ℕ) (last : Option ℕ)
+    → count ≡ length names → Found kind names own count last
     → IfSome last (λ at. IsPredecessor kind names own (name_at names at))
 found_some kind names own count None e found = tt
 found_some kind names own count (Some at) e found = record {
@@ -126,6 +139,7 @@ found_some kind names own count (Some at) e found = record {
   last = λ name there rival before. found.last name (taken_all names count name (omega arith) there) rival before;
 }
 
-pub found_first : (kind : Kind) (names : List Name) (own : Name) (count : ℕ) (last : Option ℕ) → count ≡ length names → Found kind names own count last → last ≡ None → IsFirstOf kind names own
+pub found_first : (kind : Kind) (names : List Name) (own : Name) (count : ℕ) (last : Option ℕ)
+    → count ≡ length names → Found kind names own count last → last ≡ None → IsFirstOf kind names own
 found_first kind names own count None e found is = λ name there rival. found name (taken_all names count name (omega arith) there) rival
 found_first kind names own count (Some at) e found is = absurd cc

@@ -13,5 +13,6 @@ use Rattle.zk_conclusions.proofs.Truths.{names_there}
 pub listing_here : ListingIsTrue
 listing_here h view seen ticket dir watch zxid names stat among name there =
     let tree : Tree = tree_at h (from_zero zxid) in
-    let reads = true_reads h seen.history seen.start seen.items seen.stands.asked seen.served ticket (GetChildren dir watch) zxid (Listing names stat) among in
+    let reads = true_reads h seen.history seen.start seen.items seen.stands.asked seen.served ticket (GetChildren dir watch) zxid
+    (Listing names stat) among in
     set_among names name (names_there (names_of names stat) tree (path_of dir) (tree (path_of dir)) reads.0 name there)

@@ -11,7 +11,8 @@ use Rattle.zk_conclusions.proofs.Orders as in_bytes
 use Rattle.zk_conclusions.specs.Numbers.{Kind, number_of, by_number, is_before, is_numbered, is_rival, is_one}
 
 -- the other way round
-reversed : (one other : Name) (o : Ordering) → name_cmp (number_of one) (number_of other) ≡ o → name_cmp (number_of other) (number_of one) ≡ ordering_reverse o
+reversed : (one other : Name) (o : Ordering)
+    → name_cmp (number_of one) (number_of other) ≡ o → name_cmp (number_of other) (number_of one) ≡ ordering_reverse o
 reversed one other o e = nat_list_cmp_total.antisymm (number_of other) (number_of one) ∙ ap ordering_reverse e
 
 -- of two names, the one is before the other or they are the same, where the other is not before it
@@ -21,13 +22,15 @@ before_or_same one other f = go (name_cmp (number_of one) (number_of other)) ref
     go : (o : Ordering) → name_cmp (number_of one) (number_of other) ≡ o → (is_before one other ≡ true) ⊎ (one ≡ other)
     go Less e = inl (ap (λ (o : Ordering). by_number o (is_lt (name_cmp one other))) e)
     go Equal e =
-        let back : is_before other one ≡ is_lt (name_cmp other one) = ap (λ (o : Ordering). by_number o (is_lt (name_cmp other one))) (reversed one other Equal e) in
+        let back : is_before other one ≡ is_lt (name_cmp other one) =
+        ap (λ (o : Ordering). by_number o (is_lt (name_cmp other one))) (reversed one other Equal e) in
         elim (in_bytes.before_or_same one other (sym back ∙ f)) [
           | inl before ↦ inl (ap (λ (o : Ordering). by_number o (is_lt (name_cmp one other))) e ∙ before)
           | inr same ↦ inr same
         ]
     go Greater e =
-        let back : is_before other one ≡ true = ap (λ (o : Ordering). by_number o (is_lt (name_cmp other one))) (reversed one other Greater e) in
+        let back : is_before other one ≡ true =
+        ap (λ (o : Ordering). by_number o (is_lt (name_cmp other one))) (reversed one other Greater e) in
         absurd cc
 
 or_left : (a b : Bool) → a ≡ true → (a || b) ≡ true

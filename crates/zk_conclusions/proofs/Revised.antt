@@ -14,7 +14,8 @@ raised_more number other lt le e = grind arith
 pub raised_least : (number other : ℕ) → number < 2 ^ 64 - 1 → number ≤ other → number ≤ raised other
 raised_least number other lt le = grind arith
 
-pub noted_quiet : (outputs : List Output) (number other : ℕ) → number < 2 ^ 64 - 1 → number ≤ other → noted outputs other ≡ number → (has_change outputs ≡ false) × (other ≡ number)
+pub noted_quiet : (outputs : List Output) (number other : ℕ)
+    → number < 2 ^ 64 - 1 → number ≤ other → noted outputs other ≡ number → (has_change outputs ≡ false) × (other ≡ number)
 noted_quiet outputs number other lt le e = by (has_change outputs) refl
   where
     by : (b : Bool) → has_change outputs ≡ b → (has_change outputs ≡ false) × (other ≡ number)
@@ -37,7 +38,8 @@ least number (Halts ∷ items) lt = raised_least number (number_after number ite
 quiet : (number : ℕ) (items : List Item) → number < 2 ^ 64 - 1 → number_after number items ≡ number → AreQuiet items
 quiet number [] lt e = tt
 quiet number (Turned turn ∷ items) lt e =
-    let said = noted_quiet turn.outputs number (number_after number items) lt (least number items lt) e in (said.0, quiet number items lt said.1)
+    let said = noted_quiet turn.outputs number (number_after number items) lt (least number items lt) e in
+    (said.0, quiet number items lt said.1)
 quiet number (Forgets ∷ items) lt e = quiet number items lt e
 quiet number (Halts ∷ items) lt e = raised_more number (number_after number items) lt (least number items lt) e
 
@@ -45,6 +47,7 @@ pub same_number : SameNumberIsUnchanged
 same_number start more items view after number s t lt e = quiet_is_unchanged start more items view after s t (quiet number more lt e)
 
 -- a test of what outputs say is one of the outputs
-pub any_said : {A : Type 0} (test : Output → Bool) (made : List (Made A)) → list_any test (said made) ≡ list_any (λ output. test (output_view output)) made
+pub any_said : {A : Type 0} (test : Output → Bool) (made : List (Made A))
+    → list_any test (said made) ≡ list_any (λ output. test (output_view output)) made
 any_said test [] = refl
 any_said test (output ∷ made) = ap (λ (b : Bool). test (output_view output) || b) (any_said test made)

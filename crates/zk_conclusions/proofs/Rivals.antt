@@ -34,18 +34,22 @@ or_false false true e = absurd cc
 or_false true b e = absurd cc
 
 -- none of these is a rival, and this is one of them
-one_of : (prefix own name : Name) (names : List Name) → list_any (is_rival prefix own) names ≡ false → list_any (bytes_eq name) names ≡ true → is_rival prefix own name ≡ false
+one_of : (prefix own name : Name) (names : List Name)
+    → list_any (is_rival prefix own) names ≡ false → list_any (bytes_eq name) names ≡ true → is_rival prefix own name ≡ false
 one_of prefix own name [] none there = absurd cc
 one_of prefix own name (one ∷ more) none there = go (bytes_eq name one) refl (λ k. one_of prefix own name more parts.1 k)
   where
     parts : (is_rival prefix own one ≡ false) × (list_any (is_rival prefix own) more ≡ false)
     parts = or_false (is_rival prefix own one) (list_any (is_rival prefix own) more) none
 
-    go : (b : Bool) → bytes_eq name one ≡ b → (list_any (bytes_eq name) more ≡ true → is_rival prefix own name ≡ false) → is_rival prefix own name ≡ false
+    go : (b : Bool) → bytes_eq name one ≡ b → (list_any (bytes_eq name) more ≡ true → is_rival prefix own name ≡ false)
+        → is_rival prefix own name ≡ false
     go true e rest = subst (λ (n : Name). is_rival prefix own n ≡ false) (sym (same_text name one e)) parts.0
     go false e rest = rest (rw e at there)
 
-none_of : (prefix own : Name) (names : List Name) → ((name : Name) → list_any (bytes_eq name) names ≡ true → is_rival prefix own name ≡ false) → list_any (is_rival prefix own) names ≡ false
+none_of : (prefix own : Name) (names : List Name)
+    → ((name : Name) → list_any (bytes_eq name) names ≡ true → is_rival prefix own name ≡ false)
+    → list_any (is_rival prefix own) names ≡ false
 none_of prefix own [] each = refl
 none_of prefix own (one ∷ more) each =
     let here : is_rival prefix own one ≡ false = each one (rw (bytes_eq-refl one) refl) in
@@ -67,14 +71,17 @@ not_true result false e t = refl
 not_true result true e t = absurd cc
 
 -- no rival is among the texts exactly where the name is first of their set
-pub is_first_of : {X : Type 0} (prefix own : Name) (f : X → Name) (texts : List X) (result : Bool) → result ≡ not (list_any (λ text. is_rival prefix own (f text)) texts)
+pub is_first_of : {X : Type 0} (prefix own : Name) (f : X → Name) (texts : List X) (result : Bool)
+    → result ≡ not (list_any (λ text. is_rival prefix own (f text)) texts)
     → (result ≡ true) ↔ IsFirstOf (set.from_list (map f texts)) prefix own
 is_first_of {X} prefix own f texts result e = (to, from)
   where
     to : result ≡ true → IsFirstOf (set.from_list (map f texts)) prefix own
     to t name there starts =
-        let none : list_any (λ text. is_rival prefix own (f text)) texts ≡ false = not_true result (list_any (λ text. is_rival prefix own (f text)) texts) e t in
-        not_before prefix own name (one_of prefix own name (map f texts) (any_mapped (is_rival prefix own) f texts ∙ none) (members (map f texts) name ∙ there)) starts
+        let none : list_any (λ text. is_rival prefix own (f text)) texts ≡ false =
+        not_true result (list_any (λ text. is_rival prefix own (f text)) texts) e t in
+        not_before prefix own name (one_of prefix own name (map f texts) (any_mapped (is_rival prefix own) f texts ∙ none)
+        (members (map f texts) name ∙ there)) starts
 
     from : IsFirstOf (set.from_list (map f texts)) prefix own → result ≡ true
     from first =

@@ -20,7 +20,8 @@ marked : {A : Type 0} (kept : Option (Kept A)) → is_marked_good (without_stale
 marked None = refl
 marked {A} (Some kept) = by kept.mark
   where
-    by : (mark : Mark) → is_marked_good (without_stale (Some (record { answer = kept.answer; mark = mark }))) ≡ is_marked_good (Some (record { answer = kept.answer; mark = mark }))
+    by : (mark : Mark) → is_marked_good (without_stale (Some (record { answer = kept.answer; mark = mark })))
+        ≡ is_marked_good (Some (record { answer = kept.answer; mark = mark }))
     by Good = refl
     by Stale = refl
 
@@ -28,7 +29,8 @@ full_marked : (kept : Option (Kept Answer)) → is_full_good (without_stale kept
 full_marked None = refl
 full_marked (Some kept) = by kept.answer kept.mark
   where
-    by : (answer : Answer) (mark : Mark) → is_full_good (without_stale (Some (record { answer = answer; mark = mark }))) ≡ is_full_good (Some (record { answer = answer; mark = mark }))
+    by : (answer : Answer) (mark : Mark) → is_full_good (without_stale (Some (record { answer = answer; mark = mark })))
+        ≡ is_full_good (Some (record { answer = answer; mark = mark }))
     by Absent Good = refl
     by (Known stat) Good = refl
     by (Full bytes stat) Good = refl
@@ -41,14 +43,17 @@ left_is : {A : Type 0} (kept : Option (Kept A)) (answer : A) → without_stale k
 left_is None answer e = absurd cc
 left_is {A} (Some kept) answer e = by kept.mark e
   where
-    by : (mark : Mark) → without_stale (Some (record { answer = kept.answer; mark = mark })) ≡ good answer → Some (record { answer = kept.answer; mark = mark }) ≡ good answer
+    by : (mark : Mark) → without_stale (Some (record { answer = kept.answer; mark = mark })) ≡ good answer
+        → Some (record { answer = kept.answer; mark = mark }) ≡ good answer
     by Good e = e
     by Stale e = absurd cc
 
-pub carried : {A : Type 0} (one other : Option (Kept A)) (answer : A) → without_stale one ≡ without_stale other → one ≡ good answer → other ≡ good answer
+pub carried : {A : Type 0} (one other : Option (Kept A)) (answer : A)
+    → without_stale one ≡ without_stale other → one ≡ good answer → other ≡ good answer
 carried one other answer same e = left_is other answer (sym same ∙ ap without_stale e)
 
-same_marked : {A : Type 0} (one other : Option (Kept A)) → without_stale one ≡ without_stale other → is_marked_good one ≡ is_marked_good other
+same_marked : {A : Type 0} (one other : Option (Kept A))
+    → without_stale one ≡ without_stale other → is_marked_good one ≡ is_marked_good other
 same_marked one other same = sym (marked one) ∙ ap is_marked_good same ∙ marked other
 
 same_full : (one other : Option (Kept Answer)) → without_stale one ≡ without_stale other → is_full_good one ≡ is_full_good other
@@ -59,10 +64,12 @@ turned one other s = record { nodes = λ path. sym (s.nodes path); children = λ
 
 -- ---- snapshots
 
-all_same : {A : Type 0} (one other : Text → Option (Kept A)) → ((path : Text) → without_stale (one path) ≡ without_stale (other path)) → (paths : List Text) → all_good one paths ≡ all_good other paths
+all_same : {A : Type 0} (one other : Text → Option (Kept A)) → ((path : Text) → without_stale (one path) ≡ without_stale (other path))
+    → (paths : List Text) → all_good one paths ≡ all_good other paths
 all_same one other same [] = refl
 all_same one other same (path ∷ paths) =
-    ap (λ (b : Bool). b && all_good one paths) (same_marked (one path) (other path) (same path)) ∙ ap (λ (b : Bool). is_marked_good (other path) && b) (all_same one other same paths)
+    ap (λ (b : Bool). b && all_good one paths) (same_marked (one path) (other path) (same path))
+    ∙ ap (λ (b : Bool). is_marked_good (other path) && b) (all_same one other same paths)
 
 -- ---- what is reached
 
@@ -80,14 +87,17 @@ module _ (one other : Cache) (same : SameGood one other) where
 
   -- a name that is kept below a path that is whole is kept in the other too
   name_too : (path : Text) (name : Name) → IsKeptWhole one path → HasName one path name → HasName other path name
-  name_too path name whole has = record { kept = as_good whole.names; there = (full_too path whole.names whole.full).children; has = named one path name whole has }
+  name_too path name whole has =
+      record { kept = as_good whole.names; there = (full_too path whole.names whole.full).children; has = named one path name whole has }
 
   name_back : (path : Text) (name : Name) → IsKeptWhole one path → HasName other path name → HasName one path name
-  name_back path name whole has = record { kept = as_good whole.names; there = whole.full.children; has = named other path name (whole_too path whole) has }
+  name_back path name whole has =
+      record { kept = as_good whole.names; there = whole.full.children; has = named other path name (whole_too path whole) has }
 
   reached_too : (root : Text) → IsWholeBelow one root → (below : List Name) → IsReached one root below → IsReached other root below
   reached_too root whole [] reached = tt
-  reached_too root whole (name ∷ below) reached = (reached_too root whole below reached.0, name_too (text_below root below) name (whole below reached.0) reached.1)
+  reached_too root whole (name ∷ below) reached =
+      (reached_too root whole below reached.0, name_too (text_below root below) name (whole below reached.0) reached.1)
 
   reached_back : (root : Text) → IsWholeBelow one root → (below : List Name) → IsReached other root below → IsReached one root below
   reached_back root whole [] reached = tt
@@ -98,7 +108,8 @@ module _ (one other : Cache) (same : SameGood one other) where
   walk_too root paths walk = record {
     whole = λ below reached. whole_too (text_below root below) (walk.whole below (reached_back root walk.whole below reached));
     reached = record {
-      each = λ path there. let at = walk.reached.each path there in record { below = at.below; reached = reached_too root walk.whole at.below at.reached; is = at.is };
+      each = λ path there. let at = walk.reached.each path there in
+          record { below = at.below; reached = reached_too root walk.whole at.below at.reached; is = at.is };
       all = λ below reached. walk.reached.all below (reached_back root walk.whole below reached);
     };
     once = walk.once;
@@ -120,19 +131,25 @@ module _ (one other : Cache) (same : SameGood one other) where
   -- ---- what is lacking
 
   good_name_too : (path : Text) (name : Name) → HasGoodName one path name → HasGoodName other path name
-  good_name_too path name has = record { names = has.names; there = carried (one.children path) (other.children path) has.names (same.children path) has.there; has = has.has }
+  good_name_too path name has = record {
+    names = has.names;
+    there = carried (one.children path) (other.children path) has.names (same.children path) has.there;
+    has = has.has;
+  }
 
   shown_too : (root : Text) (below : List Name) → IsShown one root below → IsShown other root below
   shown_too root [] shown = tt
   shown_too root (name ∷ below) shown = (shown_too root below shown.0, good_name_too (text_below root below) name shown.1)
 
 module _ (one other : Cache) (same : SameGood one other) where
-  lacking_too : (root : Text) (lacks lacks_too : Text → Bool) → ((path : Text) → lacks path ≡ lacks_too path) → (paths : List Text) → AreLacking one root lacks paths → AreLacking other root lacks_too paths
+  lacking_too : (root : Text) (lacks lacks_too : Text → Bool) → ((path : Text) → lacks path ≡ lacks_too path) → (paths : List Text)
+      → AreLacking one root lacks paths → AreLacking other root lacks_too paths
   lacking_too root lacks lacks_too agree paths are = record {
     once = are.once;
     each = λ path there. let k = are.each path there in
         (record { below = k.0.below; shown = shown_too one other same root k.0.below k.0.shown; is = k.0.is }, sym (agree path) ∙ k.1);
-    all = λ below shown lacking. are.all below (shown_too other one (turned one other same) root below shown) (agree (text_below root below) ∙ lacking);
+    all = λ below shown lacking.
+        are.all below (shown_too other one (turned one other same) root below shown) (agree (text_below root below) ∙ lacking);
   }
 
   no_data : (path : Text) → lacks_data one path ≡ lacks_data other path

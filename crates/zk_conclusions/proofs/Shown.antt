@@ -10,7 +10,8 @@ use Rattle.zk_laws.proofs.Basics.{path_eq-true, path_eq_from}
 use Rattle.zk_conclusions.specs.Holders.{HasPrefix, IsFirstOf, IsShownFirst, ShowsHolder, token_in, token_kept}
 
 -- a token comes from a good answer
-pub token_good : (session token : ℤ) (kept : Option (Kept Answer)) → token_kept session kept ≡ Some token → (answer : Answer) × (kept ≡ good answer) × (token_in session answer ≡ Some token)
+pub token_good : (session token : ℤ) (kept : Option (Kept Answer))
+    → token_kept session kept ≡ Some token → (answer : Answer) × (kept ≡ good answer) × (token_in session answer ≡ Some token)
 token_good session token None e = absurd cc
 token_good session token (Some kept) e = go kept.answer kept.mark e
   where
@@ -20,11 +21,22 @@ token_good session token (Some kept) e = go kept.answer kept.mark e
     go answer Stale f = absurd cc
 
 pub shows_holder : (view : View) (dir : Text) (prefix : Name) (path : Text) (own : Name) (token : ℤ)
-    → (path_of path ≡ own ∷ path_of dir) × HasPrefix prefix own → IsShownFirst view dir prefix own → Some token ≡ token_kept view.saved.session.session (view.cache.nodes path)
+    → (path_of path ≡ own ∷ path_of dir) × HasPrefix prefix own → IsShownFirst view dir prefix own
+    → Some token ≡ token_kept view.saved.session.session (view.cache.nodes path)
     → ShowsHolder view dir prefix path token
 shows_holder view dir prefix path own token place first made =
     let k = token_good view.saved.session.session token (view.cache.nodes path) (sym made) in
-    record { own = own; below = place.0; begins = place.1; names = first.0; children = first.1; first = first.2; answer = k.0; nodes = k.1; made = k.2 }
+    record {
+      own = own;
+      below = place.0;
+      begins = place.1;
+      names = first.0;
+      children = first.1;
+      first = first.2;
+      answer = k.0;
+      nodes = k.1;
+      made = k.2;
+    }
 
 pub first_name : (dir path : NodePath) (one other : Name) → path ≡ one ∷ dir → path ≡ other ∷ dir → one ≡ other
 first_name dir path one other e f = ap (λ (p : NodePath). elim p [ [] ↦ one | (n ∷ rest) ↦ n ]) (sym e ∙ f)
@@ -37,9 +49,11 @@ not_first view dir prefix path own token place not s =
     not (s.names, s.children, subst (IsFirstOf s.names.names prefix) same s.first)
 
 -- where the node has no token, nobody is
-pub no_token : (view : View) (dir : Text) (prefix : Name) (path : Text) (token : ℤ) → token_kept view.saved.session.session (view.cache.nodes path) ≡ None → ShowsHolder view dir prefix path token → ⊥
+pub no_token : (view : View) (dir : Text) (prefix : Name) (path : Text) (token : ℤ)
+    → token_kept view.saved.session.session (view.cache.nodes path) ≡ None → ShowsHolder view dir prefix path token → ⊥
 no_token view dir prefix path token none s =
-    let kept : token_kept view.saved.session.session (view.cache.nodes path) ≡ Some token = ap (token_kept view.saved.session.session) s.nodes ∙ s.made in
+    let kept : token_kept view.saved.session.session (view.cache.nodes path) ≡ Some token =
+    ap (token_kept view.saved.session.session) s.nodes ∙ s.made in
     absurd cc
 
 -- a path with this name that lies below a directory
@@ -57,9 +71,12 @@ not_below dir path name result e none place = let k = is_below_of dir path name 
 
 -- names that are kept and good, and a name that is first of them
 pub shown_first : (view : View) (dir : Text) (prefix own : Name) (names : Names) (mark : Mark) (result : Bool) → mark ≡ Good
-    → Some (record { answer = names; mark = mark }) ≡ view.cache.children dir → (result ≡ true) ↔ IsFirstOf names.names prefix own → (result ≡ true) ↔ IsShownFirst view dir prefix own
-shown_first view dir prefix own names mark result m e h =
-    (λ t. (names, sym e ∙ ap (λ (k : Mark). Some (record { answer = names; mark = k })) m, h.0 t), λ s. h.1 (subst (λ (n : Names). IsFirstOf n.names prefix own) (same s.0 (e ∙ s.1)) s.2))
+    → Some (record { answer = names; mark = mark }) ≡ view.cache.children dir → (result ≡ true) ↔ IsFirstOf names.names prefix own
+    → (result ≡ true) ↔ IsShownFirst view dir prefix own
+shown_first view dir prefix own names mark result m e h = (
+  λ t. (names, sym e ∙ ap (λ (k : Mark). Some (record { answer = names; mark = k })) m, h.0 t),
+  λ s. h.1 (subst (λ (n : Names). IsFirstOf n.names prefix own) (same s.0 (e ∙ s.1)) s.2),
+)
   where
     same : (other : Names) → Some (record { answer = names; mark = mark }) ≡ good other → other ≡ names
     same other f = ap (λ (o : Option (Kept Names)). elim o [ None ↦ names | Some kept ↦ kept.answer ]) (sym f)

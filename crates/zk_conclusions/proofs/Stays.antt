@@ -1,5 +1,6 @@
 -- Who stands first stays first, and tokens rise.
-use Rattle.std.proofs.Common.{ℕ, ℤ, pos, ◌≡◌, ◌≤◌, ◌<◌, ◌≤ℤ◌, ◌⊎◌, inl, inr, Bool, true, false, ◌∷◌, Option, Some, None, refl, sym, ap, subst, arith, nat_le, ◌∙◌}
+use Rattle.std.proofs.Common.{ℕ, ℤ, pos, ◌≡◌, ◌≤◌, ◌<◌, ◌≤ℤ◌, ◌⊎◌, inl, inr, Bool, true, false, ◌∷◌, Option, Some, None, refl, sym, ap}
+use Rattle.std.proofs.Common.{subst, arith, nat_le, ◌∙◌}
 use Rattle.std.specs.Prelude.{is_some}
 use Rattle.std.proofs.lemmas.Bool.Decides.{nat_tests}
 use Rattle.std.proofs.lemmas.Int.{ints}
@@ -39,18 +40,21 @@ first_stays h dir kind own node listed seen is rises le numbered first there mad
     go false e = refl
     go true e =
         let its = some_node (tree_at h seen (name ∷ dir)) found in
-        let old : its.0.czxid ≤ node.czxid = rises seen name own its.0 node its.1 there (rival_is_one kind name rival) (own_is_one kind own numbered) e in
+        let old : its.0.czxid ≤ node.czxid =
+        rises seen name own its.0 node its.1 there (rival_is_one kind name rival) (own_is_one kind own numbered) e in
         let small : its.0.czxid ≤ listed = omega arith in
         let then_too = made_before h (name ∷ dir) its.0.czxid listed seen is le small (is_made (tree_at h seen (name ∷ dir)) its.0 its.1) in
         let k = first name (is_there its.0.czxid (tree_at h listed (name ∷ dir)) then_too) rival in
         absurd cc
 
 -- the node under its name
-there_of : (tree : Tree) (dir : NodePath) (kind : Kind) (path : NodePath) (session token : ℤ) (m : IsStanding tree dir kind path session token) → tree (m.own ∷ dir) ≡ Some m.node
+there_of : (tree : Tree) (dir : NodePath) (kind : Kind) (path : NodePath) (session token : ℤ)
+    (m : IsStanding tree dir kind path session token) → tree (m.own ∷ dir) ≡ Some m.node
 there_of tree dir kind path session token m = subst (λ (p : NodePath). tree p ≡ Some m.node) m.below m.there
 
 pub one_stands : OneStands
-one_stands tree dir kind its path other session yours token later m y rival back = go (before_or_same m.own y.own (m.first y.own (ap is_some (there_of tree dir its other yours later y)) rival))
+one_stands tree dir kind its path other session yours token later m y rival back =
+    go (before_or_same m.own y.own (m.first y.own (ap is_some (there_of tree dir its other yours later y)) rival))
   where
     go : (is_before m.own y.own ≡ true) ⊎ (m.own ≡ y.own) → (path ≡ other) × (session ≡ yours) × (token ≡ later)
     go (inl before) = let k = y.first m.own (ap is_some (there_of tree dir kind path session token m)) back in absurd cc
@@ -61,7 +65,8 @@ one_stands tree dir kind its path other session yours token later m y rival back
 
 rises_to : (h : History) (dir : NodePath) (kind its : Kind) (path other : NodePath) (session yours token later : ℤ) (zxid beyond : ℕ)
     → IsHistory h → NumbersRise h dir kind → zxid ≤ beyond
-    → (m : IsStanding (tree_at h zxid) dir kind path session token) → (y : IsStanding (tree_at h beyond) dir its other yours later) → is_rival kind y.own ≡ true → m.node.czxid ≤ y.node.czxid
+    → (m : IsStanding (tree_at h zxid) dir kind path session token) → (y : IsStanding (tree_at h beyond) dir its other yours later)
+    → is_rival kind y.own ≡ true → m.node.czxid ≤ y.node.czxid
 rises_to h dir kind its path other session yours token later zxid beyond is rises le m y rival = go (nat_le y.node.czxid zxid) refl
   where
     mine : tree_at h zxid (m.own ∷ dir) ≡ Some m.node
@@ -71,12 +76,15 @@ rises_to h dir kind its path other session yours token later zxid beyond is rise
     go true e =
         let small : y.node.czxid ≤ zxid = grind (arith, nat_tests) in
         let found = there_of (tree_at h beyond) dir its other yours later y in
-        let was = made_node y.node.czxid (tree_at h zxid (y.own ∷ dir)) (made_before h (y.own ∷ dir) y.node.czxid zxid beyond is le small (is_made (tree_at h beyond (y.own ∷ dir)) y.node found)) in
+        let was = made_node y.node.czxid (tree_at h zxid (y.own ∷ dir))
+        (made_before h (y.own ∷ dir) y.node.czxid zxid beyond is le small (is_made (tree_at h beyond (y.own ∷ dir)) y.node found)) in
         step was (before_or_same m.own y.own (m.first y.own (ap is_some was.1) rival))
       where
-        step : ((old : Node) × (tree_at h zxid (y.own ∷ dir) ≡ Some old) × (old.czxid ≡ y.node.czxid)) → (is_before m.own y.own ≡ true) ⊎ (m.own ≡ y.own) → m.node.czxid ≤ y.node.czxid
+        step : ((old : Node) × (tree_at h zxid (y.own ∷ dir) ≡ Some old) × (old.czxid ≡ y.node.czxid))
+            → (is_before m.own y.own ≡ true) ⊎ (m.own ≡ y.own) → m.node.czxid ≤ y.node.czxid
         step was (inl before) =
-            let k : m.node.czxid ≤ was.0.czxid = rises zxid m.own y.own m.node was.0 mine was.1 (own_is_one kind m.own m.numbered) (rival_is_one kind y.own rival) before in
+            let k : m.node.czxid ≤ was.0.czxid =
+            rises zxid m.own y.own m.node was.0 mine was.1 (own_is_one kind m.own m.numbered) (rival_is_one kind y.own rival) before in
             let l : was.0.czxid ≡ y.node.czxid = was.2 in
             omega arith
         step was (inr same) =

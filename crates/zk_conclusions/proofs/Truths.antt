@@ -37,10 +37,13 @@ good_there (Some kept) e = (kept.answer, go kept.mark refl)
     go Stale f = let k : is_good kept.mark ≡ true = e in let l : is_good kept.mark ≡ false = ap is_good f in absurd cc
 
 -- of each of these paths, where all are good
-pub each_good : {A : Type 0} (kept : Text → Option (Kept A)) (paths : List Text) → all_good kept paths ≡ true → (path : Text) → Among path paths → is_marked_good (kept path) ≡ true
+pub each_good : {A : Type 0} (kept : Text → Option (Kept A)) (paths : List Text) → all_good kept paths ≡ true → (path : Text)
+    → Among path paths → is_marked_good (kept path) ≡ true
 each_good kept [] e path there = absurd there
-each_good kept (one ∷ more) e path (inl same) = subst (λ (p : Text). is_marked_good (kept p) ≡ true) (sym same) (and_parts (is_marked_good (kept one)) (all_good kept more) e).0
-each_good kept (one ∷ more) e path (inr there) = each_good kept more (and_parts (is_marked_good (kept one)) (all_good kept more) e).1 path there
+each_good kept (one ∷ more) e path (inl same) =
+    subst (λ (p : Text). is_marked_good (kept p) ≡ true) (sym same) (and_parts (is_marked_good (kept one)) (all_good kept more) e).0
+each_good kept (one ∷ more) e path (inr there) =
+    each_good kept more (and_parts (is_marked_good (kept one)) (all_good kept more) e).1 path there
 
 -- the path at this place is among them
 pub there_at : (paths : List Text) (place : ℕ) (path : Text) → slice_get paths place ≡ Some path → Among path paths
@@ -50,7 +53,8 @@ there_at (one ∷ more) (suc place) path e = inr (there_at more place path e)
 
 -- what is found of the path at a place, where all are good
 pub found_at : {A : Type 0} (kept : Text → Option (Kept A)) (paths : List Text) (place : ℕ) (other path : Text) (found : Kept A)
-    → all_good kept paths ≡ true → Some found ≡ kept (get_or paths place other) → slice_get paths place ≡ Some path → kept path ≡ good found.answer
+    → all_good kept paths ≡ true → Some found ≡ kept (get_or paths place other) → slice_get paths place ≡ Some path
+    → kept path ≡ good found.answer
 found_at {A} kept paths place other path found e is at =
     let here : Some found ≡ kept path = is ∙ ap kept (get_or_from_slice_get paths place path other at) in
     let k = good_there (kept path) (each_good kept paths e path (there_at paths place path at)) in
@@ -59,24 +63,31 @@ found_at {A} kept paths place other path found e is at =
 
 -- the same of a snapshot
 pub data_at : (view : View) (nodes parents : List Text) (place : ℕ) (other path : Text) (found : Kept Answer)
-    → is_whole view.cache nodes parents ≡ true → Some found ≡ view.cache.nodes (get_or nodes place other) → slice_get nodes place ≡ Some path → view.cache.nodes path ≡ good found.answer
+    → is_whole view.cache nodes parents ≡ true → Some found ≡ view.cache.nodes (get_or nodes place other)
+    → slice_get nodes place ≡ Some path → view.cache.nodes path ≡ good found.answer
 data_at view nodes parents place other path found e is at =
-    found_at view.cache.nodes nodes place other path found (and_parts (all_good view.cache.nodes nodes) (all_good view.cache.children parents) e).0 is at
+    found_at view.cache.nodes nodes place other path found
+    (and_parts (all_good view.cache.nodes nodes) (all_good view.cache.children parents) e).0 is at
 
 pub names_at : (view : View) (nodes parents : List Text) (place : ℕ) (other path : Text) (found : Kept Names)
-    → is_whole view.cache nodes parents ≡ true → Some found ≡ view.cache.children (get_or parents place other) → slice_get parents place ≡ Some path → view.cache.children path ≡ good found.answer
+    → is_whole view.cache nodes parents ≡ true → Some found ≡ view.cache.children (get_or parents place other)
+    → slice_get parents place ≡ Some path → view.cache.children path ≡ good found.answer
 names_at view nodes parents place other path found e is at =
-    found_at view.cache.children parents place other path found (and_parts (all_good view.cache.nodes nodes) (all_good view.cache.children parents) e).1 is at
+    found_at view.cache.children parents place other path found
+    (and_parts (all_good view.cache.nodes nodes) (all_good view.cache.children parents) e).1 is at
 
 -- a good answer is what there is to see at the last seen zxid
-pub data_fits : (h : History) (view : View) (path : Text) (answer : Answer) → IsServedFrom h view → view.cache.nodes path ≡ good answer → Fits answer (to_see Data (tree_seen h view) (path_of path))
+pub data_fits : (h : History) (view : View) (path : Text) (answer : Answer)
+    → IsServedFrom h view → view.cache.nodes path ≡ good answer → Fits answer (to_see Data (tree_seen h view) (path_of path))
 data_fits h view path answer seen kept = (coherent h view seen).nodes path (as_good answer) kept refl
 
-pub names_fit : (h : History) (view : View) (path : Text) (names : Names) → IsServedFrom h view → view.cache.children path ≡ good names → FitsNames names (to_see Child (tree_seen h view) (path_of path))
+pub names_fit : (h : History) (view : View) (path : Text) (names : Names)
+    → IsServedFrom h view → view.cache.children path ≡ good names → FitsNames names (to_see Child (tree_seen h view) (path_of path))
 names_fit h view path names seen kept = (coherent h view seen).children path (as_good names) kept refl
 
 -- a name that is there is one of those that fit
-pub names_there : (names : Names) (tree : Tree) (dir : NodePath) (found : Option Node) → FitsNames names (children_of (λ name. is_some (tree (name ∷ dir))) found)
+pub names_there : (names : Names) (tree : Tree) (dir : NodePath) (found : Option Node)
+    → FitsNames names (children_of (λ name. is_some (tree (name ∷ dir))) found)
     → (name : Name) → is_some (tree (name ∷ dir)) ≡ true → set.contains names.names name ≡ true
 names_there names tree dir None fits name there = absurd fits
 names_there names tree dir (Some node) fits name there = fits.1 name ∙ there
@@ -85,6 +96,8 @@ pub one_tree_here : WholeIsOfOneTree
 one_tree_here h view seen nodes parents whole =
     let parts = and_parts (all_good view.cache.nodes nodes) (all_good view.cache.children parents) whole in
     record {
-      seen = λ path there. let k = good_there (view.cache.nodes path) (each_good view.cache.nodes nodes parts.0 path there) in (k.0, k.1, data_fits h view path k.0 seen k.1);
-      listed = λ path there. let k = good_there (view.cache.children path) (each_good view.cache.children parents parts.1 path there) in (k.0, k.1, names_fit h view path k.0 seen k.1);
+      seen = λ path there. let k = good_there (view.cache.nodes path) (each_good view.cache.nodes nodes parts.0 path there) in
+          (k.0, k.1, data_fits h view path k.0 seen k.1);
+      listed = λ path there. let k = good_there (view.cache.children path) (each_good view.cache.children parents parts.1 path there) in
+          (k.0, k.1, names_fit h view path k.0 seen k.1);
     }

@@ -1,5 +1,6 @@
 -- A walk that goes on, from one path to the next.
-use Rattle.std.proofs.Common.{ℕ, zero, suc, ◌+◌, ◌-◌, ◌≡◌, ◌<◌, ◌≤◌, ◌⊎◌, inl, inr, true, List, [], ◌∷◌, ◌++◌, map, length, take, Option, Some, None, refl, ap, sym, ◌∙◌, subst, arith}
+use Rattle.std.proofs.Common.{ℕ, zero, suc, ◌+◌, ◌-◌, ◌≡◌, ◌<◌, ◌≤◌, ◌⊎◌, inl, inr, true, List, [], ◌∷◌, ◌++◌, map, length, take, Option}
+use Rattle.std.proofs.Common.{Some, None, refl, ap, sym, ◌∙◌, subst, arith}
 use Rattle.std.proofs.lemmas.List.{length-append, length-map, append-nil}
 use Rattle.std.proofs.Common.{append_assoc}
 use Rattle.std.proofs.lemmas.List.{take-append-le}
@@ -16,7 +17,8 @@ use Rattle.zk_laws.proofs.Basics.{Among-left, Among-right}
 use Rattle.zk_laws.proofs.Outputs.{among_split}
 use Rattle.zk_cache.specs.Kept.{Names, good, as_good}
 use Rattle.zk_conclusions.proofs.Truths.{there_at}
-use Rattle.zk_conclusions.specs.Subtrees.{is_full_good, IsFull, IsKeptWhole, HasName, text_below, IsReached, IsWholeBelow, IsOneReached, AreDistinct, HasMoreNodes}
+use Rattle.zk_conclusions.specs.Subtrees.{is_full_good, IsFull, IsKeptWhole, HasName, text_below, IsReached, IsWholeBelow, IsOneReached}
+use Rattle.zk_conclusions.specs.Subtrees.{AreDistinct, HasMoreNodes}
 use Rattle.zk_conclusions.specs.Walks.{IsFine, HasChildren, HasTooMany, HasParent, AreBehind, IsWalk}
 use Rattle.zk_conclusions.proofs.Reached.{named, is_child}
 use Rattle.zk_conclusions.proofs.Keeping.{full_there, fine_last}
@@ -81,10 +83,13 @@ distinct_at (z ∷ zs) zero y d e there = there
 distinct_at (z ∷ zs) (suc n) y d e (inl q) = d.0 (subst (λ (t : Text). Among t zs) q (there_at zs n y e))
 distinct_at (z ∷ zs) (suc n) y d e (inr there) = distinct_at zs n y d.1 e there
 
-distinct_append : (xs ys : List Text) → AreDistinct xs → AreDistinct ys → ((x : Text) → Among x xs → Among x ys → ⊥) → AreDistinct (xs ++ ys)
+distinct_append : (xs ys : List Text) → AreDistinct xs → AreDistinct ys → ((x : Text) → Among x xs → Among x ys → ⊥)
+    → AreDistinct (xs ++ ys)
 distinct_append [] ys d e apart = e
-distinct_append (x ∷ xs) ys d e apart =
-    (λ there. elim (among_split x xs ys there) [ inl a ↦ d.0 a | inr b ↦ apart x (inl refl) b ], distinct_append xs ys d.1 e (λ y a b. apart y (inr a) b))
+distinct_append (x ∷ xs) ys d e apart = (
+  λ there. elim (among_split x xs ys there) [ inl a ↦ d.0 a | inr b ↦ apart x (inl refl) b ],
+  distinct_append xs ys d.1 e (λ y a b. apart y (inr a) b),
+)
 
 pub distinct_front : (xs ys : List Text) → AreDistinct (xs ++ ys) → AreDistinct xs
 distinct_front [] ys d = tt
@@ -101,14 +106,17 @@ first_name one other above below e = ap (λ (p : NodePath). elim p [ [] ↦ one 
 rest_names : (one other : Name) (above below : NodePath) → one ∷ above ≡ other ∷ below → above ≡ below
 rest_names one other above below e = ap (λ (p : NodePath). elim p [ [] ↦ above | (n ∷ rest) ↦ rest ]) e
 
-distinct_children : (path : Text) (names : List Name) → IsPath path → AllByRecursion (IsFine path) names → AreDistinct names → AreDistinct (map (child_text path) names)
+distinct_children : (path : Text) (names : List Name)
+    → IsPath path → AllByRecursion (IsFine path) names → AreDistinct names → AreDistinct (map (child_text path) names)
 distinct_children path [] is fine d = tt
-distinct_children path (name ∷ names) is fine d = (λ there. twice (map_among (child_text path) names (child_text path name) there), distinct_children path names is fine.1 d.1)
+distinct_children path (name ∷ names) is fine d =
+    (λ there. twice (map_among (child_text path) names (child_text path name) there), distinct_children path names is fine.1 d.1)
   where
     twice : (other : Name) × Among other names × (child_text path name ≡ child_text path other) → ⊥
     twice k =
         let its = all_among (IsFine path) names fine.1 k.0 k.1 in
-        let same : name ≡ k.0 = first_name name k.0 (path_of path) (path_of path) (sym (joined_path path name is fine.0) ∙ (ap path_of k.2 ∙ joined_path path k.0 is its)) in
+        let same : name ≡ k.0 = first_name name k.0 (path_of path) (path_of path)
+        (sym (joined_path path name is fine.0) ∙ (ap path_of k.2 ∙ joined_path path k.0 is its)) in
         d.0 (subst (λ (n : Name). Among n names) (sym same) k.1)
 
 -- a path at or below the root
@@ -125,10 +133,15 @@ behind_all : (front ys : List Text) → ((y : Text) → Among y ys → HasParent
 behind_all front [] f = tt
 behind_all front (y ∷ ys) f = (f y (inl refl), behind_all (front ++ y ∷ []) ys (λ z there. wider front (y ∷ []) z (f z (inr there))))
 
-behind_append : (front xs ys : List Text) → AreBehind front xs → ((y : Text) → Among y ys → HasParent (front ++ xs) y) → AreBehind front (xs ++ ys)
-behind_append front [] ys behind f = behind_all front ys (λ y there. subst (λ (l : List Text). HasParent l y) (append-nil front) (f y there))
-behind_append front (x ∷ xs) ys behind f =
-    (behind.0, behind_append (front ++ x ∷ []) xs ys behind.1 (λ y there. subst (λ (l : List Text). HasParent l y) (sym (append_assoc front (x ∷ []) xs)) (f y there)))
+behind_append : (front xs ys : List Text) → AreBehind front xs → ((y : Text) → Among y ys → HasParent (front ++ xs) y)
+    → AreBehind front (xs ++ ys)
+behind_append front [] ys behind f =
+    behind_all front ys (λ y there. subst (λ (l : List Text). HasParent l y) (append-nil front) (f y there))
+behind_append front (x ∷ xs) ys behind f = (
+  behind.0,
+  behind_append (front ++ x ∷ []) xs ys behind.1
+      (λ y there. subst (λ (l : List Text). HasParent l y) (sym (append_assoc front (x ∷ []) xs)) (f y there)),
+)
 
 -- kept whole, with all its children among these
 pub record IsVisited (cache : Cache) (paths : List Text) (path : Text) : Type 0 where
@@ -136,7 +149,8 @@ pub record IsVisited (cache : Cache) (paths : List Text) (path : Text) : Type 0 
   pub there : (name : Name) → set.contains whole.names.names name ≡ true → Among (child_text path name) paths
 
 -- a child of one that is reached is reached
-child_reached : (cache : Cache) (root path : Text) (name : Name) (names : Names) → IsOneReached cache root path → cache.children path ≡ good names → set.contains names.names name ≡ true
+child_reached : (cache : Cache) (root path : Text) (name : Name) (names : Names)
+    → IsOneReached cache root path → cache.children path ≡ good names → set.contains names.names name ≡ true
     → IsOneReached cache root (child_text path name)
 child_reached cache root path name names one kept has = record {
   below = name ∷ one.below;
@@ -176,7 +190,8 @@ module _ (One : Text → Type 0) (Done : List Text → Text → Type 0) (root : 
   pub steps_new : IsPath root → One root → Steps One Done root (root ∷ []) 0
   steps_new is one = record {
     first = inl refl;
-    under = λ path there. elim there [ inl e ↦ subst (IsUnder root) (sym e) (record { is = is; below = []; names = refl }) | inr z ↦ absurd z ];
+    under =
+        λ path there. elim there [ inl e ↦ subst (IsUnder root) (sym e) (record { is = is; below = []; names = refl }) | inr z ↦ absurd z ];
     each = λ path there. elim there [ inl e ↦ subst One (sym e) one | inr z ↦ absurd z ];
     visited = λ path there. absurd there;
     once = (λ z. z, tt);
@@ -187,7 +202,8 @@ module _ (One : Text → Type 0) (Done : List Text → Text → Type 0) (root : 
   }
 
   -- a child of the one at the place is not there yet
-  new_child : (paths : List Text) (place : ℕ) (path : Text) (name : Name) → Steps One Done root paths place → slice_get paths place ≡ Some path
+  new_child : (paths : List Text) (place : ℕ) (path : Text) (name : Name)
+      → Steps One Done root paths place → slice_get paths place ≡ Some path
       → IsFine path name → Among (child_text path name) paths → ⊥
   new_child paths place path name w at fine there = go (w.placed (child_text path name) there)
     where
@@ -199,37 +215,75 @@ module _ (One : Text → Type 0) (Done : List Text → Text → Type 0) (root : 
 
       go : (child_text path name ≡ root) ⊎ HasParent (take place paths) (child_text path name) → ⊥
       go (inl e) =
-          no_longer (path_of root) name (w.under path here).below (sym (ap path_of e) ∙ (names ∙ ap (λ (p : NodePath). name ∷ p) (w.under path here).names))
+          no_longer (path_of root) name
+          (w.under path here).below (sym (ap path_of e) ∙ (names ∙ ap (λ (p : NodePath). name ∷ p) (w.under path here).names))
       go (inr p) =
           let above : path_of path ≡ path_of p.above = rest_names name p.name (path_of path) (path_of p.above) (sym names ∙ p.names) in
-          let same : path ≡ p.above = same_path path p.above (w.under path here).is (w.under p.above (among_some paths place p.above p.among)).is above in
+          let same : path ≡ p.above =
+          same_path path p.above (w.under path here).is (w.under p.above (among_some paths place p.above p.among)).is above in
           distinct_at paths place path w.once at (subst (λ (t : Text). Among t (take place paths)) (sym same) p.among)
 
   -- the paths with some new children of the one at the place are distinct
-  pub with_children : (paths : List Text) (place : ℕ) (path : Text) (names : List Name) → Steps One Done root paths place → slice_get paths place ≡ Some path
+  pub with_children : (paths : List Text) (place : ℕ) (path : Text) (names : List Name)
+      → Steps One Done root paths place → slice_get paths place ≡ Some path
       → AllByRecursion (IsFine path) names → AreDistinct names → AreDistinct (paths ++ map (child_text path) names)
   with_children paths place path names w at fine d =
-      distinct_append paths (map (child_text path) names) w.once (distinct_children path names (w.under path (there_at paths place path at)).is fine d)
-      (λ x there here. (let k = map_among (child_text path) names x here in new_child paths place path k.0 w at (all_among (IsFine path) names fine k.0 k.1) (subst (λ (t : Text). Among t paths) k.2 there)))
+      distinct_append paths (map (child_text path) names) w.once
+      (distinct_children path names (w.under path (there_at paths place path at)).is fine d)
+      (λ x there here. (let k = map_among (child_text path) names x here in
+      new_child paths place path k.0 w at (all_among (IsFine path) names fine k.0 k.1) (subst (λ (t : Text). Among t paths) k.2 there)))
 
   -- The next step: the children of the one at the place come after all others.
-  pub steps_next : (paths : List Text) (place : ℕ) (path : Text) (names : List Name) → Steps One Done root paths place → slice_get paths place ≡ Some path → place < length paths
+  pub steps_next : (paths : List Text) (place : ℕ) (path : Text) (names : List Name)
+      → Steps One Done root paths place → slice_get paths place ≡ Some path → place < length paths
       → AllByRecursion (IsFine path) names → AreDistinct names → ((name : Name) → Among name names → One (child_text path name))
       → ((x : Text) → Done paths x → Done (paths ++ map (child_text path) names) x) → Done (paths ++ map (child_text path) names) path
       → Steps One Done root (paths ++ map (child_text path) names) (suc place)
   steps_next paths place path names w at lt fine distinct one grown visited = record {
     first = Among-left root paths children w.first;
-    under = λ x there. elim (among_split x paths children there) [ inl old ↦ w.under x old | inr new ↦ (let k = child x new in subst (IsUnder root) (sym k.2) (child_under root path k.0 (w.under path here) (fine_of k.0 k.1))) ];
-    each = λ x there. elim (among_split x paths children there) [ inl old ↦ w.each x old | inr new ↦ (let k = child x new in subst One (sym k.2) (one k.0 k.1)) ];
-    visited = λ x there. elim (among_next paths place path x at (subst (Among x) front there)) [ inl old ↦ grown x (w.visited x old) | inr now ↦ subst (Done (paths ++ children)) (sym now) visited ];
+    under = λ x there. elim (among_split x paths children there) [
+      | inl old ↦ w.under x old
+      | inr new ↦
+          (let k = child x new in subst (IsUnder root) (sym k.2) (child_under root path k.0 (w.under path here) (fine_of k.0 k.1)))
+    ];
+    each = λ x there. elim (among_split x paths children there) [
+      | inl old ↦ w.each x old
+      | inr new ↦
+          (let k = child x new in subst One (sym k.2) (one k.0 k.1))
+    ];
+    visited = λ x there. elim (among_next paths place path x at (subst (Among x) front there)) [
+      | inl old ↦
+          grown x (w.visited x old)
+      | inr now ↦ subst (Done (paths ++ children)) (sym now) visited
+    ];
     once = with_children paths place path names w at fine distinct;
     placed = λ x there. elim (among_split x paths children there) [
-      | inl old ↦ elim (w.placed x old) [ inl e ↦ inl e | inr p ↦ inr (record { above = p.above; among = subst (Among p.above) (sym front) (among_more paths place p.above p.among); name = p.name; names = p.names }) ]
-      | inr new ↦ (let k = child x new in inr (record { above = path; among = subst (Among path) (sym front) (among_last paths place path at); name = k.0; names = ap path_of k.2 ∙ joined_path path k.0 (w.under path here).is (fine_of k.0 k.1) }))
+      | inl old ↦ elim (w.placed x old) [
+        | inl e ↦ inl e
+        | inr p ↦ inr (record {
+          above = p.above;
+          among = subst (Among p.above) (sym front) (among_more paths place p.above p.among);
+          name = p.name;
+          names = p.names;
+        })
+      ]
+      | inr new ↦
+          (let k = child x new in inr (record {
+            above = path;
+            among = subst (Among path) (sym front) (among_last paths place path at);
+            name = k.0;
+            names = ap path_of k.2 ∙ joined_path path k.0 (w.under path here).is (fine_of k.0 k.1);
+          }))
     ];
     rest = w.rest ++ children;
     begins = ap (λ (xs : List Text). xs ++ children) w.begins;
-    order = behind_append (root ∷ []) w.rest children w.order (λ y there. (let k = child y there in record { above = path; among = subst (Among path) w.begins here; name = k.0; names = ap path_of k.2 ∙ joined_path path k.0 (w.under path here).is (fine_of k.0 k.1) }));
+    order = behind_append (root ∷ []) w.rest children w.order (λ y there. (let k = child y there in record {
+      above = path;
+      among = subst
+          (Among path) w.begins here;
+      name = k.0;
+      names = ap path_of k.2 ∙ joined_path path k.0 (w.under path here).is (fine_of k.0 k.1);
+    }));
   }
     where
       children : List Text
@@ -248,20 +302,25 @@ module _ (One : Text → Type 0) (Done : List Text → Text → Type 0) (root : 
       fine_of name there = all_among (IsFine path) names fine name there
 
   -- more than fit
-  pub steps_many : (cache : Cache) (paths : List Text) (place : ℕ) (path : Text) (most : ℕ) → Steps One Done root paths place → slice_get paths place ≡ Some path
-      → HasTooMany cache path (most - length paths) → length paths ≤ most → ((x : Text) → One x → IsOneReached cache root x) → HasMoreNodes cache root most
+  pub steps_many : (cache : Cache) (paths : List Text) (place : ℕ) (path : Text) (most : ℕ)
+      → Steps One Done root paths place → slice_get paths place ≡ Some path
+      → HasTooMany cache path (most - length paths) → length paths ≤ most → ((x : Text) → One x → IsOneReached cache root x)
+      → HasMoreNodes cache root most
   steps_many cache paths place path most w at has le reached = record {
     paths = paths ++ map (child_text path) new;
     once = with_children paths place path new w at fine distinct;
     each = λ x there. elim (among_split x paths (map (child_text path) new) there) [
       | inl old ↦ reached x (w.each x old)
-      | inr n ↦ (let k = map_among (child_text path) new x n in subst (IsOneReached cache root) (sym k.2) (child_reached cache root path k.0 has.names (reached path (w.each path (there_at paths place path at))) has.good ((has.listing.among k.0).1 (within k.0 k.1))))
+      | inr n ↦ (let k = map_among (child_text path) new x n in subst (IsOneReached cache root) (sym k.2) (child_reached cache root path k.0
+          has.names (reached path (w.each path (there_at paths place path at))) has.good ((has.listing.among k.0).1 (within k.0 k.1))))
     ];
     more =
-        let k : length (paths ++ map (child_text path) new) ≡ length paths + length (map (child_text path) new) = length-append paths (map (child_text path) new) in
+        let k : length (paths ++ map (child_text path) new) ≡ length paths + length (map (child_text path) new) =
+        length-append paths (map (child_text path) new) in
         let l : length (map (child_text path) new) ≡ length new = length-map new (child_text path) in
         let m : length new ≡ length has.more.added.done + 1 = length-append has.more.added.done (has.more.name ∷ []) in
-        let n : length has.more.children ≡ length has.more.added.done = ap length has.more.added.made ∙ length-map has.more.added.done (child_text path) in
+        let n : length has.more.children ≡ length has.more.added.done =
+        ap length has.more.added.made ∙ length-map has.more.added.done (child_text path) in
         let o : most - length paths ≤ length has.more.children = has.more.more in
         omega (arith, k, l, m, n, o);
   }
@@ -286,15 +345,23 @@ module _ (One : Text → Type 0) (Done : List Text → Text → Type 0) (root : 
 pub walked_new : (cache : Cache) (root : Text) → IsPath root → Walked cache root (root ∷ []) 0
 walked_new cache root is = steps_new (IsOneReached cache root) (IsVisited cache) root is (record { below = []; reached = tt; is = refl })
 
-pub walked_next : (cache : Cache) (root : Text) (paths : List Text) (place : ℕ) (path : Text) (children : List Text) → Walked cache root paths place → slice_get paths place ≡ Some path
-    → is_full_good (cache.nodes path) ≡ true → HasChildren cache path children → place < length paths → Walked cache root (paths ++ children) (suc place)
+pub walked_next : (cache : Cache) (root : Text) (paths : List Text) (place : ℕ) (path : Text) (children : List Text)
+    → Walked cache root paths place → slice_get paths place ≡ Some path
+    → is_full_good (cache.nodes path) ≡ true → HasChildren cache path children → place < length paths
+    → Walked cache root (paths ++ children) (suc place)
 walked_next cache root paths place path children w at full has lt =
     subst (λ (c : List Text). Walked cache root (paths ++ c) (suc place)) (sym has.added.made)
-    (steps_next (IsOneReached cache root) (IsVisited cache) root paths place path has.added.done w at lt has.added.fine (subst AreDistinct all_done has.listing.once)
-    (λ name there. child_reached cache root path name has.names (w.each path (there_at paths place path at)) has.good ((has.listing.among name).1 (subst (Among name) (sym all_done) there)))
+    (steps_next (IsOneReached cache root) (IsVisited cache) root paths place path has.added.done w at lt has.added.fine
+    (subst AreDistinct all_done has.listing.once)
+    (λ name there. child_reached cache root path name has.names (w.each path (there_at paths place path at)) has.good
+    ((has.listing.among name).1 (subst (Among name) (sym all_done) there)))
     (λ x v. record { whole = v.whole; there = λ name k. Among-left (child_text x name) paths new (v.there name k) })
     (record {
-      whole = record { names = has.names; full = kept_full; paths = λ name k. all_among (IsFine path) has.added.done has.added.fine name (done name k) };
+      whole = record {
+        names = has.names;
+        full = kept_full;
+        paths = λ name k. all_among (IsFine path) has.added.done has.added.fine name (done name k);
+      };
       there = λ name k. Among-right (child_text path name) paths new (among_map (child_text path) has.added.done name (done name k));
     }))
   where
@@ -311,8 +378,16 @@ walked_next cache root paths place path children w at full has lt =
     kept_full = let k = full_there (cache.nodes path) full in record { bytes = k.0; stat = k.1; node = k.2; children = has.good }
 
 -- The end: no path is left.
-pub walked_all : (cache : Cache) (root : Text) (paths : List Text) (place : ℕ) → Walked cache root paths place → length paths ≤ place → IsWalk cache root paths
-walked_all cache root paths place w le = record { whole = λ below reached. (visited (text_below root below) (all below reached)).whole; reached = record { each = w.each; all = all }; once = w.once; rest = w.rest; begins = w.begins; order = w.order }
+pub walked_all : (cache : Cache) (root : Text) (paths : List Text) (place : ℕ)
+    → Walked cache root paths place → length paths ≤ place → IsWalk cache root paths
+walked_all cache root paths place w le = record {
+  whole = λ below reached. (visited (text_below root below) (all below reached)).whole;
+  reached = record { each = w.each; all = all };
+  once = w.once;
+  rest = w.rest;
+  begins = w.begins;
+  order = w.order;
+}
   where
     visited : (path : Text) → Among path paths → IsVisited cache paths path
     visited path there = w.visited path (among_all paths place path le there)
@@ -324,16 +399,19 @@ walked_all cache root paths place w le = record { whole = λ below reached. (vis
         v.there name (named cache (text_below root below) name v.whole reached.1)
 
 -- one that is not kept whole
-pub walked_lacking : (cache : Cache) (root : Text) (paths : List Text) (place : ℕ) (path : Text) → Walked cache root paths place → slice_get paths place ≡ Some path
+pub walked_lacking : (cache : Cache) (root : Text) (paths : List Text) (place : ℕ) (path : Text)
+    → Walked cache root paths place → slice_get paths place ≡ Some path
     → (IsKeptWhole cache path → ⊥) → IsWholeBelow cache root → ⊥
 walked_lacking cache root paths place path w at lacking whole =
     let one = w.each path (there_at paths place path at) in
     lacking (subst (IsKeptWhole cache) (sym one.is) (whole one.below one.reached))
 
 -- more than fit
-pub walked_many : (cache : Cache) (root : Text) (paths : List Text) (place : ℕ) (path : Text) (most : ℕ) → Walked cache root paths place → slice_get paths place ≡ Some path
+pub walked_many : (cache : Cache) (root : Text) (paths : List Text) (place : ℕ) (path : Text) (most : ℕ)
+    → Walked cache root paths place → slice_get paths place ≡ Some path
     → HasTooMany cache path (most - length paths) → length paths ≤ most → HasMoreNodes cache root most
-walked_many cache root paths place path most w at has le = steps_many (IsOneReached cache root) (IsVisited cache) root cache paths place path most w at has le (λ x one. one)
+walked_many cache root paths place path most w at has le =
+    steps_many (IsOneReached cache root) (IsVisited cache) root cache paths place path most w at has le (λ x one. one)
 
 -- more than none
 pub walked_none : (cache : Cache) (root : Text) → HasMoreNodes cache root 0

@@ -1,5 +1,6 @@
 -- What it is to be first below a path, in a tree and by what a client shows, and what follows.
-use Rattle.std.specs.Prelude.{ℕ, ℤ, pos, ◌≡◌, ◌≢◌, nat_eq, ◌≤◌, ◌≤ℤ◌, Bool, true, false, ◌&&◌, not, ◌∷◌, ◌++◌, Option, Some, None, is_some, if◌then◌else◌}
+use Rattle.std.specs.Prelude.{ℕ, ℤ, pos, ◌≡◌, ◌≢◌, nat_eq, ◌≤◌, ◌≤ℤ◌, Bool, true, false, ◌&&◌, not, ◌∷◌, ◌++◌, Option, Some, None, is_some}
+use Rattle.std.specs.Prelude.{if◌then◌else◌}
 use Rattle.std.specs.List.{starts_with}
 use Rattle.std.specs.Ordering.{int_eq, is_lt}
 use Rattle.std.specs.FinSet as set
@@ -76,12 +77,14 @@ pub record ShowsHolder (view : View) (dir : Text) (prefix : Name) (path : Text) 
 -- A session that is shown to hold does so in the history at the last seen zxid.
 abbrev pub HeldIsTrue : Type 0
 HeldIsTrue = (h : History) (view : View) (dir : Text) (prefix : Name) (path : Text) (token : ℤ)
-    → IsServedFrom h view → ShowsHolder view dir prefix path token → IsHolder (tree_seen h view) (path_of dir) prefix (path_of path) view.saved.session.session token
+    → IsServedFrom h view → ShowsHolder view dir prefix path token
+    → IsHolder (tree_seen h view) (path_of dir) prefix (path_of path) view.saved.session.session token
 
 -- In one tree no two hold.
 abbrev pub OneHolds : Type 0
 OneHolds = (tree : Tree) (dir : NodePath) (prefix : Name) (path other : NodePath) (session yours token later : ℤ)
-    → IsHolder tree dir prefix path session token → IsHolder tree dir prefix other yours later → (path ≡ other) × (session ≡ yours) × (token ≡ later)
+    → IsHolder tree dir prefix path session token
+    → IsHolder tree dir prefix other yours later → (path ≡ other) × (session ≡ yours) × (token ≡ later)
 
 -- Two clients that show it at the same zxid are of the same session.
 abbrev pub OneShows : Type 0

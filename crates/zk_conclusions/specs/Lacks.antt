@@ -80,4 +80,5 @@ pub record HasNoMoreNodes (cache : Cache) (root : Text) (most : ℕ) : Type 0 wh
 
 -- Where there is a subtree of no more nodes than that, neither refusal is true.
 abbrev pub WalkIsTheOnlyAnswer : Type 0
-WalkIsTheOnlyAnswer = (cache : Cache) (root : Text) (most : ℕ) → HasWalk cache root most → IsWholeBelow cache root × ¬ (HasMoreNodes cache root most)
+WalkIsTheOnlyAnswer = (cache : Cache) (root : Text) (most : ℕ) → HasWalk cache root most
+    → IsWholeBelow cache root × ¬ (HasMoreNodes cache root most)

@@ -21,7 +21,8 @@ pub record IsLastOf (kind : Kind) (names : List Name) (own : Name) (count at : �
   pub within : at < count
   pub rival : is_rival kind (name_at names at) ≡ true
   pub before : is_before (name_at names at) own ≡ true
-  pub last : (name : Name) → Among name (take count names) → is_rival kind name ≡ true → is_before name own ≡ true → is_before (name_at names at) name ≡ false
+  pub last : (name : Name) → Among name (take count names)
+      → is_rival kind name ≡ true → is_before name own ≡ true → is_before (name_at names at) name ≡ false
 
 -- what was found in the first names: no rival before this one, or the last
 abbrev pub Found : Kind → List Name → Name → ℕ → Option ℕ → Type 0

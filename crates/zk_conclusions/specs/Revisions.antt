@@ -60,12 +60,14 @@ number_after number (Halts ∷ items) = raised (number_after number items)
 
 -- Where a client comes through turns that say nothing of that kind, what is kept and good stays as it is, and no other becomes good.
 abbrev pub QuietIsUnchanged : Type 0
-QuietIsUnchanged = (start : Start) (more items : List Item) (view after : View) → Stands start items view → Stands start (more ++ items) after → AreQuiet more
+QuietIsUnchanged = (start : Start) (more items : List Item) (view after : View) → Stands start items view
+    → Stands start (more ++ items) after → AreQuiet more
     → IsUnchanged view after
 
 -- So it is where the number is the same, and not yet the last one.
 abbrev pub SameNumberIsUnchanged : Type 0
-SameNumberIsUnchanged = (start : Start) (more items : List Item) (view after : View) (number : ℕ) → Stands start items view → Stands start (more ++ items) after
+SameNumberIsUnchanged = (start : Start) (more items : List Item) (view after : View) (number : ℕ) → Stands start items view
+    → Stands start (more ++ items) after
     → number < 2 ^ 64 - 1 → number_after number more ≡ number → IsUnchanged view after
 
 -- ---- what is concluded from it
@@ -74,14 +76,17 @@ SameNumberIsUnchanged = (start : Start) (more items : List Item) (view after : V
 abbrev pub SameAt : (one other : Cache) → Text → Type 0
 SameAt one other path = (one.nodes path ≡ other.nodes path) × (one.children path ≡ other.children path)
 
--- The same is concluded from both: of the same paths there is a snapshot, a subtree has the same paths with the same answers, and the same is lacking.
+-- The same is concluded from both: of the same paths there is a snapshot, a subtree has the same paths with the same answers, and the same
+-- is lacking.
 pub record ShowsTheSame (one other : Cache) : Type 0 where
   pub whole : (nodes parents : List Text) → is_whole one nodes parents ≡ is_whole other nodes parents
   pub walk : (root : Text) (paths : List Text) → IsWalk one root paths ↔ IsWalk other root paths
   pub has : (root : Text) (most : ℕ) → HasWalk one root most ↔ HasWalk other root most
   pub entries : (root : Text) (paths : List Text) → IsWalk one root paths → (path : Text) → Among path paths → SameAt one other path
-  pub unread : (root : Text) (paths : List Text) → AreLacking one root (lacks_data one) paths ↔ AreLacking other root (lacks_data other) paths
-  pub unlisted : (root : Text) (paths : List Text) → AreLacking one root (lacks_names one) paths ↔ AreLacking other root (lacks_names other) paths
+  pub unread : (root : Text) (paths : List Text)
+      → AreLacking one root (lacks_data one) paths ↔ AreLacking other root (lacks_data other) paths
+  pub unlisted : (root : Text) (paths : List Text)
+      → AreLacking one root (lacks_names one) paths ↔ AreLacking other root (lacks_names other) paths
 
 abbrev pub SameGoodShowsTheSame : Type 0
 SameGoodShowsTheSame = (one other : Cache) → SameGood one other → ShowsTheSame one other

@@ -34,4 +34,5 @@ pub record IsOfOneTree (tree : Tree) (cache : Cache) (nodes parents : List Text)
 
 -- Where each of these paths has a good answer, all are those of the history's tree at the last seen zxid.
 abbrev pub WholeIsOfOneTree : Type 0
-WholeIsOfOneTree = (h : History) (view : View) → IsServedFrom h view → (nodes parents : List Text) → is_whole view.cache nodes parents ≡ true → IsOfOneTree (tree_seen h view) view.cache nodes parents
+WholeIsOfOneTree = (h : History) (view : View) → IsServedFrom h view → (nodes parents : List Text)
+    → is_whole view.cache nodes parents ≡ true → IsOfOneTree (tree_seen h view) view.cache nodes parents

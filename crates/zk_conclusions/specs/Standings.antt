@@ -59,8 +59,10 @@ ListsAll tree dir names = (name : Name) → is_some (tree (name ∷ dir)) ≡ tr
 
 -- A getChildren that the client was answered lists each name that was there at the zxid of the answer.
 abbrev pub ListingIsTrue : Type 0
-ListingIsTrue = (h : History) (view : View) (seen : IsServedFrom h view) (ticket : ℕ) (dir : Text) (watch : Bool) (zxid : ℤ) (names : List Text) (stat : Stat)
-    → Among (Took (Replies ticket (GetChildren dir watch) zxid (Listing names stat))) (past_of seen.start seen.items) → ListsAll (tree_at h (from_zero zxid)) (path_of dir) names
+ListingIsTrue = (h : History) (view : View) (seen : IsServedFrom h view) (ticket : ℕ) (dir : Text) (watch : Bool) (zxid : ℤ)
+    (names : List Text) (stat : Stat)
+    → Among (Took (Replies ticket (GetChildren dir watch) zxid (Listing names stat))) (past_of seen.start seen.items)
+    → ListsAll (tree_at h (from_zero zxid)) (path_of dir) names
 
 -- Numbers rise with creation: of two nodes of the kind below dir that are there at once, the one whose name is before the other's was
 -- not made after it.
@@ -79,7 +81,8 @@ FirstStays = (h : History) (dir : NodePath) (kind : Kind) (own : Name) (node : N
 abbrev pub StandingIsTrue : Type 0
 StandingIsTrue = (h : History) (view : View) (dir : Text) (kind : Kind) (names : List Name) (listed : ℤ) (path : Text) (token : ℤ)
     → IsServedFrom h view → NumbersRise h (path_of dir) kind → ListsAll (tree_at h (from_zero listed)) (path_of dir) names
-    → ShowsStanding view dir kind names listed path token → IsStanding (tree_seen h view) (path_of dir) kind (path_of path) view.saved.session.session token
+    → ShowsStanding view dir kind names listed path token
+    → IsStanding (tree_seen h view) (path_of dir) kind (path_of path) view.saved.session.session token
 
 -- In one tree, of two that are rivals of one another both do not stand first, unless they are one.
 abbrev pub OneStands : Type 0
@@ -89,7 +92,8 @@ OneStands = (tree : Tree) (dir : NodePath) (kind its : Kind) (path other : NodeP
 
 -- A rival of a first that stands first at a later zxid has a token that is not smaller.
 abbrev pub StandingTokensRise : Type 0
-StandingTokensRise = (h : History) (dir : NodePath) (kind its : Kind) (path other : NodePath) (session yours token later : ℤ) (zxid beyond : ℕ)
+StandingTokensRise =
+    (h : History) (dir : NodePath) (kind its : Kind) (path other : NodePath) (session yours token later : ℤ) (zxid beyond : ℕ)
     → IsHistory h → NumbersRise h dir kind → zxid ≤ beyond
     → (m : IsStanding (tree_at h zxid) dir kind path session token) → (y : IsStanding (tree_at h beyond) dir its other yours later)
     → is_rival kind y.own ≡ true → token ≤ℤ later
@@ -106,12 +110,14 @@ pub record IsShownStanding (h : History) (view : View) (dir : Text) (kind : Kind
 -- Two clients that show it at the same zxid, as rivals of one another, are of the same session and node.
 abbrev pub OneShowsStanding : Type 0
 OneShowsStanding = (h : History) (one other : View) (dir : Text) (kind its : Kind) (path its_path : Text) (token later : ℤ)
-    → (m : IsShownStanding h one dir kind path token) → (y : IsShownStanding h other dir its its_path later) → one.saved.last ≡ other.saved.last
+    → (m : IsShownStanding h one dir kind path token) → (y : IsShownStanding h other dir its its_path later)
+    → one.saved.last ≡ other.saved.last
     → is_rival kind y.shows.own ≡ true → is_rival its m.shows.own ≡ true
     → (path_of path ≡ path_of its_path) × (one.saved.session.session ≡ other.saved.session.session) × (token ≡ later)
 
 -- A rival that shows it at a later zxid has a token that is not smaller.
 abbrev pub LaterStandings : Type 0
 LaterStandings = (h : History) (one other : View) (dir : Text) (kind its : Kind) (path its_path : Text) (token later : ℤ)
-    → (m : IsShownStanding h one dir kind path token) → (y : IsShownStanding h other dir its its_path later) → from_zero one.saved.last ≤ from_zero other.saved.last
+    → (m : IsShownStanding h one dir kind path token) → (y : IsShownStanding h other dir its its_path later)
+    → from_zero one.saved.last ≤ from_zero other.saved.last
     → is_rival kind y.shows.own ≡ true → token ≤ℤ later

@@ -92,18 +92,22 @@ pub record IsTrueAt (tree : Tree) (cache : Cache) (path : Text) : Type 0 where
 -- What is reached from the root is the tree's, at and below it: all that is reached is there, as it is kept (sound), and all that is
 -- there is reached (complete).
 pub record IsSubtreeOf (tree : Tree) (cache : Cache) (root : Text) : Type 0 where
-  pub sound : (below : List Name) → IsReached cache root below → (path_of (text_below root below) ≡ below ++ path_of root) × IsTrueAt tree cache (text_below root below)
+  pub sound : (below : List Name)
+      → IsReached cache root below → (path_of (text_below root below) ≡ below ++ path_of root) × IsTrueAt tree cache (text_below root below)
   pub complete : (below : List Name) → is_some (tree (below ++ path_of root)) ≡ true → IsReached cache root below
 
 -- Where each node that is reached is kept whole, these are the nodes of the history's tree at the last seen zxid.
 abbrev pub WholeIsSubtree : Type 0
-WholeIsSubtree = (h : History) (view : View) (root : Text) → IsServedFrom h view → IsPath root → IsWholeBelow view.cache root → IsSubtreeOf (tree_seen h view) view.cache root
+WholeIsSubtree = (h : History) (view : View) (root : Text) → IsServedFrom h view → IsPath root → IsWholeBelow view.cache root
+    → IsSubtreeOf (tree_seen h view) view.cache root
 
 -- A path at or below the root is one of these exactly where a node is there.
 abbrev pub AreAllBelow : Tree → Text → List Text → Type 0
-AreAllBelow tree root paths = (path : Text) (below : List Name) → IsPath path → path_of path ≡ below ++ path_of root → Among path paths ↔ (is_some (tree (path_of path)) ≡ true)
+AreAllBelow tree root paths = (path : Text) (below : List Name) → IsPath path → path_of path ≡ below ++ path_of root
+    → Among path paths ↔ (is_some (tree (path_of path)) ≡ true)
 
 -- Where all that is reached is kept whole, its paths are those of the tree's nodes at and below the root.
 abbrev pub PathsAreAll : Type 0
-PathsAreAll = (h : History) (view : View) (root : Text) (paths : List Text) → IsServedFrom h view → IsPath root → IsWholeBelow view.cache root → AreReached view.cache root paths
+PathsAreAll = (h : History) (view : View) (root : Text) (paths : List Text) → IsServedFrom h view → IsPath root
+    → IsWholeBelow view.cache root → AreReached view.cache root paths
     → AreAllBelow (tree_seen h view) root paths

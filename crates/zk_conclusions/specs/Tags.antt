@@ -21,10 +21,12 @@ pub record IsLeastOf (names : List Name) (tag least : Name) : Type 0 where
 -- sent them, also where these went over several connections.
 abbrev pub AreMadeBy : History → NodePath → Name → ℤ → ℕ → Type 0
 AreMadeBy h dir tag session answered =
-    (zxid : ℕ) (name : Name) (node : Node) → tree_at h zxid (name ∷ dir) ≡ Some node → has_tag tag name ≡ true → node.owner ≡ session → node.czxid ≤ answered
+    (zxid : ℕ) (name : Name) (node : Node) → tree_at h zxid (name ∷ dir) ≡ Some node → has_tag tag name ≡ true
+    → node.owner ≡ session → node.czxid ≤ answered
 
 -- Then a listing at this zxid, or at a later one, has each of these nodes that is still there at its own zxid or later.
 abbrev pub LostAreListed : Type 0
 LostAreListed = (h : History) (dir : NodePath) (tag : Name) (session : ℤ) (answered listed seen : ℕ) (names : List Name)
     → IsHistory h → AreMadeBy h dir tag session answered → ListsAll (tree_at h listed) dir names → answered ≤ listed → listed ≤ seen
-    → (name : Name) (node : Node) → tree_at h seen (name ∷ dir) ≡ Some node → has_tag tag name ≡ true → node.owner ≡ session → Among name names
+    → (name : Name) (node : Node) → tree_at h seen (name ∷ dir) ≡ Some node → has_tag tag name ≡ true
+    → node.owner ≡ session → Among name names

@@ -17,7 +17,8 @@ pub(crate) fn stands_before(kind: &Kind<'_>, name: &str, own: &str) -> bool
 }
 
 fn has_before<A: Allocator>(kind: &Kind<'_>, names: &[String<A>], own: &str) -> bool
-    ensures { result ≡ list_any (λ name. is_rival (kind_of kind.now) (string_bytes name) && is_before (string_bytes name) own.now) names.now }
+    ensures { result
+        ≡ list_any (λ name. is_rival (kind_of kind.now) (string_bytes name) && is_before (string_bytes name) own.now) names.now }
 {
     names.iter().any(|name| stands_before(kind, name, own))
 }

@@ -64,7 +64,8 @@ pub(crate) fn children_of<A: Allocator + Copy>(
     ensures added { IfOk result (λ children. Added path.now (map string_bytes names.now.names.keys) [] children.items) }
     ensures fits { IfOk result (λ children. length children.items ≤ room) }
     ensures ordered { IsOrdered string_cmp names.now.names }
-    ensures refused { IfErr result (λ why. Says why (HasFault path.now (map string_bytes names.now.names.keys)) (HasMore path.now (map string_bytes names.now.names.keys) room)) }
+    ensures refused { IfErr result (λ why. Says why (HasFault path.now (map string_bytes names.now.names.keys))
+        (HasMore path.now (map string_bytes names.now.names.keys) room)) }
 {
     let mut children = Vec::new(alloc);
     for name in &names.names {
@@ -87,7 +88,8 @@ pub(crate) fn children_at<A: Allocator + Copy>(
     ensures children { IfOk result (λ children. HasChildren (view_of client.now).cache path.now children.items) }
     ensures data { OnOk result (is_full_good ((view_of client.now).cache.nodes path.now) ≡ true) }
     ensures fits { IfOk result (λ children. length children.items ≤ room) }
-    ensures refused { IfErr result (λ why. Says why (¬ (IsKeptWhole (view_of client.now).cache path.now)) (HasTooMany (view_of client.now).cache path.now room)) }
+    ensures refused { IfErr result
+        (λ why. Says why (¬ (IsKeptWhole (view_of client.now).cache path.now)) (HasTooMany (view_of client.now).cache path.now room)) }
 {
     let Some(names) = names_if_full(client, path) else {
         return Err(NoSubtree::NotWhole);

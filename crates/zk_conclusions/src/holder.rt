@@ -39,7 +39,8 @@ impl<'a, A: Allocator + Copy> Holder<'a, A> {
     ) -> Option<Holder<'a, A>>
         ensures shows { IfSome result (λ holder. ShowsHolder (view_of client.now) directory.now prefix.now path.now holder.token) }
         ensures holds { IfSome result (λ holder. (h : History) → IsServedFrom h (view_of client.now)
-            → IsHolder (tree_seen h (view_of client.now)) (path_of directory.now) prefix.now (path_of path.now) (view_of client.now).saved.session.session holder.token) }
+            → IsHolder (tree_seen h (view_of client.now)) (path_of directory.now) prefix.now (path_of path.now)
+            (view_of client.now).saved.session.session holder.token) }
         ensures client { IfSome result (λ holder. holder.client.now ≡ client.now) }
         ensures none { result ≡ None → (token : ℤ) → ¬ (ShowsHolder (view_of client.now) directory.now prefix.now path.now token) }
     {

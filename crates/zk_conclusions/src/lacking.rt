@@ -47,7 +47,8 @@ fn shown_children<A: Allocator + Copy>(
 ) -> Result<Vec<Path<A>, A>, NoSubtree>
     ensures found { IfOk result (λ children. FindsChildren (view_of client.now).cache path.now children.items) }
     ensures fits { IfOk result (λ children. length children.items ≤ room) }
-    ensures refused { IfErr result (λ why. Says why (HasFaultAt (view_of client.now).cache path.now) (HasTooMany (view_of client.now).cache path.now room)) }
+    ensures refused { IfErr result
+        (λ why. Says why (HasFaultAt (view_of client.now).cache path.now) (HasTooMany (view_of client.now).cache path.now room)) }
 {
     let Some(names) = good_names(client, path) else {
         return Ok(Vec::new(alloc));
@@ -64,7 +65,8 @@ fn shown_paths<A: Allocator + Copy>(
 ) -> Result<Vec<Path<A>, A>, NoSubtree>
     ensures shown { IfOk result (λ paths. AreShown (view_of client.now).cache root.now paths.items) }
     ensures most { IfOk result (λ paths. length paths.items ≤ most) }
-    ensures refused { IfErr result (λ why. Says why (HasNoPath (view_of client.now).cache root.now) (HasMoreNodes (view_of client.now).cache root.now most)) }
+    ensures refused { IfErr result
+        (λ why. Says why (HasNoPath (view_of client.now).cache root.now) (HasMoreNodes (view_of client.now).cache root.now most)) }
 {
     if most == 0 {
         return Err(NoSubtree::TooMany);
@@ -135,11 +137,15 @@ impl<A: Allocator + Copy> Lacking<A> {
         root: &Path<A>,
         most: usize,
     ) -> Result<Lacking<A>, NoSubtree>
-        ensures data { IfOk result (λ lacking. AreLacking (view_of client.now).cache root.now (lacks_data (view_of client.now).cache) lacking.data.items) }
-        ensures names { IfOk result (λ lacking. AreLacking (view_of client.now).cache root.now (lacks_names (view_of client.now).cache) lacking.names.items) }
-        ensures empty { IfOk result (λ lacking. ((lacking.data.items ≡ []) × (lacking.names.items ≡ [])) ↔ HasWalk (view_of client.now).cache root.now most) }
+        ensures data { IfOk result
+            (λ lacking. AreLacking (view_of client.now).cache root.now (lacks_data (view_of client.now).cache) lacking.data.items) }
+        ensures names { IfOk result
+            (λ lacking. AreLacking (view_of client.now).cache root.now (lacks_names (view_of client.now).cache) lacking.names.items) }
+        ensures empty { IfOk result
+            (λ lacking. ((lacking.data.items ≡ []) × (lacking.names.items ≡ [])) ↔ HasWalk (view_of client.now).cache root.now most) }
         ensures fits { IfOk result (λ lacking. HasNoMoreNodes (view_of client.now).cache root.now most) }
-        ensures none { IfErr result (λ why. Says why (HasNoPath (view_of client.now).cache root.now) (HasMoreNodes (view_of client.now).cache root.now most)) }
+        ensures none { IfErr result
+            (λ why. Says why (HasNoPath (view_of client.now).cache root.now) (HasMoreNodes (view_of client.now).cache root.now most)) }
     {
         let paths = shown_paths(client, alloc, root, most)?;
         let data = without_data(client, alloc, paths.as_slice())?;

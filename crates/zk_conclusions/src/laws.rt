@@ -7,7 +7,8 @@ ghost use Rattle.zk_conclusions.specs.Lacks.{WalkIsTheOnlyAnswer};
 ghost use Rattle.zk_conclusions.specs.Looks.{OneZxidIsOneTree};
 ghost use Rattle.zk_conclusions.specs.Revisions.{QuietIsUnchanged, SameGoodShowsTheSame, SameNumberIsUnchanged};
 ghost use Rattle.zk_conclusions.specs.Snapshots.{WholeIsOfOneTree};
-ghost use Rattle.zk_conclusions.specs.Standings.{FirstStays, LaterStandings, ListingIsTrue, OneShowsStanding, OneStands, StandingIsTrue, StandingTokensRise};
+ghost use Rattle.zk_conclusions.specs.Standings.{FirstStays, LaterStandings, ListingIsTrue, OneShowsStanding, OneStands, StandingIsTrue};
+ghost use Rattle.zk_conclusions.specs.Standings.{StandingTokensRise};
 ghost use Rattle.zk_conclusions.specs.Subtrees.{PathsAreAll, WholeIsSubtree};
 ghost use Rattle.zk_conclusions.specs.Tags.{LostAreListed};
 

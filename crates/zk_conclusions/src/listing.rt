@@ -71,7 +71,8 @@ fn found_with<A: Allocator>(
 /// The place of the last rival before `own`.
 fn last_before<A: Allocator>(kind: &Kind<'_>, names: &[String<A>], own: &str) -> Option<usize>
     ensures within { IfSome result (λ place. place < length names.now) }
-    ensures some { IfSome result (λ place. IsPredecessor (kind_of kind.now) (map string_bytes names.now) own.now (name_at (map string_bytes names.now) place)) }
+    ensures some { IfSome result
+        (λ place. IsPredecessor (kind_of kind.now) (map string_bytes names.now) own.now (name_at (map string_bytes names.now) place)) }
     ensures none { result ≡ None → IsFirstOf (kind_of kind.now) (map string_bytes names.now) own.now }
 {
     let mut last = None;

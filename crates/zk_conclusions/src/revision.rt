@@ -63,8 +63,8 @@ impl Revision {
         self.number
     }
 
-    /// Notes what a step of the client gave: the number rises by one exactly where a call had its reply, something was reported, or the state is
-    /// another one.
+    /// Notes what a step of the client gave: the number rises by one exactly where a call had its reply, something was reported, or the
+    /// state is another one.
     pub fn note<A: Allocator>(&mut self, outputs: &[Output<A>])
         ensures { self.new.number ≡ noted (said outputs.now) self.old.number }
     {

@@ -67,8 +67,10 @@ impl<'a, A: Allocator + Copy> Snapshot<'a, A> {
     /// see of it there at the zxid of the snapshot (`holds`).
     pub fn data(&self, place: usize) -> &'a DataAnswer<A>
         requires { place < length self.now.nodes.now }
-        ensures kept { (path : Text) → slice_get self.now.nodes.now place ≡ Some path → (view_of self.now.client.now).cache.nodes path ≡ good (answer_of result.now) }
-        ensures holds { (h : History) (path : Text) → IsServedFrom h (view_of self.now.client.now) → slice_get self.now.nodes.now place ≡ Some path
+        ensures kept { (path : Text) → slice_get self.now.nodes.now place ≡ Some path
+            → (view_of self.now.client.now).cache.nodes path ≡ good (answer_of result.now) }
+        ensures holds { (h : History) (path : Text) → IsServedFrom h (view_of self.now.client.now)
+            → slice_get self.now.nodes.now place ≡ Some path
             → Fits (answer_of result.now) (view sides.Data (tree_seen h (view_of self.now.client.now)) (path_of path)) }
     {
         match self.client.peek_data(&self.nodes[place]) {
@@ -80,8 +82,10 @@ impl<'a, A: Allocator + Copy> Snapshot<'a, A> {
     /// The names that are kept below the path at this place of the second ones, in the same way.
     pub fn names(&self, place: usize) -> &'a Names<A>
         requires { place < length self.now.parents.now }
-        ensures kept { (path : Text) → slice_get self.now.parents.now place ≡ Some path → (view_of self.now.client.now).cache.children path ≡ good (names_in result.now) }
-        ensures holds { (h : History) (path : Text) → IsServedFrom h (view_of self.now.client.now) → slice_get self.now.parents.now place ≡ Some path
+        ensures kept { (path : Text) → slice_get self.now.parents.now place ≡ Some path
+            → (view_of self.now.client.now).cache.children path ≡ good (names_in result.now) }
+        ensures holds { (h : History) (path : Text) → IsServedFrom h (view_of self.now.client.now)
+            → slice_get self.now.parents.now place ≡ Some path
             → FitsNames (names_in result.now) (view sides.Child (tree_seen h (view_of self.now.client.now)) (path_of path)) }
     {
         match self.client.peek_children(&self.parents[place]) {

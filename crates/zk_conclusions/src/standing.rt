@@ -55,12 +55,16 @@ impl<'a, A: Allocator + Copy> Standing<'a, A> {
         kind: &Kind<'_>,
         path: &Path<A>,
     ) -> Option<Standing<'a, A>>
-        ensures shows { IfSome result (λ standing. ShowsStanding (view_of client.now) listing.now.directory.now (kind_of kind.now) (map string_bytes listing.now.names.now) listing.now.zxid path.now standing.token) }
-        ensures holds { IfSome result (λ standing. (h : History) → IsServedFrom h (view_of client.now) → NumbersRise h (path_of listing.now.directory.now) (kind_of kind.now)
+        ensures shows { IfSome result (λ standing. ShowsStanding (view_of client.now) listing.now.directory.now (kind_of kind.now)
+            (map string_bytes listing.now.names.now) listing.now.zxid path.now standing.token) }
+        ensures holds { IfSome result (λ standing. (h : History) → IsServedFrom h (view_of client.now)
+            → NumbersRise h (path_of listing.now.directory.now) (kind_of kind.now)
             → ListsAll (tree_at h (from_zero listing.now.zxid)) (path_of listing.now.directory.now) (map string_bytes listing.now.names.now)
-            → IsStanding (tree_seen h (view_of client.now)) (path_of listing.now.directory.now) (kind_of kind.now) (path_of path.now) (view_of client.now).saved.session.session standing.token) }
+            → IsStanding (tree_seen h (view_of client.now)) (path_of listing.now.directory.now) (kind_of kind.now) (path_of path.now)
+            (view_of client.now).saved.session.session standing.token) }
         ensures client { IfSome result (λ standing. standing.client.now ≡ client.now) }
-        ensures none { result ≡ None → (token : ℤ) → ¬ (ShowsStanding (view_of client.now) listing.now.directory.now (kind_of kind.now) (map string_bytes listing.now.names.now) listing.now.zxid path.now token) }
+        ensures none { result ≡ None → (token : ℤ) → ¬ (ShowsStanding (view_of client.now) listing.now.directory.now (kind_of kind.now)
+            (map string_bytes listing.now.names.now) listing.now.zxid path.now token) }
     {
         let own = name_below(listing.directory, path)?;
         if !is_numbered(own, kind.own) {

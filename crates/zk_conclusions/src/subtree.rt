@@ -54,9 +54,12 @@ impl<'a, A: Allocator + Copy> Subtree<'a, A> {
         ensures walk { IfOk result (λ subtree. IsWalk (view_of client.now).cache root.now subtree.paths.items) }
         ensures most { IfOk result (λ subtree. length subtree.paths.items ≤ most) }
         ensures client { IfOk result (λ subtree. subtree.client.now ≡ client.now) }
-        ensures holds { IfOk result (λ subtree. (h : History) → IsServedFrom h (view_of client.now) → IsSubtreeOf (tree_seen h (view_of client.now)) (view_of client.now).cache root.now) }
-        ensures all { IfOk result (λ subtree. (h : History) → IsServedFrom h (view_of client.now) → AreAllBelow (tree_seen h (view_of client.now)) root.now subtree.paths.items) }
-        ensures none { IfErr result (λ why. Says why (¬ (IsWholeBelow (view_of client.now).cache root.now)) (HasMoreNodes (view_of client.now).cache root.now most)) }
+        ensures holds { IfOk result (λ subtree. (h : History) → IsServedFrom h (view_of client.now)
+            → IsSubtreeOf (tree_seen h (view_of client.now)) (view_of client.now).cache root.now) }
+        ensures all { IfOk result (λ subtree. (h : History) → IsServedFrom h (view_of client.now)
+            → AreAllBelow (tree_seen h (view_of client.now)) root.now subtree.paths.items) }
+        ensures none { IfErr result (λ why.
+            Says why (¬ (IsWholeBelow (view_of client.now).cache root.now)) (HasMoreNodes (view_of client.now).cache root.now most)) }
     {
         let paths = walk(client, alloc, root, most)?;
         Ok(Subtree { client, paths })
@@ -73,8 +76,10 @@ impl<'a, A: Allocator + Copy> Subtree<'a, A> {
     /// it there at the zxid of the subtree (`holds`).
     pub fn data(&self, place: usize) -> &'a DataAnswer<A>
         requires { place < length self.now.paths.items }
-        ensures kept { (path : Text) → slice_get self.now.paths.items place ≡ Some path → (view_of self.now.client.now).cache.nodes path ≡ good (answer_of result.now) }
-        ensures holds { (h : History) (path : Text) → IsServedFrom h (view_of self.now.client.now) → slice_get self.now.paths.items place ≡ Some path
+        ensures kept { (path : Text) → slice_get self.now.paths.items place ≡ Some path
+            → (view_of self.now.client.now).cache.nodes path ≡ good (answer_of result.now) }
+        ensures holds { (h : History) (path : Text) → IsServedFrom h (view_of self.now.client.now)
+            → slice_get self.now.paths.items place ≡ Some path
             → Fits (answer_of result.now) (view sides.Data (tree_seen h (view_of self.now.client.now)) (path_of path)) }
     {
         match self.client.peek_data(&self.paths[place]) {
@@ -86,8 +91,10 @@ impl<'a, A: Allocator + Copy> Subtree<'a, A> {
     /// The names that are kept below the path at this place, in the same way.
     pub fn names(&self, place: usize) -> &'a Names<A>
         requires { place < length self.now.paths.items }
-        ensures kept { (path : Text) → slice_get self.now.paths.items place ≡ Some path → (view_of self.now.client.now).cache.children path ≡ good (names_in result.now) }
-        ensures holds { (h : History) (path : Text) → IsServedFrom h (view_of self.now.client.now) → slice_get self.now.paths.items place ≡ Some path
+        ensures kept { (path : Text) → slice_get self.now.paths.items place ≡ Some path
+            → (view_of self.now.client.now).cache.children path ≡ good (names_in result.now) }
+        ensures holds { (h : History) (path : Text) → IsServedFrom h (view_of self.now.client.now)
+            → slice_get self.now.paths.items place ≡ Some path
             → FitsNames (names_in result.now) (view sides.Child (tree_seen h (view_of self.now.client.now)) (path_of path)) }
     {
         match self.client.peek_children(&self.paths[place]) {
@@ -101,7 +108,8 @@ impl<'a, A: Allocator + Copy> Subtree<'a, A> {
     /// no node is there, if it is a path at or below the root (`all` of [`of`](Subtree::of)). It goes over no list.
     pub fn get(&self, path: &Path<A>) -> Option<&'a DataAnswer<A>>
         ensures kept { IfSome result (λ answer. (view_of self.now.client.now).cache.nodes path.now ≡ good (answer_of answer.now)) }
-        ensures holds { (h : History) → IsServedFrom h (view_of self.now.client.now) → IfSome result (λ answer. Fits (answer_of answer.now) (view sides.Data (tree_seen h (view_of self.now.client.now)) (path_of path.now))) }
+        ensures holds { (h : History) → IsServedFrom h (view_of self.now.client.now) → IfSome result
+            (λ answer. Fits (answer_of answer.now) (view sides.Data (tree_seen h (view_of self.now.client.now)) (path_of path.now))) }
         ensures none { result ≡ None → ¬ (Among path.now self.now.paths.items) }
     {
         if !has_data(self.client, path) {

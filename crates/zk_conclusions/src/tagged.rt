@@ -80,7 +80,8 @@ impl<'a> Tagged<'a> {
         ensures least { IfSome result (λ tagged. IsLeastOf (map string_bytes listing.now.names.now) tag.now tagged.least.now) }
         ensures tag { IfSome result (λ tagged. tagged.tag.now ≡ tag.now) }
         ensures after { IfSome result (λ tagged. answered ≤ℤ listing.now.zxid) }
-        ensures none { result ≡ None → answered ≤ℤ listing.now.zxid → (name : Name) → Among name (map string_bytes listing.now.names.now) → has_tag tag.now name ≡ false }
+        ensures none { result ≡ None → answered ≤ℤ listing.now.zxid → (name : Name) → Among name (map string_bytes listing.now.names.now)
+            → has_tag tag.now name ≡ false }
     {
         if listing.zxid < answered {
             return None;

@@ -33,7 +33,8 @@ pub(crate) fn walk<A: Allocator + Copy>(
     ensures full { IfOk result (λ paths. all_full (view_of client.now).cache paths.items ≡ true) }
     ensures most { IfOk result (λ paths. length paths.items ≤ most) }
     ensures is { OnOk result (IsPath root.now) }
-    ensures refused { IfErr result (λ why. Says why (¬ (IsWholeBelow (view_of client.now).cache root.now)) (HasMoreNodes (view_of client.now).cache root.now most)) }
+    ensures refused { IfErr result
+        (λ why. Says why (¬ (IsWholeBelow (view_of client.now).cache root.now)) (HasMoreNodes (view_of client.now).cache root.now most)) }
 {
     if most == 0 {
         return Err(NoSubtree::TooMany);

@@ -20,7 +20,8 @@ length_numbers zero = refl
 length_numbers (suc count) = let before = length_numbers count in omega (arith, length-append (numbers count) (count ∷ []))
 
 -- one place is exchanged, and the rest of the order is made as before
-pub goes_on : (state left : ℕ) (order : List ℕ) (next place : ℕ) (swapped : List ℕ) → 0 < left → next ≡ next_state state → place ≡ number_below left next
+pub goes_on : (state left : ℕ) (order : List ℕ) (next place : ℕ) (swapped : List ℕ)
+    → 0 < left → next ≡ next_state state → place ≡ number_below left next
     → swapped ≡ swap order (left - 1) place → shuffled next (left - 1) swapped ≡ shuffled state left order
 goes_on state left order next place swapped some by_state by_number by_swap =
     ap (shuffled next (left - 1)) (by_swap ∙ ap (swap order (left - 1)) by_number)
@@ -30,10 +31,12 @@ goes_on state left order next place swapped some by_state by_number by_swap =
 -- the chance goes on by one number
 pub one_number : (state left next : ℕ) → 0 < left → next ≡ next_state state → state_after (left - 1) next ≡ state_after left state
 one_number state zero next some e = absurd (omega arith)
-one_number state (suc left) next some e = let one_less : suc left - 1 ≡ left = omega arith in ap (λ n. state_after n next) one_less ∙ ap (state_after left) e
+one_number state (suc left) next some e = let one_less : suc left - 1 ≡ left = omega arith in
+    ap (λ n. state_after n next) one_less ∙ ap (state_after left) e
 
 -- the slice of all places is written back
-pub whole_order : (state count size : ℕ) (before after rest : List ℕ) → size ≡ length after → after ≡ shuffled state (length before) before → before ≡ numbers count
+pub whole_order : (state count size : ℕ) (before after rest : List ℕ)
+    → size ≡ length after → after ≡ shuffled state (length before) before → before ≡ numbers count
     → take size (after ++ rest) ≡ shuffled state count (numbers count)
 whole_order state count size before after rest fits exact first =
     ap (λ n. take n (after ++ rest)) fits ∙ take-append_seam after rest ∙ exact ∙ ap (λ order. shuffled state (length order) order) first

@@ -18,7 +18,8 @@ pub record Attempts (timeout began done : ℕ) (old new : Backoff) : Type 0 wher
   pub ended : new.ended ≡ done
   pub least : new.least ≡ min (began + 334) (2 ^ 64 - 1)
   pub moment : new.moment
-      ≡ max (min (done + pause_ms (longest_ms new.failures (most_ms (nat_lt timeout (done - connected_by old.connected began)) timeout)) new.chance.state) (2 ^ 64 - 1)) new.least
+      ≡ max (min (done + pause_ms (longest_ms new.failures (most_ms (nat_lt timeout (done - connected_by old.connected began)) timeout))
+      new.chance.state) (2 ^ 64 - 1)) new.least
 
 -- no failures any more: there is no pause except the third of a second
 abbrev pub row_ended : Backoff → Backoff
@@ -31,4 +32,5 @@ has_lived timeout ended now = nat_le (ended + timeout / 3) now
 -- the client is connected at this moment
 abbrev pub connected_at : (timeout now : ℕ) → Backoff → Backoff
 connected_at timeout now backoff =
-    if has_lived timeout backoff.ended now then row_ended (record backoff { connected = Some now }) else record backoff { connected = Some now }
+    if has_lived timeout backoff.ended now then row_ended (record backoff { connected = Some now })
+    else record backoff { connected = Some now }

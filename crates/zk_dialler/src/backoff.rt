@@ -42,8 +42,8 @@ impl Backoff {
         self.moment
     }
 
-    /// An attempt was made between these two moments, whether it has made a connection or not. It counts as one that failed until the row of
-    /// failures ends.
+    /// An attempt was made between these two moments, whether it has made a connection or not. It counts as one that failed until the row
+    /// of failures ends.
     pub fn attempt(&mut self, timeout_ms: u32, began: u64, ended: u64)
         ensures { Attempts timeout_ms began ended self.old self.new }
     {
@@ -73,8 +73,8 @@ impl Backoff {
         self.ended <= now && third <= now - self.ended
     }
 
-    /// The client is connected at this moment. The row of failures ends where the connection that the last attempt made has lived for a third
-    /// of the timeout.
+    /// The client is connected at this moment. The row of failures ends where the connection that the last attempt made has lived for a
+    /// third of the timeout.
     pub fn connected(&mut self, timeout_ms: u32, now: u64)
         ensures { self.new ≡ connected_at timeout_ms now self.old }
     {

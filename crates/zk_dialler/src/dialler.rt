@@ -50,7 +50,14 @@ impl<A: Allocator> Dialler<A> {
         ensures order { IfOk result (λ dialler. dialler.ring.order.items ≡ shuffled seed count (numbers count)) }
         ensures each { IfOk result (λ dialler. IsPermutation (numbers count) dialler.ring.order.items) }
         ensures first { IfOk result (λ dialler. dialler.ring.next ≡ 0) }
-        ensures backoff { IfOk result (λ dialler. dialler.backoff ≡ record { chance = record { state = state_after count seed }; failures = 0; connected = None; ended = 0; least = 0; moment = 0 }) }
+        ensures backoff { IfOk result (λ dialler. dialler.backoff ≡ record {
+          chance = record { state = state_after count seed };
+          failures = 0;
+          connected = None;
+          ended = 0;
+          least = 0;
+          moment = 0;
+        }) }
     {
         let mut chance = Chance::new(seed);
         let ring = Ring::new(alloc, count, &mut chance)?;
@@ -61,14 +68,15 @@ impl<A: Allocator> Dialler<A> {
         })
     }
 
-    /// Another list, of this many addresses, in a new order that goes on with the same random numbers. A connection or an attempt that is on goes on, and so does the
-    /// row of failures. An error means that memory ran out, and nothing has changed then.
+    /// Another list, of this many addresses, in a new order that goes on with the same random numbers. A connection or an attempt that is
+    /// on goes on, and so does the row of failures. An error means that memory ran out, and nothing has changed then.
     pub fn set_addresses(&mut self, alloc: A, count: usize) -> Result<(), AllocError>
         ensures order { OnOk result (self.new.ring.order.items ≡ shuffled self.old.backoff.chance.state count (numbers count)) }
         ensures each { OnOk result (IsPermutation (numbers count) self.new.ring.order.items) }
         ensures first { OnOk result (self.new.ring.next ≡ 0) }
         ensures phase { OnOk result (self.new.phase ≡ self.old.phase) }
-        ensures backoff { OnOk result (self.new.backoff ≡ record self.old.backoff { chance = record { state = state_after count self.old.backoff.chance.state } }) }
+        ensures backoff { OnOk result
+            (self.new.backoff ≡ record self.old.backoff { chance = record { state = state_after count self.old.backoff.chance.state } }) }
         ensures same { OnErr result (self.new ≡ self.old) }
     {
         self.ring = Ring::new(alloc, count, &mut self.backoff.chance)?;

@@ -67,7 +67,8 @@ impl<A: Allocator> Ring<A> {
 
     /// The place of the address whose turn it is, and none where there are no addresses. The turn goes on to the next one.
     pub(crate) fn turn(&mut self) -> Option<usize>
-        ensures place { IfSome result (λ place. place ≡ slice_index self.old.order.items (turn_at self.old.next (length self.old.order.items))) }
+        ensures place { IfSome result
+            (λ place. place ≡ slice_index self.old.order.items (turn_at self.old.next (length self.old.order.items))) }
         ensures order { self.new.order ≡ self.old.order }
         ensures next { IfSome result (λ place. self.new.next ≡ turn_at self.old.next (length self.old.order.items) + 1) }
         ensures none { result ≡ None → self.new ≡ self.old }

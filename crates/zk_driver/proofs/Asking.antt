@@ -5,7 +5,8 @@ use Rattle.zk_agent.specs.declared.input.Input.{Input}
 use Rattle.zk_agent.specs.declared.input.Input.TheVariants as happens
 use Rattle.zk_driver.specs.Driving.{Course, IsAsked, IsPatient}
 
-pub asked_patiently : {A : Type 0} (now : ℕ) (input : Input A) (course : Course A) → IsAsked input → (course.channel.is_open ≡ true → 0 < now → NothingAt course.agent now)
+pub asked_patiently : {A : Type 0} (now : ℕ) (input : Input A) (course : Course A)
+    → IsAsked input → (course.channel.is_open ≡ true → 0 < now → NothingAt course.agent now)
     → IsPatient now input course
 asked_patiently now (happens.Call ticket call until) course asked quiet = quiet
 asked_patiently now (happens.Follow ticket side path) course asked quiet = quiet

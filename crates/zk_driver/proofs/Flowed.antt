@@ -1,7 +1,8 @@
--- What goes through a driver: deeds one after the other; and of a connection, that bytes come and go whole. What a read brings is held until the
--- agent is handed it, so that at each point what it was handed and what is held are what the stream gave; and what it took and what is unsent is
--- what was sent.
-use Rattle.std.proofs.Common.{◌≡◌, ◌++◌, ◌∙◌, ℕ, Bool, true, false, List, [], ◌∷◌, ap, append-nil, append_assoc, refl, sym, subst, Option, Some, None}
+-- What goes through a driver: deeds one after the other; and of a connection, that bytes come and go whole. What a read brings is held
+-- until the agent is handed it, so that at each point what it was handed and what is held are what the stream gave; and what it took and
+-- what is unsent is what was sent.
+use Rattle.std.proofs.Common.{◌≡◌, ◌++◌, ◌∙◌, ℕ, Bool, true, false, List, [], ◌∷◌, ap, append-nil, append_assoc, refl, sym, subst, Option}
+use Rattle.std.proofs.Common.{Some, None}
 use Rattle.std.specs.Prelude.{Result, Ok, Err, OnOk, IfSome, fold}
 use Rattle.std.specs.List.{flat_map, FoldsTo}
 use Rattle.std.specs.Io.KnownBytes.{Appends, Consumes}
@@ -11,15 +12,18 @@ use Rattle.zk_agent.specs.declared.input.Input.{Input}
 use Rattle.zk_agent.specs.declared.input.Input.TheVariants as happens
 use Rattle.zk_driver.specs.Driving.{carried, closed, ChannelView, Course, Hands, IsAsked, Meets, Written, Looked, Noted, Takes}
 use Rattle.zk_link.specs.Streams.{Known, Sends}
-use Rattle.zk_driver.specs.Flowing.{bytes_in, frame_of, handed_by, sent_in, AreWithin, Asked, BytesComeWhole, BytesGoWhole, Carries, Deed, Flow, Flows, HandsOver, Lasts, Made}
+use Rattle.zk_driver.specs.Flowing.{bytes_in, frame_of, handed_by, sent_in, AreWithin, Asked, BytesComeWhole, BytesGoWhole, Carries, Deed}
+use Rattle.zk_driver.specs.Flowing.{Flow, Flows, HandsOver, Lasts, Made}
 use Rattle.zk_link.proofs.Streaming.{appends_none, appends_on}
 
 -- ---- deeds, one after the other
 
-carries_on : {A : Type 0} (deeds more : List (Deed A)) (old between new : Flow A) → FoldsTo Carries old deeds between → FoldsTo Carries between more new
+carries_on : {A : Type 0} (deeds more : List (Deed A)) (old between new : Flow A)
+    → FoldsTo Carries old deeds between → FoldsTo Carries between more new
     → FoldsTo Carries old (deeds ++ more) new
 carries_on {A} [] more old between new same rest = subst (λ (f : Flow A). FoldsTo Carries f more new) (sym same) rest
-carries_on (deed ∷ deeds) more old between new carries rest = (carries.0, carries.1, carries_on deeds more carries.0 between new carries.2 rest)
+carries_on (deed ∷ deeds) more old between new carries rest =
+    (carries.0, carries.1, carries_on deeds more carries.0 between new carries.2 rest)
 
 pub flow_same : {A : Type 0} (old new : Flow A) → old ≡ new → Flows old new
 flow_same old new is = record { deeds = []; carries = is }
@@ -28,14 +32,17 @@ pub flow_one : {A : Type 0} (deed : Deed A) (old new : Flow A) → Carries old d
 flow_one deed old new carries = record { deeds = deed ∷ []; carries = (new, carries, refl) }
 
 pub flow_after : {A : Type 0} (old between new : Flow A) → Flows old between → Flows between new → Flows old new
-flow_after old between new first rest = record { deeds = first.deeds ++ rest.deeds; carries = carries_on first.deeds rest.deeds old between new first.carries rest.carries }
+flow_after old between new first rest =
+    record { deeds = first.deeds ++ rest.deeds; carries = carries_on first.deeds rest.deeds old between new first.carries rest.carries }
 
-pub ok_flow_after : {A X E : Type 0} (result : Result X E) (old between new : Flow A) → Flows old between → OnOk result (Flows between new) → OnOk result (Flows old new)
+pub ok_flow_after : {A X E : Type 0} (result : Result X E) (old between new : Flow A) → Flows old between → OnOk result (Flows between new)
+    → OnOk result (Flows old new)
 ok_flow_after (Ok x) old between new first rest = flow_after old between new first rest
 ok_flow_after (Err e) old between new first rest = tt
 
 -- what happened is told to the agent
-pub flow_noted : {A : Type 0} (input : Input A) (old new : Flow A) (channel : ChannelView) (known : Known) → Meets old.course.channel input channel → bytes_in input ≡ old.held
+pub flow_noted : {A : Type 0} (input : Input A) (old new : Flow A) (channel : ChannelView) (known : Known)
+    → Meets old.course.channel input channel → bytes_in input ≡ old.held
     → ((between : Flow A) → (between.course.channel.is_open ≡ true → between.known ≡ known) → Lasts input old between)
     → HandsOver input (record { course = record old.course { channel = channel }; known = known; held = [] }) new → Flows old new
 flow_noted input old new channel known meets bytes lasts hands = record {
@@ -46,7 +53,8 @@ flow_noted input old new channel known meets bytes lasts hands = record {
 pub ok_flow_noted : {A X E : Type 0} (result : Result X E) (input : Input A) (old new : Flow A) (channel : ChannelView) (known : Known)
     → Meets old.course.channel input channel → bytes_in input ≡ old.held
     → ((between : Flow A) → (between.course.channel.is_open ≡ true → between.known ≡ known) → Lasts input old between)
-    → OnOk result (HandsOver input (record { course = record old.course { channel = channel }; known = known; held = [] }) new) → OnOk result (Flows old new)
+    → OnOk result (HandsOver input (record { course = record old.course { channel = channel }; known = known; held = [] }) new)
+    → OnOk result (Flows old new)
 ok_flow_noted (Ok x) input old new channel known meets bytes lasts hands = flow_noted input old new channel known meets bytes lasts hands
 ok_flow_noted (Err e) input old new channel known meets bytes lasts hands = tt
 
@@ -57,7 +65,8 @@ flow_asked input old new held asked hands = record {
   carries = (hands.between, (hands.takes, asked, hands.lasts, held, hands.held), (new, hands.writes, refl));
 }
 
-pub ok_flow_asked : {A X E : Type 0} (result : Result X E) (input : Input A) (old new : Flow A) → old.held ≡ [] → IsAsked input → OnOk result (HandsOver input old new)
+pub ok_flow_asked : {A X E : Type 0} (result : Result X E) (input : Input A) (old new : Flow A)
+    → old.held ≡ [] → IsAsked input → OnOk result (HandsOver input old new)
     → OnOk result (Flows old new)
 ok_flow_asked (Ok x) input old new held asked hands = flow_asked input old new held asked hands
 ok_flow_asked (Err e) input old new held asked hands = tt
@@ -71,7 +80,8 @@ open_carried channel (HangsUp ∷ told) there = let e : false ≡ true = (open_c
 open_carried channel (Says (Send bytes) ∷ told) there =
     let rest = open_carried (record channel { unsent = channel.unsent ++ bytes }) told there in
     (rest.0, rest.1 ∙ append_assoc channel.unsent bytes (flat_map frame_of told))
-open_carried channel (Dials place within ∷ told) there = open_carried (record channel { attempt = Some (record { place = place; within_ms = within }) }) told there
+open_carried channel (Dials place within ∷ told) there =
+    open_carried (record channel { attempt = Some (record { place = place; within_ms = within }) }) told there
 open_carried channel (_ ∷ told) there = open_carried channel told there
 
 -- the agent took an input
@@ -86,7 +96,8 @@ unless_true : (b : Bool) → (b ≡ true → ⊥) → b ≡ false
 unless_true true never = absurd (never refl)
 unless_true false never = refl
 
-pub ok_stays_shut : {A X E : Type 0} (result : Result X E) (input : Input A) (old new : Course A) → old.channel.is_open ≡ false → OnOk result (Hands input old new)
+pub ok_stays_shut : {A X E : Type 0} (result : Result X E) (input : Input A) (old new : Course A)
+    → old.channel.is_open ≡ false → OnOk result (Hands input old new)
     → OnOk result (new.channel.is_open ≡ false)
 ok_stays_shut (Ok x) input old new shut hands = unless_true new.channel.is_open (λ there.
     let was = open_taken hands.now input old hands.between hands.takes (sym hands.writes.0.is_open ∙ there) in
@@ -94,7 +105,8 @@ ok_stays_shut (Ok x) input old new shut hands = unless_true new.channel.is_open 
 ok_stays_shut (Err e) input old new shut hands = tt
 
 -- one deed, with which no connection begins
-open_before : {A : Type 0} (deed : Deed A) (old new : Flow A) → Carries old deed new → AreWithin (deed ∷ []) → new.course.channel.is_open ≡ true
+open_before : {A : Type 0} (deed : Deed A) (old new : Flow A) → Carries old deed new → AreWithin (deed ∷ [])
+    → new.course.channel.is_open ≡ true
     → old.course.channel.is_open ≡ true
 open_before (Made Written) old new carries within there = sym carries.0.0.is_open ∙ there
 open_before (Made (Looked look)) old new carries within there = sym carries.0.0.is_open ∙ there
@@ -112,7 +124,8 @@ open_before (Made (Noted now input)) old new carries within there = absurd carri
 open_before (Asked now input) old new carries within there = (open_taken now input old.course new.course carries.0 there).0
 
 -- what is sent by one that leaves a connection there, which is the one that was there
-goes_on : {A : Type 0} (now : ℕ) (input : Input A) (old new : Flow A) (carries : Carries old (Made (Noted now input)) new) → AreWithin (Made (Noted now input) ∷ [])
+goes_on : {A : Type 0} (now : ℕ) (input : Input A) (old new : Flow A) (carries : Carries old (Made (Noted now input)) new)
+    → AreWithin (Made (Noted now input) ∷ [])
     → new.course.channel.is_open ≡ true
     → (new.known ≡ old.known) × (new.course.channel.unsent ≡ old.course.channel.unsent ++ flat_map frame_of (told_by carries.0.2.actions))
 goes_on now happens.Opened old new carries within there = absurd within
@@ -144,7 +157,8 @@ within_rest (Made (Noted now happens.Opened)) deeds within = absurd within
 within_rest (Made (Noted now input)) deeds within = within
 within_rest (Asked now input) deeds within = within
 
-open_through : {A : Type 0} (deeds : List (Deed A)) (old new : Flow A) → FoldsTo Carries old deeds new → AreWithin deeds → new.course.channel.is_open ≡ true
+open_through : {A : Type 0} (deeds : List (Deed A)) (old new : Flow A)
+    → FoldsTo Carries old deeds new → AreWithin deeds → new.course.channel.is_open ≡ true
     → old.course.channel.is_open ≡ true
 open_through {A} [] old new same within there = ap (λ (f : Flow A). f.course.channel.is_open) same ∙ there
 open_through (deed ∷ deeds) old new carries within there =
@@ -156,7 +170,8 @@ open_through (deed ∷ deeds) old new carries within there =
 abbrev Shut : {A : Type 0} → Flow A → Type 0
 Shut flow = flow.course.channel.is_open ≡ true → ⊥
 
-none_handed : {A : Type 0} (deed : Deed A) (old new : Flow A) → Carries old deed new → AreWithin (deed ∷ []) → Shut old → handed_by deed ≡ []
+none_handed : {A : Type 0} (deed : Deed A) (old new : Flow A) → Carries old deed new → AreWithin (deed ∷ [])
+    → Shut old → handed_by deed ≡ []
 none_handed (Made Written) old new carries within shut = refl
 none_handed (Made (Looked look)) old new carries within shut = refl
 none_handed (Made (Noted now (happens.Bytes bytes))) old new carries within shut = absurd (shut carries.0.1.1)
@@ -164,12 +179,14 @@ none_handed (Made (Noted now input)) old new carries within shut = refl
 none_handed (Asked now input) old new carries within shut = refl
 
 -- nothing, without a connection
-none_through : {A : Type 0} (deeds : List (Deed A)) (old new : Flow A) → FoldsTo Carries old deeds new → AreWithin deeds → Shut old → flat_map handed_by deeds ≡ []
+none_through : {A : Type 0} (deeds : List (Deed A)) (old new : Flow A)
+    → FoldsTo Carries old deeds new → AreWithin deeds → Shut old → flat_map handed_by deeds ≡ []
 none_through [] old new same within shut = refl
 none_through (deed ∷ deeds) old new carries within shut =
     let first = within_first deed deeds within in
     ap (λ l. l ++ flat_map handed_by deeds) (none_handed deed old carries.0 carries.1 first shut)
-    ∙ none_through deeds carries.0 new carries.2 (within_rest deed deeds within) (λ there. shut (open_before deed old carries.0 carries.1 first there))
+    ∙ none_through deeds carries.0 new carries.2 (within_rest deed deeds within)
+    (λ there. shut (open_before deed old carries.0 carries.1 first there))
 
 abbrev Begins : (held handed : List ℕ) → Option (List ℕ) → Type 0
 Begins held handed left = IfSome left (λ bytes. (rest : List ℕ) × (held ++ bytes ≡ handed ++ rest))
@@ -182,7 +199,8 @@ begins_none : (held : List ℕ) (left : Option (List ℕ)) → Begins held [] le
 begins_none held None = tt
 begins_none held (Some bytes) = (held ++ bytes, refl)
 
-begins_kept : (held other handed : List ℕ) (a b : Option (List ℕ)) → Consumes a b [] → other ≡ held → Begins other handed b → Begins held handed a
+begins_kept : (held other handed : List ℕ) (a b : Option (List ℕ))
+    → Consumes a b [] → other ≡ held → Begins other handed b → Begins held handed a
 begins_kept held other handed None b keeps is begins = tt
 begins_kept held other handed (Some x) None keeps is begins = absurd keeps
 begins_kept held other handed (Some x) (Some y) keeps is begins =
@@ -193,14 +211,18 @@ begins_read held handed None b gives begins = tt
 begins_read held handed (Some x) None gives begins = absurd gives
 begins_read held handed (Some x) (Some y) gives begins = (begins.0, gives ∙ begins.1)
 
-begins_handed : (held bytes handed : List ℕ) (left : Option (List ℕ)) → bytes ≡ held → Begins [] handed left → Begins held (bytes ++ handed) left
+begins_handed : (held bytes handed : List ℕ) (left : Option (List ℕ))
+    → bytes ≡ held → Begins [] handed left → Begins held (bytes ++ handed) left
 begins_handed held bytes handed None is begins = tt
 begins_handed held bytes handed (Some x) is begins =
     (begins.0, ap (λ l. l ++ x) (sym is) ∙ ap (λ l. bytes ++ l) begins.1 ∙ sym (append_assoc bytes handed begins.0))
 
-comes_noted : {A : Type 0} (now : ℕ) (input : Input A) (deeds : List (Deed A)) (old mid new : Flow A) (carries : Carries old (Made (Noted now input)) mid)
-    → FoldsTo Carries mid deeds new → AreWithin (Made (Noted now input) ∷ []) → AreWithin deeds → (is_open : Bool) → mid.course.channel.is_open ≡ is_open
-    → Begins mid.held (flat_map handed_by deeds) mid.known.left → Begins old.held (bytes_in input ++ flat_map handed_by deeds) old.known.left
+comes_noted : {A : Type 0} (now : ℕ) (input : Input A) (deeds : List (Deed A)) (old mid new : Flow A)
+    (carries : Carries old (Made (Noted now input)) mid)
+    → FoldsTo Carries mid deeds new → AreWithin (Made (Noted now input) ∷ []) → AreWithin deeds → (is_open : Bool)
+    → mid.course.channel.is_open ≡ is_open
+    → Begins mid.held (flat_map handed_by deeds) mid.known.left
+    → Begins old.held (bytes_in input ++ flat_map handed_by deeds) old.known.left
 comes_noted now input deeds old mid new carries rest first within true there begins =
     let same = (goes_on now input old mid carries first there).0 in
     begins_handed old.held (bytes_in input) (flat_map handed_by deeds) old.known.left carries.2
@@ -211,7 +233,8 @@ comes_noted now input deeds old mid new carries rest first within false shut beg
     (ap (λ l. bytes_in input ++ l) (none_through deeds mid new rest within (λ there. let e : true ≡ false = sym there ∙ shut in cc))
     ∙ append-nil (bytes_in input) ∙ carries.2)
 
-comes_asked : {A : Type 0} (now : ℕ) (input : Input A) (deeds : List (Deed A)) (old mid new : Flow A) (carries : Carries old (Asked now input) mid)
+comes_asked : {A : Type 0} (now : ℕ) (input : Input A) (deeds : List (Deed A)) (old mid new : Flow A)
+    (carries : Carries old (Asked now input) mid)
     → FoldsTo Carries mid deeds new → AreWithin deeds → (is_open : Bool) → mid.course.channel.is_open ≡ is_open
     → Begins mid.held (flat_map handed_by deeds) mid.known.left → Begins old.held (flat_map handed_by deeds) old.known.left
 comes_asked now input deeds old mid new carries rest within true there begins =
@@ -236,10 +259,12 @@ comes (Made (Looked look) ∷ deeds) old new carries within =
 comes (Made (Noted now input) ∷ deeds) old new carries within =
     let deed = Made (Noted now input) in
     let rest = within_rest deed deeds within in
-    comes_noted now input deeds old carries.0 new carries.1 carries.2 (within_first deed deeds within) rest (carries.0.course.channel.is_open) refl
+    comes_noted now input deeds old carries.0 new carries.1 carries.2 (within_first deed deeds within) rest
+    (carries.0.course.channel.is_open) refl
     (comes deeds carries.0 new carries.2 rest)
 comes (Asked now input ∷ deeds) old new carries within =
-    comes_asked now input deeds old carries.0 new carries.1 carries.2 within (carries.0.course.channel.is_open) refl (comes deeds carries.0 new carries.2 within)
+    comes_asked now input deeds old carries.0 new carries.1 carries.2 within (carries.0.course.channel.is_open) refl
+    (comes deeds carries.0 new carries.2 within)
 
 pub come_whole : (A : Type 0) → BytesComeWhole A
 come_whole A deeds old new carries within none =
@@ -250,10 +275,14 @@ come_whole A deeds old new carries within none =
 sent_more : (unsent mid rest frames sent : List ℕ) (a b c : Option (List ℕ)) → a ≡ b → mid ≡ unsent ++ frames
     → (written : List ℕ) × Appends b c written × (mid ++ sent ≡ written ++ rest)
     → (written : List ℕ) × Appends a c written × (unsent ++ (frames ++ sent) ≡ written ++ rest)
-sent_more unsent mid rest frames sent a b c same is goes =
-    (goes.0, subst (λ o. Appends o c goes.0) (sym same) goes.1, sym (append_assoc unsent frames sent) ∙ ap (λ l. l ++ sent) (sym is) ∙ goes.2)
+sent_more unsent mid rest frames sent a b c same is goes = (
+  goes.0,
+  subst (λ o. Appends o c goes.0) (sym same) goes.1,
+  sym (append_assoc unsent frames sent) ∙ ap (λ l. l ++ sent) (sym is) ∙ goes.2,
+)
 
-sent_after : (unsent mid rest sent : List ℕ) (a b c : Option (List ℕ)) → Sends unsent mid a b → (written : List ℕ) × Appends b c written × (mid ++ sent ≡ written ++ rest)
+sent_after : (unsent mid rest sent : List ℕ) (a b c : Option (List ℕ))
+    → Sends unsent mid a b → (written : List ℕ) × Appends b c written × (mid ++ sent ≡ written ++ rest)
     → (written : List ℕ) × Appends a c written × (unsent ++ sent ≡ written ++ rest)
 sent_after unsent mid rest sent a b c sends goes = (
   sends.0 ++ goes.0,
@@ -263,26 +292,33 @@ sent_after unsent mid rest sent a b c sends goes = (
 
 pub go_whole : (A : Type 0) → BytesGoWhole A
 go_whole A [] old new same within there =
-    subst (λ (f : Flow A). (written : List ℕ) × Appends old.known.took f.known.took written × (old.course.channel.unsent ++ [] ≡ written ++ f.course.channel.unsent)) same
+    subst (λ (f : Flow A). (written : List ℕ) × Appends old.known.took f.known.took written
+    × (old.course.channel.unsent ++ [] ≡ written ++ f.course.channel.unsent)) same
     ([], appends_none old.known.took, append-nil old.course.channel.unsent)
 go_whole A (Made Written ∷ deeds) old new carries within there =
     let mid = carries.0 in
-    sent_after old.course.channel.unsent mid.course.channel.unsent new.course.channel.unsent (sent_in deeds mid new carries.2) old.known.took mid.known.took new.known.took
+    sent_after old.course.channel.unsent mid.course.channel.unsent new.course.channel.unsent
+    (sent_in deeds mid new carries.2) old.known.took mid.known.took new.known.took
     carries.1.1.sends (go_whole A deeds mid new carries.2 within there)
 go_whole A (Made (Looked look) ∷ deeds) old new carries within there =
     let mid = carries.0 in
-    sent_after old.course.channel.unsent mid.course.channel.unsent new.course.channel.unsent (sent_in deeds mid new carries.2) old.known.took mid.known.took new.known.took
+    sent_after old.course.channel.unsent mid.course.channel.unsent new.course.channel.unsent
+    (sent_in deeds mid new carries.2) old.known.took mid.known.took new.known.took
     carries.1.1.sends (go_whole A deeds mid new carries.2 within there)
 go_whole A (Made (Noted now input) ∷ deeds) old new carries within there =
     let mid = carries.0 in
     let deed = Made (Noted now input) in
     let rest = within_rest deed deeds within in
     let was = goes_on now input old mid carries.1 (within_first deed deeds within) (open_through deeds mid new carries.2 rest there) in
-    sent_more old.course.channel.unsent mid.course.channel.unsent new.course.channel.unsent (flat_map frame_of (told_by carries.1.0.2.actions)) (sent_in deeds mid new carries.2)
-    old.known.took mid.known.took new.known.took (sym (ap (λ (k : Known). k.took) was.0)) was.1 (go_whole A deeds mid new carries.2 rest there)
+    sent_more old.course.channel.unsent mid.course.channel.unsent new.course.channel.unsent
+    (flat_map frame_of (told_by carries.1.0.2.actions)) (sent_in deeds mid new carries.2)
+    old.known.took mid.known.took new.known.took (sym (ap (λ (k : Known). k.took) was.0)) was.1
+    (go_whole A deeds mid new carries.2 rest there)
 go_whole A (Asked now input ∷ deeds) old new carries within there =
     let mid = carries.0 in
     let still = open_through deeds mid new carries.2 within there in
     let was = open_taken now input old.course mid.course carries.1.0 still in
-    sent_more old.course.channel.unsent mid.course.channel.unsent new.course.channel.unsent (flat_map frame_of (told_by carries.1.0.actions)) (sent_in deeds mid new carries.2)
-    old.known.took mid.known.took new.known.took (sym (ap (λ (k : Known). k.took) (carries.1.2 still))) was.1 (go_whole A deeds mid new carries.2 within there)
+    sent_more old.course.channel.unsent mid.course.channel.unsent new.course.channel.unsent
+    (flat_map frame_of (told_by carries.1.0.actions)) (sent_in deeds mid new carries.2)
+    old.known.took mid.known.took new.known.took (sym (ap (λ (k : Known). k.took) (carries.1.2 still))) was.1
+    (go_whole A deeds mid new carries.2 within there)

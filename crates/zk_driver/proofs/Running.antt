@@ -7,7 +7,8 @@ use Rattle.zk_agent.specs.Telling.{Told, told_by}
 use Rattle.zk_driver.specs.declared.engine.Engine.{Engine}
 use Rattle.zk_driver.specs.Flowing.{flow_of, Carries, Deed, Flow, Flows, Passes, Runs}
 
-passes_of : {A : Type 0} (deeds : List (Deed A)) (old new : Flow A) → FoldsTo Carries old deeds new → FoldsTo Passes old (map Some deeds) new
+passes_of : {A : Type 0} (deeds : List (Deed A)) (old new : Flow A)
+    → FoldsTo Carries old deeds new → FoldsTo Passes old (map Some deeds) new
 passes_of [] old new same = same
 passes_of (deed ∷ deeds) old new carries = (carries.0, carries.1, passes_of deeds carries.0 new carries.2)
 
@@ -17,12 +18,14 @@ calls_run old new flows = record { steps = map Some flows.deeds; passes = passes
 pub taking_runs : {A : Type 0} (old : Flow A) (told : List Told) → Runs old (record old { course = record old.course { told = told } })
 taking_runs old told = record { steps = None ∷ []; passes = (record old { course = record old.course { told = told } }, refl, refl) }
 
-passes_on : {A : Type 0} (steps more : List (Option (Deed A))) (old between new : Flow A) → FoldsTo Passes old steps between → FoldsTo Passes between more new → FoldsTo Passes old (steps ++ more) new
+passes_on : {A : Type 0} (steps more : List (Option (Deed A))) (old between new : Flow A)
+    → FoldsTo Passes old steps between → FoldsTo Passes between more new → FoldsTo Passes old (steps ++ more) new
 passes_on [] more old between new same rest = subst (λ f. FoldsTo Passes f more new) (sym same) rest
 passes_on (step ∷ steps) more old between new passes rest = (passes.0, passes.1, passes_on steps more passes.0 between new passes.2 rest)
 
 pub runs_join : {A : Type 0} (old between new : Flow A) → Runs old between → Runs between new → Runs old new
-runs_join old between new first rest = record { steps = first.steps ++ rest.steps; passes = passes_on first.steps rest.steps old between new first.passes rest.passes }
+runs_join old between new first rest =
+    record { steps = first.steps ++ rest.steps; passes = passes_on first.steps rest.steps old between new first.passes rest.passes }
 
 -- one that returns an action, which the program takes
 pub next_runs : {A S : Type 0} (remaining contents : S → Option (List ℕ)) (old : Flow A) (engine : Engine A S) (passed : Option (Action A))
@@ -41,10 +44,12 @@ pub next_run : {A S : Type 0} (remaining contents : S → Option (List ℕ)) (fi
     → Runs (flow_of remaining contents first None) (flow_of remaining contents engine None)
 next_run remaining contents first until engine passed runs flows =
     let at = flow_of remaining contents until None in
-    runs_join (flow_of remaining contents first None) at (flow_of remaining contents engine None) runs (next_runs remaining contents at engine passed flows)
+    runs_join (flow_of remaining contents first None) at (flow_of remaining contents engine None) runs
+    (next_runs remaining contents at engine passed flows)
 
 -- a call, and what comes after it
-pub ok_asked_runs : {A X E : Type 0} (result : Result X E) (old asked new : Flow A) → Flows old asked → OnOk result (Runs asked new) → OnOk result (Runs old new)
+pub ok_asked_runs : {A X E : Type 0} (result : Result X E) (old asked new : Flow A) → Flows old asked → OnOk result (Runs asked new)
+    → OnOk result (Runs old new)
 ok_asked_runs (Ok x) old asked new flows rest = runs_join old asked new (calls_run old asked flows) rest
 ok_asked_runs (Err e) old asked new flows rest = tt
 

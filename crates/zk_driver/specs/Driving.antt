@@ -1,5 +1,6 @@
 -- How far a driver has come: what its agent was handed, what was carried out, and what was passed on.
-use Rattle.std.specs.Prelude.{◌≡◌, ◌≢◌, ◌≤◌, ◌<◌, ◌⊎◌, ⊤, ◌+◌, ◌-◌, ◌^◌, ℕ, Bool, true, false, if◌then◌else◌, List, [], ◌∷◌, ◌++◌, fold, max, min, Option, Some, None, is_some, All}
+use Rattle.std.specs.Prelude.{◌≡◌, ◌≢◌, ◌≤◌, ◌<◌, ◌⊎◌, ⊤, ◌+◌, ◌-◌, ◌^◌, ℕ, Bool, true, false, if◌then◌else◌, List, [], ◌∷◌, ◌++◌, fold}
+use Rattle.std.specs.Prelude.{max, min, Option, Some, None, is_some, All}
 use Rattle.std.specs.List.{filter, FoldsTo}
 use Rattle.zk_turns.specs.Turns.{Send}
 use Rattle.zk_session.specs.declared.states.State.TheVariants.{Expired, Closed}
@@ -10,7 +11,8 @@ use Rattle.zk_agent.specs.declared.action.Action.{Action}
 use Rattle.zk_agent.specs.declared.agent.Agent.{Agent}
 use Rattle.zk_agent.specs.declared.input.Input.{Input}
 use Rattle.zk_agent.specs.declared.input.Input.TheVariants as happens
-use Rattle.zk_agent.specs.Agents.{given_of, heard_after, how_many_asked, how_many_ended, trail_of, Comes, IsAnswered, IsDecided, IsLed, IsShut, NothingAt}
+use Rattle.zk_agent.specs.Agents.{given_of, heard_after, how_many_asked, how_many_ended, trail_of, Comes, IsAnswered, IsDecided, IsLed}
+use Rattle.zk_agent.specs.Agents.{IsShut, NothingAt}
 use Rattle.zk_agent.specs.Calls.{how_many, IsInTime, IsServed}
 use Rattle.zk_agent.specs.Telling.{Told, Says, Dials, HangsUp, action_view, told_by}
 use Rattle.zk_link.specs.declared.brought.Brought.{Brought}
@@ -31,7 +33,8 @@ pub record ChannelView : Type 0 where
   pub looked : Option Look
 
 abbrev pub channel_view : {A S : Type 0} → Channel A S → ChannelView
-channel_view channel = record { is_open = is_some channel.stream; attempt = channel.attempt; unsent = channel.unsent.items; looked = channel.looked }
+channel_view channel =
+    record { is_open = is_some channel.stream; attempt = channel.attempt; unsent = channel.unsent.items; looked = channel.looked }
 
 abbrev pub opened : ChannelView
 opened = record { is_open = true; attempt = None; unsent = []; looked = None }
@@ -72,7 +75,8 @@ is_nothing brought = false
 
 -- a read that began at this moment, after the one before it or as the first of a row
 abbrev pub look_after : (began : ℕ) → (is_again is_quiet : Bool) → Option Look → Look
-look_after began is_again is_quiet before = record { began = began; row = if is_again then min (row_of before + 1) (2 ^ 32 - 1) else 1; is_quiet = is_quiet }
+look_after began is_again is_quiet before =
+    record { began = began; row = if is_again then min (row_of before + 1) (2 ^ 32 - 1) else 1; is_quiet = is_quiet }
 
 -- The connection is read once, after some of what is left was written.
 pub record Looks (look : Look) (old new : ChannelView) : Type 0 where
@@ -99,7 +103,8 @@ abbrev pub Extends : (old new : List Told) → Type 0
 Extends old new = (more : List Told) × (new ≡ old ++ more)
 
 abbrev pub course_of : {A S : Type 0} → Engine A S → Option (Action A) → Course A
-course_of engine passed = record { agent = engine.agent; channel = channel_view engine.channel; told = passed_by passed ++ told_by engine.waiting.items }
+course_of engine passed =
+    record { agent = engine.agent; channel = channel_view engine.channel; told = passed_by passed ++ told_by engine.waiting.items }
 
 -- each subject is followed, at the latest moment
 abbrev pub AreFollowed : {A : Type 0} → Agent A → Type 0
@@ -122,8 +127,8 @@ IsSeen agent (Some look) = ((look.is_quiet ≡ true) × IsOverdue agent look.beg
 abbrev pub IsTimely : {A : Type 0} → (now : ℕ) → Course A → Type 0
 IsTimely now course = course.channel.is_open ≡ true → NothingAt course.agent (now - 1) ⊎ IsSeen course.agent course.channel.looked
 
--- What comes on a connection, its end, and what the program asks for while one is there, are handed in at a moment at which nothing is due. A
--- moment itself is told where it may be.
+-- What comes on a connection, its end, and what the program asks for while one is there, are handed in at a moment at which nothing is due.
+-- A moment itself is told where it may be.
 abbrev pub IsPatient : {A : Type 0} → (now : ℕ) → Input A → Course A → Type 0
 IsPatient now happens.Moment course = IsTimely now course
 IsPatient now (happens.Bytes bytes) course = 0 < now → NothingAt course.agent now
@@ -132,28 +137,32 @@ IsPatient now happens.Failed course = ⊤
 IsPatient now happens.Cut course = 0 < now → NothingAt course.agent now
 IsPatient now _ course = course.channel.is_open ≡ true → 0 < now → NothingAt course.agent now
 
--- The agent takes an input that was noticed at a moment, and what comes from outside is that: each subject is followed then, each call is settled
--- once or waits, none waits past its limit or after a close, no server is kept that leaves a call or a ping without its answer for two thirds of the timeout, a session that has expired is over, and what was due of the connection is done. What it says is carried out, or put after what
--- the program is told, each in its order.
+-- The agent takes an input that was noticed at a moment, and what comes from outside is that: each subject is followed then, each call is
+-- settled once or waits, none waits past its limit or after a close, no server is kept that leaves a call or a ping without its answer for
+-- two thirds of the timeout, a session that has expired is over, and what was due of the connection is done. What it says is carried out,
+-- or put after what the program is told, each in its order.
 pub record Takes {A : Type 0} (now : ℕ) (input : Input A) (old new : Course A) : Type 0 where
   pub patient : IsPatient now input old
   pub actions : List (Action A)
-  pub comes : Comes (max old.agent.latest now) (given_of old.agent.dialler.phase (max old.agent.latest now) input) (trail_of old.agent []) (trail_of new.agent actions)
+  pub comes : Comes (max old.agent.latest now) (given_of old.agent.dialler.phase (max old.agent.latest now) input) (trail_of old.agent [])
+      (trail_of new.agent actions)
   pub followed : AreFollowed new.agent
-  pub calls : (ticket : ℕ) → how_many ticket new.agent.asker.line.entries.items + how_many_ended ticket (told_by actions) ≡ how_many ticket old.agent.asker.line.entries.items + how_many_asked ticket input
+  pub calls : (ticket : ℕ) → how_many ticket new.agent.asker.line.entries.items + how_many_ended ticket (told_by actions)
+      ≡ how_many ticket old.agent.asker.line.entries.items + how_many_asked ticket input
   pub served : All (IsServed (view_of new.agent.asker.follower.client)) new.agent.asker.line.entries.items
   pub limits : All (IsInTime new.agent.latest) new.agent.asker.line.entries.items
   pub answers : IsAnswered new.agent
   pub closed : (view_of new.agent.asker.follower.client).standing.state ≡ Closed → new.agent.asker.line.entries.items ≡ []
   pub renewed : (view_of new.agent.asker.follower.client).standing.state ≢ Expired
-  pub dials : (view_of new.agent.asker.follower.client).standing.state ≢ Closed → IsDecided (max old.agent.latest now) (trail_of new.agent actions)
+  pub dials : (view_of new.agent.asker.follower.client).standing.state ≢ Closed
+      → IsDecided (max old.agent.latest now) (trail_of new.agent actions)
   pub latest : new.agent.latest ≡ max old.agent.latest now
   pub heard : new.agent.heard_at ≡ heard_after (is_open old.agent.dialler.phase) (max old.agent.latest now) input old.agent.heard_at
   pub channel : new.channel ≡ fold carried old.channel (told_by actions)
   pub told : new.told ≡ old.told ++ filter is_passed (told_by actions)
 
--- What may happen on a connection, and the connection with it. An address that is to be dialled is dialled before anything else is noted, and
--- that it could not be is noted too. Bytes come, and the end does, where a connection is.
+-- What may happen on a connection, and the connection with it. An address that is to be dialled is dialled before anything else is noted,
+-- and that it could not be is noted too. Bytes come, and the end does, where a connection is.
 abbrev pub Meets : {A : Type 0} → ChannelView → Input A → ChannelView → Type 0
 Meets old happens.Opened new = (is_some old.attempt ≡ true) × (new ≡ opened)
 Meets old happens.Failed new = (is_some old.attempt ≡ true) × (new ≡ closed)
@@ -171,7 +180,8 @@ pub data Move (A : Type 0) : Type 0 where
 abbrev pub Does : {A : Type 0} → Course A → Move A → Course A → Type 0
 Does old Written new = Writes old.channel new.channel × (new ≡ record old { channel = new.channel })
 Does old (Looked look) new = Looks look old.channel new.channel × (new ≡ record old { channel = new.channel })
-Does {A} old (Noted now input) new = (between : ChannelView) × Meets old.channel input between × Takes now input (record old { channel = between }) new
+Does {A} old (Noted now input) new =
+    (between : ChannelView) × Meets old.channel input between × Takes now input (record old { channel = between }) new
 
 -- Moves, the oldest first. A client that was led stands where it was led, and after a close there is no connection.
 pub record Goes {A : Type 0} (old new : Course A) : Type 0 where

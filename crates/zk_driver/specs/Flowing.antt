@@ -38,17 +38,20 @@ pub data Deed (A : Type 0) : Type 0 where
   Made : Move A → Deed A
   Asked : (now : ℕ) → Input A → Deed A
 
--- What each does. What a read brings is held, and is what the agent is handed next, whole; nothing else is handed to it as bytes, and nothing is
--- read before that.
+-- What each does. What a read brings is held, and is what the agent is handed next, whole; nothing else is handed to it as bytes, and
+-- nothing is read before that.
 abbrev pub Carries : {A : Type 0} → Flow A → Deed A → Flow A → Type 0
 Carries old (Made Written) new =
-    Does old.course Written new.course × Exchanges old.course.channel.unsent new.course.channel.unsent old.known new.known [] × (new.held ≡ old.held)
+    Does old.course Written new.course
+    × Exchanges old.course.channel.unsent new.course.channel.unsent old.known new.known [] × (new.held ≡ old.held)
 Carries old (Made (Looked look)) new =
-    Does old.course (Looked look) new.course × Exchanges old.course.channel.unsent new.course.channel.unsent old.known new.known new.held × (old.held ≡ [])
+    Does old.course (Looked look) new.course
+    × Exchanges old.course.channel.unsent new.course.channel.unsent old.known new.known new.held × (old.held ≡ [])
 Carries old (Made (Noted now input)) new =
     Does old.course (Noted now input) new.course × Lasts input old new × (bytes_in input ≡ old.held) × (new.held ≡ [])
 Carries old (Asked now input) new =
-    Takes now input old.course new.course × IsAsked input × (new.course.channel.is_open ≡ true → new.known ≡ old.known) × (old.held ≡ []) × (new.held ≡ [])
+    Takes now input old.course new.course × IsAsked input × (new.course.channel.is_open ≡ true → new.known ≡ old.known)
+    × (old.held ≡ []) × (new.held ≡ [])
 
 -- deeds, the oldest first
 pub record Flows {A : Type 0} (old new : Flow A) : Type 0 where
@@ -107,7 +110,8 @@ frame_of told = []
 -- what is sent, in order
 abbrev pub sent_in : {A : Type 0} → (deeds : List (Deed A)) → (old new : Flow A) → FoldsTo Carries old deeds new → List ℕ
 sent_in [] old new carries = []
-sent_in (Made (Noted now input) ∷ deeds) old new carries = flat_map frame_of (told_by carries.1.0.2.actions) ++ sent_in deeds carries.0 new carries.2
+sent_in (Made (Noted now input) ∷ deeds) old new carries =
+    flat_map frame_of (told_by carries.1.0.2.actions) ++ sent_in deeds carries.0 new carries.2
 sent_in (Asked now input ∷ deeds) old new carries = flat_map frame_of (told_by carries.1.0.actions) ++ sent_in deeds carries.0 new carries.2
 sent_in (Made Written ∷ deeds) old new carries = sent_in deeds carries.0 new carries.2
 sent_in (Made (Looked look) ∷ deeds) old new carries = sent_in deeds carries.0 new carries.2
@@ -123,4 +127,5 @@ abbrev pub BytesGoWhole : Type 0 → Type 0
 BytesGoWhole A =
     (deeds : List (Deed A)) → (old new : Flow A) → (carries : FoldsTo Carries old deeds new) → AreWithin deeds
     → new.course.channel.is_open ≡ true
-    → (written : List ℕ) × Appends old.known.took new.known.took written × (old.course.channel.unsent ++ sent_in deeds old new carries ≡ written ++ new.course.channel.unsent)
+    → (written : List ℕ) × Appends old.known.took new.known.took written
+    × (old.course.channel.unsent ++ sent_in deeds old new carries ≡ written ++ new.course.channel.unsent)

@@ -4,7 +4,8 @@ use Rattle.std.specs.Io.KnownBytes.{Consumes, Keeps}
 use Rattle.std_io.specs.IoError.{error_kind}
 use Rattle.std_io.specs.declared.io.error.Error.{Error}
 use Rattle.std_io.specs.declared.io.kind.ErrorKind.{ErrorKind}
-use Rattle.std_io.specs.declared.io.kind.ErrorKind.TheVariants.{WouldBlock, TimedOut, Interrupted, ConnectionRefused, ConnectionReset, HostUnreachable, NetworkUnreachable, NotFound}
+use Rattle.std_io.specs.declared.io.kind.ErrorKind.TheVariants.{WouldBlock, TimedOut, Interrupted, ConnectionRefused, ConnectionReset}
+use Rattle.std_io.specs.declared.io.kind.ErrorKind.TheVariants.{HostUnreachable, NetworkUnreachable, NotFound}
 use Rattle.zk_driver.specs.declared.reason.Reason.{Reason}
 use Rattle.zk_driver.specs.declared.reason.Reason.TheVariants as reason
 use Rattle.zk_link.specs.declared.brought.Brought.{Brought}
@@ -45,7 +46,8 @@ Gives before after (brought.Piece bytes) = Consumes before after bytes.items
 Gives before after brought.Nothing = Keeps before after
 Gives before after brought.End = ⊤
 
--- What was brought is what the stream that is there gave by a read: a piece is the first bytes that it had, in order, and none of the others is gone.
+-- What was brought is what the stream that is there gave by a read: a piece is the first bytes that it had, in order, and none of the
+-- others is gone.
 abbrev pub IsBrought : {A S : Type 0} → (remaining : S → Option (List ℕ)) → (stream : Option S) → Brought A → Type 0
 IsBrought remaining stream brought.End = ⊤
 IsBrought {A} {S} remaining stream brought = (before after : S) × (stream ≡ Some after) × Gives (remaining before) (remaining after) brought

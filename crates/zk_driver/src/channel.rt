@@ -90,7 +90,8 @@ impl<A: Allocator + Copy, S: Stream> Channel<A, S> {
 
     /// These bytes are to be written, after what is left.
     pub(crate) fn queue(&mut self, bytes: &[u8]) -> Result<(), AllocError>
-        ensures view { OnOk result (channel_view self.new ≡ record (channel_view self.old) { unsent = self.old.unsent.items ++ bytes.now }) }
+        ensures view { OnOk result
+            (channel_view self.new ≡ record (channel_view self.old) { unsent = self.old.unsent.items ++ bytes.now }) }
         ensures stream { self.new.stream ≡ self.old.stream }
     {
         self.unsent.extend_from_slice(bytes)
@@ -101,7 +102,8 @@ impl<A: Allocator + Copy, S: Stream> Channel<A, S> {
         ensures writes { Writes (channel_view self.old) (channel_view self.new) }
         ensures sends { Sends self.old.unsent.items self.new.unsent.items
             ((known_of S.remaining S.contents self.old.stream).took) ((known_of S.remaining S.contents self.new.stream).took) }
-        ensures gives { Keeps ((known_of S.remaining S.contents self.old.stream).left) ((known_of S.remaining S.contents self.new.stream).left) }
+        ensures gives { Keeps ((known_of S.remaining S.contents self.old.stream).left)
+            ((known_of S.remaining S.contents self.new.stream).left) }
     {
         match &mut self.stream {
             Some(stream) => send(stream, &mut self.unsent),
@@ -109,8 +111,8 @@ impl<A: Allocator + Copy, S: Stream> Channel<A, S> {
         }
     }
 
-    /// Writes what is left, and reads once, as the next read of a row or the first one: for `ms` milliseconds, at least 1, or for 10 at most
-    /// while bytes are left. It begins at this moment.
+    /// Writes what is left, and reads once, as the next read of a row or the first one: for `ms` milliseconds, at least 1, or for 10 at
+    /// most while bytes are left. It begins at this moment.
     pub(crate) fn exchange(
         &mut self,
         alloc: A,
@@ -118,10 +120,12 @@ impl<A: Allocator + Copy, S: Stream> Channel<A, S> {
         is_again: bool,
         ms: u64,
     ) -> Result<Brought<A>, AllocError>
-        ensures looks { IfOk result (λ brought. Looks (look_after began is_again (is_nothing brought) self.old.looked) (channel_view self.old) (channel_view self.new)) }
+        ensures looks { IfOk result (λ brought.
+            Looks (look_after began is_again (is_nothing brought) self.old.looked) (channel_view self.old) (channel_view self.new)) }
         ensures brings { IfOk result (λ brought. IsBrought S.remaining self.new.stream brought) }
         ensures whole { IfOk result (λ brought. Exchanges self.old.unsent.items self.new.unsent.items
-            (known_of S.remaining S.contents self.old.stream) (known_of S.remaining S.contents self.new.stream) (bytes_in (input_of brought))) }
+            (known_of S.remaining S.contents self.old.stream) (known_of S.remaining S.contents self.new.stream)
+            (bytes_in (input_of brought))) }
     {
         let brought = self.read(alloc, ms)?;
         let is_quiet = is_nothing(&brought);
@@ -134,7 +138,8 @@ impl<A: Allocator + Copy, S: Stream> Channel<A, S> {
         ensures writes { Writes (channel_view self.old) (channel_view self.new) }
         ensures brings { IfOk result (λ brought. IsBrought S.remaining self.new.stream brought) }
         ensures whole { IfOk result (λ brought. Exchanges self.old.unsent.items self.new.unsent.items
-            (known_of S.remaining S.contents self.old.stream) (known_of S.remaining S.contents self.new.stream) (bytes_in (input_of brought))) }
+            (known_of S.remaining S.contents self.old.stream) (known_of S.remaining S.contents self.new.stream)
+            (bytes_in (input_of brought))) }
     {
         make_room(&mut self.room)?;
         let Some(stream) = &mut self.stream else {

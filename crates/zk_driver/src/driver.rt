@@ -1,6 +1,7 @@
 //! The driver.
 
-ghost use Rattle.std.specs.Prelude.{◌≡◌, ◌≢◌, ◌≤◌, ◌<ℤ◌, [], None, is_some, length, pos, false, true, unsigned_abs, IfNone, IfOk, OnErr, OnOk};
+ghost use Rattle.std.specs.Prelude.{◌≡◌, ◌≢◌, ◌≤◌, ◌<ℤ◌, [], None, is_some, length, pos, false, true, unsigned_abs, IfNone, IfOk, OnErr};
+ghost use Rattle.std.specs.Prelude.{OnOk};
 ghost use Rattle.zk_turns.specs.Turns.{new_start};
 ghost use Rattle.zk_turns.specs.View.{view_at};
 ghost use Rattle.zk_client.specs.Clients.{view_of};
@@ -69,7 +70,8 @@ impl<'a, A: Allocator + Copy, D: Dial + Drop, C: Clock + Drop> Driver<'a, A, D, 
         addresses: &'a [&'a str],
     ) -> Result<Driver<'a, A, D, C>, AllocError>
         requires { pos 0 <ℤ timeout_ms }
-        ensures client { IfOk result (λ driver. view_of driver.engine.agent.asker.follower.client ≡ view_at (new_start (unsigned_abs timeout_ms)) []) }
+        ensures client { IfOk result
+            (λ driver. view_of driver.engine.agent.asker.follower.client ≡ view_at (new_start (unsigned_abs timeout_ms)) []) }
         ensures followed { IfOk result (λ driver. AreFollowed driver.engine.agent) }
         ensures shut { IfOk result (λ driver. IsShutAgent driver.engine.agent) }
         ensures timeout { IfOk result (λ driver. driver.engine.agent.timeout_ms ≡ timeout_ms) }
@@ -112,8 +114,10 @@ impl<'a, A: Allocator + Copy, D: Dial + Drop, C: Clock + Drop> Driver<'a, A, D, 
 
     /// Follows a subject: the data of the node, or the names of its children. No other subject has or had the ticket.
     pub fn follow(&mut self, ticket: u64, side: Side, path: Path<A>) -> Result<(), Stop>
-        ensures hands { OnOk result (Hands (happens.Follow ticket side path) (course_of self.old.engine None) (course_of self.new.engine None)) }
-        ensures flows { OnOk result (Flows (flow_of D.Stream.remaining D.Stream.contents self.old.engine None) (flow_of D.Stream.remaining D.Stream.contents self.new.engine None)) }
+        ensures hands { OnOk result
+            (Hands (happens.Follow ticket side path) (course_of self.old.engine None) (course_of self.new.engine None)) }
+        ensures flows { OnOk result (Flows (flow_of D.Stream.remaining D.Stream.contents self.old.engine None)
+            (flow_of D.Stream.remaining D.Stream.contents self.new.engine None)) }
         ensures kept { Extends (told_by self.old.engine.waiting.items) (told_by self.new.engine.waiting.items) }
     {
         self.hand(Input::Follow { ticket, side, path })
@@ -122,17 +126,20 @@ impl<'a, A: Allocator + Copy, D: Dial + Drop, C: Clock + Drop> Driver<'a, A, D, 
     /// Follows the subject of this ticket no more.
     pub fn unfollow(&mut self, ticket: u64) -> Result<(), Stop>
         ensures hands { OnOk result (Hands (happens.Unfollow ticket) (course_of self.old.engine None) (course_of self.new.engine None)) }
-        ensures flows { OnOk result (Flows (flow_of D.Stream.remaining D.Stream.contents self.old.engine None) (flow_of D.Stream.remaining D.Stream.contents self.new.engine None)) }
+        ensures flows { OnOk result (Flows (flow_of D.Stream.remaining D.Stream.contents self.old.engine None)
+            (flow_of D.Stream.remaining D.Stream.contents self.new.engine None)) }
         ensures kept { Extends (told_by self.old.engine.waiting.items) (told_by self.new.engine.waiting.items) }
     {
         self.hand(Input::Unfollow { ticket })
     }
 
-    /// Asks a call: it is answered once, by [`Action::Answer`], or times out once, at this moment of the clock where there is one. No other call
-    /// or subject has or had the ticket.
+    /// Asks a call: it is answered once, by [`Action::Answer`], or times out once, at this moment of the clock where there is one. No other
+    /// call or subject has or had the ticket.
     pub fn ask(&mut self, ticket: u64, call: Call<A>, until: Option<u64>) -> Result<(), Stop>
-        ensures hands { OnOk result (Hands (happens.Call ticket call until) (course_of self.old.engine None) (course_of self.new.engine None)) }
-        ensures flows { OnOk result (Flows (flow_of D.Stream.remaining D.Stream.contents self.old.engine None) (flow_of D.Stream.remaining D.Stream.contents self.new.engine None)) }
+        ensures hands { OnOk result
+            (Hands (happens.Call ticket call until) (course_of self.old.engine None) (course_of self.new.engine None)) }
+        ensures flows { OnOk result (Flows (flow_of D.Stream.remaining D.Stream.contents self.old.engine None)
+            (flow_of D.Stream.remaining D.Stream.contents self.new.engine None)) }
         ensures kept { Extends (told_by self.old.engine.waiting.items) (told_by self.new.engine.waiting.items) }
     {
         self.hand(Input::Call {
@@ -144,20 +151,23 @@ impl<'a, A: Allocator + Copy, D: Dial + Drop, C: Clock + Drop> Driver<'a, A, D, 
 
     /// Goes on with another list of addresses. A connection that is there stays.
     pub fn set_addresses(&mut self, addresses: &'a [&'a str]) -> Result<(), Stop>
-        ensures hands { OnOk result (Hands (happens.Addresses (length addresses.now)) (course_of self.old.engine None) (course_of self.new.engine None)) }
-        ensures flows { OnOk result (Flows (flow_of D.Stream.remaining D.Stream.contents self.old.engine None) (flow_of D.Stream.remaining D.Stream.contents self.new.engine None)) }
+        ensures hands { OnOk result
+            (Hands (happens.Addresses (length addresses.now)) (course_of self.old.engine None) (course_of self.new.engine None)) }
+        ensures flows { OnOk result (Flows (flow_of D.Stream.remaining D.Stream.contents self.old.engine None)
+            (flow_of D.Stream.remaining D.Stream.contents self.new.engine None)) }
         ensures kept { Extends (told_by self.old.engine.waiting.items) (told_by self.new.engine.waiting.items) }
     {
         self.addresses = addresses;
         self.hand(Input::Addresses(addresses.len()))
     }
 
-    /// Hands in what the program asks for, at the clock's moment; where something is due on the connection, at the last moment before that, so
-    /// that what has come is read before the clock's moment is told.
+    /// Hands in what the program asks for, at the clock's moment; where something is due on the connection, at the last moment before that,
+    /// so that what has come is read before the clock's moment is told.
     fn hand(&mut self, input: Input<A>) -> Result<(), Stop>
         requires { IsAsked input }
         ensures hands { OnOk result (Hands input (course_of self.old.engine None) (course_of self.new.engine None)) }
-        ensures flows { OnOk result (Flows (flow_of D.Stream.remaining D.Stream.contents self.old.engine None) (flow_of D.Stream.remaining D.Stream.contents self.new.engine None)) }
+        ensures flows { OnOk result (Flows (flow_of D.Stream.remaining D.Stream.contents self.old.engine None)
+            (flow_of D.Stream.remaining D.Stream.contents self.new.engine None)) }
         ensures kept { Extends (told_by self.old.engine.waiting.items) (told_by self.new.engine.waiting.items) }
     {
         let now = self.now();
@@ -172,14 +182,15 @@ impl<'a, A: Allocator + Copy, D: Dial + Drop, C: Clock + Drop> Driver<'a, A, D, 
     /// happens: it waits for bytes, or for what is due. A connection that ends or fails, and one that could not be made, are no errors: the
     /// agent is told.
     ///
-    /// No read waits past the moment, except for 1 millisecond, and a write waits for room for 16 milliseconds at most. An attempt to connect
-    /// has the time that the agent gives it: a third of the timeout, and a second at least.
+    /// No read waits past the moment, except for 1 millisecond, and a write waits for room for 16 milliseconds at most. An attempt to
+    /// connect has the time that the agent gives it: a third of the timeout, and a second at least.
     ///
     /// An error says that memory ran out. What was noted by then is given by further calls, and the session goes on no further: begin with
     /// another driver, from what was saved.
     pub fn next(&mut self, until: u64) -> Result<Option<Action<A>>, Stop>
         ensures goes { IfOk result (λ passed. Goes (course_of self.old.engine None) (course_of self.new.engine passed)) }
-        ensures flows { IfOk result (λ passed. Flows (flow_of D.Stream.remaining D.Stream.contents self.old.engine None) (flow_of D.Stream.remaining D.Stream.contents self.new.engine passed)) }
+        ensures flows { IfOk result (λ passed. Flows (flow_of D.Stream.remaining D.Stream.contents self.old.engine None)
+            (flow_of D.Stream.remaining D.Stream.contents self.new.engine passed)) }
         ensures come { IfOk result (λ passed. IfNone passed (until ≤ self.new.engine.agent.latest)) }
         ensures none { IfOk result (λ passed. IfNone passed (self.new.engine.waiting.items ≡ [])) }
         ensures kept { OnErr result (Extends (told_by self.old.engine.waiting.items) (told_by self.new.engine.waiting.items)) }
@@ -196,14 +207,16 @@ impl<'a, A: Allocator + Copy, D: Dial + Drop, C: Clock + Drop> Driver<'a, A, D, 
         Ok(self.engine.pop())
     }
 
-    /// One turn, as [`next`](Driver::next) makes them one after the other: an action that waits, or else what comes of an attempt to connect,
-    /// or of a wait until this moment at most. Of each address it tells that it is dialled, before it is, and what came of that; and of each
-    /// connection that it is over, and why. [`address`](Driver::address) is the address.
+    /// One turn, as [`next`](Driver::next) makes them one after the other: an action that waits, or else what comes of an attempt to
+    /// connect, or of a wait until this moment at most. Of each address it tells that it is dialled, before it is, and what came of that;
+    /// and of each connection that it is over, and why. [`address`](Driver::address) is the address.
     ///
     /// An error is that of [`next`](Driver::next).
     pub fn turn(&mut self, until: u64) -> Result<Turn<A>, Stop>
-        ensures goes { IfOk result (λ turn. GoesBy (notes_of turn) (course_of self.old.engine None) (course_of self.new.engine (passed_in turn))) }
-        ensures flows { IfOk result (λ turn. Flows (flow_of D.Stream.remaining D.Stream.contents self.old.engine None) (flow_of D.Stream.remaining D.Stream.contents self.new.engine (passed_in turn))) }
+        ensures goes { IfOk result
+            (λ turn. GoesBy (notes_of turn) (course_of self.old.engine None) (course_of self.new.engine (passed_in turn))) }
+        ensures flows { IfOk result (λ turn. Flows (flow_of D.Stream.remaining D.Stream.contents self.old.engine None)
+            (flow_of D.Stream.remaining D.Stream.contents self.new.engine (passed_in turn))) }
         ensures come { IfOk result (λ turn. is_come turn ≡ true → until ≤ self.new.engine.agent.latest) }
         ensures none { IfOk result (λ turn. is_come turn ≡ true → self.new.engine.waiting.items ≡ []) }
         ensures kept { OnErr result (Extends (told_by self.old.engine.waiting.items) (told_by self.new.engine.waiting.items)) }
@@ -244,8 +257,8 @@ impl<'a, A: Allocator + Copy, D: Dial + Drop, C: Clock + Drop> Driver<'a, A, D, 
         !self.engine.waiting.is_empty()
     }
 
-    /// The address that was dialled last, or that is dialled next where [`Turn::Dials`] was told last: that of the connection where there is
-    /// one.
+    /// The address that was dialled last, or that is dialled next where [`Turn::Dials`] was told last: that of the connection where there
+    /// is one.
     pub fn address(&self) -> Option<&'a str> {
         self.addresses.get(self.place).copied()
     }
@@ -253,8 +266,10 @@ impl<'a, A: Allocator + Copy, D: Dial + Drop, C: Clock + Drop> Driver<'a, A, D, 
     /// Dials, where an address is to be dialled, and else waits until this moment at most. The answer is the moment that was told, and what
     /// has happened.
     fn round(&mut self, until: u64) -> Result<(u64, Event), Stop>
-        ensures goes { IfOk result (λ round. GoesBy (notes_of_event round.1) (course_of self.old.engine None) (course_of self.new.engine None)) }
-        ensures flows { OnOk result (Flows (flow_of D.Stream.remaining D.Stream.contents self.old.engine None) (flow_of D.Stream.remaining D.Stream.contents self.new.engine None)) }
+        ensures goes { IfOk result
+            (λ round. GoesBy (notes_of_event round.1) (course_of self.old.engine None) (course_of self.new.engine None)) }
+        ensures flows { OnOk result (Flows (flow_of D.Stream.remaining D.Stream.contents self.old.engine None)
+            (flow_of D.Stream.remaining D.Stream.contents self.new.engine None)) }
         ensures told { IfOk result (λ round. round.0 ≤ self.new.engine.agent.latest) }
         ensures kept { Extends (told_by self.old.engine.waiting.items) (told_by self.new.engine.waiting.items) }
     {
@@ -283,8 +298,10 @@ impl<'a, A: Allocator + Copy, D: Dial + Drop, C: Clock + Drop> Driver<'a, A, D, 
     /// Dials an address, and tells the agent what came of it.
     fn attempt(&mut self, attempt: Attempt) -> Result<(u64, Event), Stop>
         requires { is_some self.old.engine.channel.attempt ≡ true }
-        ensures goes { IfOk result (λ round. GoesBy (notes_of_event round.1) (course_of self.old.engine None) (course_of self.new.engine None)) }
-        ensures flows { OnOk result (Flows (flow_of D.Stream.remaining D.Stream.contents self.old.engine None) (flow_of D.Stream.remaining D.Stream.contents self.new.engine None)) }
+        ensures goes { IfOk result
+            (λ round. GoesBy (notes_of_event round.1) (course_of self.old.engine None) (course_of self.new.engine None)) }
+        ensures flows { OnOk result (Flows (flow_of D.Stream.remaining D.Stream.contents self.old.engine None)
+            (flow_of D.Stream.remaining D.Stream.contents self.new.engine None)) }
         ensures told { IfOk result (λ round. round.0 ≤ self.new.engine.agent.latest) }
         ensures kept { Extends (told_by self.old.engine.waiting.items) (told_by self.new.engine.waiting.items) }
     {
@@ -299,8 +316,10 @@ impl<'a, A: Allocator + Copy, D: Dial + Drop, C: Clock + Drop> Driver<'a, A, D, 
     /// Listens where there is a connection, and else waits.
     fn wait(&mut self, until: u64) -> Result<(u64, Event), Stop>
         requires { self.old.engine.channel.attempt ≡ None }
-        ensures goes { IfOk result (λ round. GoesBy (notes_of_event round.1) (course_of self.old.engine None) (course_of self.new.engine None)) }
-        ensures flows { OnOk result (Flows (flow_of D.Stream.remaining D.Stream.contents self.old.engine None) (flow_of D.Stream.remaining D.Stream.contents self.new.engine None)) }
+        ensures goes { IfOk result
+            (λ round. GoesBy (notes_of_event round.1) (course_of self.old.engine None) (course_of self.new.engine None)) }
+        ensures flows { OnOk result (Flows (flow_of D.Stream.remaining D.Stream.contents self.old.engine None)
+            (flow_of D.Stream.remaining D.Stream.contents self.new.engine None)) }
         ensures told { IfOk result (λ round. round.0 ≤ self.new.engine.agent.latest) }
         ensures kept { Extends (told_by self.old.engine.waiting.items) (told_by self.new.engine.waiting.items) }
     {
@@ -320,8 +339,10 @@ impl<'a, A: Allocator + Copy, D: Dial + Drop, C: Clock + Drop> Driver<'a, A, D, 
     fn read(&mut self, began: u64, is_again: bool, ms: u64) -> Result<Glance, Stop>
         requires none { self.old.engine.channel.attempt ≡ None }
         requires open { is_some self.old.engine.channel.stream ≡ true }
-        ensures goes { IfOk result (λ glance. GoesBy (notes_of_event glance.event) (course_of self.old.engine None) (course_of self.new.engine None)) }
-        ensures flows { OnOk result (Flows (flow_of D.Stream.remaining D.Stream.contents self.old.engine None) (flow_of D.Stream.remaining D.Stream.contents self.new.engine None)) }
+        ensures goes { IfOk result
+            (λ glance. GoesBy (notes_of_event glance.event) (course_of self.old.engine None) (course_of self.new.engine None)) }
+        ensures flows { OnOk result (Flows (flow_of D.Stream.remaining D.Stream.contents self.old.engine None)
+            (flow_of D.Stream.remaining D.Stream.contents self.new.engine None)) }
         ensures told { IfOk result (λ glance. glance.told ≤ self.new.engine.agent.latest) }
         ensures none { IfOk result (λ glance. glance.is_again ≡ true → self.new.engine.channel.attempt ≡ None) }
         ensures open { IfOk result (λ glance. glance.is_again ≡ true → is_some self.new.engine.channel.stream ≡ true) }
@@ -355,13 +376,16 @@ impl<'a, A: Allocator + Copy, D: Dial + Drop, C: Clock + Drop> Driver<'a, A, D, 
         })
     }
 
-    /// Writes what is left, and tells the agent what the connection brings within `ms` milliseconds, or that it brings nothing. Where something
-    /// was due before the clock's moment, what the connection has is read before that is told: until it has nothing, and 64 times at most.
+    /// Writes what is left, and tells the agent what the connection brings within `ms` milliseconds, or that it brings nothing. Where
+    /// something was due before the clock's moment, what the connection has is read before that is told: until it has nothing, and 64 times
+    /// at most.
     fn listen(&mut self, began: u64, ms: u64) -> Result<(u64, Event), Stop>
         requires none { self.old.engine.channel.attempt ≡ None }
         requires open { is_some self.old.engine.channel.stream ≡ true }
-        ensures goes { IfOk result (λ round. GoesBy (notes_of_event round.1) (course_of self.old.engine None) (course_of self.new.engine None)) }
-        ensures flows { OnOk result (Flows (flow_of D.Stream.remaining D.Stream.contents self.old.engine None) (flow_of D.Stream.remaining D.Stream.contents self.new.engine None)) }
+        ensures goes { IfOk result
+            (λ round. GoesBy (notes_of_event round.1) (course_of self.old.engine None) (course_of self.new.engine None)) }
+        ensures flows { OnOk result (Flows (flow_of D.Stream.remaining D.Stream.contents self.old.engine None)
+            (flow_of D.Stream.remaining D.Stream.contents self.new.engine None)) }
         ensures told { IfOk result (λ round. round.0 ≤ self.new.engine.agent.latest) }
         ensures kept { Extends (told_by self.old.engine.waiting.items) (told_by self.new.engine.waiting.items) }
     {

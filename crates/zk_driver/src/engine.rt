@@ -5,7 +5,8 @@ ghost use Rattle.std.specs.List.{filter};
 ghost use Rattle.zk_agent.specs.Agents.{NothingAt};
 ghost use Rattle.zk_agent.specs.Telling.{action_view, told_by};
 ghost use Rattle.zk_agent.specs.declared.input.Input.TheVariants as happens;
-ghost use Rattle.zk_driver.specs.Driving.{carried, channel_view, closed, course_of, input_of, is_passed, Extends, Goes, Hands, IsOverdue, IsPatient, IsSeen, IsTaken, IsTimely, Notes};
+ghost use Rattle.zk_driver.specs.Driving.{carried, channel_view, closed, course_of, input_of, is_passed, Extends, Goes, Hands, IsOverdue};
+ghost use Rattle.zk_driver.specs.Driving.{IsPatient, IsSeen, IsTaken, IsTimely, Notes};
 ghost use Rattle.zk_driver.specs.Noting.{notes_in, notes_of_event, Made, Missed, Lost, GoesBy};
 ghost use Rattle.zk_driver.specs.Flowing.{bytes_in, flow_of, Flows, HandsOver};
 
@@ -105,12 +106,13 @@ impl<A: Allocator + Copy, S: Stream> Engine<A, S> {
         }
     }
 
-    /// Hands the agent an input that was noticed at this moment, and does what it says. The answer is the moment. That a write has failed is
-    /// seen by the next read.
+    /// Hands the agent an input that was noticed at this moment, and does what it says. The answer is the moment. That a write has failed
+    /// is seen by the next read.
     pub(crate) fn hand(&mut self, now: u64, input: Input<A>) -> Result<u64, Stop>
         requires { IsPatient now input (course_of self.old None) }
         ensures hands { OnOk result (Hands input (course_of self.old None) (course_of self.new None)) }
-        ensures flows { OnOk result (HandsOver input (flow_of S.remaining S.contents self.old None) (flow_of S.remaining S.contents self.new None)) }
+        ensures flows { OnOk result
+            (HandsOver input (flow_of S.remaining S.contents self.old None) (flow_of S.remaining S.contents self.new None)) }
         ensures told { IfOk result (λ moment. moment ≤ self.new.agent.latest) }
         ensures noted { OnOk result (now ≤ self.new.agent.latest) }
         ensures kept { Extends (told_by self.old.waiting.items) (told_by self.new.waiting.items) }
@@ -153,8 +155,8 @@ impl<A: Allocator + Copy, S: Stream> Engine<A, S> {
         self.hand(now, Input::Failed)
     }
 
-    /// The connection is over, and the agent is told so with the moment of bytes: when it was over is not known where the program was stopped
-    /// or was away, and a server that has ended a connection was not silent.
+    /// The connection is over, and the agent is told so with the moment of bytes: when it was over is not known where the program was
+    /// stopped or was away, and a server that has ended a connection was not silent.
     fn end(&mut self, now: u64) -> Result<u64, Stop>
         requires none { self.old.channel.attempt ≡ None }
         requires open { is_some self.old.channel.stream ≡ true }
@@ -170,8 +172,8 @@ impl<A: Allocator + Copy, S: Stream> Engine<A, S> {
         self.hand(moment, Input::Cut)
     }
 
-    /// The connection is over. Where the agent was told that with a moment before this one, this one is told after it, unless an address is to
-    /// be dialled. The answer is the moment that was told last.
+    /// The connection is over. Where the agent was told that with a moment before this one, this one is told after it, unless an address is
+    /// to be dialled. The answer is the moment that was told last.
     fn cut(&mut self, now: u64) -> Result<u64, Stop>
         requires none { self.old.channel.attempt ≡ None }
         requires open { is_some self.old.channel.stream ≡ true }
@@ -278,8 +280,8 @@ impl<A: Allocator + Copy, S: Stream> Engine<A, S> {
         self.channel.attempt.is_none() && self.channel.is_open()
     }
 
-    /// The moment at which what the program asks for is handed in: this one, and where something is due on the connection that is there, the
-    /// last moment before that, so that what has come on it is read first.
+    /// The moment at which what the program asks for is handed in: this one, and where something is due on the connection that is there,
+    /// the last moment before that, so that what has come on it is read first.
     pub(crate) fn moment_of_hand(&self, now: u64) -> u64
         ensures most { result ≤ now }
         ensures quiet { is_some self.now.channel.stream ≡ true → 0 < result → NothingAt self.now.agent result }
@@ -290,9 +292,9 @@ impl<A: Allocator + Copy, S: Stream> Engine<A, S> {
         now
     }
 
-    /// The moment that is told with bytes which are read at this one, and with the end of a connection: this one, and where something was due
-    /// before it, the last moment before that. The program was stopped then, or was away: when the bytes came is not known, and a server that
-    /// has sent something is not silent.
+    /// The moment that is told with bytes which are read at this one, and with the end of a connection: this one, and where something was
+    /// due before it, the last moment before that. The program was stopped then, or was away: when the bytes came is not known, and a
+    /// server that has sent something is not silent.
     fn moment_of_bytes(&self, now: u64) -> u64
         ensures most { result ≤ now }
         ensures quiet { 0 < result → NothingAt self.now.agent result }
@@ -304,14 +306,15 @@ impl<A: Allocator + Copy, S: Stream> Engine<A, S> {
         }
     }
 
-    /// Bytes came, with the moment of bytes. Where that is before this one, this one is told after it, unless the connection is to be read again
-    /// before that. The answer is the moment that was told last.
+    /// Bytes came, with the moment of bytes. Where that is before this one, this one is told after it, unless the connection is to be read
+    /// again before that. The answer is the moment that was told last.
     fn bytes(&mut self, now: u64, bytes: Vec<u8, A>) -> Result<u64, Stop>
         requires none { self.old.channel.attempt ≡ None }
         requires open { is_some self.old.channel.stream ≡ true }
         ensures goes { OnOk result (GoesBy [] (course_of self.old None) (course_of self.new None)) }
         ensures notes { OnOk result (Notes (happens.Bytes bytes) (course_of self.old None) (course_of self.new None)) }
-        ensures flows { OnOk result (Flows (record (flow_of S.remaining S.contents self.old None) { held = bytes.items }) (flow_of S.remaining S.contents self.new None)) }
+        ensures flows { OnOk result (Flows (record (flow_of S.remaining S.contents self.old None) { held = bytes.items })
+            (flow_of S.remaining S.contents self.new None)) }
         ensures told { IfOk result (λ moment. moment ≤ self.new.agent.latest) }
         ensures kept { Extends (told_by self.old.waiting.items) (told_by self.new.waiting.items) }
     {
@@ -344,7 +347,8 @@ impl<A: Allocator + Copy, S: Stream> Engine<A, S> {
         requires taken { IsTaken now brought (course_of self.old None) }
         ensures goes { OnOk result (GoesBy (notes_in (input_of brought)) (course_of self.old None) (course_of self.new None)) }
         ensures notes { OnOk result (Notes (input_of brought) (course_of self.old None) (course_of self.new None)) }
-        ensures flows { OnOk result (Flows (record (flow_of S.remaining S.contents self.old None) { held = bytes_in (input_of brought) }) (flow_of S.remaining S.contents self.new None)) }
+        ensures flows { OnOk result (Flows (record (flow_of S.remaining S.contents self.old None) { held = bytes_in (input_of brought) })
+            (flow_of S.remaining S.contents self.new None)) }
         ensures told { IfOk result (λ moment. moment ≤ self.new.agent.latest) }
         ensures kept { Extends (told_by self.old.waiting.items) (told_by self.new.waiting.items) }
     {
@@ -355,8 +359,8 @@ impl<A: Allocator + Copy, S: Stream> Engine<A, S> {
         }
     }
 
-    /// A moment is told, whatever is to be dialled or read: an attempt that was not made by then counts as one that has failed, and a connection
-    /// that is there as one that is over.
+    /// A moment is told, whatever is to be dialled or read: an attempt that was not made by then counts as one that has failed, and a
+    /// connection that is there as one that is over.
     pub(crate) fn settle(&mut self, now: u64) -> Result<u64, Stop>
         ensures goes { OnOk result (Goes (course_of self.old None) (course_of self.new None)) }
         ensures flows { OnOk result (Flows (flow_of S.remaining S.contents self.old None) (flow_of S.remaining S.contents self.new None)) }

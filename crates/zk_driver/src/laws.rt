@@ -4,8 +4,8 @@ ghost use Rattle.zk_driver.specs.Flowing.{BytesComeWhole, BytesGoWhole, CallsRun
 
 use std::alloc::Allocator;
 
-/// What the agent is handed of a connection, joined, is a beginning of what its stream had to give: nothing is lost on the way, nothing comes
-/// twice, and nothing from elsewhere.
+/// What the agent is handed of a connection, joined, is a beginning of what its stream had to give: nothing is lost on the way, nothing
+/// comes twice, and nothing from elsewhere.
 pub fn bytes_come_whole<A: Allocator>()
     ensures { BytesComeWhole A }
 {}
@@ -15,8 +15,8 @@ pub fn bytes_go_whole<A: Allocator>()
     ensures { BytesGoWhole A }
 {}
 
-/// What a driver does over any list of calls that succeed is a run (`Runs`): each call is one, by its clause `flows`, so is that the program takes
-/// an action, and one after the other is one.
+/// What a driver does over any list of calls that succeed is a run (`Runs`): each call is one, by its clause `flows`, so is that the
+/// program takes an action, and one after the other is one.
 pub fn calls_run<A: Allocator>()
     ensures calls { CallsRun A }
     ensures taking { TakingRuns A }

@@ -1,8 +1,9 @@
 //! An agent over a dial, a clock and a connection: a session for a program that decides nothing of it.
 //!
-//! A [`Driver`] has an agent of `zk_agent`, and does what that says: it dials, hangs up, writes and reads, waits for bytes or for the agent's
-//! deadline, and tells the agent what has happened, with the clock's moment. What else the agent says, [`Driver::next`] gives to the
-//! program, one action after the other; [`Driver::turn`] tells of each connection too. [`laws`] says what follows of the bytes of a connection.
+//! A [`Driver`] has an agent of `zk_agent`, and does what that says: it dials, hangs up, writes and reads, waits for bytes or for the
+//! agent's deadline, and tells the agent what has happened, with the clock's moment. What else the agent says, [`Driver::next`] gives to
+//! the program, one action after the other; [`Driver::turn`] tells of each connection too. [`laws`] says what follows of the bytes of a
+//! connection.
 #![tactic(auto)]
 
 mod bring;

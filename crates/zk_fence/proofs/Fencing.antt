@@ -37,20 +37,25 @@ taken_is_above greatest later token h e =
     let above : later ≤ℤ h.token = h.above in
     grind (arith, ints)
 
-stays_above : (greatest : Option ℤ) (later : ℤ) (between : List ℤ) → is_taken greatest later ≡ true → IsAbove later (after_all between (greatest_after greatest later))
+stays_above : (greatest : Option ℤ) (later : ℤ) (between : List ℤ)
+    → is_taken greatest later ≡ true → IsAbove later (after_all between (greatest_after greatest later))
 stays_above greatest later between e =
-    above_all later between (greatest_after greatest later) (record { token = later; is = taken_is_greatest greatest later e; above = ≤ℤ_refl later })
+    above_all later between (greatest_after greatest later)
+    (record { token = later; is = taken_is_greatest greatest later e; above = ≤ℤ_refl later })
 
 pub smaller_is_refused : SmallerIsRefused
 smaller_is_refused greatest later token between e less = by (is_taken (after_all between (greatest_after greatest later)) token) refl
   where
-    by : (b : Bool) → is_taken (after_all between (greatest_after greatest later)) token ≡ b → is_taken (after_all between (greatest_after greatest later)) token ≡ false
+    by : (b : Bool) → is_taken (after_all between (greatest_after greatest later)) token ≡ b
+        → is_taken (after_all between (greatest_after greatest later)) token ≡ false
     by false f = f
     by true f =
-        let above : later ≤ℤ token = taken_is_above (after_all between (greatest_after greatest later)) later token (stays_above greatest later between e) f in
+        let above : later ≤ℤ token =
+        taken_is_above (after_all between (greatest_after greatest later)) later token (stays_above greatest later between e) f in
         absurd (omega (arith, ints))
 
 pub fenced_from : (token later : ℤ) → token ≤ℤ later → IsFencedFrom token later
 fenced_from token later le greatest between e f =
-    let above : later ≤ℤ token = taken_is_above (after_all between (greatest_after greatest later)) later token (stays_above greatest later between e) f in
+    let above : later ≤ℤ token =
+    taken_is_above (after_all between (greatest_after greatest later)) later token (stays_above greatest later between e) f in
     grind (arith, ints)

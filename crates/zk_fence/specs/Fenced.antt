@@ -29,5 +29,6 @@ FencedHolders = (h : History) (one other : View) (dir : Text) (prefix : Name) (p
 -- The same of two rivals that show that they stand first.
 abbrev pub FencedStandings : Type 0
 FencedStandings = (h : History) (one other : View) (dir : Text) (kind its : Kind) (path its_path : Text) (token later : ℤ)
-    → (m : IsShownStanding h one dir kind path token) → (y : IsShownStanding h other dir its its_path later) → from_zero one.saved.last ≤ from_zero other.saved.last
+    → (m : IsShownStanding h one dir kind path token) → (y : IsShownStanding h other dir its its_path later)
+    → from_zero one.saved.last ≤ from_zero other.saved.last
     → is_rival kind y.shows.own ≡ true → IsFencedFrom token later

@@ -1,5 +1,6 @@
 -- What comes of a read that is asked of a client that is connected.
-use Rattle.std.proofs.Common.{◌≡◌, ◌≢◌, ◌<◌, ◌^◌, ◌+◌, ◌⊎◌, inl, inr, ℕ, pos, Bool, true, false, cond, List, [], ◌∷◌, ◌++◌, Option, Some, None, refl, sym, ap, subst, ◌∙◌, arith, eq-eqb}
+use Rattle.std.proofs.Common.{◌≡◌, ◌≢◌, ◌<◌, ◌^◌, ◌+◌, ◌⊎◌, inl, inr, ℕ, pos, Bool, true, false, cond, List, [], ◌∷◌, ◌++◌, Option, Some}
+use Rattle.std.proofs.Common.{None, refl, sym, ap, subst, ◌∙◌, arith, eq-eqb}
 use Rattle.std.proofs.lemmas.List.{append-nil, length-append}
 use Rattle.std.proofs.lemmas.List.Elements.{filter-append}
 use Rattle.std.proofs.lemmas.List.Folds.{list_any-append}
@@ -22,7 +23,9 @@ use Rattle.zk_limits.specs.declared.limits.TheConstants.{LONGEST_OUTGOING, MOST_
 use Rattle.zk_follow.specs.declared.subject.Subject.{Subject}
 use Rattle.zk_follow.specs.declared.progress.Progress.{Progress}
 use Rattle.zk_follow.specs.declared.progress.Progress.TheVariants.{Due, Reading, Refused}
-use Rattle.zk_follow.specs.Following.{progress_after, answered, heard, heard_all, is_shown, read_of, rested, rested_progress, woken, woken_progress, IsAhead, IsBeingRead, IsCounted, IsRefused, IsFollowed, IsFull, Asks, VisitsAnd, is_read_by}
+use Rattle.zk_follow.specs.Following.{progress_after, answered, heard, heard_all, is_shown, read_of, rested, rested_progress, woken}
+use Rattle.zk_follow.specs.Following.{woken_progress, IsAhead, IsBeingRead, IsCounted, IsRefused, IsFollowed, IsFull, Asks, VisitsAnd}
+use Rattle.zk_follow.specs.Following.{is_read_by}
 use Rattle.zk_follow.proofs.Hearing.{no_answer}
 use Rattle.zk_follow.proofs.Reading.{is_found}
 
@@ -49,14 +52,16 @@ of_refusal view call =
     (by_cond (OfRefusal view) (is_full_on view (watched_side (question_of call))) (Some TooManyWatches) large tt
     (by_cond (OfRefusal view) (nat_lt LONGEST_OUTGOING (length (call_payload (pos view.xid) call))) (Some TooLarge) None tt tt)))
   where
-    by_test : (b : Bool) (rest : Option Outcome) → nat_le MOST_PENDING (calls_pending view.pending) ≡ b → OfRefusal view rest → OfRefusal view (cond b (Some TooManyPending) rest)
+    by_test : (b : Bool) (rest : Option Outcome)
+        → nat_le MOST_PENDING (calls_pending view.pending) ≡ b → OfRefusal view rest → OfRefusal view (cond b (Some TooManyPending) rest)
     by_test true rest e h = e
     by_test false rest e h = h
 
 full_by : (view : View) → nat_le MOST_PENDING (calls_pending view.pending) ≡ true → IsFull view
 full_by view e = grind (arith, nat_tests)
 
-refused_later : (now : ℕ) → now < 2 ^ 64 → (was_there : Bool) (view : View) (why : Outcome) → IsDenial view why → IsFull view ⊎ IsRefused now (progress_after now was_there why)
+refused_later : (now : ℕ) → now < 2 ^ 64 → (was_there : Bool) (view : View) (why : Outcome)
+    → IsDenial view why → IsFull view ⊎ IsRefused now (progress_after now was_there why)
 refused_later now fits was_there view TooManyWatches d = inr (omega arith)
 refused_later now fits was_there view TooManyPending d = inl (full_by view d)
 refused_later now fits was_there view TooLarge d = inr (omega arith)
@@ -68,7 +73,8 @@ is_due_now Due = true
 is_due_now _ = false
 
 -- where it is to be read at once, as many calls wait as may
-full_where_due : (now : ℕ) (was_there : Bool) (view : View) (why : Outcome) → IsDenial view why → progress_after now was_there why ≡ Due → IsFull view
+full_where_due : (now : ℕ) (was_there : Bool) (view : View) (why : Outcome)
+    → IsDenial view why → progress_after now was_there why ≡ Due → IsFull view
 unfolding is_due_now
 full_where_due now was_there view TooManyWatches d e = let f : false ≡ true = ap is_due_now e in cc
 full_where_due now was_there view TooManyPending d e = full_by view d
@@ -86,23 +92,28 @@ IsSent view ticket call outputs after =
 abbrev IsDenied : View → ℕ → List Output → View → Type 0
 IsDenied view ticket outputs after = (why : Outcome) × IsDenial view why × (outputs ≡ Answer ticket why ∷ []) × (after ≡ view)
 
-call_turn : (view : View) (ticket : ℕ) (call : Asked_call) (outputs : List Output) (after : View) → Rule view (record { input = Call ticket call; outputs = outputs }) after
+call_turn : (view : View) (ticket : ℕ) (call : Asked_call) (outputs : List Output) (after : View)
+    → Rule view (record { input = Call ticket call; outputs = outputs }) after
     → view.standing.state ≡ Connected → IsSent view ticket call outputs after ⊎ IsDenied view ticket outputs after
 call_turn view ticket call outputs after rule connected =
-    by (refusal_when_connected view call) (of_refusal view call) (rule.outputs ∙ ap (λ hs. says_all view hs ++ []) happened) (rule.next ∙ ap (after_all view) happened)
+    by (refusal_when_connected view call) (of_refusal view call) (rule.outputs ∙ ap (λ hs. says_all view hs ++ []) happened)
+    (rule.next ∙ ap (after_all view) happened)
   where
     happened : happenings view (Calls ticket call) ≡ calls ticket call (refusal_when_connected view call)
     happened =
-        ap (λ b. cond b [] (calls ticket call (refusal view call))) rule.goes_on ∙ ap (λ state. calls ticket call (refusal_in state view call)) connected
+        ap (λ b. cond b [] (calls ticket call (refusal view call))) rule.goes_on
+        ∙ ap (λ state. calls ticket call (refusal_in state view call)) connected
 
-    by : (why : Option Outcome) → OfRefusal view why → outputs ≡ says_all view (calls ticket call why) ++ [] → after ≡ after_all view (calls ticket call why)
+    by : (why : Option Outcome)
+        → OfRefusal view why → outputs ≡ says_all view (calls ticket call why) ++ [] → after ≡ after_all view (calls ticket call why)
         → IsSent view ticket call outputs after ⊎ IsDenied view ticket outputs after
     by None d said came = inl (said, came)
     by (Some why) d said came = inr (why, d, said, came)
 
 -- ---- others
 
-being_read_on : (view after : View) → Asks view after → (ticket : ℕ) (side : _) (path : _) → IsBeingRead view ticket side path → IsBeingRead after ticket side path
+being_read_on : (view after : View) → Asks view after → (ticket : ℕ) (side : _) (path : _)
+    → IsBeingRead view ticket side path → IsBeingRead after ticket side path
 being_read_on view after asks ticket side path read =
     ap (list_any (is_read_by ticket side path)) asks.pending ∙ list_any-append (is_read_by ticket side path) view.pending asks.more
     ∙ ap (λ b. b || list_any (is_read_by ticket side path) asks.more) read
@@ -110,19 +121,22 @@ being_read_on view after asks ticket side path read =
 pub full_on : (view after : View) → Asks view after → IsFull view → IsFull after
 full_on view after asks full =
     let more : calls_pending after.pending ≡ calls_pending view.pending + calls_pending asks.more =
-    ap calls_pending asks.pending ∙ ap length (filter-append is_call view.pending asks.more) ∙ length-append (filter is_call view.pending) (filter is_call asks.more) in
+    ap calls_pending asks.pending ∙ ap length (filter-append is_call view.pending asks.more)
+    ∙ length-append (filter is_call view.pending) (filter is_call asks.more) in
     omega arith
 
 module _ {A : Type 0} (view after : View) (asks : Asks view after) where
   pub others_counted : (subject : Subject A) → IsCounted view subject → IsCounted after subject
   others_counted subject counted goes_on reads =
-      being_read_on view after asks subject.ticket subject.side subject.path (counted (sym (ap (λ s. s.halted) asks.standing) ∙ goes_on) reads)
+      being_read_on view after asks subject.ticket subject.side subject.path
+      (counted (sym (ap (λ s. s.halted) asks.standing) ∙ goes_on) reads)
 
   pub others_followed : (now : ℕ) (subject : Subject A) → IsFollowed now view subject → IsFollowed now after subject
   others_followed now subject (inl shown) = inl (ap (λ cache. is_shown cache subject.side subject.path) asks.cache ∙ shown)
   others_followed now subject (inr (inl read)) = inr (inl (being_read_on view after asks subject.ticket subject.side subject.path read))
   others_followed now subject (inr (inr (inl full))) = inr (inr (inl (full_on view after asks full)))
-  others_followed now subject (inr (inr (inr (inl away)))) = inr (inr (inr (inl (λ there. away (sym (ap (λ s. s.state) asks.standing) ∙ there)))))
+  others_followed now subject (inr (inr (inr (inl away)))) =
+      inr (inr (inr (inl (λ there. away (sym (ap (λ s. s.state) asks.standing) ∙ there)))))
   others_followed now subject (inr (inr (inr (inr refused)))) = inr (inr (inr (inr refused)))
 
 pub no_calls : (view : View) → Asks view view
@@ -131,9 +145,11 @@ no_calls view = record { standing = refl; cache = refl; more = []; pending = sym
 -- ---- its own read
 
 abbrev pub IsSettled : {A : Type 0} → ℕ → View → View → Subject A → Type 0
-IsSettled now view after subject = IsFollowed now after subject × IsCounted after subject × Asks view after × (subject.progress ≡ Due → IsFull after)
+IsSettled now view after subject =
+    IsFollowed now after subject × IsCounted after subject × Asks view after × (subject.progress ≡ Due → IsFull after)
 
-module _ {A : Type 0} (now : ℕ) (fits : now < 2 ^ 64) (subject : Subject A) (reads : subject.progress ≡ Reading) (call : Asked_call) (is_missing : Bool)
+module _ {A : Type 0} (now : ℕ) (fits : now < 2 ^ 64) (subject : Subject A) (reads : subject.progress ≡ Reading)
+    (call : Asked_call) (is_missing : Bool)
     (read : question_of call ≡ read_of subject.side is_missing subject.path) (view after : View) (outputs : List Output) where
   sent_read : IsSent view subject.ticket call outputs after → IsSettled now view after (heard_all now subject outputs)
   sent_read sent =
@@ -165,7 +181,8 @@ module _ {A : Type 0} (now : ℕ) (fits : now < 2 ^ 64) (subject : Subject A) (r
   denied_read : IsDenied view subject.ticket outputs after → IsSettled now view after (heard_all now subject outputs)
   denied_read denied =
       subst (λ said. IsSettled now view after (heard_all now subject said)) (sym denied.2)
-      (subst (IsSettled now view after) (sym (ap (λ b. cond b (answered now denied.0 subject) subject) (eq-eqb subject.ticket subject.ticket refl))) (
+      (subst (IsSettled now view after)
+      (sym (ap (λ b. cond b (answered now denied.0 subject) subject) (eq-eqb subject.ticket subject.ticket refl))) (
         elim (refused_later now fits subject.is_there view denied.0 denied.1) [
           | inl full ↦ inr (inr (inl (subst IsFull (sym denied.3) full)))
           | inr refused ↦ inr (inr (inr (inr refused)))
@@ -177,7 +194,8 @@ module _ {A : Type 0} (now : ℕ) (fits : now < 2 ^ 64) (subject : Subject A) (r
 
   pub read_asked : Rule view (record { input = Call subject.ticket call; outputs = outputs }) after → view.standing.state ≡ Connected
       → IsSettled now view after (heard_all now subject outputs)
-  read_asked rule connected = elim (call_turn view subject.ticket call outputs after rule connected) [ inl sent ↦ sent_read sent | inr denied ↦ denied_read denied ]
+  read_asked rule connected =
+      elim (call_turn view subject.ticket call outputs after rule connected) [ inl sent ↦ sent_read sent | inr denied ↦ denied_read denied ]
 
 -- ---- a subject that is not to be read now
 
@@ -202,7 +220,8 @@ woken_counted now view subject counted going reads = counted going (by subject.p
     by Reading e = refl
     by (Refused why until) e = absurd (past (nat_le until now) why until e)
 
-pub not_due : {A : Type 0} (now : ℕ) (view : View) (subject : Subject A) → IsAhead now subject.progress → subject.progress ≢ Due → view.standing.halted ≡ false
+pub not_due : {A : Type 0} (now : ℕ) (view : View) (subject : Subject A)
+    → IsAhead now subject.progress → subject.progress ≢ Due → view.standing.halted ≡ false
     → IsCounted view subject → IsFollowed now view subject
 not_due now view subject ahead read goes_on counted = by subject.progress refl
   where
@@ -216,7 +235,8 @@ not_due now view subject ahead read goes_on counted = by subject.progress refl
 pub nothing_more : (given : List Output) → given ≡ given ++ []
 nothing_more given = sym (append-nil given)
 
-pub visited : {X E A : Type 0} (result : Result X E) (now : ℕ) (view : View) (given : List Output) (subject heard : Subject A) (after : View) (given_after : List Output) (new : Subject A)
+pub visited : {X E A : Type 0} (result : Result X E) (now : ℕ) (view : View) (given : List Output) (subject heard : Subject A)
+    (after : View) (given_after : List Output) (new : Subject A)
     (call : Asked_call) → subject ≡ heard → question_of call ≡ read_of subject.side subject.is_missing subject.path
     → OnOk result ((outputs : List Output) × Rule view (record { input = Call subject.ticket call; outputs = outputs }) after
     × (new ≡ heard_all now (record subject { progress = Reading }) outputs) × (given_after ≡ given ++ outputs))

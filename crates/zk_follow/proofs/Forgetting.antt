@@ -13,7 +13,8 @@ use Rattle.zk_turns.specs.Rule.{forgotten}
 use Rattle.zk_follow.specs.declared.subject.Subject.{Subject}
 use Rattle.zk_follow.specs.Following.{is_kept, is_shown, is_whole, says_none, IsCounted, IsFollowed}
 
-by_mark : (test : Answer → Bool) (answer : Answer) (mark : Mark) → is_kept test (if_good answer mark) ≡ (if is_good mark then test answer else false)
+by_mark : (test : Answer → Bool) (answer : Answer) (mark : Mark)
+    → is_kept test (if_good answer mark) ≡ (if is_good mark then test answer else false)
 by_mark test answer Good = refl
 by_mark test answer Stale = refl
 
@@ -38,12 +39,15 @@ shown_still cache Child path =
 abbrev pub after_forgetting : View → View
 after_forgetting view = record view { cache = forgotten view.cache }
 
-followed_still : {A : Type 0} (now : ℕ) (view : View) (subject : Subject A) → IsFollowed now view subject → IsFollowed now (after_forgetting view) subject
+followed_still : {A : Type 0} (now : ℕ) (view : View) (subject : Subject A)
+    → IsFollowed now view subject → IsFollowed now (after_forgetting view) subject
 followed_still now view subject (inl shown) = inl (shown_still view.cache subject.side subject.path ∙ shown)
 followed_still now view subject (inr rest) = inr rest
 
-pub all_followed_still : {A : Type 0} (now : ℕ) (view : View) (subjects : List (Subject A)) → All (IsFollowed now view) subjects → All (IsFollowed now (after_forgetting view)) subjects
+pub all_followed_still : {A : Type 0} (now : ℕ) (view : View) (subjects : List (Subject A))
+    → All (IsFollowed now view) subjects → All (IsFollowed now (after_forgetting view)) subjects
 all_followed_still now view subjects all k d within = followed_still now view (get_or subjects k d) (all k d within)
 
-pub all_counted_still : {A : Type 0} (view : View) (subjects : List (Subject A)) → All (IsCounted view) subjects → All (IsCounted (after_forgetting view)) subjects
+pub all_counted_still : {A : Type 0} (view : View) (subjects : List (Subject A))
+    → All (IsCounted view) subjects → All (IsCounted (after_forgetting view)) subjects
 all_counted_still view subjects all = all

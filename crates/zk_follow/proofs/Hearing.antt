@@ -30,15 +30,18 @@ no_answer now was_there (Replied zxid result) e = no_code now was_there result e
 no_answer now was_there _ e = let f = ap is_reading e in cc
 
 module _ {A : Type 0} (now : ℕ) where
-  heard_reading : (subject : Subject A) (output : Output) → (heard now subject output).progress ≡ Reading → (ends_wait subject.ticket output ≡ false) × (subject.progress ≡ Reading)
+  heard_reading : (subject : Subject A) (output : Output)
+      → (heard now subject output).progress ≡ Reading → (ends_wait subject.ticket output ≡ false) × (subject.progress ≡ Reading)
   heard_reading subject (Answer ticket outcome) e = by (subject.ticket == ticket) refl e
     where
-      by : (b : Bool) → (subject.ticket == ticket) ≡ b → (cond b (answered now outcome subject) subject).progress ≡ Reading → ((subject.ticket == ticket) ≡ false) × (subject.progress ≡ Reading)
+      by : (b : Bool) → (subject.ticket == ticket) ≡ b → (cond b (answered now outcome subject) subject).progress ≡ Reading
+          → ((subject.ticket == ticket) ≡ false) × (subject.progress ≡ Reading)
       by true same e = absurd (no_answer now subject.is_there outcome e)
       by false other e = (other, e)
   heard_reading subject (Report at side event) e = by (bytes_eq at subject.path) e
     where
-      by : (b : Bool) → (cond b (record subject { is_there = false }) subject).progress ≡ Reading → (false ≡ false) × (subject.progress ≡ Reading)
+      by : (b : Bool) → (cond b (record subject { is_there = false }) subject).progress ≡ Reading
+          → (false ≡ false) × (subject.progress ≡ Reading)
       by true same = (refl, same)
       by false same = (refl, same)
   heard_reading subject (Enters state) e = absurd cc
@@ -103,7 +106,8 @@ module _ {A : Type 0} (now : ℕ) where
       let first = heard_reading subject output rest.1 in
       ((first.0, subst (λ ticket. Silent ticket outputs) (same_ticket subject output) rest.0), first.1)
 
-  all_heard : (first second : List Output) (subject : Subject A) → heard_all now subject (first ++ second) ≡ heard_all now (heard_all now subject first) second
+  all_heard : (first second : List Output) (subject : Subject A)
+      → heard_all now subject (first ++ second) ≡ heard_all now (heard_all now subject first) second
   all_heard [] second subject = refl
   all_heard (output ∷ first) second subject = all_heard first second (heard now subject output)
 
@@ -114,13 +118,17 @@ module _ {A : Type 0} (now : ℕ) where
       let was = all_reading turn.outputs subject reads in
       let read = is_there subject.ticket subject.side subject.path view.pending (counted rule.goes_on was.1) in
       let waits = keeps_turn subject.ticket (read_of subject.side read.0 subject.path) view turn after rule was.0 read.1 in
-      let now_read : IsBeingRead after subject.ticket subject.side subject.path = is_found subject.ticket subject.side subject.path read.0 after.pending waits in
-      subst (λ path. IsBeingRead after (heard_all now subject turn.outputs).ticket (heard_all now subject turn.outputs).side path) (sym (all_same_path turn.outputs subject))
-      (subst (λ side. IsBeingRead after (heard_all now subject turn.outputs).ticket side subject.path) (sym (all_same_side turn.outputs subject))
+      let now_read : IsBeingRead after subject.ticket subject.side subject.path =
+      is_found subject.ticket subject.side subject.path read.0 after.pending waits in
+      subst (λ path. IsBeingRead after (heard_all now subject turn.outputs).ticket (heard_all now subject turn.outputs).side path)
+      (sym (all_same_path turn.outputs subject))
+      (subst (λ side. IsBeingRead after (heard_all now subject turn.outputs).ticket side subject.path)
+      (sym (all_same_side turn.outputs subject))
       (subst (λ ticket. IsBeingRead after ticket subject.side subject.path) (sym (all_same_ticket turn.outputs subject)) now_read))
 
   -- The same of two turns in one call.
-  pub counted_at : (moment : ℕ) (view : View) (turn : Turn) (after : View) → RuleAt moment view turn after → (subject : Subject A) → IsCounted view subject
+  pub counted_at : (moment : ℕ) (view : View) (turn : Turn) (after : View) → RuleAt moment view turn after → (subject : Subject A)
+      → IsCounted view subject
       → IsCounted after (heard_all now subject turn.outputs)
   counted_at moment view turn after rule subject counted =
       let first = counted_on view _ rule.between rule.tells subject counted in

@@ -23,7 +23,8 @@ reads_it Data true path = same_text path
 reads_it Child true path = same_text path
 
 -- a question that reads a subject is one of the two
-pub is_one_of : (side : Side) (path : Text) (question : Question) → reads side path question ≡ true → (is_missing : Bool) × (question ≡ read_of side is_missing path)
+pub is_one_of : (side : Side) (path : Text) (question : Question)
+    → reads side path question ≡ true → (is_missing : Bool) × (question ≡ read_of side is_missing path)
 is_one_of Data path (GetData at true) e = (false, ap (λ p. GetData p true) ((bytes_eq-Decides at path).0 e))
 is_one_of Child path (GetChildren at true) e = (false, ap (λ p. GetChildren p true) ((bytes_eq-Decides at path).0 e))
 is_one_of Data path (Exists at true) e = (true, ap (λ p. Exists p true) ((bytes_eq-Decides at path).0 e))
@@ -47,18 +48,22 @@ second_of true b e = e
 second_of false b e = absurd cc
 
 module _ (ticket : ℕ) (side : Side) (path : Text) where
-  pub reads_one : (xid : ℤ) (is_missing : Bool) → is_read_by ticket side path (record { xid = xid; waiting = Call_waits ticket (read_of side is_missing path) }) ≡ true
-  reads_one xid is_missing = both (ticket == ticket) (reads side path (read_of side is_missing path)) (eq-eqb ticket ticket refl) (reads_it side is_missing path)
+  pub reads_one : (xid : ℤ) (is_missing : Bool)
+      → is_read_by ticket side path (record { xid = xid; waiting = Call_waits ticket (read_of side is_missing path) }) ≡ true
+  reads_one xid is_missing =
+      both (ticket == ticket) (reads side path (read_of side is_missing path)) (eq-eqb ticket ticket refl) (reads_it side is_missing path)
 
   -- a call that waits is found
-  pub is_found : (is_missing : Bool) (pending : List Pending) → Waits ticket (read_of side is_missing path) pending → list_any (is_read_by ticket side path) pending ≡ true
+  pub is_found : (is_missing : Bool) (pending : List Pending)
+      → Waits ticket (read_of side is_missing path) pending → list_any (is_read_by ticket side path) pending ≡ true
   is_found is_missing pending w =
       let call : Pending = record { xid = w.0; waiting = Call_waits ticket (read_of side is_missing path) } in
       ap (list_any (is_read_by ticket side path)) w.3 ∙ list_any-append (is_read_by ticket side path) w.1 (call ∷ w.2)
       ∙ either (list_any (is_read_by ticket side path) w.1) (list_any (is_read_by ticket side path) (call ∷ w.2))
       (ap (λ b. b || list_any (is_read_by ticket side path) w.2) (reads_one w.0 is_missing))
 
-  one_waits : (xid : ℤ) (waiting : Waiting) (after : List Pending) → is_read_by ticket side path (record { xid = xid; waiting = waiting }) ≡ true
+  one_waits : (xid : ℤ) (waiting : Waiting) (after : List Pending)
+      → is_read_by ticket side path (record { xid = xid; waiting = waiting }) ≡ true
       → (is_missing : Bool) × Waits ticket (read_of side is_missing path) (record { xid = xid; waiting = waiting } ∷ after)
   one_waits xid (Part_waits last) after e = absurd cc
   one_waits xid (Call_waits its question) after e =
@@ -75,7 +80,8 @@ module _ (ticket : ℕ) (side : Side) (path : Text) where
       )
 
   -- and one that is found waits
-  pub is_there : (pending : List Pending) → list_any (is_read_by ticket side path) pending ≡ true → (is_missing : Bool) × Waits ticket (read_of side is_missing path) pending
+  pub is_there : (pending : List Pending)
+      → list_any (is_read_by ticket side path) pending ≡ true → (is_missing : Bool) × Waits ticket (read_of side is_missing path) pending
   is_there [] e = absurd cc
   is_there (first ∷ after) e = by (is_there after) (is_read_by ticket side path first) refl e
     where

@@ -1,5 +1,6 @@
 -- Subjects are visited one after the other: those before are followed, and those after it are as they were.
-use Rattle.std.proofs.Common.{◌≡◌, ◌≢◌, ◌≤◌, ◌<◌, ◌^◌, ◌+◌, ◌++◌, append_assoc, cond, ℕ, ℤ, Bool, true, false, List, [], ◌∷◌, inl, inr, length, get_or, map, set, take, refl, sym, ap, subst, ◌∙◌, arith}
+use Rattle.std.proofs.Common.{◌≡◌, ◌≢◌, ◌≤◌, ◌<◌, ◌^◌, ◌+◌, ◌++◌, append_assoc, cond, ℕ, ℤ, Bool, true, false, List, [], ◌∷◌, inl, inr}
+use Rattle.std.proofs.Common.{length, get_or, map, set, take, refl, sym, ap, subst, ◌∙◌, arith}
 use Rattle.std.proofs.lemmas.List.{append-nil, get_or_default, get_or-set_same, get_or-set_other}
 use Rattle.std.proofs.Math.Seq.{take-append_seam}
 use Rattle.std.proofs.lemmas.Grind.{flat_map-append}
@@ -8,7 +9,8 @@ use Rattle.std.proofs.lemmas.Bool.Decides.{Decides-eqb}
 use Rattle.std.specs.Prelude.{◌==◌, All, bytes_eq, slice_index_or}
 use Rattle.std.specs.List.{FoldsTo}
 use Rattle.zk_conversation.specs.Results.{NoNode, Refused as Refused_by}
-use Rattle.zk_turns.specs.Turns.{Outcome, Replied, TooManyWatches, TooLarge, SessionClosed, Output, Answer, Enters, Report, Turn, Input, Call}
+use Rattle.zk_turns.specs.Turns.{Outcome, Replied, TooManyWatches, TooLarge, SessionClosed, Output, Answer, Enters, Report, Turn, Input}
+use Rattle.zk_turns.specs.Turns.{Call}
 use Rattle.zk_session.specs.declared.states.State.TheVariants.{Connected, Idle}
 use Rattle.zk_client.specs.Clients.{renewed_start}
 use Rattle.zk_turns.specs.View.{View, view_at}
@@ -16,7 +18,9 @@ use Rattle.zk_turns.specs.Rule.{Rule, RuleAt}
 use Rattle.zk_follow.specs.declared.subject.Subject.{Subject}
 use Rattle.zk_follow.specs.declared.progress.Progress.{Progress}
 use Rattle.zk_follow.specs.declared.progress.Progress.TheVariants.{Due, Reading, Refused}
-use Rattle.zk_follow.specs.Following.{heard_all, outputs_in, due_again, progress_after, read_of, rested_progress, taken, AreReads, AreVisited, Asks, IsAhead, IsCounted, IsFollowed, IsReadOf, IsVisited, Reads, Steps, Visits, VisitsAnd, answered, heard}
+use Rattle.zk_follow.specs.Following.{heard_all, outputs_in, due_again, progress_after, read_of, rested_progress, taken, AreReads}
+use Rattle.zk_follow.specs.Following.{AreVisited, Asks, IsAhead, IsCounted, IsFollowed, IsReadOf, IsVisited, Reads, Steps, Visits}
+use Rattle.zk_follow.specs.Following.{VisitsAnd, answered, heard}
 use Rattle.zk_follow.proofs.Waiting.{still_going}
 use Rattle.zk_follow.proofs.Hearing.{all_same_path, all_same_side, all_same_ticket, counted_at}
 use Rattle.zk_follow.proofs.Asking.{others_counted, others_followed, woken_ahead}
@@ -51,33 +55,40 @@ module _ {A : Type 0} (now : ℕ) (view after : View) (asks : Asks view after) w
   stands_on : (subject : Subject A) → StandsAt now view subject → StandsAt now after subject
   stands_on subject stands = (others_followed view after asks now subject stands.0, others_counted view after asks subject stands.1)
 
-  pub more_visited : (subjects : List (Subject A)) (index : ℕ) (visited : Subject A) → index < length subjects → IsFollowed now after visited → IsCounted after visited
+  pub more_visited : (subjects : List (Subject A)) (index : ℕ) (visited : Subject A)
+      → index < length subjects → IsFollowed now after visited → IsCounted after visited
       → AllBefore index (StandsAt now view) subjects → AllBefore (index + 1) (StandsAt now after) (set subjects index visited)
   more_visited subjects index visited within followed counted before k d below = by (k == index) refl
     where
       by : (same : Bool) → (k == index) ≡ same → StandsAt now after (get_or (set subjects index visited) k d)
       by true e =
           let is : k ≡ index = (Decides-eqb k index).0 e in
-          subst (StandsAt now after) (sym (ap (λ n. get_or (set subjects index visited) n d) is ∙ get_or-set_same subjects index visited d within)) (followed, counted)
+          subst (StandsAt now after) (sym
+          (ap (λ n. get_or (set subjects index visited) n d) is ∙ get_or-set_same subjects index visited d within)) (followed, counted)
       by false e =
           let other : k ≢ index = λ same. let t : (k == index) ≡ true = (Decides-eqb k index).1 same in cc in
           let earlier : k < index = omega arith in
-          subst (StandsAt now after) (sym (get_or-set_other subjects index k visited d other)) (stands_on (get_or subjects k d) (before k d earlier))
+          subst (StandsAt now after) (sym (get_or-set_other subjects index k visited d other))
+          (stands_on (get_or subjects k d) (before k d earlier))
 
   -- the subject that is visited next counts as it did, once it has heard the outputs
   pub next_counted : (subjects first : List (Subject A)) (index : ℕ) (element : Subject A) (outputs : List Output) → index < length first
-      → All (λ subject. IsCounted view (heard_all now subject outputs)) first → element ≡ get_or subjects index element → SameFrom index subjects first
+      → All (λ subject. IsCounted view (heard_all now subject outputs)) first → element ≡ get_or subjects index element
+      → SameFrom index subjects first
       → IsCounted after (heard_all now element outputs)
   next_counted subjects first index element outputs within all is same =
       let whole : element ≡ get_or first index element = is ∙ same index element (omega arith) in
       let counted : IsCounted view (heard_all now (get_or first index element) outputs) = all index element within in
-      others_counted view after asks (heard_all now element outputs) (subst (λ subject. IsCounted view (heard_all now subject outputs)) (sym whole) counted)
+      others_counted view after asks (heard_all now element outputs)
+      (subst (λ subject. IsCounted view (heard_all now subject outputs)) (sym whole) counted)
 
 -- ---- a turn
 
-pub all_counted : {A : Type 0} (now moment : ℕ) (view : View) (turn : Turn) (after : View) → RuleAt moment view turn after → (subjects : List (Subject A))
+pub all_counted : {A : Type 0} (now moment : ℕ) (view : View) (turn : Turn) (after : View)
+    → RuleAt moment view turn after → (subjects : List (Subject A))
     → All (IsCounted view) subjects → All (λ subject. IsCounted after (heard_all now subject turn.outputs)) subjects
-all_counted now moment view turn after rule subjects all = λ k d within. counted_at now moment view turn after rule (slice_index_or subjects k d) (all k d within)
+all_counted now moment view turn after rule subjects all =
+    λ k d within. counted_at now moment view turn after rule (slice_index_or subjects k d) (all k d within)
 
 pub going_at : (moment : ℕ) (view : View) (turn : Turn) (after : View) → RuleAt moment view turn after → after.standing.halted ≡ false
 going_at moment view turn after rule = still_going rule.between _ after rule.takes
@@ -85,18 +96,22 @@ going_at moment view turn after rule = still_going rule.between _ after rule.tak
 -- ---- the list of subjects
 
 -- a slice of all of a list is written back
-pub written_back : {X : Type 0} (P : X → Type 0) (count : ℕ) (written rest : List X) → count ≡ length written → All P written → All P (take count (written ++ rest))
-written_back P count written rest size all = subst (All P) (sym (ap (λ n. take n (written ++ rest)) size ∙ take-append_seam written rest)) all
+pub written_back : {X : Type 0} (P : X → Type 0) (count : ℕ) (written rest : List X)
+    → count ≡ length written → All P written → All P (take count (written ++ rest))
+written_back P count written rest size all =
+    subst (All P) (sym (ap (λ n. take n (written ++ rest)) size ∙ take-append_seam written rest)) all
 
 -- a subject that is new is not being read
 pub new_counted : {A : Type 0} (view : View) (subject : Subject A) → subject.progress ≡ Due → IsCounted view subject
 new_counted view subject due going reads = absurd (let e : Due ≡ Reading = sym due ∙ reads in cc)
 
-pub begun_followed : {A : Type 0} (now : ℕ) (view : View) (subjects : List (Subject A)) → view.standing.state ≢ Connected → All (IsFollowed now view) subjects
+pub begun_followed : {A : Type 0} (now : ℕ) (view : View) (subjects : List (Subject A))
+    → view.standing.state ≢ Connected → All (IsFollowed now view) subjects
 begun_followed now view subjects away k d within = inr (inr (inr (inl away)))
 
 pub begun_counted : {A : Type 0} (view : View) (subjects : List (Subject A)) → All (IsCounted view) (map due_again subjects)
-begun_counted view subjects = All-map (IsCounted view) due_again subjects (λ k d within. new_counted view (due_again (get_or subjects k d)) refl)
+begun_counted view subjects =
+    All-map (IsCounted view) due_again subjects (λ k d within. new_counted view (due_again (get_or subjects k d)) refl)
 
 -- a new client is not connected
 pub not_connected : (timeout : ℤ) (before : View) → (view_at (renewed_start timeout before) []).standing.state ≢ Connected
@@ -105,9 +120,11 @@ not_connected timeout before e = let f : Idle ≡ Connected = e in absurd cc
 -- ---- each was visited
 
 abbrev pub VisitedBefore : {A : Type 0} → (count now : ℕ) → List Output → (old new : List (Subject A)) → Type 0
-VisitedBefore {A} count now outputs old new = (k : ℕ) (d : Subject A) → k < count → IsVisited now (taken now outputs (get_or old k d)) (get_or new k d)
+VisitedBefore {A} count now outputs old new =
+    (k : ℕ) (d : Subject A) → k < count → IsVisited now (taken now outputs (get_or old k d)) (get_or new k d)
 
-pub one_more_visited : {A : Type 0} (now : ℕ) (outputs : List Output) (first subjects : List (Subject A)) (index : ℕ) (element new : Subject A) → index < length first → index < length subjects
+pub one_more_visited : {A : Type 0} (now : ℕ) (outputs : List Output) (first subjects : List (Subject A)) (index : ℕ)
+    (element new : Subject A) → index < length first → index < length subjects
     → element ≡ get_or subjects index element → SameFrom index subjects first → IsVisited now (taken now outputs element) new
     → VisitedBefore index now outputs first subjects → VisitedBefore (index + 1) now outputs first (set subjects index new)
 one_more_visited {A} now outputs first subjects index element new within fits is same visited before k d below = by (k == index) refl
@@ -124,7 +141,8 @@ one_more_visited {A} now outputs first subjects index element new within fits is
     by false e =
         let other : k ≢ index = λ equal. let t : (k == index) ≡ true = (Decides-eqb k index).1 equal in cc in
         let earlier : k < index = omega arith in
-        subst (IsVisited now (taken now outputs (get_or first k d))) (sym (get_or-set_other subjects index k new d other)) (before k d earlier)
+        subst (IsVisited now (taken now outputs (get_or first k d)))
+        (sym (get_or-set_other subjects index k new d other)) (before k d earlier)
 
 pub whole_written : {X : Type 0} (count : ℕ) (written rest : List X) → count ≡ length written → take count (written ++ rest) ≡ written
 whole_written count written rest size = ap (λ n. take n (written ++ rest)) size ∙ take-append_seam written rest
@@ -161,7 +179,8 @@ module _ {A : Type 0} (now : ℕ) (fits : now < 2 ^ 64) where
   one_ahead subject (Enters state) ahead = tt
   one_ahead subject _ ahead = ahead
 
-  heard_ahead : (outputs : List Output) (subject : Subject A) → IsAhead now subject.progress → IsAhead now (heard_all now subject outputs).progress
+  heard_ahead : (outputs : List Output) (subject : Subject A)
+      → IsAhead now subject.progress → IsAhead now (heard_all now subject outputs).progress
   heard_ahead [] subject ahead = ahead
   heard_ahead (output ∷ outputs) subject ahead = heard_ahead outputs (heard now subject output) (one_ahead subject output ahead)
 
@@ -173,11 +192,14 @@ module _ {A : Type 0} (now : ℕ) (fits : now < 2 ^ 64) where
         | inl same ↦ subst (λ (s : Subject A). IsAhead now s.progress) (sym same) ahead
         | inr rests ↦ subst (λ (s : Subject A). IsAhead now s.progress) (sym rests) (rested_ahead now subject.progress)
       ]
-      by (inr asked) = subst (λ (s : Subject A). IsAhead now s.progress) (sym asked.4) (heard_ahead asked.0.outputs (record subject { progress = Reading }) tt)
+      by (inr asked) = subst (λ (s : Subject A). IsAhead now s.progress) (sym asked.4)
+          (heard_ahead asked.0.outputs (record subject { progress = Reading }) tt)
 
-  pub all_ahead : (outputs : List Output) (old new : List (Subject A)) → length new ≡ length old → AreVisited now outputs old new → All (λ subject. IsAhead now subject.progress) new
+  pub all_ahead : (outputs : List Output) (old new : List (Subject A))
+      → length new ≡ length old → AreVisited now outputs old new → All (λ subject. IsAhead now subject.progress) new
   all_ahead outputs old new size visited k d within =
-      visited_ahead (taken now outputs (slice_index_or old k d)) (slice_index_or new k d) (woken_ahead now (heard_all now (slice_index_or old k d) outputs).progress)
+      visited_ahead (taken now outputs (slice_index_or old k d)) (slice_index_or new k d)
+      (woken_ahead now (heard_all now (slice_index_or old k d) outputs).progress)
       (visited k d (omega (arith, within, size)))
 
 -- ---- the turns of the calls
@@ -185,11 +207,13 @@ module _ {A : Type 0} (now : ℕ) (fits : now < 2 ^ 64) where
 pub no_reads : {A : Type 0} (subjects : List (Subject A)) (view : View) (given : List Output) → Reads subjects view given view given
 no_reads subjects view given = record { calls = []; chain = refl; reads = tt; said = sym (append-nil given) }
 
-chain_on : (calls more : List Turn) (view between after : View) → FoldsTo Rule view calls between → FoldsTo Rule between more after → FoldsTo Rule view (calls ++ more) after
+chain_on : (calls more : List Turn) (view between after : View)
+    → FoldsTo Rule view calls between → FoldsTo Rule between more after → FoldsTo Rule view (calls ++ more) after
 chain_on [] more view between after same rest = rw same rest
 chain_on (turn ∷ calls) more view between after chain rest = (chain.0, chain.1, chain_on calls more chain.0 between after chain.2 rest)
 
-reads_on : {A : Type 0} (subjects : List (Subject A)) (calls more : List Turn) → AreReads subjects calls → AreReads subjects more → AreReads subjects (calls ++ more)
+reads_on : {A : Type 0} (subjects : List (Subject A)) (calls more : List Turn)
+    → AreReads subjects calls → AreReads subjects more → AreReads subjects (calls ++ more)
 reads_on subjects [] more reads rest = rest
 reads_on subjects (turn ∷ calls) more reads rest = (reads.0, reads_on subjects calls more reads.1 rest)
 
@@ -197,13 +221,16 @@ outputs_on : (calls more : List Turn) → outputs_in (calls ++ more) ≡ outputs
 outputs_on calls more = flat_map-append (λ (turn : Turn). turn.outputs) calls more
 
 -- what is asked by a visit of the subject at this place
-visit_calls : {A : Type 0} (now : ℕ) (subjects : List (Subject A)) (index : ℕ) (element : Subject A) (outputs : List Output) (view : View) (calls : List Turn) (after : View) (new : Subject A)
+visit_calls : {A : Type 0} (now : ℕ) (subjects : List (Subject A)) (index : ℕ) (element : Subject A) (outputs : List Output) (view : View)
+    (calls : List Turn) (after : View) (new : Subject A)
     → index < length subjects → element ≡ get_or subjects index element → Visits now view (taken now outputs element) calls after new
     → FoldsTo Rule view calls after × AreReads subjects calls
 visit_calls {A} now subjects index element outputs view calls after new within is (inl kept) =
     (subst (λ cs. FoldsTo Rule view cs after) (sym kept.1) (sym kept.0), subst (AreReads subjects) (sym kept.1) tt)
-visit_calls {A} now subjects index element outputs view calls after new within is (inr asked) =
-    (subst (λ cs. FoldsTo Rule view cs after) (sym asked.1) (after, asked.3, refl), subst (AreReads subjects) (sym asked.1) ((index, element, it.is_missing, within, read), tt))
+visit_calls {A} now subjects index element outputs view calls after new within is (inr asked) = (
+  subst (λ cs. FoldsTo Rule view cs after) (sym asked.1) (after, asked.3, refl),
+  subst (AreReads subjects) (sym asked.1) ((index, element, it.is_missing, within, read), tt),
+)
   where
     it : Subject A
     it = taken now outputs element
@@ -221,12 +248,15 @@ visit_calls {A} now subjects index element outputs view calls after new within i
     read = (
       asked.2.0,
       asked.2.1 ∙ ap (λ t. Call t asked.2.0) ticket,
-      asked.2.2 ∙ ap (λ s. read_of s it.is_missing it.path) side ∙ ap (λ p. read_of (get_or subjects index element).side it.is_missing p) path,
+      asked.2.2 ∙ ap (λ s. read_of s it.is_missing it.path) side
+          ∙ ap (λ p. read_of (get_or subjects index element).side it.is_missing p) path,
     )
 
-pub more_reads : {A : Type 0} (now : ℕ) (first subjects : List (Subject A)) (index : ℕ) (element : Subject A) (outputs : List Output) (view0 view after : View) (given0 given given_after : List Output)
+pub more_reads : {A : Type 0} (now : ℕ) (first subjects : List (Subject A)) (index : ℕ) (element : Subject A) (outputs : List Output)
+    (view0 view after : View) (given0 given given_after : List Output)
     (new : Subject A) → index < length first → element ≡ get_or subjects index element → SameFrom index subjects first
-    → Reads first view0 given0 view given → VisitsAnd now view given (taken now outputs element) after given_after new → Reads first view0 given0 after given_after
+    → Reads first view0 given0 view given → VisitsAnd now view given (taken now outputs element) after given_after new
+    → Reads first view0 given0 after given_after
 more_reads now first subjects index element outputs view0 view after given0 given given_after new within is same reads visits =
     let whole : element ≡ get_or first index element = is ∙ same index element (omega arith) in
     let asked = visit_calls now first index element outputs view visits.0 after new within whole visits.1 in
@@ -239,14 +269,17 @@ more_reads now first subjects index element outputs view0 view after given0 give
     }
 
 -- a visit, of which the turns are not asked about
-pub is_visited : {A : Type 0} (now : ℕ) (view : View) (given : List Output) (subject : Subject A) (after : View) (given_after : List Output) (new : Subject A)
+pub is_visited : {A : Type 0} (now : ℕ) (view : View) (given : List Output) (subject : Subject A) (after : View)
+    (given_after : List Output) (new : Subject A)
     → VisitsAnd now view given subject after given_after new → IsVisited now subject new
 is_visited now view given subject after given_after new visits = (view, visits.0, after, visits.1)
 
 -- ---- a whole step
 
-pub steps : {A : Type 0} (now : ℕ) (view : View) (input : Input) (outputs : List Output) (between : View) (old : List (Subject A)) (after : View) (made given : List Output) (new : List (Subject A))
-    → RuleAt now view (record { input = input; outputs = outputs }) between → Reads old between [] after made → AreVisited now outputs old new → given ≡ outputs ++ made
+pub steps : {A : Type 0} (now : ℕ) (view : View) (input : Input) (outputs : List Output) (between : View) (old : List (Subject A))
+    (after : View) (made given : List Output) (new : List (Subject A))
+    → RuleAt now view (record { input = input; outputs = outputs }) between → Reads old between [] after made
+    → AreVisited now outputs old new → given ≡ outputs ++ made
     → Steps now view input old after given new
 steps now view input outputs between old after made given new rule reads visited said = record {
   first = rule.first;

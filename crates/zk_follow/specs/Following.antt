@@ -1,5 +1,6 @@
 -- What it is to follow a subject, and what becomes of its reading.
-use Rattle.std.specs.Prelude.{◌≡◌, ◌≢◌, ◌≤◌, ◌<◌, ◌⊎◌, ◌==◌, ◌+◌, ◌-◌, ◌^◌, ◌||◌, ◌&&◌, not, ⊤, min, ℕ, negsuc, Bool, true, false, List, [], ◌∷◌, ◌++◌, fold, Option, Some, None, if◌then◌else◌, nat_le, length, slice_index_or, bytes_eq}
+use Rattle.std.specs.Prelude.{◌≡◌, ◌≢◌, ◌≤◌, ◌<◌, ◌⊎◌, ◌==◌, ◌+◌, ◌-◌, ◌^◌, ◌||◌, ◌&&◌, not, ⊤, min, ℕ, negsuc, Bool, true, false, List, []}
+use Rattle.std.specs.Prelude.{◌∷◌, ◌++◌, fold, Option, Some, None, if◌then◌else◌, nat_le, length, slice_index_or, bytes_eq}
 use Rattle.std.specs.List.{filter, list_any, flat_map, FoldsTo}
 use Rattle.std.specs.Ordering.{int_eq}
 use Rattle.zk_nodes.specs.Path.{Text}
@@ -13,7 +14,8 @@ use Rattle.zk_conversation.specs.Results.{Result, NoNode, Refused as Refused_by}
 use Rattle.zk_cache.specs.declared.held.Kept.{Kept}
 use Rattle.zk_cache.specs.Kept.{Answer, Absent, Known, Full, is_good, is_marked_good}
 use Rattle.zk_session.specs.declared.states.State.TheVariants.{Connected}
-use Rattle.zk_turns.specs.Turns.{Outcome, Replied, TooManyWatches as Too_many_watches, TooLarge as Too_large, SessionClosed as Session_closed, Output, Enters, Input, Now, Turn}
+use Rattle.zk_turns.specs.Turns.{Outcome, Replied, TooManyWatches as Too_many_watches, TooLarge as Too_large}
+use Rattle.zk_turns.specs.Turns.{SessionClosed as Session_closed, Output, Enters, Input, Now, Turn}
 use Rattle.zk_turns.specs.Turns as turns
 use Rattle.zk_turns.specs.View.{View, Cache}
 use Rattle.zk_turns.specs.Rule.{Rule}
@@ -114,7 +116,8 @@ reads side path (Exists at true) = bytes_eq at path
 reads side path _ = false
 
 abbrev pub is_read_by : ℕ → Side → Text → Pending → Bool
-is_read_by ticket side path pending = elim pending.waiting [ Part_waits last ↦ false | Call_waits its question ↦ (ticket == its) && reads side path question ]
+is_read_by ticket side path pending =
+    elim pending.waiting [ Part_waits last ↦ false | Call_waits its question ↦ (ticket == its) && reads side path question ]
 
 -- A refusal is over once its moment has come: the subject is to be read again.
 abbrev pub woken_progress : (now : ℕ) → Progress → Progress
@@ -135,7 +138,8 @@ IsBeingRead view ticket side path = list_any (is_read_by ticket side path) view.
 
 -- Of a client that has not halted: where a subject counts as one that is being read, it is.
 abbrev pub IsCounted : {A : Type 0} → View → Subject A → Type 0
-IsCounted view subject = view.standing.halted ≡ false → subject.progress ≡ Reading → IsBeingRead view subject.ticket subject.side subject.path
+IsCounted view subject =
+    view.standing.halted ≡ false → subject.progress ≡ Reading → IsBeingRead view subject.ticket subject.side subject.path
 
 -- As many calls are on their way as may be, so that a read waits its turn.
 abbrev pub IsFull : View → Type 0
@@ -195,7 +199,8 @@ outputs_in calls = flat_map (λ turn. turn.outputs) calls
 
 -- a visit, and what is said by then
 abbrev pub VisitsAnd : {A : Type 0} → (now : ℕ) → View → List Output → Subject A → View → List Output → Subject A → Type 0
-VisitsAnd now view given subject after given_after new = (calls : List Turn) × Visits now view subject calls after new × (given_after ≡ given ++ outputs_in calls)
+VisitsAnd now view given subject after given_after new =
+    (calls : List Turn) × Visits now view subject calls after new × (given_after ≡ given ++ outputs_in calls)
 
 -- So a subject counts as refused only where an answer said so.
 abbrev pub IsVisited : {A : Type 0} → (now : ℕ) → Subject A → Subject A → Type 0
@@ -210,18 +215,21 @@ AreVisited {A} now outputs old new =
 abbrev pub AreReads : {A : Type 0} → List (Subject A) → List Turn → Type 0
 AreReads subjects [] = ⊤
 AreReads {A} subjects (turn ∷ more) =
-    ((k : ℕ) × (d : Subject A) × (is_missing : Bool) × (k < length subjects) × IsReadOf (slice_index_or subjects k d) is_missing turn) × AreReads subjects more
+    ((k : ℕ) × (d : Subject A) × (is_missing : Bool) × (k < length subjects) × IsReadOf (slice_index_or subjects k d) is_missing turn)
+    × AreReads subjects more
 
 -- Calls that read subjects, one after the other, and no other turn.
-pub record Reads {A : Type 0} (subjects : List (Subject A)) (view : View) (given : List Output) (after : View) (given_after : List Output) : Type 0 where
+pub record Reads {A : Type 0} (subjects : List (Subject A)) (view : View) (given : List Output) (after : View)
+    (given_after : List Output) : Type 0 where
   pub calls : List Turn
   pub chain : FoldsTo Rule view calls after
   pub reads : AreReads subjects calls
   pub said : given_after ≡ given ++ outputs_in calls
 
--- One step. The client takes its input at a moment; each subject hears what it says, and is visited. The turns are one chain from the client
--- before to the client after it: the moment, the input, and the calls that read subjects. What is given is what they said, in order.
-pub record Steps {A : Type 0} (now : ℕ) (view : View) (input : Input) (old : List (Subject A)) (after : View) (given : List Output) (new : List (Subject A)) : Type 0 where
+-- One step. The client takes its input at a moment; each subject hears what it says, and is visited. The turns are one chain from the
+-- client before to the client after it: the moment, the input, and the calls that read subjects. What is given is what they said, in order.
+pub record Steps {A : Type 0} (now : ℕ) (view : View) (input : Input) (old : List (Subject A)) (after : View) (given : List Output)
+    (new : List (Subject A)) : Type 0 where
   pub first : List Output
   pub second : List Output
   pub calls : List Turn
@@ -301,7 +309,8 @@ news_list ticket (Some what) = (ticket, what) ∷ []
 
 abbrev pub news_in : {A : Type 0} → View → List Output → Subject A → List (ℕ × News)
 news_in view outputs subject =
-    news_list subject.ticket (news_about (is_shown view.cache subject.side subject.path) (is_reported subject.path outputs) subject.progress subject.told)
+    news_list subject.ticket
+    (news_about (is_shown view.cache subject.side subject.path) (is_reported subject.path outputs) subject.progress subject.told)
 
 -- each was told of
 abbrev pub told_of : {A : Type 0} → View → Subject A → Subject A

@@ -8,7 +8,8 @@ ghost use Rattle.zk_turns.specs.View.{view_at};
 ghost use Rattle.zk_turns.specs.Rule.{forgotten, Stands};
 ghost use Rattle.zk_client.specs.Clients.{renewed_start, view_of};
 ghost use Rattle.zk_client.specs.Views.{input_view, said};
-ghost use Rattle.zk_follow.specs.Following.{due_again, first_again, first_of, again_at, heard_all, news_in, told_of, unfollowed, AreVisited, IsAhead, IsCounted, IsFollowed, Reads, Steps};
+ghost use Rattle.zk_follow.specs.Following.{due_again, first_again, first_of, again_at, heard_all, news_in, told_of, unfollowed};
+ghost use Rattle.zk_follow.specs.Following.{AreVisited, IsAhead, IsCounted, IsFollowed, Reads, Steps};
 
 use crate::news::{News, tell_all};
 use crate::progress::Progress;
@@ -63,7 +64,8 @@ fn advance<A: Allocator + Copy>(
     ensures followed { OnOk result (All (IsFollowed now (view_of client.new)) subjects.new) }
     ensures counted { OnOk result (All (IsCounted (view_of client.new)) subjects.new) }
     ensures ahead { OnOk result (All (λ subject. IsAhead now subject.progress) subjects.new) }
-    ensures steps { IfOk result (λ outputs. Steps now (view_of client.old) (input_view input) subjects.old (view_of client.new) (said outputs.items) subjects.new) }
+    ensures steps { IfOk result
+        (λ outputs. Steps now (view_of client.old) (input_view input) subjects.old (view_of client.new) (said outputs.items) subjects.new) }
 {
     let Ok(mut outputs) = client.step_at(now, input) else {
         return Err(FollowerStop::Halted);
@@ -170,7 +172,8 @@ impl<A: Allocator + Copy> Follower<A> {
     pub fn step(&mut self, now: u64, input: Input<A>) -> Result<Vec<Output<A>, A>, FollowerStop>
         ensures followed { OnOk result (All (IsFollowed now (view_of self.new.client)) self.new.subjects.items) }
         ensures ahead { OnOk result (All (λ subject. IsAhead now subject.progress) self.new.subjects.items) }
-        ensures steps { IfOk result (λ outputs. Steps now (view_of self.old.client) (input_view input) self.old.subjects.items (view_of self.new.client) (said outputs.items) self.new.subjects.items) }
+        ensures steps { IfOk result (λ outputs. Steps now (view_of self.old.client) (input_view input) self.old.subjects.items
+            (view_of self.new.client) (said outputs.items) self.new.subjects.items) }
         ensures err { OnErr result (self.new.subjects.items ≡ []) }
     {
         let subjects = self.subjects.as_mut_slice();
@@ -187,7 +190,15 @@ impl<A: Allocator + Copy> Follower<A> {
     /// subject that is followed after it.
     pub fn follow(&mut self, ticket: u64, side: Side, path: Path<A>) -> Result<(), AllocError>
         ensures client { self.new.client ≡ self.old.client }
-        ensures subjects { OnOk result (self.new.subjects.items ≡ self.old.subjects.items ++ record { ticket = ticket; side = side; path = path; progress = Progress.Due; is_missing = false; is_there = false; told = None } ∷ []) }
+        ensures subjects { OnOk result (self.new.subjects.items ≡ self.old.subjects.items ++ record {
+          ticket = ticket;
+          side = side;
+          path = path;
+          progress = Progress.Due;
+          is_missing = false;
+          is_there = false;
+          told = None;
+        } ∷ []) }
     {
         match self.subjects.push(Subject::new(ticket, side, path)) {
             Ok(()) => Ok(()),
@@ -206,9 +217,11 @@ impl<A: Allocator + Copy> Follower<A> {
     /// Takes the stale answers out of what the client keeps. What is good stays, so each subject stays followed. It takes no memory.
     pub fn forget_stale(&mut self)
         ensures view { view_of self.new.client ≡ record (view_of self.old.client) { cache = forgotten (view_of self.old.client).cache } }
-        ensures stands { (start : Start) (items : List Item) → Stands start items (view_of self.old.client) → Stands start (Forgets ∷ items) (view_of self.new.client) }
+        ensures stands { (start : Start) (items : List Item) → Stands start items (view_of self.old.client)
+            → Stands start (Forgets ∷ items) (view_of self.new.client) }
         ensures subjects { self.new.subjects ≡ self.old.subjects }
-        ensures followed { (now : ℕ) → All (IsFollowed now (view_of self.old.client)) self.old.subjects.items → All (IsFollowed now (view_of self.new.client)) self.new.subjects.items }
+        ensures followed { (now : ℕ) → All (IsFollowed now (view_of self.old.client)) self.old.subjects.items
+            → All (IsFollowed now (view_of self.new.client)) self.new.subjects.items }
     {
         self.client.forget_stale();
     }
@@ -228,7 +241,8 @@ impl<A: Allocator + Copy> Follower<A> {
         all: &mut Vec<(u64, News), A>,
     ) -> Result<(), AllocError>
         ensures client { self.new.client ≡ self.old.client }
-        ensures news { OnOk result (all.new.items ≡ all.old.items ++ flat_map (news_in (view_of self.old.client) (said outputs.now)) self.old.subjects.items) }
+        ensures news { OnOk result
+            (all.new.items ≡ all.old.items ++ flat_map (news_in (view_of self.old.client) (said outputs.now)) self.old.subjects.items) }
         ensures told { OnOk result (self.new.subjects.items ≡ map (told_of (view_of self.old.client)) self.old.subjects.items) }
         ensures err { OnErr result (self.new.subjects.items ≡ []) }
     {

@@ -18,8 +18,8 @@ const NO_NODE: i32 = -101;
 /// Why a read was refused.
 #[derive(Clone, Copy)]
 pub enum Refusal {
-    /// The server answered with the code of this number. With that of a node that is not there, -101, it contradicts itself: it had said that
-    /// there is one, and has reported nothing of the path since.
+    /// The server answered with the code of this number. With that of a node that is not there, -101, it contradicts itself: it had said
+    /// that there is one, and has reported nothing of the path since.
     Code(i32),
     /// The client watches 65,536 paths of the side.
     TooManyWatches,

@@ -8,7 +8,8 @@ ghost use Rattle.zk_turns.specs.Turns.{Call as Calls, Output as Said};
 ghost use Rattle.zk_turns.specs.Rule.{Rule};
 ghost use Rattle.zk_client.specs.Clients.{view_of};
 ghost use Rattle.zk_client.specs.Views.{output_view, said};
-ghost use Rattle.zk_follow.specs.Following.{heard, heard_all, read_of, rested, taken, due_again, woken, Asks, IsCounted, IsFollowed, IsFull, VisitsAnd};
+ghost use Rattle.zk_follow.specs.Following.{heard, heard_all, read_of, rested, taken, due_again, woken, Asks, IsCounted, IsFollowed};
+ghost use Rattle.zk_follow.specs.Following.{IsFull, VisitsAnd};
 
 use crate::kept::is_shown;
 use crate::news::News;
@@ -41,7 +42,15 @@ fn is_connected<A: Allocator + Copy>(client: &Client<A>) -> bool
 impl<A: Allocator> Subject<A> {
     /// A subject that is to be read. The tickets of its reads are this number.
     pub(crate) fn new(ticket: u64, side: Side, path: Path<A>) -> Subject<A>
-        ensures { result ≡ record { ticket = ticket; side = side; path = path; progress = Progress.Due; is_missing = false; is_there = false; told = None } }
+        ensures { result ≡ record {
+          ticket = ticket;
+          side = side;
+          path = path;
+          progress = Progress.Due;
+          is_missing = false;
+          is_there = false;
+          told = None;
+        } }
     {
         Subject {
             ticket,
@@ -128,8 +137,10 @@ impl<A: Allocator + Copy> Subject<A> {
         ensures counted { OnOk result (IsCounted (view_of client.new) self.new) }
         ensures asks { OnOk result (Asks (view_of client.old) (view_of client.new)) }
         ensures full { IfOk result (λ is_full. is_full ≡ true → IsFull (view_of client.new)) }
-        ensures asked { OnOk result ((outputs : List Said) × Rule (view_of client.old) (record { input = Calls self.old.ticket (call_view call); outputs = outputs }) (view_of client.new)
-            × (self.new ≡ heard_all now (record self.old { progress = Progress.Reading }) outputs) × (said made.new.items ≡ said made.old.items ++ outputs)) }
+        ensures asked { OnOk result ((outputs : List Said)
+            × Rule (view_of client.old) (record { input = Calls self.old.ticket (call_view call); outputs = outputs }) (view_of client.new)
+            × (self.new ≡ heard_all now (record self.old { progress = Progress.Reading }) outputs)
+            × (said made.new.items ≡ said made.old.items ++ outputs)) }
     {
         self.progress = Progress::Reading;
         let Ok(mut outputs) = client.step(Input::Call(self.ticket, call)) else {
@@ -161,8 +172,8 @@ impl<A: Allocator + Copy> Subject<A> {
         }
     }
 
-    /// Takes what the client has said at this moment, and reads the subject where it is to be read and fewer calls wait than may. The answer
-    /// is whether as many calls wait for their replies as may.
+    /// Takes what the client has said at this moment, and reads the subject where it is to be read and fewer calls wait than may. The
+    /// answer is whether as many calls wait for their replies as may.
     pub(crate) fn visit(
         &mut self,
         alloc: A,
@@ -179,7 +190,8 @@ impl<A: Allocator + Copy> Subject<A> {
         ensures counted { OnOk result (IsCounted (view_of client.new) self.new) }
         ensures asks { OnOk result (Asks (view_of client.old) (view_of client.new)) }
         ensures full { IfOk result (λ is_full. is_full ≡ true → IsFull (view_of client.new)) }
-        ensures visits { OnOk result (VisitsAnd now (view_of client.old) (said made.old.items) (taken now (said outputs.now) self.old) (view_of client.new) (said made.new.items) self.new) }
+        ensures visits { OnOk result (VisitsAnd now (view_of client.old) (said made.old.items) (taken now (said outputs.now) self.old)
+            (view_of client.new) (said made.new.items) self.new) }
     {
         self.pass_moment(now, outputs);
         if is_shown(client, self.side, &self.path) {

@@ -1,5 +1,6 @@
 -- How many calls, the first of them, were handed over.
-use Rattle.std.proofs.Common.{◌≡◌, ◌<◌, ◌≤◌, ◌+◌, ◌++◌, ◌≢◌, nat_lt, ℕ, Bool, true, false, List, [], ◌∷◌, length, get_or, set, refl, ap, ◌∙◌, arith}
+use Rattle.std.proofs.Common.{◌≡◌, ◌<◌, ◌≤◌, ◌+◌, ◌++◌, ◌≢◌, nat_lt, ℕ, Bool, true, false, List, [], ◌∷◌, length, get_or, set, refl, ap}
+use Rattle.std.proofs.Common.{◌∙◌, arith}
 use Rattle.std.proofs.Math.ListN.{length-set}
 use Rattle.std.proofs.lemmas.Bool.Decides.{nat_tests}
 use Rattle.std.proofs.lemmas.Grind.{common_steps}
@@ -20,8 +21,10 @@ module _ {A : Type 0} (entries : List (Entry A)) where
       )
 
   -- the next one is handed over
-  one_handed : (place : ℕ) (entry : Entry A) → place < length entries → ((k : ℕ) (d : Entry A) → k < place → waits_turn (get_or entries k d) ≡ false) → waits_turn entry ≡ false
-      → (k : ℕ) (d : Entry A) (less : Bool) → nat_lt k place ≡ less → k < place + 1 → waits_turn (get_or (set entries place entry) k d) ≡ false
+  one_handed : (place : ℕ) (entry : Entry A)
+      → place < length entries → ((k : ℕ) (d : Entry A) → k < place → waits_turn (get_or entries k d) ≡ false) → waits_turn entry ≡ false
+      → (k : ℕ) (d : Entry A) (less : Bool) → nat_lt k place ≡ less → k < place + 1
+      → waits_turn (get_or (set entries place entry) k d) ≡ false
   one_handed place entry below none its k d true sooner upto =
       let less : k < place = grind (arith, nat_tests) in
       let other : k ≢ place = omega arith in
@@ -30,7 +33,8 @@ module _ {A : Type 0} (entries : List (Entry A)) where
       let at : k ≡ place = grind (arith, nat_tests) in
       ap (λ n. waits_turn (get_or (set entries place entry) n d)) at ∙ ap waits_turn (get_or-set_same entries place entry d below) ∙ its
 
-  pub handed_next : (place : ℕ) (entry : Entry A) → place < length entries → ((k : ℕ) (d : Entry A) → k < place → waits_turn (get_or entries k d) ≡ false) → waits_turn entry ≡ false
+  pub handed_next : (place : ℕ) (entry : Entry A)
+      → place < length entries → ((k : ℕ) (d : Entry A) → k < place → waits_turn (get_or entries k d) ≡ false) → waits_turn entry ≡ false
       → AreHanded (place + 1) (set entries place entry)
   handed_next place entry below none its =
       let within : place + 1 ≤ length (set entries place entry) = simp length-set (omega arith) in

@@ -1,5 +1,6 @@
 -- What becomes of the calls that wait in a line.
-use Rattle.std.specs.Prelude.{◌&&◌, ◌==◌, not, min, nat_le, ℕ, Bool, true, false, List, [], ◌∷◌, ◌++◌, fold, Option, Some, None, if◌then◌else◌}
+use Rattle.std.specs.Prelude.{◌&&◌, ◌==◌, not, min, nat_le, ℕ, Bool, true, false, List, [], ◌∷◌, ◌++◌, fold, Option, Some, None}
+use Rattle.std.specs.Prelude.{if◌then◌else◌}
 use Rattle.std.specs.List.{filter}
 use Rattle.std.specs.Option.{option_map}
 use Rattle.zk_conversation.specs.Calls.{Call, Exists, GetData, GetChildren}

@@ -22,7 +22,8 @@ pub struct Entry<A: Allocator = Global> {
 pub enum Ending {
     /// Those that were handed over: the connection is another one.
     Lost,
-    /// Those of this ticket that were handed over: another call of the ticket was answered. There are none where no two calls have one ticket.
+    /// Those of this ticket that were handed over: another call of the ticket was answered. There are none where no two calls have one
+    /// ticket.
     LostOf(u64),
     /// Those whose limit has come at this moment.
     Late(u64),

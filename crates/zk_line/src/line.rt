@@ -18,8 +18,8 @@ use std::collections::VecDeque;
 use zk_client::{Call, Outcome};
 
 /// The calls of a program that wait, in the order of asking. No two of them are to have one ticket: where two have, an answer goes to the
-/// first that was handed over, and the others are lost. An answer is found by a search where the tickets rise in the order of asking, and the
-/// first limit is that of the first call where the limits rise; where they don't, each call is looked at.
+/// first that was handed over, and the others are lost. An answer is found by a search where the tickets rise in the order of asking, and
+/// the first limit is that of the first call where the limits rise; where they don't, each call is looked at.
 #[derive(Drop)]
 pub struct Line<A: Allocator + Copy = Global> {
     alloc: A,
@@ -52,7 +52,8 @@ impl<A: Allocator + Copy> Line<A> {
     /// A call is asked. It waits for its turn after those that were asked before, and to this moment at most, where there is one. An error
     /// means that memory ran out, and nothing has changed then.
     pub fn ask(&mut self, ticket: u64, call: Call<A>, until: Option<u64>) -> Result<(), AllocError>
-        ensures entries { OnOk result (self.new.entries.items ≡ self.old.entries.items ++ record { ticket = ticket; call = call; until = until; is_sent = false } ∷ []) }
+        ensures entries { OnOk result (self.new.entries.items
+            ≡ self.old.entries.items ++ record { ticket = ticket; call = call; until = until; is_sent = false } ∷ []) }
         ensures same { OnErr result (self.new.entries.items ≡ self.old.entries.items) }
     {
         let is_sent = false;
@@ -106,8 +107,8 @@ impl<A: Allocator + Copy> Line<A> {
         self.handed = self.entries.len();
     }
 
-    /// The call whose turn it is: the first of those that wait for theirs, and none where none does. It counts as handed over, and a copy of
-    /// it is given. An error means that memory ran out, and nothing has changed then.
+    /// The call whose turn it is: the first of those that wait for theirs, and none where none does. It counts as handed over, and a copy
+    /// of it is given. An error means that memory ran out, and nothing has changed then.
     pub fn next(&mut self) -> Result<Option<(u64, Call<A>)>, AllocError>
         ensures next { IfOk result (λ next. option_map (λ it. (it.0, call_view it.1)) next ≡ next_call self.old.entries.items) }
         ensures entries { OnOk result (self.new.entries.items ≡ first_handed self.old.entries.items) }
@@ -122,11 +123,12 @@ impl<A: Allocator + Copy> Line<A> {
         Ok(Some(next))
     }
 
-    /// The client answers a call of this ticket: the first of those that were handed over. What its asker is to be told: nothing where there
-    /// is no such call, and where the call waits for its turn again.
+    /// The client answers a call of this ticket: the first of those that were handed over. What its asker is to be told: nothing where
+    /// there is no such call, and where the call waits for its turn again.
     pub fn answer(&mut self, ticket: u64, outcome: Outcome<A>) -> Option<Outcome<A>>
         ensures entries { self.new.entries.items ≡ answered ticket (outcome_view outcome) self.old.entries.items }
-        ensures told { option_map outcome_view result ≡ (if settles ticket (outcome_view outcome) self.old.entries.items then Some (outcome_view outcome) else None) }
+        ensures told { option_map outcome_view result
+            ≡ (if settles ticket (outcome_view outcome) self.old.entries.items then Some (outcome_view outcome) else None) }
     {
         let place = place_of(&self.entries, self.tickets_rise, ticket);
         match place {

@@ -54,7 +54,8 @@ pub(crate) fn settle<A: Allocator>(
     requires place { position (is_ended (Ending.LostOf ticket)) entries.old.items ≡ Some place }
     requires handed { AreHanded handed.old entries.old.items }
     ensures entries { entries.new.items ≡ answered ticket (outcome_view outcome) entries.old.items }
-    ensures told { option_map outcome_view result ≡ (if settles ticket (outcome_view outcome) entries.old.items then Some (outcome_view outcome) else None) }
+    ensures told { option_map outcome_view result
+        ≡ (if settles ticket (outcome_view outcome) entries.old.items then Some (outcome_view outcome) else None) }
     ensures handed { AreHanded handed.new entries.new.items }
 {
     if goes_back(&entries[place].call, &outcome) {

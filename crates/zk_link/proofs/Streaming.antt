@@ -1,5 +1,6 @@
 -- What reads and writes of a stream do to the bytes that it knows, one after the other.
-use Rattle.std.proofs.Common.{◌≡◌, ◌++◌, ◌∙◌, ◌≤◌, ℕ, List, [], ap, append-nil, append_assoc, refl, sym, subst, take, drop, length, take-append-drop, Option, Some, None}
+use Rattle.std.proofs.Common.{◌≡◌, ◌++◌, ◌∙◌, ◌≤◌, ℕ, List, [], ap, append-nil, append_assoc, refl, sym, subst, take, drop, length}
+use Rattle.std.proofs.Common.{take-append-drop, Option, Some, None}
 use Rattle.std.specs.Prelude.{Result, Ok, Err, IfOk}
 use Rattle.std.specs.Io.KnownBytes.{Appends, Consumes, Keeps}
 use Rattle.std.proofs.Math.Seq.{drop-append_seam}
@@ -46,11 +47,15 @@ sends_none unsent known = ([], refl, appends_none known)
 
 -- some was written, and some after it
 pub sends_on : (unsent mid rest : List ℕ) (a b c : Option (List ℕ)) → Sends unsent mid a b → Sends mid rest b c → Sends unsent rest a c
-sends_on unsent mid rest a b c first more =
-    (first.0 ++ more.0, first.1 ∙ ap (λ l. first.0 ++ l) more.1 ∙ sym (append_assoc first.0 more.0 rest), appends_on a b c first.0 more.0 first.2 more.2)
+sends_on unsent mid rest a b c first more = (
+  first.0 ++ more.0,
+  first.1 ∙ ap (λ l. first.0 ++ l) more.1 ∙ sym (append_assoc first.0 more.0 rest),
+  appends_on a b c first.0 more.0 first.2 more.2,
+)
 
 -- nothing was read after it
-pub exchanges_none : (unsent rest : List ℕ) (old new : Known) → Sends unsent rest old.took new.took → Keeps old.left new.left → Exchanges unsent rest old new []
+pub exchanges_none : (unsent rest : List ℕ) (old new : Known)
+    → Sends unsent rest old.took new.took → Keeps old.left new.left → Exchanges unsent rest old new []
 exchanges_none unsent rest old new sends keeps = record { sends = sends; gives = consumes_none old.left new.left keeps }
 
 -- what a stream kept before it was read
@@ -64,7 +69,8 @@ left_of unsent rest a b sends =
     (length sends.0, sym (ap (drop (length sends.0)) sends.1 ∙ drop-append_seam sends.0 rest))
 
 -- the first bytes of a piece of what is unsent were written
-pub sends_front : (count piece : ℕ) (unsent : List ℕ) (a b : Option (List ℕ)) → count ≤ length (take piece unsent) → Appends a b (take count (take piece unsent))
+pub sends_front : (count piece : ℕ) (unsent : List ℕ) (a b : Option (List ℕ)) → count ≤ length (take piece unsent)
+    → Appends a b (take count (take piece unsent))
     → Sends unsent (drop count unsent) a b
 sends_front count piece unsent a b most takes =
     let front : take count (take piece unsent) ≡ take count unsent =
@@ -76,7 +82,8 @@ pub sends_no_more : (unsent rest : List ℕ) (a b c : Option (List ℕ)) → Sen
 sends_no_more unsent rest a b c sends takes = sends_on unsent rest rest a b c sends ([], refl, takes)
 
 -- some was written, and then a read was made
-pub exchanged : {X E : Type 0} (result : Result X E) (piece : X → List ℕ) (unsent rest : List ℕ) (old wrote new : Known) → Sends unsent rest old.took wrote.took
+pub exchanged : {X E : Type 0} (result : Result X E) (piece : X → List ℕ) (unsent rest : List ℕ) (old wrote new : Known)
+    → Sends unsent rest old.took wrote.took
     → Keeps old.left wrote.left → Keeps wrote.took new.took
     → IfOk result (λ brought. Consumes wrote.left new.left (piece brought))
     → IfOk result (λ brought. Exchanges unsent rest old new (piece brought))
@@ -104,16 +111,20 @@ keeps_consumed (Some x) None consumes = absurd consumes
 keeps_consumed (Some x) (Some y) consumes = sym consumes
 
 -- an exchange that brought nothing, and one after it
-pub exchanges_on : (unsent mid rest : List ℕ) (old between new : Known) (piece : List ℕ) → Exchanges unsent mid old between [] → Exchanges mid rest between new piece
+pub exchanges_on : (unsent mid rest : List ℕ) (old between new : Known) (piece : List ℕ)
+    → Exchanges unsent mid old between [] → Exchanges mid rest between new piece
     → Exchanges unsent rest old new piece
 exchanges_on unsent mid rest old between new piece first more = record {
   sends = sends_on unsent mid rest old.took between.took new.took first.sends more.sends;
   gives = consumes_on old.left between.left new.left piece first.gives more.gives;
 }
 
-pub ok_exchanges_on : {X E : Type 0} (result : Result X E) (piece : X → List ℕ) (unsent mid rest : List ℕ) (old between new : Known) → Exchanges unsent mid old between []
-    → IfOk result (λ brought. Exchanges mid rest between new (piece brought)) → IfOk result (λ brought. Exchanges unsent rest old new (piece brought))
-ok_exchanges_on (Ok brought) piece unsent mid rest old between new first more = exchanges_on unsent mid rest old between new (piece brought) first more
+pub ok_exchanges_on : {X E : Type 0} (result : Result X E) (piece : X → List ℕ) (unsent mid rest : List ℕ) (old between new : Known)
+    → Exchanges unsent mid old between []
+    → IfOk result (λ brought. Exchanges mid rest between new (piece brought))
+    → IfOk result (λ brought. Exchanges unsent rest old new (piece brought))
+ok_exchanges_on (Ok brought) piece unsent mid rest old between new first more =
+    exchanges_on unsent mid rest old between new (piece brought) first more
 ok_exchanges_on (Err e) piece unsent mid rest old between new first more = tt
 
 pub exchanges_same : (unsent : List ℕ) (known : Known) → Exchanges unsent unsent known known []

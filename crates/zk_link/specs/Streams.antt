@@ -16,7 +16,8 @@ known_of remaining contents (Some stream) = record { left = remaining stream; to
 abbrev pub Sends : (unsent rest : List ℕ) → (before after : Option (List ℕ)) → Type 0
 Sends unsent rest before after = (written : List ℕ) × (unsent ≡ written ++ rest) × Appends before after written
 
--- Some of what is unsent is written, and these bytes are read: the first ones that the stream had to give. Each leaves what the other changes.
+-- Some of what is unsent is written, and these bytes are read: the first ones that the stream had to give. Each leaves what the other
+-- changes.
 pub record Exchanges (unsent rest : List ℕ) (old new : Known) (piece : List ℕ) : Type 0 where
   pub sends : Sends unsent rest old.took new.took
   pub gives : Consumes old.left new.left piece

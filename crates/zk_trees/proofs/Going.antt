@@ -1,5 +1,6 @@
 -- Which tickets are those of what is gone, one subject after another.
-use Rattle.std.proofs.Common.{◌≡◌, ◌<◌, ◌+◌, ◌++◌, ◌∙◌, ℕ, Bool, true, false, List, [], ◌∷◌, length, get_or, drop, refl, sym, ap, append_assoc, arith}
+use Rattle.std.proofs.Common.{◌≡◌, ◌<◌, ◌+◌, ◌++◌, ◌∙◌, ℕ, Bool, true, false, List, [], ◌∷◌, length, get_or, drop, refl, sym, ap}
+use Rattle.std.proofs.Common.{append_assoc, arith}
 use Rattle.std.specs.Prelude.{cond}
 use Rattle.std.proofs.lemmas.List.{drop_more}
 use Rattle.zk_turns.specs.View.{View}
@@ -11,7 +12,8 @@ first_of : {A N : Type 0} (view : View) (one : Member A N) (rest : List (Member 
 first_of view one rest true is = grind (arith, is)
 first_of view one rest false is = grind (arith, is)
 
-module _ {A N : Type 0} (view : View) (members : List (Member A N)) (index : ℕ) (one : Member A N) (within : index < length members) (at : one ≡ get_or members index one) where
+module _ {A N : Type 0} (view : View) (members : List (Member A N)) (index : ℕ) (one : Member A N) (within : index < length members)
+    (at : one ≡ get_or members index one) where
   split : drop index members ≡ one ∷ drop (index + 1) members
   split = drop_more members index one within ∙ ap (λ w. w ∷ drop (index + 1) members) (sym at)
 

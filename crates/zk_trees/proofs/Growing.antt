@@ -6,10 +6,12 @@ use Rattle.std.specs.List.{FoldsTo}
 
 module _ {P X Y : Type 0} (R : P → Y → P → Type 0) (f : X → Y) (xs : List X) (index : ℕ) (x : X) (p q u : P) where
   -- one more, by what it is mapped to
-  pub mapped_next : index < length xs → x ≡ get_or xs index x → FoldsTo R p (map f (take index xs)) q → R q (f x) u → FoldsTo R p (map f (take (index + 1) xs)) u
+  pub mapped_next : index < length xs → x ≡ get_or xs index x → FoldsTo R p (map f (take index xs)) q → R q (f x) u
+      → FoldsTo R p (map f (take (index + 1) xs)) u
   mapped_next within is before next =
       subst (λ (l : List Y). FoldsTo R p l u)
-      (sym (ap (λ l. map f l) (take_more xs index x within) ∙ map-append f (take index xs) (get_or xs index x ∷ []) ∙ ap (λ y. map f (take index xs) ++ f y ∷ []) (sym is)))
+      (sym (ap (λ l. map f l) (take_more xs index x within) ∙ map-append f (take index xs) (get_or xs index x ∷ [])
+      ∙ ap (λ y. map f (take index xs) ++ f y ∷ []) (sym is)))
       (FoldsTo-push R p (map f (take index xs)) q (f x) u before next)
 
 module _ {P X : Type 0} (R : P → X → P → Type 0) (xs : List X) (index : ℕ) (x : X) (p q u : P) where

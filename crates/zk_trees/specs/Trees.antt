@@ -62,17 +62,19 @@ pub record Wants : Type 0 where
 abbrev pub wants_of : {A : Type 0} → Wanted A → Wants
 wants_of wanted = record { aims = aims_of wanted.subjects.items; is_bounded = wanted.is_bounded }
 
--- Of a tree of no more nodes than the most all is wanted that good names lead to from the root on, and that lacks something: the data of these
--- paths, and the names below those. Of one that has more, or a name that makes no path, nothing is.
+-- Of a tree of no more nodes than the most all is wanted that good names lead to from the root on, and that lacks something: the data of
+-- these paths, and the names below those. Of one that has more, or a name that makes no path, nothing is.
 pub data IsWanted (view : View) (most : ℕ) (root : Text) (old new : Wants) : Type 0 where
-  all : (nodes names : List Text) → HasNoMoreNodes view.cache root most → AreLacking view.cache root (lacks_data view.cache) nodes → AreLacking view.cache root (lacks_names view.cache) names
+  all : (nodes names : List Text) → HasNoMoreNodes view.cache root most → AreLacking view.cache root (lacks_data view.cache) nodes
+      → AreLacking view.cache root (lacks_names view.cache) names
       → new ≡ record old { aims = old.aims ++ (aims_at Data nodes ++ aims_at Child names) } → IsWanted view most root old new
   many : HasMoreNodes view.cache root most → new ≡ record old { is_bounded = true } → IsWanted view most root old new
   faulty : HasNoPath view.cache root → new ≡ old → IsWanted view most root old new
 
 -- The same of each tree, one after the other.
 abbrev pub AreWanted : View → (most : ℕ) → (roots : List Text) → Wants → Type 0
-AreWanted view most roots wants = FoldsTo (λ old root new. IsWanted view most root old new) (record { aims = []; is_bounded = false }) roots wants
+AreWanted view most roots wants =
+    FoldsTo (λ old root new. IsWanted view most root old new) (record { aims = []; is_bounded = false }) roots wants
 
 -- what is not taken on: what is a member already, and a node of which it is kept and good that there is none
 abbrev pub is_settled : {A N : Type 0} → View → Side × Text → List (Member A N) → Bool

@@ -52,7 +52,8 @@ fn add_lacking<A: Allocator + Copy>(
     subjects: &mut Vec<Subject<A>, A>,
     lacking: &Lacking<A>,
 ) -> Result<(), AllocError>
-    ensures { OnOk result (aims_of subjects.new.items ≡ aims_of subjects.old.items ++ (aims_at Side.Data lacking.now.data.items ++ aims_at Side.Child lacking.now.names.items)) }
+    ensures { OnOk result (aims_of subjects.new.items
+        ≡ aims_of subjects.old.items ++ (aims_at Side.Data lacking.now.data.items ++ aims_at Side.Child lacking.now.names.items)) }
 {
     add_each(alloc, subjects, Side::Data, lacking.data.as_slice())?;
     add_each(alloc, subjects, Side::Child, lacking.names.as_slice())

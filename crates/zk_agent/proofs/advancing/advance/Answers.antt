@@ -5,5 +5,6 @@ use Rattle.zk_agent.proofs.advancing.advance.Goals as goal
 
 pub returns-clause-followed : goal.returns-clause-followed
 returns-clause-followed g c =
-    followed_told c.args.now (view_of c.step.new.self.client) (view_of c.report.new.follower.client) c.step.new.self.subjects.items c.report.new.follower.subjects.items
+    followed_told c.args.now (view_of c.step.new.self.client)
+    (view_of c.report.new.follower.client) c.step.new.self.subjects.items c.report.new.follower.subjects.items
     (ap view_of c.report.ensures.client) c.in_ok-report.ensures.subjects c.in_ok-outputs.ensures.followed

@@ -6,9 +6,11 @@ use Rattle.zk_agent.proofs.Saying.{on_ok}
 use Rattle.zk_agent.proofs.calls.close_calls.Goals as goal
 
 pub returns-clause-line : goal.returns-clause-line
-returns-clause-line g c = on_ok _ _ c.push_closed.result (λ told. c.in_ok-all.ensures.entries ∙ none_at_expiry c.args.line.now.entries.items) c.push_closed.ensures
+returns-clause-line g c = on_ok _ _ c.push_closed.result
+    (λ told. c.in_ok-all.ensures.entries ∙ none_at_expiry c.args.line.now.entries.items) c.push_closed.ensures
 
 pub returns-clause-told : goal.returns-clause-told
 returns-clause-told g c =
     on_ok _ _ c.push_closed.result (λ told. told ∙ ap (λ all. told_by c.args.actions.now.items ++ map closed_told all)
-    (c.as_slice.ensures.value ∙ c.in_ok-all.ensures.told ∙ ap (map ended_of) (all_at_expiry c.args.line.now.entries.items))) c.push_closed.ensures
+    (c.as_slice.ensures.value ∙ c.in_ok-all.ensures.told ∙ ap (map ended_of) (all_at_expiry c.args.line.now.entries.items)))
+    c.push_closed.ensures

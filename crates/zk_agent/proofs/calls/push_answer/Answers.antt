@@ -15,5 +15,6 @@ says_it ticket outcome said false is = cc
 pub returns-in-Some-clause-told : goal.returns-in-Some-clause-told
 returns-in-Some-clause-told g c =
     on_ok _ _ c.push.result (λ told. told ∙ ap (λ more. told_by c.args.actions.now.items ++ more)
-    (says_it c.args.ticket (outcome_view c.args.outcome) (outcome_view c.in-Some.outcome) (settles c.args.ticket (outcome_view c.args.outcome) c.args.line.now.entries.items) c.in-Some.ensures.told))
+    (says_it c.args.ticket (outcome_view c.args.outcome) (outcome_view c.in-Some.outcome)
+    (settles c.args.ticket (outcome_view c.args.outcome) c.args.line.now.entries.items) c.in-Some.ensures.told))
     c.push.ensures

@@ -10,7 +10,10 @@ loop-output-preserved g c =
     let left = said c.loop-output.left.items in
     let is = ap said c.in-Some.ensures.items in
     record {
-      told = told_more line c.push_output.new.line.entries.items (told_by c.loop-output.actions.items) (told_by c.push_output.new.actions.items) _ (output_view c.in-Some.output)
-          (said c.pop_front.new.self.items) left is c.in_ok-push_output.ensures.line c.in_ok-push_output.ensures.told c.loop-output.invariant.told;
-      line = heard_more line c.push_output.new.line.entries.items _ (output_view c.in-Some.output) (said c.pop_front.new.self.items) left is c.in_ok-push_output.ensures.line c.loop-output.invariant.line;
+      told = told_more line c.push_output.new.line.entries.items (told_by c.loop-output.actions.items)
+          (told_by c.push_output.new.actions.items) _ (output_view c.in-Some.output)
+          (said c.pop_front.new.self.items) left is c.in_ok-push_output.ensures.line c.in_ok-push_output.ensures.told
+          c.loop-output.invariant.told;
+      line = heard_more line c.push_output.new.line.entries.items _ (output_view c.in-Some.output)
+          (said c.pop_front.new.self.items) left is c.in_ok-push_output.ensures.line c.loop-output.invariant.line;
     }

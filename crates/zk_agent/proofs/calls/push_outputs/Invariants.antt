@@ -7,7 +7,8 @@ use Rattle.zk_agent.proofs.calls.push_outputs.Given as goal
 -- what was told, and what is left to be told, is all of it, and the line will have heard all
 abbrev pub invariant-loop-output : goal.invariant-loop-output
 invariant-loop-output g l = record {
-  told : told_by l.actions.items ++ tells_all l.line.entries.items (said l.left.items) ≡ told_by l.fn.actions.items ++ tells_all l.fn.line.entries.items (said l.fn.outputs.items);
+  told : told_by l.actions.items ++ tells_all l.line.entries.items (said l.left.items)
+      ≡ told_by l.fn.actions.items ++ tells_all l.fn.line.entries.items (said l.fn.outputs.items);
   line : hears_all l.line.entries.items (said l.left.items) ≡ hears_all l.fn.line.entries.items (said l.fn.outputs.items);
 }
 

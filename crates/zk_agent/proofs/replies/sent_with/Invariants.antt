@@ -5,4 +5,5 @@ use Rattle.zk_agent.proofs.replies.sent_with.Given as goal
 
 -- those so far were noted
 abbrev pub invariant-loop-output : goal.invariant-loop-output
-invariant-loop-output g l = l.sent ≡ fold (λ sent output. sent_by sent (output_view output)) (none_sent false) (take l.output-index l.outputs)
+invariant-loop-output g l =
+    l.sent ≡ fold (λ sent output. sent_by sent (output_view output)) (none_sent false) (take l.output-index l.outputs)

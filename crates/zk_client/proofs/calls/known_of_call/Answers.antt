@@ -18,19 +18,34 @@ mode_is_small PersistentSequential = omega arith
 mode_is_small EphemeralSequential = omega arith
 
 pub returns-in-Exists-clause-typed : goal.returns-in-Exists-clause-typed
-returns-in-Exists-clause-typed g c = let text = is_utf8-from_IsUtf8 _ (rw c.as_str.ensures.text at c.as_str.utf8) in subst (λ asked. IsTyped (call_view asked)) (sym c.in-Exists.is) text
+returns-in-Exists-clause-typed g c = let text = is_utf8-from_IsUtf8 _ (rw c.as_str.ensures.text at c.as_str.utf8) in
+    subst (λ asked. IsTyped (call_view asked)) (sym c.in-Exists.is) text
 
 pub returns-in-GetData-clause-typed : goal.returns-in-GetData-clause-typed
-returns-in-GetData-clause-typed g c = let text = is_utf8-from_IsUtf8 _ (rw c.as_str-in-GetData.ensures.text at c.as_str-in-GetData.utf8) in subst (λ asked. IsTyped (call_view asked)) (sym c.in-GetData.is) text
+returns-in-GetData-clause-typed g c = let text = is_utf8-from_IsUtf8 _ (rw c.as_str-in-GetData.ensures.text at c.as_str-in-GetData.utf8) in
+    subst (λ asked. IsTyped (call_view asked)) (sym c.in-GetData.is) text
 
 pub returns-in-GetChildren-clause-typed : goal.returns-in-GetChildren-clause-typed
-returns-in-GetChildren-clause-typed g c = let text = is_utf8-from_IsUtf8 _ (rw c.as_str-in-GetChildren.ensures.text at c.as_str-in-GetChildren.utf8) in subst (λ asked. IsTyped (call_view asked)) (sym c.in-GetChildren.is) text
+returns-in-GetChildren-clause-typed g c = let text =
+    is_utf8-from_IsUtf8 _ (rw c.as_str-in-GetChildren.ensures.text at c.as_str-in-GetChildren.utf8) in
+    subst (λ asked. IsTyped (call_view asked)) (sym c.in-GetChildren.is) text
 
 pub returns-in-SetData-clause-typed : goal.returns-in-SetData-clause-typed
-returns-in-SetData-clause-typed g c = let text = is_utf8-from_IsUtf8 _ (rw c.as_str-in-SetData.ensures.text at c.as_str-in-SetData.utf8) in subst (λ asked. IsTyped (call_view asked)) (sym c.in-SetData.is) (text, (let v : to_z w32 (of_z w32 c.in-SetData.version) ≡ c.in-SetData.version = omega (arith, ints) in rw v at c.known_of_version.ensures.range))
+returns-in-SetData-clause-typed g c = let text = is_utf8-from_IsUtf8 _ (rw c.as_str-in-SetData.ensures.text at c.as_str-in-SetData.utf8) in
+    subst (λ asked. IsTyped (call_view asked)) (sym c.in-SetData.is) (
+      text,
+      (let v : to_z w32 (of_z w32 c.in-SetData.version)
+          ≡ c.in-SetData.version = omega (arith, ints) in rw v at c.known_of_version.ensures.range),
+    )
 
 pub returns-in-Create-clause-typed : goal.returns-in-Create-clause-typed
-returns-in-Create-clause-typed g c = let text = is_utf8-from_IsUtf8 _ (rw c.as_str-in-Create.ensures.text at c.as_str-in-Create.utf8) in subst (λ asked. IsTyped (call_view asked)) (sym c.in-Create.is) (text, mode_is_small c.in-Create.mode)
+returns-in-Create-clause-typed g c = let text = is_utf8-from_IsUtf8 _ (rw c.as_str-in-Create.ensures.text at c.as_str-in-Create.utf8) in
+    subst (λ asked. IsTyped (call_view asked)) (sym c.in-Create.is) (text, mode_is_small c.in-Create.mode)
 
 pub returns-in-Delete-clause-typed : goal.returns-in-Delete-clause-typed
-returns-in-Delete-clause-typed g c = let text = is_utf8-from_IsUtf8 _ (rw c.as_str-in-Delete.ensures.text at c.as_str-in-Delete.utf8) in subst (λ asked. IsTyped (call_view asked)) (sym c.in-Delete.is) (text, (let v : to_z w32 (of_z w32 c.in-Delete.version) ≡ c.in-Delete.version = omega (arith, ints) in rw v at c.known_of_version-in-Delete.ensures.range))
+returns-in-Delete-clause-typed g c = let text = is_utf8-from_IsUtf8 _ (rw c.as_str-in-Delete.ensures.text at c.as_str-in-Delete.utf8) in
+    subst (λ asked. IsTyped (call_view asked)) (sym c.in-Delete.is) (
+      text,
+      (let v : to_z w32 (of_z w32 c.in-Delete.version)
+          ≡ c.in-Delete.version = omega (arith, ints) in rw v at c.known_of_version-in-Delete.ensures.range),
+    )

@@ -5,4 +5,5 @@ use Rattle.zk_jute.specs.Lenient.{or_empty}
 use Rattle.zk_client.proofs.copies.copied_names.Given as goal
 
 abbrev pub invariant-loop-name : goal.invariant-loop-name
-invariant-loop-name g l = map string_bytes l.copies.items ≡ map (λ name. or_empty (option_map (λ text. text.now) name.text)) (take l.name-index l.names)
+invariant-loop-name g l =
+    map string_bytes l.copies.items ≡ map (λ name. or_empty (option_map (λ text. text.now) name.text)) (take l.name-index l.names)

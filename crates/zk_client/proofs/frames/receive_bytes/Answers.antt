@@ -23,23 +23,29 @@ some_came : (g : _) (c : goal.After-take_frames g) → 0 < length c.args.piece.i
 some_came g c = grind (arith, nat_tests)
 
 pub returns-then-not-is_open-clause-next : goal.returns-then-not-is_open-clause-next
-returns-then-not-is_open-clause-next g c = sym (unheard_view c.args.piece.items (view_with c.args.reader.now.bytes c.args.core.now) (down g c))
+returns-then-not-is_open-clause-next g c =
+    sym (unheard_view c.args.piece.items (view_with c.args.reader.now.bytes c.args.core.now) (down g c))
 
 pub returns-then-not-is_open-clause-says : goal.returns-then-not-is_open-clause-says
 returns-then-not-is_open-clause-says g c =
     sym (append-nil (said c.args.outputs.now.items))
-    ∙ ap (λ (l : List Output). said c.args.outputs.now.items ++ l) (sym (unheard_says c.args.piece.items (view_with c.args.reader.now.bytes c.args.core.now) (down g c)))
+    ∙ ap (λ (l : List Output). said c.args.outputs.now.items ++ l)
+    (sym (unheard_says c.args.piece.items (view_with c.args.reader.now.bytes c.args.core.now) (down g c)))
 
 pub returns-clause-next : goal.returns-clause-next
 returns-clause-next g c =
     let core = c.args.core.now in
     on_ok_weaker c.take_frames.result (λ told. told
     ∙ ap (λ (h : Held). after_signals (view_with [] (record core { session = c.heard.new.self })) (map Comes h.bytes)) c.in-Ok.ensures.ok
-    ∙ whole-view c.args.reader.now.bytes c.args.piece.items core.halted core.session c.heard.new.self core.conversation core.registry core.cache (up_still g c) c.requires.goes_on c.requires.reading.less (some_came g c) c.heard.ensures) c.take_frames.ensures.next
+    ∙ whole-view c.args.reader.now.bytes c.args.piece.items core.halted core.session c.heard.new.self core.conversation core.registry
+    core.cache (up_still g c) c.requires.goes_on c.requires.reading.less (some_came g c) c.heard.ensures) c.take_frames.ensures.next
 
 pub returns-clause-says : goal.returns-clause-says
 returns-clause-says g c =
     let core = c.args.core.now in
     on_ok_weaker c.take_frames.result (λ told. told
-    ∙ ap (λ (h : Held). said c.args.outputs.now.items ++ says_signals (view_with [] (record core { session = c.heard.new.self })) (map Comes h.bytes)) c.in-Ok.ensures.ok
-    ∙ ap (λ (l : List Output). said c.args.outputs.now.items ++ l) (whole-says c.args.reader.now.bytes c.args.piece.items core.halted core.session c.heard.new.self core.conversation core.registry core.cache (up_still g c) c.requires.goes_on c.requires.reading.less (some_came g c) c.heard.ensures)) c.take_frames.ensures.says
+    ∙ ap (λ (h : Held). said c.args.outputs.now.items
+    ++ says_signals (view_with [] (record core { session = c.heard.new.self })) (map Comes h.bytes)) c.in-Ok.ensures.ok
+    ∙ ap (λ (l : List Output). said c.args.outputs.now.items ++ l)
+    (whole-says c.args.reader.now.bytes c.args.piece.items core.halted core.session c.heard.new.self core.conversation core.registry
+    core.cache (up_still g c) c.requires.goes_on c.requires.reading.less (some_came g c) c.heard.ensures)) c.take_frames.ensures.says

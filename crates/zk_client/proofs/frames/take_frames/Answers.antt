@@ -26,13 +26,19 @@ loop-reader-preserved g c =
       sound = c.in_ok-read_payload-in-Ok-Some.ensures.sound;
       clean = gives.reads;
       goes_on = ap (λ (v : View). v.standing.halted) is ∙ keeps.halted ∙ c.loop-reader.invariant.goes_on;
-      heard = ap (λ (v : View). v.moments.heard) is ∙ keeps.heard ∙ c.loop-reader.invariant.heard ∙ sym (ap (λ (v : View). v.moments.now) is ∙ keeps.now);
-      next = ap (λ (v : View). after_signals v (map Comes rest)) is ∙ sym (frame-view view up c.loop-reader.invariant.goes_on c.loop-reader.invariant.heard refl c.loop-reader.reader.bytes payload rest gives.admitted gives.was) ∙ c.loop-reader.invariant.next;
+      heard = ap (λ (v : View). v.moments.heard) is ∙ keeps.heard ∙ c.loop-reader.invariant.heard
+          ∙ sym (ap (λ (v : View). v.moments.now) is ∙ keeps.now);
+      next = ap (λ (v : View). after_signals v (map Comes rest)) is ∙ sym (frame-view view up c.loop-reader.invariant.goes_on
+          c.loop-reader.invariant.heard refl c.loop-reader.reader.bytes payload rest gives.admitted gives.was)
+          ∙ c.loop-reader.invariant.next;
       says =
-          ap (λ (l : List Output). l ++ says_signals (view_with [] c.read_payload.new.self) (map Comes rest)) (c.in_ok-read_payload-in-Ok-Some.ensures.says [])
+          ap (λ (l : List Output). l ++ says_signals (view_with [] c.read_payload.new.self) (map Comes rest))
+          (c.in_ok-read_payload-in-Ok-Some.ensures.says [])
           ∙ ap (λ (v : View). (said c.loop-reader.outputs.items ++ says view (arrival view payload)) ++ says_signals v (map Comes rest)) is
-          ∙ append_assoc (said c.loop-reader.outputs.items) (says view (arrival view payload)) (says_signals (next view (arrival view payload)) (map Comes rest))
-          ∙ ap (λ (l : List Output). said c.loop-reader.outputs.items ++ l) (sym (frame-says view up c.loop-reader.invariant.goes_on c.loop-reader.invariant.heard refl c.loop-reader.reader.bytes payload rest gives.admitted gives.was))
+          ∙ append_assoc (said c.loop-reader.outputs.items) (says view (arrival view payload))
+          (says_signals (next view (arrival view payload)) (map Comes rest))
+          ∙ ap (λ (l : List Output). said c.loop-reader.outputs.items ++ l) (sym (frame-says view up c.loop-reader.invariant.goes_on
+          c.loop-reader.invariant.heard refl c.loop-reader.reader.bytes payload rest gives.admitted gives.was))
           ∙ c.loop-reader.invariant.says;
       origin = c.read_payload.ensures.origin ∙ c.loop-reader.invariant.origin;
     }
@@ -43,7 +49,9 @@ returns-in-Ok-None-clause-next g c =
     let view = view_with [] c.loop-reader.core in
     let up : IsOpen c.loop-reader.core.session.state = ap is_open (sym c.state.ensures) ∙ sym c.loop-reader-test.ensures in
     ap (λ (h : Held). view_with h.bytes c.loop-reader.core) nothing.same
-    ∙ sym (rest-view view up c.loop-reader.invariant.goes_on c.loop-reader.invariant.heard refl c.loop-reader.reader.bytes nothing.unfinished) ∙ c.loop-reader.invariant.next
+    ∙ sym
+    (rest-view view up c.loop-reader.invariant.goes_on c.loop-reader.invariant.heard refl c.loop-reader.reader.bytes nothing.unfinished)
+    ∙ c.loop-reader.invariant.next
 
 pub returns-in-Ok-None-clause-says : goal.returns-in-Ok-None-clause-says
 returns-in-Ok-None-clause-says g c =
@@ -51,7 +59,8 @@ returns-in-Ok-None-clause-says g c =
     let view = view_with [] c.loop-reader.core in
     let up : IsOpen c.loop-reader.core.session.state = ap is_open (sym c.state.ensures) ∙ sym c.loop-reader-test.ensures in
     sym (append-nil (said c.loop-reader.outputs.items))
-    ∙ ap (λ (l : List Output). said c.loop-reader.outputs.items ++ l) (sym (rest-says view up c.loop-reader.invariant.goes_on c.loop-reader.invariant.heard refl c.loop-reader.reader.bytes nothing.unfinished)) ∙ c.loop-reader.invariant.says
+    ∙ ap (λ (l : List Output). said c.loop-reader.outputs.items ++ l) (sym (rest-says view up c.loop-reader.invariant.goes_on
+    c.loop-reader.invariant.heard refl c.loop-reader.reader.bytes nothing.unfinished)) ∙ c.loop-reader.invariant.says
 
 -- a length that is not admitted stands there, while the connection is open
 bad_there : (g : _) (c : goal.After-give_up g) → StandsNext c.in-Err.fault c.loop-reader.reader.bytes
@@ -65,12 +74,15 @@ up_there g c = ap is_open (sym c.state.ensures) ∙ sym c.loop-reader-test.ensur
 pub returns-in-Err-clause-next : goal.returns-in-Err-clause-next
 returns-in-Err-clause-next g c =
     on_ok_weaker c.give_up.result (λ told. ap (λ (h : Held). view_with h.bytes c.give_up.new.self) c.reset.ensures ∙ told []
-    ∙ sym (bad-view (view_with [] c.loop-reader.core) (up_there g c) c.loop-reader.invariant.goes_on c.loop-reader.invariant.heard refl c.loop-reader.reader.bytes c.in-Err.fault (bad_there g c)) ∙ c.loop-reader.invariant.next) c.give_up.ensures.next
+    ∙ sym (bad-view (view_with [] c.loop-reader.core) (up_there g c) c.loop-reader.invariant.goes_on c.loop-reader.invariant.heard refl
+    c.loop-reader.reader.bytes c.in-Err.fault (bad_there g c)) ∙ c.loop-reader.invariant.next) c.give_up.ensures.next
 
 pub returns-in-Err-clause-says : goal.returns-in-Err-clause-says
 returns-in-Err-clause-says g c =
     on_ok_weaker c.give_up.result (λ told. told []
-    ∙ ap (λ (l : List Output). said c.loop-reader.outputs.items ++ l) (sym (bad-says (view_with [] c.loop-reader.core) (up_there g c) c.loop-reader.invariant.goes_on c.loop-reader.invariant.heard refl c.loop-reader.reader.bytes c.in-Err.fault (bad_there g c))) ∙ c.loop-reader.invariant.says) c.give_up.ensures.says
+    ∙ ap (λ (l : List Output). said c.loop-reader.outputs.items ++ l) (sym (bad-says (view_with [] c.loop-reader.core) (up_there g c)
+    c.loop-reader.invariant.goes_on c.loop-reader.invariant.heard refl c.loop-reader.reader.bytes c.in-Err.fault (bad_there g c)))
+    ∙ c.loop-reader.invariant.says) c.give_up.ensures.says
 
 -- no connection is open any more
 down : (g : _) (c : goal.After-reset-2 g) → IsOpen c.loop-reader.core.session.state → ⊥
@@ -78,9 +90,11 @@ down g c up = let clash : true ≡ false = sym up ∙ ap is_open (sym c.state.en
 
 pub returns-clause-next : goal.returns-clause-next
 returns-clause-next g c =
-    ap (λ (h : Held). view_with h.bytes c.loop-reader.core) c.reset-2.ensures ∙ sym (unheard_view c.loop-reader.reader.bytes (view_with [] c.loop-reader.core) (down g c)) ∙ c.loop-reader.invariant.next
+    ap (λ (h : Held). view_with h.bytes c.loop-reader.core) c.reset-2.ensures
+    ∙ sym (unheard_view c.loop-reader.reader.bytes (view_with [] c.loop-reader.core) (down g c)) ∙ c.loop-reader.invariant.next
 
 pub returns-clause-says : goal.returns-clause-says
 returns-clause-says g c =
     sym (append-nil (said c.loop-reader.outputs.items))
-    ∙ ap (λ (l : List Output). said c.loop-reader.outputs.items ++ l) (sym (unheard_says c.loop-reader.reader.bytes (view_with [] c.loop-reader.core) (down g c))) ∙ c.loop-reader.invariant.says
+    ∙ ap (λ (l : List Output). said c.loop-reader.outputs.items ++ l)
+    (sym (unheard_says c.loop-reader.reader.bytes (view_with [] c.loop-reader.core) (down g c))) ∙ c.loop-reader.invariant.says

@@ -12,8 +12,10 @@ invariant-loop-reader g l = record {
   clean : l.reader.fault ≡ None;
   goes_on : l.core.halted ≡ false;
   heard : l.core.session.moments.heard ≡ l.core.session.moments.now;
-  next : after_signals (view_with [] l.core) (map Comes l.reader.bytes) ≡ after_signals (view_with [] l.fn.core) (map Comes l.fn.reader.bytes);
-  says : said l.outputs.items ++ says_signals (view_with [] l.core) (map Comes l.reader.bytes) ≡ said l.fn.outputs.items ++ says_signals (view_with [] l.fn.core) (map Comes l.fn.reader.bytes);
+  next : after_signals (view_with [] l.core) (map Comes l.reader.bytes) ≡ after_signals (view_with [] l.fn.core)
+      (map Comes l.fn.reader.bytes);
+  says : said l.outputs.items ++ says_signals (view_with [] l.core)
+      (map Comes l.reader.bytes) ≡ said l.fn.outputs.items ++ says_signals (view_with [] l.fn.core) (map Comes l.fn.reader.bytes);
   origin : origin l.core ≡ origin l.fn.core;
 }
 

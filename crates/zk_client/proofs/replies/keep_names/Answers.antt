@@ -10,4 +10,5 @@ pub returns-clause-children : goal.returns-clause-children
 returns-clause-children g c =
     let pzxid : to_z w64 (of_z w64 c.args.pzxid) ≡ c.args.pzxid = omega (arith, ints) in
     let k = keeps_each c.args.cache.now in
-    on_ok_weaker c.keep_children.result (λ ok. λ text. ap (λ (x : Answers). names_kept x text) (rw pzxid at ok) ∙ k.listed c.args.path.now _ text) c.keep_children.ensures.ok
+    on_ok_weaker c.keep_children.result (λ ok. λ text. ap (λ (x : Answers). names_kept x text) (rw pzxid at ok)
+    ∙ k.listed c.args.path.now _ text) c.keep_children.ensures.ok

@@ -7,4 +7,5 @@ use Rattle.zk_client.proofs.replies.keep_node.Goals as goal
 pub returns-clause-nodes : goal.returns-clause-nodes
 returns-clause-nodes g c =
     let k = keeps_each c.args.cache.now in
-    on_ok_weaker c.keep_data.result (λ ok. λ text. ap (λ (x : Answers). data_kept x text) ok ∙ k.known c.args.path.now _ text) c.keep_data.ensures.ok
+    on_ok_weaker c.keep_data.result
+    (λ ok. λ text. ap (λ (x : Answers). data_kept x text) ok ∙ k.known c.args.path.now _ text) c.keep_data.ensures.ok

@@ -7,17 +7,23 @@ use Rattle.zk_client.proofs.running.run.Goals as goal
 pub returns-in_err-outputs-clause-halt : goal.returns-in_err-outputs-clause-halt
 returns-in_err-outputs-clause-halt g c =
     at_an_error c.from_residual.result
-    (RanUntilHalt (view_of c.args.client.now) (g.O.Outside.told c.args.outside.now) (view_of c.step.new.self) (g.O.Outside.told c.next.new.self))
-    (halted (view_of c.args.client.now) (view_of c.loop-input.client) (view_of c.step.new.self) (g.O.Outside.told c.args.outside.now) (g.O.Outside.told c.loop-input.outside)
-    (g.O.Outside.told c.next.new.self) (input_view c.in-Some.input) c.loop-input.invariant c.in-Some.ensures.hands c.in_err-outputs.ensures.halt)
+    (RanUntilHalt (view_of c.args.client.now) (g.O.Outside.told c.args.outside.now) (view_of c.step.new.self)
+    (g.O.Outside.told c.next.new.self))
+    (halted (view_of c.args.client.now) (view_of c.loop-input.client) (view_of c.step.new.self) (g.O.Outside.told c.args.outside.now)
+    (g.O.Outside.told c.loop-input.outside)
+    (g.O.Outside.told c.next.new.self)
+    (input_view c.in-Some.input) c.loop-input.invariant c.in-Some.ensures.hands c.in_err-outputs.ensures.halt)
 
 pub loop-input-preserved : goal.loop-input-preserved
 loop-input-preserved g c =
-    further (view_of c.args.client.now) (view_of c.loop-input.client) (view_of c.step.new.self) (g.O.Outside.told c.args.outside.now) (g.O.Outside.told c.loop-input.outside)
-    (g.O.Outside.told c.next.new.self) (g.O.Outside.told c.give.new.self) (input_view c.in-Some.input) (said c.in_ok-outputs.outputs.items) c.loop-input.invariant c.in-Some.ensures.hands
+    further (view_of c.args.client.now) (view_of c.loop-input.client) (view_of c.step.new.self) (g.O.Outside.told c.args.outside.now)
+    (g.O.Outside.told c.loop-input.outside)
+    (g.O.Outside.told c.next.new.self) (g.O.Outside.told c.give.new.self) (input_view c.in-Some.input)
+    (said c.in_ok-outputs.outputs.items) c.loop-input.invariant c.in-Some.ensures.hands
     c.in_ok-outputs.ensures.stands c.give.ensures.given
 
 pub returns-clause-done : goal.returns-clause-done
 returns-clause-done g c =
-    ended (view_of c.args.client.now) (view_of c.loop-input.client) (g.O.Outside.told c.args.outside.now) (g.O.Outside.told c.loop-input.outside) (g.O.Outside.told c.next.new.self)
+    ended (view_of c.args.client.now) (view_of c.loop-input.client) (g.O.Outside.told c.args.outside.now)
+    (g.O.Outside.told c.loop-input.outside) (g.O.Outside.told c.next.new.self)
     c.loop-input.invariant c.in_default.ensures.hands

@@ -15,7 +15,8 @@ returns-clause-next g c =
     let core = c.args.core.now in
     let view = view_with c.args.reader.now.bytes core in
     let up : IsOpen core.session.state = ap is_open (sym c.state.ensures) ∙ sym c.is_open.ensures ∙ c.if-not-is_open.false in
-    on_ok_weaker c.lose.result (λ next. turns-view view _ core.halted (if_open core.session.state (Lost ∷ [])) (Lost ∷ []) c.requires.goes_on (open-causes core.session.state (Lost ∷ []) up)
+    on_ok_weaker c.lose.result (λ next. turns-view view _ core.halted (if_open core.session.state (Lost ∷ []))
+    (Lost ∷ []) c.requires.goes_on (open-causes core.session.state (Lost ∷ []) up)
     (ap (λ (h : Held). view_with h.bytes c.lose.new.self) c.reset.ensures ∙ next c.args.reader.now.bytes)) c.lose.ensures.next
 
 pub returns-clause-says : goal.returns-clause-says
@@ -23,5 +24,6 @@ returns-clause-says g c =
     let core = c.args.core.now in
     let view = view_with c.args.reader.now.bytes core in
     let up : IsOpen core.session.state = ap is_open (sym c.state.ensures) ∙ sym c.is_open.ensures ∙ c.if-not-is_open.false in
-    on_ok_weaker c.lose.result (λ says. turns-says view (said c.args.outputs.now.items) _ core.halted (if_open core.session.state (Lost ∷ [])) (Lost ∷ []) c.requires.goes_on (open-causes core.session.state (Lost ∷ []) up)
+    on_ok_weaker c.lose.result (λ says. turns-says view (said c.args.outputs.now.items) _ core.halted
+    (if_open core.session.state (Lost ∷ [])) (Lost ∷ []) c.requires.goes_on (open-causes core.session.state (Lost ∷ []) up)
     (one-says view (said c.args.outputs.now.items) _ Lost (says c.args.reader.now.bytes))) c.lose.ensures.says

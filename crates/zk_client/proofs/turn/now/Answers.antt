@@ -12,24 +12,34 @@ use Rattle.zk_client.proofs.turn.now.Goals as goal
 pub returns-in-Ping-clause-next : goal.returns-in-Ping-clause-next
 returns-in-Ping-clause-next g c =
     let core = c.args.core.now in
-    on_ok_weaker c.ping.result (λ told. tick-view c.args.reader.now.bytes core.halted core.session c.moment.new.self core.conversation core.registry core.cache c.args.moment c.moment.result Ping c.requires.goes_on c.moment.ensures.tells c.moment.ensures.due c.in-Ping.is _ (told c.args.reader.now.bytes)) c.ping.ensures.next
+    on_ok_weaker c.ping.result (λ told. tick-view c.args.reader.now.bytes core.halted core.session c.moment.new.self core.conversation
+    core.registry core.cache c.args.moment c.moment.result Ping c.requires.goes_on c.moment.ensures.tells c.moment.ensures.due
+    c.in-Ping.is _ (told c.args.reader.now.bytes)) c.ping.ensures.next
 
 pub returns-in-Ping-clause-says : goal.returns-in-Ping-clause-says
 returns-in-Ping-clause-says g c =
     let core = c.args.core.now in
     let outs = said c.args.outputs.now.items in
-    on_ok_weaker c.ping.result (λ told. tick-says c.args.reader.now.bytes core.halted core.session c.moment.new.self core.conversation core.registry core.cache c.args.moment c.moment.result Ping c.requires.goes_on c.moment.ensures.tells c.moment.ensures.due c.in-Ping.is outs _
-    (one-says (view_with c.args.reader.now.bytes (record core { session = c.moment.new.self })) outs _ Pinged (told c.args.reader.now.bytes))) c.ping.ensures.says
+    on_ok_weaker c.ping.result
+    (λ told. tick-says c.args.reader.now.bytes core.halted core.session c.moment.new.self core.conversation core.registry core.cache
+    c.args.moment c.moment.result Ping c.requires.goes_on c.moment.ensures.tells c.moment.ensures.due c.in-Ping.is outs _
+    (one-says (view_with c.args.reader.now.bytes (record core { session = c.moment.new.self })) outs _ Pinged
+    (told c.args.reader.now.bytes))) c.ping.ensures.says
 
 pub returns-in-Silent-clause-next : goal.returns-in-Silent-clause-next
 returns-in-Silent-clause-next g c =
     let core = c.args.core.now in
-    on_ok_weaker c.give_up.result (λ told. tick-view c.args.reader.now.bytes core.halted core.session c.moment.new.self core.conversation core.registry core.cache c.args.moment c.moment.result Is_silent c.requires.goes_on c.moment.ensures.tells c.moment.ensures.due c.in-Silent.is _
+    on_ok_weaker c.give_up.result
+    (λ told. tick-view c.args.reader.now.bytes core.halted core.session c.moment.new.self core.conversation core.registry core.cache
+    c.args.moment c.moment.result Is_silent c.requires.goes_on c.moment.ensures.tells c.moment.ensures.due c.in-Silent.is _
     (ap (λ (h : Held). view_with h.bytes c.give_up.new.self) c.reset.ensures ∙ told c.args.reader.now.bytes)) c.give_up.ensures.next
 
 pub returns-in-Silent-clause-says : goal.returns-in-Silent-clause-says
 returns-in-Silent-clause-says g c =
     let core = c.args.core.now in
     let outs = said c.args.outputs.now.items in
-    on_ok_weaker c.give_up.result (λ told. tick-says c.args.reader.now.bytes core.halted core.session c.moment.new.self core.conversation core.registry core.cache c.args.moment c.moment.result Is_silent c.requires.goes_on c.moment.ensures.tells c.moment.ensures.due c.in-Silent.is outs _
-    (one-says (view_with c.args.reader.now.bytes (record core { session = c.moment.new.self })) outs _ (Dropped Silent) (told c.args.reader.now.bytes))) c.give_up.ensures.says
+    on_ok_weaker c.give_up.result
+    (λ told. tick-says c.args.reader.now.bytes core.halted core.session c.moment.new.self core.conversation core.registry core.cache
+    c.args.moment c.moment.result Is_silent c.requires.goes_on c.moment.ensures.tells c.moment.ensures.due c.in-Silent.is outs _
+    (one-says (view_with c.args.reader.now.bytes (record core { session = c.moment.new.self })) outs _ (Dropped Silent)
+    (told c.args.reader.now.bytes))) c.give_up.ensures.says

@@ -5,4 +5,5 @@ use Rattle.zk_conclusions.proofs.FirstNames.{first_of}
 use Rattle.zk_conclusions.proofs.before.is_first.Goals as goal
 
 pub returns : goal.returns
-returns g c = first_of (is_rival (kind_of c.args.kind.now)) c.args.own.now c.args.names.now (not c.has_before.result) (ap not c.has_before.ensures)
+returns g c =
+    first_of (is_rival (kind_of c.args.kind.now)) c.args.own.now c.args.names.now (not c.has_before.result) (ap not c.has_before.ensures)

@@ -5,5 +5,6 @@ use Rattle.zk_conclusions.proofs.below.is_below.Goals as goal
 
 pub returns-in-Some : goal.returns-in-Some
 returns-in-Some g c =
-    is_below-text c.args.path.now c.args.directory.now c.in-Some.parent.now c.as_str-directory.ensures.path c.in-Some.ensures.path c.in-Some.ensures.names c.eq.result
+    is_below-text c.args.path.now c.args.directory.now c.in-Some.parent.now c.as_str-directory.ensures.path c.in-Some.ensures.path
+    c.in-Some.ensures.names c.eq.result
     (c.eq.ensures ∙ ap (bytes_eq c.in-Some.parent.now) c.as_str-directory.ensures.text)

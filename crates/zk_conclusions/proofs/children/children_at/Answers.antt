@@ -11,15 +11,20 @@ returns-in_default-clause-refused g c = λ whole. c.names_if_full.ensures.none c
 
 pub returns-clause-children : goal.returns-clause-children
 returns-clause-children g c =
-    IfOk-weaker c.children_of.result _ _ (λ children added. has_children (view_of c.args.client.now).cache c.args.path.now c.in-Some.names.now children.items c.children_of.ensures.ordered c.in-Some.ensures.some.children added) c.children_of.ensures.added
+    IfOk-weaker c.children_of.result _ _ (λ children added. has_children (view_of c.args.client.now).cache c.args.path.now
+    c.in-Some.names.now children.items c.children_of.ensures.ordered c.in-Some.ensures.some.children added) c.children_of.ensures.added
 
 pub returns-clause-data : goal.returns-clause-data
-returns-clause-data g c = on_ok c.children_of.result (is_full_good ((view_of c.args.client.now).cache.nodes c.args.path.now) ≡ true) (ap is_full_good c.in-Some.ensures.some.node)
+returns-clause-data g c = on_ok c.children_of.result (is_full_good ((view_of c.args.client.now).cache.nodes c.args.path.now) ≡ true)
+    (ap is_full_good c.in-Some.ensures.some.node)
 
 pub returns-clause-refused : goal.returns-clause-refused
 returns-clause-refused g c =
     let cache = (view_of c.args.client.now).cache in
     let path = c.args.path.now in
     let all = map string_bytes c.in-Some.names.now.names.keys in
-    IfErr-weaker c.children_of.result _ _ (λ why says. says_more why (HasFault path all) (HasMore path all c.args.room) (IsKeptWhole cache path → ⊥) (HasTooMany cache path c.args.room)
-    (not_whole cache path c.in-Some.names.now c.children_of.ensures.ordered c.in-Some.ensures.some) (too_many cache path c.in-Some.names.now c.args.room c.children_of.ensures.ordered c.in-Some.ensures.some.children) says) c.children_of.ensures.refused
+    IfErr-weaker c.children_of.result _ _ (λ why says.
+    says_more why (HasFault path all) (HasMore path all c.args.room) (IsKeptWhole cache path → ⊥) (HasTooMany cache path c.args.room)
+    (not_whole cache path c.in-Some.names.now c.children_of.ensures.ordered c.in-Some.ensures.some)
+    (too_many cache path c.in-Some.names.now c.args.room c.children_of.ensures.ordered c.in-Some.ensures.some.children) says)
+    c.children_of.ensures.refused

@@ -7,5 +7,7 @@ pub returns-clause-test : goal.returns-clause-test
 returns-clause-test c = starts_text c.starts_with.result c.args.prefix.now c.args.name.now c.starts_with.ensures.cases
 
 pub returns-clause-rest : goal.returns-clause-rest
-returns-clause-rest c =
-    (λ t. begins c.args.prefix.now c.args.name.now (sym (returns-clause-test c) ∙ t), λ h. returns-clause-test c ∙ tells_prefix c.args.prefix.now c.args.name.now h)
+returns-clause-rest c = (
+  λ t. begins c.args.prefix.now c.args.name.now (sym (returns-clause-test c) ∙ t),
+  λ h. returns-clause-test c ∙ tells_prefix c.args.prefix.now c.args.name.now h,
+)

@@ -3,4 +3,5 @@ use Rattle.zk_conclusions.proofs.Rivals.{is_first_of}
 use Rattle.zk_conclusions.proofs.firsts.is_first.Goals as goal
 
 pub returns : goal.returns
-returns g c = is_first_of c.args.prefix.now c.args.own.now string_bytes c.args.names.now.names.keys (not c.has_rival.result) (ap not c.has_rival.ensures)
+returns g c = is_first_of c.args.prefix.now c.args.own.now string_bytes c.args.names.now.names.keys (not c.has_rival.result)
+    (ap not c.has_rival.ensures)

@@ -5,4 +5,6 @@ use Rattle.zk_conclusions.proofs.firsts.is_shown_first.Goals as goal
 
 pub returns-in-Some-default-Good : goal.returns-in-Some-default-Good
 returns-in-Some-default-Good g c =
-    shown_first (view_of c.args.client.now) c.args.directory.now c.args.prefix.now c.args.own.now (names_in c.in-Some-default-Good.names.now) c.in-Some-default-Good.field-0-1 c.is_first.result c.in-Some-default-Good.field-0-1-is c.in-Some-default-Good.ensures c.is_first.ensures
+    shown_first (view_of c.args.client.now) c.args.directory.now c.args.prefix.now c.args.own.now
+    (names_in c.in-Some-default-Good.names.now) c.in-Some-default-Good.field-0-1 c.is_first.result c.in-Some-default-Good.field-0-1-is
+    c.in-Some-default-Good.ensures c.is_first.ensures

@@ -22,7 +22,8 @@ loop-place-init g c =
     let cache = (view_of c.args.client.now).cache in
     let root = c.args.root.now in
     let items : c.push.new.self.items ≡ root ∷ [] =
-    c.in_ok-push.ensures.items ∙ (ap (λ (xs : List Text). xs ++ c.in_ok-copy_of.field-0 ∷ []) c.new-paths.ensures.items ∙ ap (λ (t : Text). t ∷ []) c.in_ok-copy_of.ensures.path) in
+    c.in_ok-push.ensures.items ∙ (ap (λ (xs : List Text). xs ++ c.in_ok-copy_of.field-0 ∷ []) c.new-paths.ensures.items
+    ∙ ap (λ (t : Text). t ∷ []) c.in_ok-copy_of.ensures.path) in
     let one : length c.push.new.self.items ≡ 1 = ap length items in
     record {
       sought = subst (λ (xs : List Text). Sought cache root xs 0) (sym items) (sought_new cache root c.copy_of.ensures.is);
@@ -32,7 +33,8 @@ loop-place-init g c =
 pub returns-then-place-len-clause-shown : goal.returns-then-place-len-clause-shown
 returns-then-place-len-clause-shown g c =
     let end : length c.loop-place.paths.items ≤ c.loop-place.place = omega arith in
-    sought_all (view_of c.args.client.now).cache c.args.root.now c.loop-place.paths.items c.loop-place.place c.loop-place.invariant.sought end
+    sought_all (view_of c.args.client.now).cache c.args.root.now c.loop-place.paths.items c.loop-place.place
+    c.loop-place.invariant.sought end
 
 pub returns-in_err-children-clause-refused : goal.returns-in_err-children-clause-refused
 returns-in_err-children-clause-refused g c =
@@ -44,10 +46,12 @@ returns-in_err-children-clause-refused g c =
     let before : place < length paths = omega arith in
     let at : slice_get paths place ≡ Some path = slice_get_read paths (length paths) place path refl before c.index.ensures in
     let count : c.len-in-loop-place.result ≡ length paths = omega arith in
-    handed_on c.from_residual-in_err-children.result c.in_err-children.field-0.0 (HasFaultAt cache path) (HasTooMany cache path (c.args.most - c.len-in-loop-place.result)) (HasNoPath cache root) (HasMoreNodes cache root c.args.most)
+    handed_on c.from_residual-in_err-children.result c.in_err-children.field-0.0 (HasFaultAt cache path)
+    (HasTooMany cache path (c.args.most - c.len-in-loop-place.result)) (HasNoPath cache root) (HasMoreNodes cache root c.args.most)
     c.from_residual-in_err-children.ensures.1 c.in_err-children.ensures.refused
     (λ fault. sought_fault cache root paths place path c.loop-place.invariant.sought at fault)
-    (λ many. sought_many cache root paths place path c.args.most c.loop-place.invariant.sought at (subst (λ (n : ℕ). HasTooMany cache path (c.args.most - n)) count many) c.loop-place.invariant.within)
+    (λ many. sought_many cache root paths place path c.args.most c.loop-place.invariant.sought at
+    (subst (λ (n : ℕ). HasTooMany cache path (c.args.most - n)) count many) c.loop-place.invariant.within)
 
 pub loop-place-preserved : goal.loop-place-preserved
 loop-place-preserved g c =
@@ -64,11 +68,14 @@ loop-place-preserved g c =
     let fits : length children ≤ c.args.most - c.len-in-loop-place.result = c.in_ok-children.ensures.fits in
     let next : suc place ≡ place + 1 = omega arith in
     record {
-      sought = subst (λ (xs : List Text). Sought cache root xs (place + 1)) (sym items) (subst (λ (n : ℕ). Sought cache root (paths ++ children) n) next (sought_next cache root paths place path children c.loop-place.invariant.sought at c.in_ok-children.ensures.found before));
+      sought = subst (λ (xs : List Text). Sought cache root xs (place + 1)) (sym items)
+          (subst (λ (n : ℕ). Sought cache root (paths ++ children) n) next
+          (sought_next cache root paths place path children c.loop-place.invariant.sought at c.in_ok-children.ensures.found before));
       within = omega (arith, count, fits);
     }
 
 pub returns-clause-shown : goal.returns-clause-shown
 returns-clause-shown g c =
     let end : length c.loop-place.paths.items ≤ c.loop-place.place = omega arith in
-    sought_all (view_of c.args.client.now).cache c.args.root.now c.loop-place.paths.items c.loop-place.place c.loop-place.invariant.sought end
+    sought_all (view_of c.args.client.now).cache c.args.root.now c.loop-place.paths.items c.loop-place.place
+    c.loop-place.invariant.sought end

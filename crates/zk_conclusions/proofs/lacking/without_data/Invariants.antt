@@ -6,4 +6,5 @@ use Rattle.zk_conclusions.proofs.lacking.without_data.Given as goal
 
 -- what was found, with what is left to be found
 abbrev pub invariant-loop-path : goal.invariant-loop-path
-invariant-loop-path g l = l.lacking.items ++ filter (lacks_data (view_of l.client).cache) (drop l.path-index l.paths) ≡ filter (lacks_data (view_of l.client).cache) l.paths
+invariant-loop-path g l = l.lacking.items ++ filter (lacks_data (view_of l.client).cache) (drop l.path-index l.paths)
+    ≡ filter (lacks_data (view_of l.client).cache) l.paths

@@ -6,22 +6,27 @@ use Rattle.zk_conclusions.proofs.Later.{found_within, found_still, found_here}
 use Rattle.zk_conclusions.proofs.listing.found_with.Goals as goal
 
 pub is_later-requires : goal.is_later-requires
-is_later-requires g c = found_within (kind_of c.args.kind.now) (map string_bytes c.args.names.now) c.args.own.now c.args.place c.args.last (length c.args.names.now) c.requires.found c.requires.place
+is_later-requires g c = found_within (kind_of c.args.kind.now) (map string_bytes c.args.names.now) c.args.own.now c.args.place c.args.last
+    (length c.args.names.now) c.requires.found c.requires.place
 
 pub returns-then-not-is_later : goal.returns-then-not-is_later
 returns-then-not-is_later g c =
     let names = map string_bytes c.args.names.now in
     let lt : c.args.place < length names = omega (arith, length-map c.args.names.now string_bytes, c.requires.place) in
     let none : is_later (kind_of c.args.kind.now) names c.args.own.now c.args.last (name_at names c.args.place) ≡ false =
-    ap (is_later (kind_of c.args.kind.now) names c.args.own.now c.args.last) (sym c.name_at.ensures) ∙ (sym c.is_later.ensures ∙ c.if-not-is_later.true) in
+    ap (is_later (kind_of c.args.kind.now) names c.args.own.now c.args.last) (sym c.name_at.ensures)
+    ∙ (sym c.is_later.ensures ∙ c.if-not-is_later.true) in
     let next : suc c.args.place ≡ c.args.place + 1 = omega arith in
-    subst (λ (n : ℕ). Found (kind_of c.args.kind.now) names c.args.own.now n c.args.last) next (found_still (kind_of c.args.kind.now) names c.args.own.now c.args.place c.args.last lt c.requires.found none)
+    subst (λ (n : ℕ). Found (kind_of c.args.kind.now) names c.args.own.now n c.args.last) next
+    (found_still (kind_of c.args.kind.now) names c.args.own.now c.args.place c.args.last lt c.requires.found none)
 
 pub returns : goal.returns
 returns g c =
     let names = map string_bytes c.args.names.now in
     let lt : c.args.place < length names = omega (arith, length-map c.args.names.now string_bytes, c.requires.place) in
     let later : is_later (kind_of c.args.kind.now) names c.args.own.now c.args.last (name_at names c.args.place) ≡ true =
-    ap (is_later (kind_of c.args.kind.now) names c.args.own.now c.args.last) (sym c.name_at.ensures) ∙ (sym c.is_later.ensures ∙ c.if-not-is_later.false) in
+    ap (is_later (kind_of c.args.kind.now) names c.args.own.now c.args.last) (sym c.name_at.ensures)
+    ∙ (sym c.is_later.ensures ∙ c.if-not-is_later.false) in
     let next : suc c.args.place ≡ c.args.place + 1 = omega arith in
-    subst (λ (n : ℕ). IsLastOf (kind_of c.args.kind.now) names c.args.own.now n c.args.place) next (found_here (kind_of c.args.kind.now) names c.args.own.now c.args.place c.args.last lt c.requires.found later)
+    subst (λ (n : ℕ). IsLastOf (kind_of c.args.kind.now) names c.args.own.now n c.args.place) next
+    (found_here (kind_of c.args.kind.now) names c.args.own.now c.args.place c.args.last lt c.requires.found later)

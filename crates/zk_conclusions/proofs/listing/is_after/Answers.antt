@@ -5,4 +5,5 @@ use Rattle.zk_conclusions.specs.Predecessors.{is_after}
 use Rattle.zk_conclusions.proofs.listing.is_after.Goals as goal
 
 pub returns-in-Some : goal.returns-in-Some
-returns-in-Some g c = c.is_before.ensures ∙ ap (λ (n : Name). is_before n c.args.name.now) c.name_at.ensures ∙ ap (λ (o : Option ℕ). is_after (map string_bytes c.args.names.now) o c.args.name.now) (sym c.in-Some.is)
+returns-in-Some g c = c.is_before.ensures ∙ ap (λ (n : Name). is_before n c.args.name.now) c.name_at.ensures
+    ∙ ap (λ (o : Option ℕ). is_after (map string_bytes c.args.names.now) o c.args.name.now) (sym c.in-Some.is)

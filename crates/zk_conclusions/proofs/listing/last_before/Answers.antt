@@ -13,14 +13,17 @@ loop-place-preserved g c = c.found_with-last.ensures
 pub returns-clause-within : goal.returns-clause-within
 returns-clause-within g c =
     let end : c.loop-place.place ≡ length (map string_bytes c.args.names.now) = omega (arith, length-map c.args.names.now string_bytes) in
-    found_at_end (kind_of c.args.kind.now) (map string_bytes c.args.names.now) c.args.own.now c.loop-place.place c.loop-place.last (length c.args.names.now) c.loop-place.invariant (omega (arith, end, length-map c.args.names.now string_bytes))
+    found_at_end (kind_of c.args.kind.now) (map string_bytes c.args.names.now) c.args.own.now c.loop-place.place c.loop-place.last
+    (length c.args.names.now) c.loop-place.invariant (omega (arith, end, length-map c.args.names.now string_bytes))
 
 pub returns-clause-some : goal.returns-clause-some
 returns-clause-some g c =
     let end : c.loop-place.place ≡ length (map string_bytes c.args.names.now) = omega (arith, length-map c.args.names.now string_bytes) in
-    found_some (kind_of c.args.kind.now) (map string_bytes c.args.names.now) c.args.own.now c.loop-place.place c.loop-place.last end c.loop-place.invariant
+    found_some (kind_of c.args.kind.now)
+    (map string_bytes c.args.names.now) c.args.own.now c.loop-place.place c.loop-place.last end c.loop-place.invariant
 
 pub returns-clause-none : goal.returns-clause-none
 returns-clause-none g c e =
     let end : c.loop-place.place ≡ length (map string_bytes c.args.names.now) = omega (arith, length-map c.args.names.now string_bytes) in
-    found_first (kind_of c.args.kind.now) (map string_bytes c.args.names.now) c.args.own.now c.loop-place.place c.loop-place.last end c.loop-place.invariant e
+    found_first (kind_of c.args.kind.now)
+    (map string_bytes c.args.names.now) c.args.own.now c.loop-place.place c.loop-place.last end c.loop-place.invariant e

@@ -5,4 +5,5 @@ use Rattle.zk_conclusions.proofs.marked.are_good.Given as goal
 
 -- all are good where those that are left are
 abbrev pub invariant-loop-path : goal.invariant-loop-path
-invariant-loop-path g l = all_good (view_of l.client).cache.nodes (drop l.path-index l.paths) ≡ all_good (view_of l.client).cache.nodes l.paths
+invariant-loop-path g l =
+    all_good (view_of l.client).cache.nodes (drop l.path-index l.paths) ≡ all_good (view_of l.client).cache.nodes l.paths

@@ -12,7 +12,8 @@ returns-then-is_least-clause-some g c =
     let lt : suc c.loop-place.place ≤ length names = omega (arith, length-map c.args.names.now string_bytes) in
     subst (IsLeastOf names c.args.tag.now) (sym c.name_at-name.ensures)
     (least_here names c.args.tag.now c.loop-place.place lt
-    (subst (λ (n : Name). (has_tag c.args.tag.now n ≡ true) × IsFirstAmong (has_tag c.args.tag.now) names n) c.name_at-name.ensures (c.is_least.ensures.0 c.if-is_least.true)))
+    (subst (λ (n : Name). (has_tag c.args.tag.now n ≡ true) × IsFirstAmong (has_tag c.args.tag.now) names n) c.name_at-name.ensures
+    (c.is_least.ensures.0 c.if-is_least.true)))
 
 pub loop-place-preserved : goal.loop-place-preserved
 loop-place-preserved g c =
@@ -21,7 +22,8 @@ loop-place-preserved g c =
     let next : suc c.loop-place.place ≡ c.loop-place.place + 1 = omega arith in
     subst (NoLeast names c.args.tag.now) next (no_least_still names c.args.tag.now c.loop-place.place lt c.loop-place.invariant
     (λ least. (
-    let k = c.is_least.ensures.1 (subst (λ (n : Name). (has_tag c.args.tag.now n ≡ true) × IsFirstAmong (has_tag c.args.tag.now) names n) (sym c.name_at-name.ensures) least) in
+    let k = c.is_least.ensures.1 (subst (λ (n : Name). (has_tag c.args.tag.now n ≡ true) × IsFirstAmong (has_tag c.args.tag.now) names n)
+    (sym c.name_at-name.ensures) least) in
     let l = c.if-is_least.false in
     absurd cc)))
 

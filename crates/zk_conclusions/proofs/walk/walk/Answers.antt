@@ -21,7 +21,8 @@ loop-place-init g c =
     let cache = (view_of c.args.client.now).cache in
     let root = c.args.root.now in
     let items : c.push.new.self.items ≡ root ∷ [] =
-    c.in_ok-push.ensures.items ∙ (ap (λ (xs : List Text). xs ++ c.in_ok-copy_of.field-0 ∷ []) c.new-paths.ensures.items ∙ ap (λ (t : Text). t ∷ []) c.in_ok-copy_of.ensures.path) in
+    c.in_ok-push.ensures.items ∙ (ap (λ (xs : List Text). xs ++ c.in_ok-copy_of.field-0 ∷ []) c.new-paths.ensures.items
+    ∙ ap (λ (t : Text). t ∷ []) c.in_ok-copy_of.ensures.path) in
     let one : length c.push.new.self.items ≡ 1 = ap length items in
     record {
       walked = subst (λ (xs : List Text). Walked cache root xs 0) (sym items) (walked_new cache root c.copy_of.ensures.is);
@@ -31,10 +32,12 @@ loop-place-init g c =
 pub returns-then-place-len-clause-walk : goal.returns-then-place-len-clause-walk
 returns-then-place-len-clause-walk g c =
     let end : length c.loop-place.paths.items ≤ c.loop-place.place = omega arith in
-    walked_all (view_of c.args.client.now).cache c.args.root.now c.loop-place.paths.items c.loop-place.place c.loop-place.invariant.walked end
+    walked_all (view_of c.args.client.now).cache c.args.root.now c.loop-place.paths.items c.loop-place.place
+    c.loop-place.invariant.walked end
 
 pub returns-then-place-len-clause-full : goal.returns-then-place-len-clause-full
-returns-then-place-len-clause-full g c = walk_full (view_of c.args.client.now).cache c.args.root.now c.loop-place.paths.items (returns-then-place-len-clause-walk g c)
+returns-then-place-len-clause-full g c =
+    walk_full (view_of c.args.client.now).cache c.args.root.now c.loop-place.paths.items (returns-then-place-len-clause-walk g c)
 
 pub returns-in_err-children-clause-refused : goal.returns-in_err-children-clause-refused
 returns-in_err-children-clause-refused g c =
@@ -46,10 +49,13 @@ returns-in_err-children-clause-refused g c =
     let before : place < length paths = omega arith in
     let at : slice_get paths place ≡ Some path = slice_get_read paths (length paths) place path refl before c.index.ensures in
     let count : c.len-in-loop-place.result ≡ length paths = omega arith in
-    handed_on c.from_residual-in_err-children.result c.in_err-children.field-0.0 (IsKeptWhole cache path → ⊥) (HasTooMany cache path (c.args.most - c.len-in-loop-place.result)) (IsWholeBelow cache root → ⊥) (HasMoreNodes cache root c.args.most)
+    handed_on c.from_residual-in_err-children.result c.in_err-children.field-0.0 (IsKeptWhole cache path → ⊥)
+    (HasTooMany cache path (c.args.most - c.len-in-loop-place.result)) (IsWholeBelow cache root → ⊥)
+    (HasMoreNodes cache root c.args.most)
     c.from_residual-in_err-children.ensures.1 c.in_err-children.ensures.refused
     (λ lacking. walked_lacking cache root paths place path c.loop-place.invariant.walked at lacking)
-    (λ many. walked_many cache root paths place path c.args.most c.loop-place.invariant.walked at (subst (λ (n : ℕ). HasTooMany cache path (c.args.most - n)) count many) c.loop-place.invariant.within)
+    (λ many. walked_many cache root paths place path c.args.most c.loop-place.invariant.walked at
+    (subst (λ (n : ℕ). HasTooMany cache path (c.args.most - n)) count many) c.loop-place.invariant.within)
 
 pub loop-place-preserved : goal.loop-place-preserved
 loop-place-preserved g c =
@@ -66,14 +72,17 @@ loop-place-preserved g c =
     let fits : length children ≤ c.args.most - c.len-in-loop-place.result = c.in_ok-children.ensures.fits in
     let next : suc place ≡ place + 1 = omega arith in
     record {
-      walked = subst (λ (xs : List Text). Walked cache root xs (place + 1)) (sym items) (subst (λ (n : ℕ). Walked cache root (paths ++ children) n) next (walked_next cache root paths place path children c.loop-place.invariant.walked at c.in_ok-children.ensures.data c.in_ok-children.ensures.children before));
+      walked = subst (λ (xs : List Text). Walked cache root xs (place + 1)) (sym items)
+          (subst (λ (n : ℕ). Walked cache root (paths ++ children) n) next (walked_next cache root paths place path children
+          c.loop-place.invariant.walked at c.in_ok-children.ensures.data c.in_ok-children.ensures.children before));
       within = omega (arith, count, fits);
     }
 
 pub returns-clause-walk : goal.returns-clause-walk
 returns-clause-walk g c =
     let end : length c.loop-place.paths.items ≤ c.loop-place.place = omega arith in
-    walked_all (view_of c.args.client.now).cache c.args.root.now c.loop-place.paths.items c.loop-place.place c.loop-place.invariant.walked end
+    walked_all (view_of c.args.client.now).cache c.args.root.now c.loop-place.paths.items c.loop-place.place
+    c.loop-place.invariant.walked end
 
 pub returns-clause-full : goal.returns-clause-full
 returns-clause-full g c = walk_full (view_of c.args.client.now).cache c.args.root.now c.loop-place.paths.items (returns-clause-walk g c)

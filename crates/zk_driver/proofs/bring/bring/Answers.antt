@@ -9,7 +9,8 @@ returns-then-is_err-clause-whole g c =
 
 pub returns-clause-whole : goal.returns-clause-whole
 returns-clause-whole g c =
-    read_kept c.read_once.result (λ brought. bytes_in (input_of brought)) (g.S.Read.remaining c.args.stream.now) (g.S.Read.remaining c.wait_at_most.new.self)
+    read_kept c.read_once.result (λ brought. bytes_in (input_of brought)) (g.S.Read.remaining c.args.stream.now)
+    (g.S.Read.remaining c.wait_at_most.new.self)
     (g.S.Read.remaining c.read_once.new.stream) c.wait_at_most.ensures.gives c.read_once.ensures.whole
 
 pub returns-clause-took : goal.returns-clause-took

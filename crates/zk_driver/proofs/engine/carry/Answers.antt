@@ -17,4 +17,5 @@ returns-in_default-clause-waiting g c =
     let now = told_by c.keep.new.waiting.items in
     on_ok (now ≡ before ++ action_view c.args.action ∷ []) (now ≡ before ++ filter is_passed (action_view c.args.action ∷ [])) c.keep.result
     (λ (kept : now ≡ before ++ action_view c.args.action ∷ []).
-    kept ∙ ap (λ told. before ++ told) (passed_on c.args.action c.in_default.not-Dial c.in_default.not-HangUp c.in_default.not-Send)) c.keep.ensures.waiting
+    kept ∙ ap (λ told. before ++ told) (passed_on c.args.action c.in_default.not-Dial c.in_default.not-HangUp c.in_default.not-Send))
+    c.keep.ensures.waiting

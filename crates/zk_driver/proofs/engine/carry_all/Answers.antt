@@ -8,18 +8,26 @@ use Rattle.zk_driver.proofs.engine.carry_all.Goals as goal
 
 pub loop-action-preserved : goal.loop-action-preserved
 loop-action-preserved g c = record {
-  channel = made_more carried (channel_view c.loop-action.channel) (channel_view c.carry.new.channel) (fold carried (channel_view c.args.channel.now) (told_by c.args.actions.items))
-      (action_view c.in-Some.action) (told_by c.pop_front.new.self.items) (told_by c.loop-action.left.items) (ap told_by c.in-Some.ensures.items) c.in_ok-carry.ensures.channel c.loop-action.invariant.channel;
-  waiting = kept_more is_passed (told_by c.loop-action.waiting.items) (told_by c.carry.new.waiting.items) (told_by c.args.waiting.now.items ++ filter is_passed (told_by c.args.actions.items))
-      (action_view c.in-Some.action) (told_by c.pop_front.new.self.items) (told_by c.loop-action.left.items) (ap told_by c.in-Some.ensures.items) c.in_ok-carry.ensures.waiting c.loop-action.invariant.waiting;
-  stays = stays_on c.args.channel.now.stream c.loop-action.channel.stream c.carry.new.channel.stream c.loop-action.invariant.stays c.carry.ensures.stays;
-  kept = extends_on (told_by c.args.waiting.now.items) (told_by c.loop-action.waiting.items) (told_by c.carry.new.waiting.items) c.loop-action.invariant.kept c.carry.ensures.kept;
+  channel = made_more carried (channel_view c.loop-action.channel) (channel_view c.carry.new.channel)
+      (fold carried (channel_view c.args.channel.now) (told_by c.args.actions.items))
+      (action_view c.in-Some.action) (told_by c.pop_front.new.self.items) (told_by c.loop-action.left.items)
+      (ap told_by c.in-Some.ensures.items) c.in_ok-carry.ensures.channel c.loop-action.invariant.channel;
+  waiting = kept_more is_passed (told_by c.loop-action.waiting.items) (told_by c.carry.new.waiting.items)
+      (told_by c.args.waiting.now.items ++ filter is_passed (told_by c.args.actions.items))
+      (action_view c.in-Some.action) (told_by c.pop_front.new.self.items) (told_by c.loop-action.left.items)
+      (ap told_by c.in-Some.ensures.items) c.in_ok-carry.ensures.waiting c.loop-action.invariant.waiting;
+  stays = stays_on c.args.channel.now.stream c.loop-action.channel.stream c.carry.new.channel.stream
+      c.loop-action.invariant.stays c.carry.ensures.stays;
+  kept = extends_on (told_by c.args.waiting.now.items) (told_by c.loop-action.waiting.items)
+      (told_by c.carry.new.waiting.items) c.loop-action.invariant.kept c.carry.ensures.kept;
 }
 
 pub returns-in_err-carry-clause-kept : goal.returns-in_err-carry-clause-kept
 returns-in_err-carry-clause-kept g c =
-    extends_on (told_by c.args.waiting.now.items) (told_by c.loop-action.waiting.items) (told_by c.carry.new.waiting.items) c.loop-action.invariant.kept c.carry.ensures.kept
+    extends_on (told_by c.args.waiting.now.items) (told_by c.loop-action.waiting.items)
+    (told_by c.carry.new.waiting.items) c.loop-action.invariant.kept c.carry.ensures.kept
 
 pub returns-in_err-carry-clause-stays : goal.returns-in_err-carry-clause-stays
 returns-in_err-carry-clause-stays g c =
-    stays_on c.args.channel.now.stream c.loop-action.channel.stream c.carry.new.channel.stream c.loop-action.invariant.stays c.carry.ensures.stays
+    stays_on c.args.channel.now.stream c.loop-action.channel.stream c.carry.new.channel.stream
+    c.loop-action.invariant.stays c.carry.ensures.stays

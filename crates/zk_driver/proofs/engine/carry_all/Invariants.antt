@@ -8,8 +8,10 @@ use Rattle.zk_driver.proofs.engine.carry_all.Given as goal
 -- what was carried out, and what is left to be, is all of it; and so is what waits for the program
 abbrev pub invariant-loop-action : goal.invariant-loop-action
 invariant-loop-action g l = record {
-  channel : fold carried (channel_view l.channel) (told_by l.left.items) ≡ fold carried (channel_view l.fn.channel) (told_by l.fn.actions.items);
-  waiting : told_by l.waiting.items ++ filter is_passed (told_by l.left.items) ≡ told_by l.fn.waiting.items ++ filter is_passed (told_by l.fn.actions.items);
+  channel : fold carried (channel_view l.channel) (told_by l.left.items) ≡ fold carried (channel_view l.fn.channel)
+      (told_by l.fn.actions.items);
+  waiting : told_by l.waiting.items ++ filter is_passed (told_by l.left.items)
+      ≡ told_by l.fn.waiting.items ++ filter is_passed (told_by l.fn.actions.items);
   stays : is_some l.channel.stream ≡ true → l.channel.stream ≡ l.fn.channel.stream;
   kept : Extends (told_by l.fn.waiting.items) (told_by l.waiting.items);
 }

@@ -3,4 +3,5 @@ use Rattle.zk_driver.proofs.Carrying.{extends_by}
 use Rattle.zk_driver.proofs.engine.keep.Goals as goal
 
 pub returns-clause-kept : goal.returns-clause-kept
-returns-clause-kept g c = extends_by (is_ok c.push_back.result) c.args.waiting.now.items c.push_back.new.self.items c.args.action c.push_back.ensures.items
+returns-clause-kept g c =
+    extends_by (is_ok c.push_back.result) c.args.waiting.now.items c.push_back.new.self.items c.args.action c.push_back.ensures.items

@@ -10,22 +10,30 @@ use Rattle.zk_follow.proofs.follower.advance.Goals as goal
 
 pub visit_all-requires-clause-counted : goal.visit_all-requires-clause-counted
 visit_all-requires-clause-counted g c =
-    subst (λ outputs. All (λ subject. IsCounted (view_of c.step_at.new.self) (heard_all c.args.now subject (said outputs))) c.args.subjects.now) (sym c.as_slice.ensures.value)
-    (all_counted c.args.now c.args.now (view_of c.args.client.now) (turn_of c.args.input c.in-Ok.outputs.items) (view_of c.step_at.new.self) c.in-Ok.ensures.rule c.args.subjects.now c.requires)
+    subst (λ outputs. All (λ subject. IsCounted (view_of c.step_at.new.self) (heard_all c.args.now subject (said outputs)))
+    c.args.subjects.now) (sym c.as_slice.ensures.value)
+    (all_counted c.args.now c.args.now (view_of c.args.client.now) (turn_of c.args.input c.in-Ok.outputs.items)
+    (view_of c.step_at.new.self) c.in-Ok.ensures.rule c.args.subjects.now c.requires)
 
 pub visit_all-requires-clause-goes_on : goal.visit_all-requires-clause-goes_on
 visit_all-requires-clause-goes_on g c =
-    going_at c.args.now (view_of c.args.client.now) (turn_of c.args.input c.in-Ok.outputs.items) (view_of c.step_at.new.self) c.in-Ok.ensures.rule
+    going_at c.args.now (view_of c.args.client.now) (turn_of c.args.input c.in-Ok.outputs.items)
+    (view_of c.step_at.new.self) c.in-Ok.ensures.rule
 
 pub returns-in-Ok-append-clause-steps : goal.returns-in-Ok-append-clause-steps
 returns-in-Ok-append-clause-steps g c =
-    steps c.args.now (view_of c.args.client.now) (input_view c.args.input) (said c.in-Ok.outputs.items) (view_of c.step_at.new.self) c.args.subjects.now (view_of c.visit_all.new.client)
+    steps c.args.now (view_of c.args.client.now) (input_view c.args.input) (said c.in-Ok.outputs.items)
+    (view_of c.step_at.new.self) c.args.subjects.now (view_of c.visit_all.new.client)
     (said c.visit_all.new.made.items) (said c.append.new.self.items) c.visit_all.new.subjects c.in-Ok.ensures.rule
-    (subst (λ given. Reads c.args.subjects.now (view_of c.step_at.new.self) given (view_of c.visit_all.new.client) (said c.visit_all.new.made.items)) (ap said c.new-made.ensures.items) c.in_ok-visit_all.ensures.reads)
-    (subst (λ outputs. AreVisited c.args.now (said outputs) c.args.subjects.now c.visit_all.new.subjects) c.as_slice.ensures.value c.in_ok-visit_all.ensures.visited)
+    (subst (λ given. Reads c.args.subjects.now (view_of c.step_at.new.self) given (view_of c.visit_all.new.client)
+    (said c.visit_all.new.made.items)) (ap said c.new-made.ensures.items) c.in_ok-visit_all.ensures.reads)
+    (subst (λ outputs. AreVisited c.args.now (said outputs) c.args.subjects.now c.visit_all.new.subjects) c.as_slice.ensures.value
+    c.in_ok-visit_all.ensures.visited)
     (ap said c.in-Ok-append.ensures.items ∙ map-append output_view c.in-Ok.outputs.items c.visit_all.new.made.items)
 
 pub returns-in-Ok-append-clause-ahead : goal.returns-in-Ok-append-clause-ahead
 returns-in-Ok-append-clause-ahead g c =
-    all_ahead c.args.now c.ranges.now.fits (said c.in-Ok.outputs.items) c.args.subjects.now c.visit_all.new.subjects c.visit_all.auto.subjects
-    (subst (λ outputs. AreVisited c.args.now (said outputs) c.args.subjects.now c.visit_all.new.subjects) c.as_slice.ensures.value c.in_ok-visit_all.ensures.visited)
+    all_ahead c.args.now c.ranges.now.fits
+    (said c.in-Ok.outputs.items) c.args.subjects.now c.visit_all.new.subjects c.visit_all.auto.subjects
+    (subst (λ outputs. AreVisited c.args.now (said outputs) c.args.subjects.now c.visit_all.new.subjects) c.as_slice.ensures.value
+    c.in_ok-visit_all.ensures.visited)

@@ -12,4 +12,5 @@ loop-subject-preserved g c =
     let within : index < length c.args.subjects.now = omega (arith, c.loop-subject-test.true) in
     let fits : index < length subjects = omega (arith, c.loop-subject-test.true, c.loop-subject.auto.subjects) in
     ap (set subjects index) c.begin.ensures
-    ∙ map_over_more due_again c.args.subjects.now subjects index item within c.loop-subject.invariant (get_or_default subjects index c.subject-item.result item fits)
+    ∙ map_over_more due_again c.args.subjects.now subjects index item within c.loop-subject.invariant
+    (get_or_default subjects index c.subject-item.result item fits)

@@ -4,4 +4,5 @@ use Rattle.zk_follow.proofs.follower.first_again.Given as goal
 
 -- the first of those so far
 abbrev pub invariant-loop-subject : goal.invariant-loop-subject
-invariant-loop-subject g l = l.first ≡ fold (λ first subject. first_of first (again_at subject.progress)) None (take l.subject-index l.subjects)
+invariant-loop-subject g l =
+    l.first ≡ fold (λ first subject. first_of first (again_at subject.progress)) None (take l.subject-index l.subjects)

@@ -12,7 +12,8 @@ visit-requires-clause-counted g c =
     let subjects = c.loop-index.subjects in
     let index = c.loop-index.index in
     let within : index < length c.args.subjects.now = omega (arith, c.loop-index-test.true, c.loop-index.invariant.size) in
-    next_counted c.args.now (view_of c.args.client.now) (view_of c.loop-index.client) c.loop-index.invariant.asks subjects c.args.subjects.now index
+    next_counted c.args.now (view_of c.args.client.now)
+    (view_of c.loop-index.client) c.loop-index.invariant.asks subjects c.args.subjects.now index
     (get_or subjects index c.index-subjects-index.result) (said c.args.outputs.now) within c.requires.counted
     (ap (get_or subjects index) c.index-subjects-index.is) c.loop-index.invariant.rest_of
 
@@ -33,16 +34,24 @@ loop-index-preserved g c =
     let index = c.loop-index.index in
     let within : index < length subjects = omega (arith, c.loop-index-test.true, c.loop-index.invariant.size) in
     record {
-      asks = asks_on (view_of c.args.client.now) (view_of c.loop-index.client) (view_of c.visit.new.client) c.loop-index.invariant.asks c.in_ok-is_full.ensures.asks;
+      asks = asks_on (view_of c.args.client.now) (view_of c.loop-index.client)
+          (view_of c.visit.new.client) c.loop-index.invariant.asks c.in_ok-is_full.ensures.asks;
       size = length-set subjects index c.visit.new.self ∙ c.loop-index.invariant.size;
-      before = more_visited c.args.now (view_of c.loop-index.client) (view_of c.visit.new.client) c.in_ok-is_full.ensures.asks subjects index c.visit.new.self within
+      before = more_visited c.args.now (view_of c.loop-index.client)
+          (view_of c.visit.new.client) c.in_ok-is_full.ensures.asks subjects index c.visit.new.self within
           c.in_ok-is_full.ensures.followed c.in_ok-is_full.ensures.counted c.loop-index.invariant.before;
-      visited = one_more_visited c.args.now (said c.args.outputs.now) c.args.subjects.now subjects index (get_or subjects index c.index-subjects-index.result) c.visit.new.self
-          (omega (arith, c.loop-index-test.true, c.loop-index.invariant.size)) within (ap (get_or subjects index) c.index-subjects-index.is) c.loop-index.invariant.rest_of
-          (is_visited c.args.now (view_of c.loop-index.client) (said c.loop-index.made.items) _ (view_of c.visit.new.client) (said c.visit.new.made.items) c.visit.new.self c.in_ok-is_full.ensures.visits) c.loop-index.invariant.visited;
-      reads = more_reads c.args.now c.args.subjects.now subjects index (get_or subjects index c.index-subjects-index.result) (said c.args.outputs.now) (view_of c.args.client.now)
-          (view_of c.loop-index.client) (view_of c.visit.new.client) (said c.args.made.now.items) (said c.loop-index.made.items) (said c.visit.new.made.items) c.visit.new.self
-          (omega (arith, c.loop-index-test.true, c.loop-index.invariant.size)) (ap (get_or subjects index) c.index-subjects-index.is) c.loop-index.invariant.rest_of
+      visited = one_more_visited c.args.now (said c.args.outputs.now) c.args.subjects.now subjects index
+          (get_or subjects index c.index-subjects-index.result) c.visit.new.self
+          (omega (arith, c.loop-index-test.true, c.loop-index.invariant.size)) within
+          (ap (get_or subjects index) c.index-subjects-index.is) c.loop-index.invariant.rest_of
+          (is_visited c.args.now (view_of c.loop-index.client) (said c.loop-index.made.items) _ (view_of c.visit.new.client)
+          (said c.visit.new.made.items) c.visit.new.self c.in_ok-is_full.ensures.visits) c.loop-index.invariant.visited;
+      reads = more_reads c.args.now c.args.subjects.now subjects index (get_or subjects index c.index-subjects-index.result)
+          (said c.args.outputs.now) (view_of c.args.client.now)
+          (view_of c.loop-index.client) (view_of c.visit.new.client) (said c.args.made.now.items) (said c.loop-index.made.items)
+          (said c.visit.new.made.items) c.visit.new.self
+          (omega (arith, c.loop-index-test.true, c.loop-index.invariant.size))
+          (ap (get_or subjects index) c.index-subjects-index.is) c.loop-index.invariant.rest_of
           c.loop-index.invariant.reads c.in_ok-is_full.ensures.visits;
       full = c.in_ok-is_full.ensures.full;
       rest_of = same_after subjects c.args.subjects.now index c.visit.new.self c.loop-index.invariant.rest_of;

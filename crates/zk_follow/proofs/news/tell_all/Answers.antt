@@ -19,9 +19,11 @@ loop-subject-preserved g c =
     let within : index < length first = omega (arith, c.loop-subject-test.true) in
     let fits : index < length subjects = omega (arith, c.loop-subject-test.true, c.loop-subject.auto.subjects) in
     let same : item ≡ get_or subjects index item = get_or_default subjects index c.subject-item.result item fits in
-    let is : item ≡ get_or first index item = same ∙ at_seam (told_of view) first subjects index item within c.loop-subject.invariant.subjects in
+    let is : item ≡ get_or first index item =
+    same ∙ at_seam (told_of view) first subjects index item within c.loop-subject.invariant.subjects in
     record {
-      subjects = ap (set subjects index) c.report.ensures.told ∙ map_over_more (told_of view) first subjects index item within c.loop-subject.invariant.subjects same;
+      subjects = ap (set subjects index) c.report.ensures.told
+          ∙ map_over_more (told_of view) first subjects index item within c.loop-subject.invariant.subjects same;
       all = c.in_ok-report.ensures.news ∙ ap (λ all. all ++ news_in view outputs item) c.loop-subject.invariant.all
           ∙ append_assoc c.args.all.now.items (flat_map (news_in view outputs) (take index first)) (news_in view outputs item)
           ∙ ap (λ all. c.args.all.now.items ++ all) (sym (flat_more (news_in view outputs) first index item within is));
@@ -30,4 +32,5 @@ loop-subject-preserved g c =
 pub returns-clause-told : goal.returns-clause-told
 returns-clause-told g c =
     let past : length c.args.subjects.now ≤ c.loop-subject.subject-index = omega (arith, c.loop-subject-test.false) in
-    c.loop-subject.invariant.subjects ∙ whole_mapped (told_of (view_of c.args.client.now)) c.args.subjects.now c.loop-subject.subject-index past
+    c.loop-subject.invariant.subjects
+    ∙ whole_mapped (told_of (view_of c.args.client.now)) c.args.subjects.now c.loop-subject.subject-index past

@@ -6,5 +6,6 @@ use Rattle.zk_line.proofs.order.limits_rise.Goals as goal
 
 pub returns-then-so_far : goal.returns-then-so_far
 returns-then-so_far g c = λ first.
-    in_order-added (ends_first {A = g.row.A.Denot}) limits_join c.args.entries.now.items (deque_len c.args.entries.now - 1) c.in-Some.last.now c.args.entry.now (c.requires c.if-so_far.true)
+    in_order-added (ends_first {A = g.row.A.Denot}) limits_join c.args.entries.now.items
+    (deque_len c.args.entries.now - 1) c.in-Some.last.now c.args.entry.now (c.requires c.if-so_far.true)
     (omega (arith, c.in-Some.ensures.item.3.0, c.args.entries.now.ok.0)) c.in-Some.ensures.lookup (sym c.limit_le.ensures ∙ first)

@@ -6,11 +6,14 @@ use Rattle.zk_line.proofs.turn.place_of_next.Goals as goal
 pub returns-then-not-index : goal.returns-then-not-index
 returns-then-not-index g c =
     let entries = c.args.entries.now.items in
-    let within : c.loop-place.place < length entries = omega (arith, c.loop-place-test.true, c.len-place-end.ensures, c.args.entries.now.ok.0) in
-    sym (position_is waits_turn entries c.loop-place.place c.index.result.now within (λ k less. c.loop-place.invariant k c.index.result.now less)
+    let within : c.loop-place.place < length entries =
+    omega (arith, c.loop-place-test.true, c.len-place-end.ensures, c.args.entries.now.ok.0) in
+    sym (position_is waits_turn entries c.loop-place.place c.index.result.now within
+    (λ k less. c.loop-place.invariant k c.index.result.now less)
     (ap waits_turn (sym c.index.ensures) ∙ ap not c.if-not-index.true))
 
 pub returns : goal.returns
 returns g c =
     sym (position_none waits_turn c.args.entries.now.items
-    (λ k d below. c.loop-place.invariant k d (omega (arith, below, c.loop-place-test.false, c.len-place-end.ensures, c.args.entries.now.ok.0))))
+    (λ k d below. c.loop-place.invariant k d
+    (omega (arith, below, c.loop-place-test.false, c.len-place-end.ensures, c.args.entries.now.ok.0))))

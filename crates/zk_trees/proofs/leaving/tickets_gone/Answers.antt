@@ -14,10 +14,12 @@ loop-one-preserved g c =
     elim c.if-is_gone.branch [
       | then-is_gone+in_ok-push w ↦
           ap (λ v. v.items ++ left) w.tickets-is ∙ ap (λ l. l ++ left) w.in_ok-push.ensures.items
-          ∙ gone_more view members index c.one-item.result c.loop-one-test.true c.one-item.is c.loop-one.tickets.items (tickets_gone view members)
+          ∙ gone_more view members index c.one-item.result c.loop-one-test.true c.one-item.is c.loop-one.tickets.items
+          (tickets_gone view members)
           (sym c.is_gone.ensures ∙ w.if-is_gone.true) c.loop-one.invariant
       | else-is_gone w ↦
           ap (λ v. v.items ++ left) w.tickets-is
-          ∙ gone_less view members index c.one-item.result c.loop-one-test.true c.one-item.is c.loop-one.tickets.items (tickets_gone view members)
+          ∙ gone_less view members index c.one-item.result c.loop-one-test.true c.one-item.is c.loop-one.tickets.items
+          (tickets_gone view members)
           (sym c.is_gone.ensures ∙ w.if-is_gone.false) c.loop-one.invariant
     ]

@@ -5,4 +5,5 @@ use Rattle.zk_trees.proofs.leaving.tickets_gone.Given as goal
 
 -- what was found, with what is left to be found
 abbrev pub invariant-loop-one : goal.invariant-loop-one
-invariant-loop-one g l = l.tickets.items ++ tickets_gone (view_of l.client) (drop l.one-index l.members) ≡ tickets_gone (view_of l.client) l.members
+invariant-loop-one g l =
+    l.tickets.items ++ tickets_gone (view_of l.client) (drop l.one-index l.members) ≡ tickets_gone (view_of l.client) l.members

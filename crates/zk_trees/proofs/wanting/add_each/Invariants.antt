@@ -5,4 +5,5 @@ use Rattle.zk_trees.proofs.wanting.add_each.Given as goal
 
 -- what was added, with what is left to be added
 abbrev pub invariant-loop-path : goal.invariant-loop-path
-invariant-loop-path g l = aims_of l.subjects.items ++ aims_at l.side (drop l.path-index l.paths) ≡ aims_of l.initial.subjects.items ++ aims_at l.side l.paths
+invariant-loop-path g l =
+    aims_of l.subjects.items ++ aims_at l.side (drop l.path-index l.paths) ≡ aims_of l.initial.subjects.items ++ aims_at l.side l.paths

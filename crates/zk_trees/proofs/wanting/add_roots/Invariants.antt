@@ -5,4 +5,5 @@ use Rattle.zk_trees.proofs.wanting.add_roots.Given as goal
 
 -- what was added, with what is left to be added
 abbrev pub invariant-loop-root : goal.invariant-loop-root
-invariant-loop-root g l = aims_of l.subjects.items ++ roots_aims (drop l.root-index l.roots) ≡ aims_of l.initial.subjects.items ++ roots_aims l.roots
+invariant-loop-root g l =
+    aims_of l.subjects.items ++ roots_aims (drop l.root-index l.roots) ≡ aims_of l.initial.subjects.items ++ roots_aims l.roots

@@ -9,7 +9,8 @@ use Rattle.zk_trees.proofs.wanting.wanted_of.Goals as goal
 
 pub loop-root-preserved : goal.loop-root-preserved
 loop-root-preserved g c =
-    folds_next (λ old root new. IsWanted (view_of c.args.client.now) c.args.most root old new) c.args.roots.now c.loop-root.root-index c.root-item.result
+    folds_next (λ old root new. IsWanted (view_of c.args.client.now) c.args.most root old new) c.args.roots.now
+    c.loop-root.root-index c.root-item.result
     (record { aims = []; is_bounded = false }) (wants_of c.loop-root.wanted) (wants_of c.add_wanted.new.wanted)
     c.loop-root-test.true c.root-item.is c.loop-root.invariant c.in_ok-add_wanted.ensures
 
@@ -17,5 +18,6 @@ pub returns : goal.returns
 returns g c =
     let roots = c.args.roots.now in
     let past : length roots ≤ c.loop-root.root-index = omega (arith, c.loop-root-test.false) in
-    subst (λ (l : List Text). FoldsTo (λ old root new. IsWanted (view_of c.args.client.now) c.args.most root old new) (record { aims = []; is_bounded = false }) l
+    subst (λ (l : List Text).
+    FoldsTo (λ old root new. IsWanted (view_of c.args.client.now) c.args.most root old new) (record { aims = []; is_bounded = false }) l
     (wants_of c.loop-root.wanted)) (take_all c.loop-root.root-index roots past) c.loop-root.invariant

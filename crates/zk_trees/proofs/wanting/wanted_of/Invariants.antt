@@ -6,5 +6,6 @@ use Rattle.zk_trees.proofs.wanting.wanted_of.Given as goal
 
 -- what is wanted of those so far
 abbrev pub invariant-loop-root : goal.invariant-loop-root
-invariant-loop-root g l = FoldsTo (λ old root new. IsWanted (view_of l.client) l.most root old new) (record { aims = []; is_bounded = false })
+invariant-loop-root g l =
+    FoldsTo (λ old root new. IsWanted (view_of l.client) l.most root old new) (record { aims = []; is_bounded = false })
     (take l.root-index l.roots) (wants_of l.wanted)

@@ -12,14 +12,20 @@ pub returns-clause-comes : goal.returns-clause-comes
 returns-clause-comes g c =
     let old = trail_of c.args.self.now c.args.actions.now.items in
     let entry : Entry g.row.A.Denot = record { ticket = c.args.ticket; call = c.args.call; until = c.args.until; is_sent = false } in
-    let between = record old { view = view_of c.ask.new.self.follower.client; subjects = c.ask.new.self.follower.subjects.items; line = c.ask.new.self.line.entries.items } in
-    ok_after c.step_client.result c.args.now (Asks c.args.ticket (call_view c.args.call) c.args.until ∷ []) (Hears c.args.now (Now c.args.now) ∷ []) old between (trail_of c.step_client.new.self c.step_client.new.actions.items)
+    let between = record old {
+      view = view_of c.ask.new.self.follower.client;
+      subjects = c.ask.new.self.follower.subjects.items;
+      line = c.ask.new.self.line.entries.items;
+    } in
+    ok_after c.step_client.result c.args.now (Asks c.args.ticket (call_view c.args.call) c.args.until ∷ [])
+    (Hears c.args.now (Now c.args.now) ∷ []) old between (trail_of c.step_client.new.self c.step_client.new.actions.items)
     (gives c.args.now (Asks c.args.ticket (call_view c.args.call) c.args.until) old between refl tt (record {
       entry = entry;
       its_ticket = refl;
       its_call = refl;
       its_limit = refl;
       waits = refl;
-      last = trail_eq (record old { line = old.line ++ entry ∷ [] }) between (ap (λ (f : Follower g.row.A.Denot). view_of f.client) c.ask.ensures.follower)
+      last = trail_eq (record old { line = old.line ++ entry ∷ [] }) between
+          (ap (λ (f : Follower g.row.A.Denot). view_of f.client) c.ask.ensures.follower)
           (ap (λ (f : Follower g.row.A.Denot). f.subjects.items) c.ask.ensures.follower) c.in_ok-ask.ensures.line refl refl refl refl;
     })) c.step_client.ensures.comes

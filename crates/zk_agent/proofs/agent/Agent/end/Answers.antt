@@ -8,5 +8,7 @@ pub returns-clause-comes : goal.returns-clause-comes
 returns-clause-comes g c =
     let old = trail_of c.args.self.now c.args.actions.now.items in
     let between = record old { dialler = c.end.new.self } in
-    ok_after c.step_client.result c.args.now (Ended c.args.now ∷ []) (Hears c.args.now Cut ∷ []) old between (trail_of c.step_client.new.self c.step_client.new.actions.items)
-    (ended old between c.timeout_ms-timeout_ms.result c.args.now c.timeout_ms-timeout_ms.ensures c.end.ensures refl) c.step_client.ensures.comes
+    ok_after c.step_client.result c.args.now (Ended c.args.now ∷ []) (Hears c.args.now Cut ∷ []) old between
+    (trail_of c.step_client.new.self c.step_client.new.actions.items)
+    (ended old between c.timeout_ms-timeout_ms.result c.args.now c.timeout_ms-timeout_ms.ensures c.end.ensures refl)
+    c.step_client.ensures.comes

@@ -9,6 +9,13 @@ use Rattle.zk_agent.proofs.agent.Agent.follow.Goals as goal
 pub returns-clause-comes : goal.returns-clause-comes
 returns-clause-comes g c =
     let old = trail_of c.args.self.now c.args.actions.now.items in
-    let between = record old { view = view_of c.follow.new.self.follower.client; subjects = c.follow.new.self.follower.subjects.items; line = c.follow.new.self.line.entries.items } in
-    ok_after c.step_client.result c.args.now (Follows c.args.ticket c.args.side c.args.path ∷ []) (Hears c.args.now (Now c.args.now) ∷ []) old between (trail_of c.step_client.new.self c.step_client.new.actions.items)
-    (gives c.args.now (Follows c.args.ticket c.args.side c.args.path) old between refl tt (trail_eq _ between (ap view_of c.follow.ensures.client) c.in_ok-follow.ensures.subjects (ap (λ (l : Line g.row.A.Denot). l.entries.items) c.follow.ensures.line) refl refl refl refl)) c.step_client.ensures.comes
+    let between = record old {
+      view = view_of c.follow.new.self.follower.client;
+      subjects = c.follow.new.self.follower.subjects.items;
+      line = c.follow.new.self.line.entries.items;
+    } in
+    ok_after c.step_client.result c.args.now (Follows c.args.ticket c.args.side c.args.path ∷ [])
+    (Hears c.args.now (Now c.args.now) ∷ []) old between (trail_of c.step_client.new.self c.step_client.new.actions.items)
+    (gives c.args.now (Follows c.args.ticket c.args.side c.args.path) old between refl tt
+    (trail_eq _ between (ap view_of c.follow.ensures.client) c.in_ok-follow.ensures.subjects
+    (ap (λ (l : Line g.row.A.Denot). l.entries.items) c.follow.ensures.line) refl refl refl refl)) c.step_client.ensures.comes

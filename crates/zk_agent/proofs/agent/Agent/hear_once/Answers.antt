@@ -12,15 +12,18 @@ use Rattle.zk_agent.proofs.agent.Agent.hear_once.Goals as goal
 
 pub returns-clause-followed : goal.returns-clause-followed
 returns-clause-followed g c =
-    subst (λ (a : Asker g.row.A.Denot). All (IsFollowed c.args.now (view_of a.follower.client)) a.follower.subjects.items) (sym c.heed.ensures.asker) c.in_ok-heard.ensures.followed
+    subst (λ (a : Asker g.row.A.Denot). All (IsFollowed c.args.now (view_of a.follower.client)) a.follower.subjects.items)
+    (sym c.heed.ensures.asker) c.in_ok-heard.ensures.followed
 
 pub returns-clause-hears : goal.returns-clause-hears
 returns-clause-hears g c =
     let old = trail_of c.args.self.now c.args.actions.now.items in
     let new = trail_of c.heed.new.self c.heed.new.actions.items in
     let input = input_view c.args.input in
-    taken_and c.args.now input old new (trail_of (record c.args.self.now { asker = c.step.new.self }) c.step.new.actions.items) old.line c.in_ok-heard.heard
+    taken_and c.args.now input old new
+    (trail_of (record c.args.self.now { asker = c.step.new.self }) c.step.new.actions.items) old.line c.in_ok-heard.heard
     (may_hear input old c.requires) (not_handed input (is_open old.dialler.phase) old.line c.requires) c.in_ok-heard.ensures.takes
-    (ap (λ (a : Asker g.row.A.Denot). view_of a.follower.client) c.heed.ensures.asker) (ap (λ (a : Asker g.row.A.Denot). a.follower.subjects.items) c.heed.ensures.asker)
+    (ap (λ (a : Asker g.row.A.Denot). view_of a.follower.client) c.heed.ensures.asker)
+    (ap (λ (a : Asker g.row.A.Denot). a.follower.subjects.items) c.heed.ensures.asker)
     (ap (λ (a : Asker g.row.A.Denot). a.line.entries.items) c.heed.ensures.asker) c.heed.ensures.timeout c.in_ok-heed.ensures.goes
     (c.in_ok-heed.ensures.waits ∙ ap (waited_after c.args.now c.in_ok-heard.heard.sent) c.note_answers.ensures)

@@ -7,7 +7,8 @@ use Rattle.zk_agent.proofs.Moves.{gives, late_is_same, late_makes, ok_after, ope
 use Rattle.zk_agent.proofs.agent.Agent.open.Goals as goal
 
 pub step_client-requires : goal.step_client-requires
-step_client-requires g c = ours_is_open c.timeout_ms-timeout_ms.result c.args.now c.args.self.now.dialler c.open.new.self c.open.result c.open.ensures c.if-open.true
+step_client-requires g c = ours_is_open c.timeout_ms-timeout_ms.result c.args.now c.args.self.now.dialler c.open.new.self c.open.result
+    c.open.ensures c.if-open.true
 
 pub returns-then-open-clause-comes : goal.returns-then-open-clause-comes
 returns-then-open-clause-comes g c =
@@ -15,17 +16,22 @@ returns-then-open-clause-comes g c =
     let between = record old { dialler = c.open.new.self } in
     let new = trail_of c.step_client.new.self c.step_client.new.actions.items in
     subst (λ given. OnOk c.step_client.result (Comes c.args.now given old new))
-    (ours_makes c.timeout_ms-timeout_ms.result c.args.now c.args.self.now.dialler c.open.new.self c.open.result c.open.ensures c.if-open.true)
+    (ours_makes c.timeout_ms-timeout_ms.result c.args.now c.args.self.now.dialler c.open.new.self c.open.result
+    c.open.ensures c.if-open.true)
     (ok_after c.step_client.result c.args.now (Opened c.args.now ∷ []) (Hears c.args.now turns.Opened ∷ []) old between new
-    (opened old between c.timeout_ms-timeout_ms.result c.args.now c.open.result c.timeout_ms-timeout_ms.ensures c.if-open.true c.open.ensures refl) c.step_client.ensures.comes)
+    (opened old between c.timeout_ms-timeout_ms.result c.args.now c.open.result c.timeout_ms-timeout_ms.ensures c.if-open.true
+    c.open.ensures refl) c.step_client.ensures.comes)
 
 pub returns-clause-comes : goal.returns-clause-comes
 returns-clause-comes g c =
     let old = trail_of c.args.self.now c.args.actions.now.items in
     let between = record old { dialler = c.open.new.self; told = told_by c.push.new.actions.items } in
     let new = trail_of c.end.new.self c.end.new.actions.items in
-    let same = late_is_same c.timeout_ms-timeout_ms.result c.args.now c.args.self.now.dialler c.open.new.self c.open.result c.open.ensures c.if-open.false in
+    let same = late_is_same c.timeout_ms-timeout_ms.result c.args.now c.args.self.now.dialler c.open.new.self c.open.result
+    c.open.ensures c.if-open.false in
     subst (λ given. OnOk c.end.result (Comes c.args.now given old new))
-    (late_makes c.timeout_ms-timeout_ms.result c.args.now c.args.self.now.dialler c.open.new.self c.open.result c.open.ensures c.if-open.false)
+    (late_makes c.timeout_ms-timeout_ms.result c.args.now c.args.self.now.dialler c.open.new.self c.open.result
+    c.open.ensures c.if-open.false)
     (ok_after c.end.result c.args.now (HungUp ∷ []) (over_at c.args.now) old between new
-    (gives c.args.now HungUp old between refl tt (trail_eq (record old { told = old.told ++ HangsUp ∷ [] }) between refl refl refl same refl refl c.in_ok-push.ensures)) c.end.ensures.comes)
+    (gives c.args.now HungUp old between refl tt (trail_eq
+    (record old { told = old.told ++ HangsUp ∷ [] }) between refl refl refl same refl refl c.in_ok-push.ensures)) c.end.ensures.comes)

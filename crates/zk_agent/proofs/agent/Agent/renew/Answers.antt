@@ -8,11 +8,13 @@ use Rattle.zk_agent.proofs.agent.Agent.renew.Goals as goal
 pub returns-then-is_expired-clause-comes : goal.returns-then-is_expired-clause-comes
 returns-then-is_expired-clause-comes g c = λ now.
     renewed c.begin.result now (trail_of c.args.self.now c.args.actions.now.items) (trail_of c.begin.new.self c.begin.new.actions.items)
-    (c.is_expired.ensures.yes c.if-is_expired.true) c.begin.ensures.view c.begin.ensures.subjects c.begin.ensures.dialler c.begin.ensures.timeout (ap waited_of c.begin.ensures.waits) c.begin.ensures.line c.begin.ensures.told
+    (c.is_expired.ensures.yes c.if-is_expired.true) c.begin.ensures.view c.begin.ensures.subjects c.begin.ensures.dialler
+    c.begin.ensures.timeout (ap waited_of c.begin.ensures.waits) c.begin.ensures.line c.begin.ensures.told
 
 pub returns-then-is_expired-clause-renewed : goal.returns-then-is_expired-clause-renewed
 returns-then-is_expired-clause-renewed g c =
-    begun c.begin.result c.args.self.now.timeout_ms (view_of c.args.self.now.asker.follower.client) (view_of c.begin.new.self.asker.follower.client) c.begin.ensures.view
+    begun c.begin.result c.args.self.now.timeout_ms (view_of c.args.self.now.asker.follower.client)
+    (view_of c.begin.new.self.asker.follower.client) c.begin.ensures.view
 
 pub returns-then-is_expired-clause-followed : goal.returns-then-is_expired-clause-followed
 returns-then-is_expired-clause-followed g c = λ now all. followed_ok _ c.begin.result now c.begin.ensures.followed

@@ -20,20 +20,23 @@ loop-goes_on-init g c = record {
 
 pub loop-goes_on-preserved : goal.loop-goes_on-preserved
 loop-goes_on-preserved g c = record {
-  comes = then_none c.args.now [] (trail_of c.args.self.now c.args.actions.now.items) (trail_of c.loop-goes_on.self c.loop-goes_on.actions.items) (trail_of c.try_one.new.self c.try_one.new.actions.items)
+  comes = then_none c.args.now [] (trail_of c.args.self.now c.args.actions.now.items)
+      (trail_of c.loop-goes_on.self c.loop-goes_on.actions.items) (trail_of c.try_one.new.self c.try_one.new.actions.items)
       c.loop-goes_on.invariant.comes c.in_ok-goes_on.ensures.sends.comes;
   followed = λ all. c.in_ok-goes_on.ensures.followed (c.loop-goes_on.invariant.followed all);
   limits = λ all. c.in_ok-goes_on.ensures.sends.limits (c.loop-goes_on.invariant.limits all);
   same = λ away.
       let before = c.loop-goes_on.invariant.same away in
-      c.try_one.ensures.same (subst (λ (a : Asker g.row.A.Denot). (view_of a.follower.client).standing.state ≢ Connected) (sym before) away) ∙ before;
+      c.try_one.ensures.same (subst (λ (a : Asker g.row.A.Denot). (view_of a.follower.client).standing.state ≢ Connected) (sym before) away)
+      ∙ before;
   ends = λ state final is. c.loop-goes_on.invariant.ends state final (c.in_ok-goes_on.ensures.sends.ends state final is);
   done = c.in_ok-goes_on.ensures.sends.none;
 }
 
 pub loop-goes_on-smaller : goal.loop-goes_on-smaller
 loop-goes_on-smaller g c =
-    fewer_left c.loop-goes_on.goes_on c.in_ok-goes_on.goes_on (how_many_wait c.loop-goes_on.self.asker.line.entries.items) (how_many_wait c.try_one.new.self.asker.line.entries.items)
+    fewer_left c.loop-goes_on.goes_on c.in_ok-goes_on.goes_on (how_many_wait c.loop-goes_on.self.asker.line.entries.items)
+    (how_many_wait c.try_one.new.self.asker.line.entries.items)
     c.loop-goes_on-test.true c.in_ok-goes_on.ensures.sends.more
 
 pub returns-clause-comes : goal.returns-clause-comes

@@ -17,7 +17,8 @@ invariant-loop-goes_on g l = record {
       → All (IsFollowed l.now (view_of l.self.asker.follower.client)) l.self.asker.follower.subjects.items;
   limits : All (IsInTime l.now) l.fn.self.asker.line.entries.items → All (IsInTime l.now) l.self.asker.line.entries.items;
   same : (view_of l.fn.self.asker.follower.client).standing.state ≢ Connected → l.self.asker ≡ l.fn.self.asker;
-  ends : (state : State) → is_final state ≡ true → (view_of l.self.asker.follower.client).standing.state ≡ state → (view_of l.fn.self.asker.follower.client).standing.state ≡ state;
+  ends : (state : State) → is_final state ≡ true → (view_of l.self.asker.follower.client).standing.state ≡ state
+      → (view_of l.fn.self.asker.follower.client).standing.state ≡ state;
   done : l.goes_on ≡ false → IsDone (view_of l.self.asker.follower.client) l.self.asker.line.entries.items;
 }
 

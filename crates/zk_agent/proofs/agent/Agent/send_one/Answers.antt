@@ -9,7 +9,8 @@ pub returns-in_default-clause-sends : goal.returns-in_default-clause-sends
 returns-in_default-clause-sends g c =
     let old = trail_of c.args.self.now c.args.actions.now.items in
     let new = trail_of (record c.args.self.now { asker = c.hand_over.new.self }) c.hand_over.new.actions.items in
-    sends_none c.args.now old new (hands_as c.args.now old new c.in_ok-heard.field-0 _ c.in_default.is c.in_ok-heard.ensures.hands) refl refl refl
+    sends_none c.args.now old new
+    (hands_as c.args.now old new c.in_ok-heard.field-0 _ c.in_default.is c.in_ok-heard.ensures.hands) refl refl refl
 
 pub returns-clause-sends : goal.returns-clause-sends
 returns-clause-sends g c =
@@ -17,6 +18,7 @@ returns-clause-sends g c =
     let between = trail_of (record c.args.self.now { asker = c.hand_over.new.self }) c.hand_over.new.actions.items in
     sends_one c.args.now old between (trail_of c.heed.new.self c.heed.new.actions.items) c.in-Some.heard c.requires
     (hands_as c.args.now old between c.in_ok-heard.field-0 _ c.in-Some.is c.in_ok-heard.ensures.hands)
-    (ap (λ (a : Asker g.row.A.Denot). view_of a.follower.client) c.heed.ensures.asker) (ap (λ (a : Asker g.row.A.Denot). a.follower.subjects.items) c.heed.ensures.asker)
+    (ap (λ (a : Asker g.row.A.Denot). view_of a.follower.client) c.heed.ensures.asker)
+    (ap (λ (a : Asker g.row.A.Denot). a.follower.subjects.items) c.heed.ensures.asker)
     (ap (λ (a : Asker g.row.A.Denot). a.line.entries.items) c.heed.ensures.asker) c.heed.ensures.timeout c.in_ok-heed.ensures.goes
     c.in_ok-heed.ensures.waits

@@ -8,7 +8,8 @@ pub returns-clause-comes : goal.returns-clause-comes
 returns-clause-comes g c =
     let old = trail_of c.args.self.now c.args.actions.now.items in
     let between = record old { dialler = c.set_addresses.new.self } in
-    ok_after c.step_client.result c.args.now (Addressed c.args.count ∷ []) (Hears c.args.now (Now c.args.now) ∷ []) old between (trail_of c.step_client.new.self c.step_client.new.actions.items)
+    ok_after c.step_client.result c.args.now (Addressed c.args.count ∷ []) (Hears c.args.now (Now c.args.now) ∷ []) old between
+    (trail_of c.step_client.new.self c.step_client.new.actions.items)
     (gives c.args.now (Addressed c.args.count) old between refl tt (
       record {
         order = c.in_ok-set_addresses.ensures.order;

@@ -23,9 +23,11 @@ returns-clause-comes g c =
     let old = trail_of c.args.self.now [] in
     let new = trail_of c.dial.new.self c.dial.new.actions.items in
     subst (λ moment. Comes moment (given_of c.args.self.now.dialler.phase moment c.args.input) old new) c.max-now.ensures
-    (in_turn now given old first (trail_of c.renew.new.self c.renew.new.actions.items) (trail_of c.give_up.new.self c.give_up.new.actions.items)
+    (in_turn now given old first (trail_of c.renew.new.self c.renew.new.actions.items)
+    (trail_of c.give_up.new.self c.give_up.new.actions.items)
     (trail_of c.send.new.self c.send.new.actions.items) (trail_of c.tire.new.self c.tire.new.actions.items) new
-    (subst (λ items. Comes now given (trail_of c.args.self.now items) first) c.new-actions.ensures.items c.in_ok-apply_happening.ensures.comes) (c.in_ok-renew.ensures.comes now)
+    (subst (λ items. Comes now given (trail_of c.args.self.now items) first) c.new-actions.ensures.items
+    c.in_ok-apply_happening.ensures.comes) (c.in_ok-renew.ensures.comes now)
     c.in_ok-give_up.ensures.comes c.in_ok-send.ensures.comes c.in_ok-tire.ensures.tired.comes c.in_ok-dial.ensures.comes)
 
 pub returns-clause-calls : goal.returns-clause-calls
@@ -36,9 +38,11 @@ returns-clause-calls g c = λ ticket.
     let old = trail_of c.args.self.now [] in
     let new = trail_of c.dial.new.self c.dial.new.actions.items in
     let all = calls_balance now given old new
-    (in_turn now given old first (trail_of c.renew.new.self c.renew.new.actions.items) (trail_of c.give_up.new.self c.give_up.new.actions.items)
+    (in_turn now given old first (trail_of c.renew.new.self c.renew.new.actions.items)
+    (trail_of c.give_up.new.self c.give_up.new.actions.items)
     (trail_of c.send.new.self c.send.new.actions.items) (trail_of c.tire.new.self c.tire.new.actions.items) new
-    (subst (λ items. Comes now given (trail_of c.args.self.now items) first) c.new-actions.ensures.items c.in_ok-apply_happening.ensures.comes) (c.in_ok-renew.ensures.comes now)
+    (subst (λ items. Comes now given (trail_of c.args.self.now items) first) c.new-actions.ensures.items
+    c.in_ok-apply_happening.ensures.comes) (c.in_ok-renew.ensures.comes now)
     c.in_ok-give_up.ensures.comes c.in_ok-send.ensures.comes c.in_ok-tire.ensures.tired.comes c.in_ok-dial.ensures.comes) refl ticket in
     all ∙ ap (λ n. how_many ticket old.line + n) (asks_its ticket c.args.self.now.dialler.phase now c.args.input)
 
@@ -46,24 +50,29 @@ pub returns-clause-followed : goal.returns-clause-followed
 returns-clause-followed g c =
     let now = c.max-now.result in
     let renewed = c.in_ok-renew.ensures.followed now c.in_ok-apply_happening.ensures.followed in
-    let given_up = subst (λ (f : Follower g.row.A.Denot). All (IsFollowed now (view_of f.client)) f.subjects.items) (sym c.give_up.ensures.follower) renewed in
-    subst (λ (a : Asker g.row.A.Denot). All (IsFollowed now (view_of a.follower.client)) a.follower.subjects.items) (sym c.dial.ensures.asker) (c.in_ok-tire.ensures.followed (c.in_ok-send.ensures.followed given_up))
+    let given_up = subst (λ (f : Follower g.row.A.Denot). All (IsFollowed now (view_of f.client)) f.subjects.items)
+    (sym c.give_up.ensures.follower) renewed in
+    subst (λ (a : Asker g.row.A.Denot). All (IsFollowed now (view_of a.follower.client)) a.follower.subjects.items)
+    (sym c.dial.ensures.asker) (c.in_ok-tire.ensures.followed (c.in_ok-send.ensures.followed given_up))
 
 pub returns-clause-served : goal.returns-clause-served
 returns-clause-served g c =
     let asker = c.dial.new.self.asker in
     all_served (view_of asker.follower.client) asker.line.entries.items asker.asked
-    (subst (λ (a : Asker g.row.A.Denot). IsDone (view_of a.follower.client) a.line.entries.items) (sym c.dial.ensures.asker) (c.in_ok-tire.ensures.tired.done c.in_ok-send.ensures.done))
+    (subst (λ (a : Asker g.row.A.Denot). IsDone (view_of a.follower.client) a.line.entries.items) (sym c.dial.ensures.asker)
+    (c.in_ok-tire.ensures.tired.done c.in_ok-send.ensures.done))
 
 pub returns-clause-limits : goal.returns-clause-limits
 returns-clause-limits g c =
-    subst (λ (a : Asker g.row.A.Denot). All (IsInTime c.max-now.result) a.line.entries.items) (sym c.dial.ensures.asker) (c.in_ok-tire.ensures.tired.limits (c.in_ok-send.ensures.limits c.in_ok-give_up.ensures.limits))
+    subst (λ (a : Asker g.row.A.Denot). All (IsInTime c.max-now.result) a.line.entries.items) (sym c.dial.ensures.asker)
+    (c.in_ok-tire.ensures.tired.limits (c.in_ok-send.ensures.limits c.in_ok-give_up.ensures.limits))
 
 pub returns-clause-closed : goal.returns-clause-closed
 returns-clause-closed g c = λ closed.
     let state = λ (a : Asker g.row.A.Denot). (view_of a.follower.client).standing.state in
     let line = λ (a : Asker g.row.A.Denot). a.line.entries.items in
-    let sent : state c.send.new.self.asker ≡ Closed = c.in_ok-tire.ensures.tired.ends Closed refl (sym (ap state c.dial.ensures.asker) ∙ closed) in
+    let sent : state c.send.new.self.asker ≡ Closed =
+    c.in_ok-tire.ensures.tired.ends Closed refl (sym (ap state c.dial.ensures.asker) ∙ closed) in
     let given_up : state c.give_up.new.self.asker ≡ Closed = c.in_ok-send.ensures.ends Closed refl sent in
     let renewed = sym (ap (λ (f : Follower g.row.A.Denot). (view_of f.client).standing.state) c.give_up.ensures.follower) ∙ given_up in
     let same = c.send.ensures.same (λ connected. let f : Closed ≡ Connected = sym given_up ∙ connected in cc) in
@@ -71,19 +80,24 @@ returns-clause-closed g c = λ closed.
 
 pub returns-clause-renewed : goal.returns-clause-renewed
 returns-clause-renewed g c = λ expired.
-    let sent = c.in_ok-tire.ensures.tired.ends Expired refl (sym (ap (λ (a : Asker g.row.A.Denot). (view_of a.follower.client).standing.state) c.dial.ensures.asker) ∙ expired) in
+    let sent = c.in_ok-tire.ensures.tired.ends Expired refl
+    (sym (ap (λ (a : Asker g.row.A.Denot). (view_of a.follower.client).standing.state) c.dial.ensures.asker) ∙ expired) in
     let given_up = c.in_ok-send.ensures.ends Expired refl sent in
-    c.in_ok-renew.ensures.renewed (sym (ap (λ (f : Follower g.row.A.Denot). (view_of f.client).standing.state) c.give_up.ensures.follower) ∙ given_up)
+    c.in_ok-renew.ensures.renewed
+    (sym (ap (λ (f : Follower g.row.A.Denot). (view_of f.client).standing.state) c.give_up.ensures.follower) ∙ given_up)
 
 pub returns-clause-dials : goal.returns-clause-dials
 returns-clause-dials g c =
     let new = trail_of c.dial.new.self c.dial.new.actions.items in
-    subst (λ now. (view_of c.dial.new.self.asker.follower.client).standing.state ≢ Closed → IsDecided now new) c.max-now.ensures c.in_ok-dial.ensures.dials
+    subst (λ now. (view_of c.dial.new.self.asker.follower.client).standing.state ≢ Closed → IsDecided now new) c.max-now.ensures
+    c.in_ok-dial.ensures.dials
 
 pub returns-clause-answers : goal.returns-clause-answers
 returns-clause-answers g c =
     let now = c.max-now.result in
     let new = c.dial.new.self in
-    ap (λ (a : Asker g.row.A.Denot). has_come now (ends_at (view_of a.follower.client).saved.session.timeout (waited_of new.waits))) c.dial.ensures.asker
-    ∙ ap (λ (w : Waits g.row.A.Denot). has_come now (ends_at (view_of c.tire.new.self.asker.follower.client).saved.session.timeout (waited_of w))) c.dial.ensures.waits
+    ap (λ (a : Asker g.row.A.Denot). has_come now (ends_at (view_of a.follower.client).saved.session.timeout (waited_of new.waits)))
+    c.dial.ensures.asker
+    ∙ ap (λ (w : Waits g.row.A.Denot).
+    has_come now (ends_at (view_of c.tire.new.self.asker.follower.client).saved.session.timeout (waited_of w))) c.dial.ensures.waits
     ∙ c.in_ok-tire.ensures.tired.answers

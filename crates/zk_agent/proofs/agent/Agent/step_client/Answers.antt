@@ -6,11 +6,14 @@ use Rattle.zk_agent.proofs.agent.Agent.step_client.Goals as goal
 pub returns-then-is_lost-clause-comes : goal.returns-then-is_lost-clause-comes
 returns-then-is_lost-clause-comes g c =
     let hears = c.in_ok-is_lost.ensures.hears in
-    hears_then c.hear_cut.result c.args.now (input_view c.args.input) (trail_of c.args.self.now c.args.actions.now.items) (trail_of c.hear_once.new.self c.hear_once.new.actions.items)
-    (trail_of c.hear_cut.new.self c.hear_cut.new.actions.items) c.in_ok-is_lost.is_lost hears.0 hears.1 c.if-is_lost.true c.hear_cut.ensures.hears
+    hears_then c.hear_cut.result c.args.now (input_view c.args.input) (trail_of c.args.self.now c.args.actions.now.items)
+    (trail_of c.hear_once.new.self c.hear_once.new.actions.items)
+    (trail_of c.hear_cut.new.self c.hear_cut.new.actions.items) c.in_ok-is_lost.is_lost hears.0 hears.1 c.if-is_lost.true
+    c.hear_cut.ensures.hears
 
 pub returns-clause-comes : goal.returns-clause-comes
 returns-clause-comes g c =
     let hears = c.in_ok-is_lost.ensures.hears in
-    hears_and c.args.now (input_view c.args.input) (trail_of c.args.self.now c.args.actions.now.items) (trail_of c.hear_once.new.self c.hear_once.new.actions.items) c.in_ok-is_lost.is_lost hears.0 hears.1
+    hears_and c.args.now (input_view c.args.input) (trail_of c.args.self.now c.args.actions.now.items)
+    (trail_of c.hear_once.new.self c.hear_once.new.actions.items) c.in_ok-is_lost.is_lost hears.0 hears.1
     c.if-is_lost.false

@@ -7,4 +7,5 @@ pub leave-requires : goal.leave-requires
 leave-requires g c = sym c.is_late.ensures ∙ c.if-is_late.true
 
 pub returns-clause-tired : goal.returns-clause-tired
-returns-clause-tired g c = not_tired c.args.now (trail_of c.args.self.now c.args.actions.now.items) (sym c.is_late.ensures ∙ c.if-is_late.false)
+returns-clause-tired g c =
+    not_tired c.args.now (trail_of c.args.self.now c.args.actions.now.items) (sym c.is_late.ensures ∙ c.if-is_late.false)

@@ -11,7 +11,9 @@ send_one-requires g c = sym c.state.ensures ∙ is_there c.state.result (sym c.i
 pub returns-clause-sends : goal.returns-clause-sends
 returns-clause-sends g c =
     let here = trail_of c.args.self.now c.args.actions.now.items in
-    sends_nothing c.args.now here here refl (inr (inl (subst (λ state. state ≢ Connected) c.state.ensures (not_connected c.state.result (sym c.is_connected.ensures ∙ c.if-is_connected.false)))))
+    sends_nothing c.args.now here here refl (inr (inl (subst (λ state. state ≢ Connected) c.state.ensures
+    (not_connected c.state.result (sym c.is_connected.ensures ∙ c.if-is_connected.false)))))
 
 pub returns-then-is_connected-clause-same : goal.returns-then-is_connected-clause-same
-returns-then-is_connected-clause-same g c = λ away. absurd (away (sym c.state.ensures ∙ is_there c.state.result (sym c.is_connected.ensures ∙ c.if-is_connected.true)))
+returns-then-is_connected-clause-same g c =
+    λ away. absurd (away (sym c.state.ensures ∙ is_there c.state.result (sym c.is_connected.ensures ∙ c.if-is_connected.true)))

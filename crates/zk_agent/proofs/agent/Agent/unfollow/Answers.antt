@@ -9,6 +9,13 @@ use Rattle.zk_agent.proofs.agent.Agent.unfollow.Goals as goal
 pub returns-clause-comes : goal.returns-clause-comes
 returns-clause-comes g c =
     let old = trail_of c.args.self.now c.args.actions.now.items in
-    let between = record old { view = view_of c.unfollow.new.self.follower.client; subjects = c.unfollow.new.self.follower.subjects.items; line = c.unfollow.new.self.line.entries.items } in
-    ok_after c.step_client.result c.args.now (Unfollows c.args.ticket ∷ []) (Hears c.args.now (Now c.args.now) ∷ []) old between (trail_of c.step_client.new.self c.step_client.new.actions.items)
-    (gives c.args.now (Unfollows c.args.ticket) old between refl tt (trail_eq _ between (ap view_of c.unfollow.ensures.client) c.unfollow.ensures.subjects (ap (λ (l : Line g.row.A.Denot). l.entries.items) c.unfollow.ensures.line) refl refl refl refl)) c.step_client.ensures.comes
+    let between = record old {
+      view = view_of c.unfollow.new.self.follower.client;
+      subjects = c.unfollow.new.self.follower.subjects.items;
+      line = c.unfollow.new.self.line.entries.items;
+    } in
+    ok_after c.step_client.result c.args.now (Unfollows c.args.ticket ∷ []) (Hears c.args.now (Now c.args.now) ∷ []) old between
+    (trail_of c.step_client.new.self c.step_client.new.actions.items)
+    (gives c.args.now (Unfollows c.args.ticket) old between refl tt (trail_eq _ between (ap view_of c.unfollow.ensures.client)
+    c.unfollow.ensures.subjects (ap (λ (l : Line g.row.A.Denot). l.entries.items) c.unfollow.ensures.line) refl refl refl refl))
+    c.step_client.ensures.comes

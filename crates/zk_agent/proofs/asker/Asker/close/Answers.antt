@@ -6,4 +6,7 @@ use Rattle.zk_agent.proofs.asker.Asker.close.Goals as goal
 
 pub invariant_of-self : goal.invariant_of-self
 invariant_of-self g c =
-    record { asked = subst (All (IsAsked (view_of c.args.self.now.follower.client))) (sym c.in-Ok.ensures.line) (λ k d below. absurd (omega arith)) }
+    record {
+      asked =
+          subst (All (IsAsked (view_of c.args.self.now.follower.client))) (sym c.in-Ok.ensures.line) (λ k d below. absurd (omega arith));
+    }

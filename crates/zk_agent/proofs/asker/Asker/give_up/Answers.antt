@@ -13,5 +13,6 @@ invariant_of-self g c =
     let asked = IsAsked (view_of c.args.self.now.follower.client) in
     record {
       asked = subst (All asked) (sym c.in-Ok.ensures.line)
-          (All-filter (λ (entry : Entry g.row.A.Denot). not (is_ended (Late c.args.now) entry)) asked c.args.self.now.line.entries.items c.args.self.now.asked);
+          (All-filter (λ (entry : Entry g.row.A.Denot). not (is_ended (Late c.args.now) entry)) asked
+          c.args.self.now.line.entries.items c.args.self.now.asked);
     }

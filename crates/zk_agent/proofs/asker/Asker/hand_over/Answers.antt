@@ -6,7 +6,9 @@ use Rattle.zk_agent.proofs.asker.Asker.hand_over.Goals as goal
 pub invariant_of-self : goal.invariant_of-self
 invariant_of-self g c =
     record {
-      asked = hands_asked c.args.now (view_of c.args.self.now.follower.client) c.args.self.now.follower.subjects.items c.args.self.now.line.entries.items (told_by c.args.actions.now.items)
-          (view_of c.hand_over.new.follower.client) c.hand_over.new.follower.subjects.items c.hand_over.new.line.entries.items (told_by c.hand_over.new.actions.items) c.in-Ok.heard
+      asked = hands_asked c.args.now (view_of c.args.self.now.follower.client) c.args.self.now.follower.subjects.items
+          c.args.self.now.line.entries.items (told_by c.args.actions.now.items)
+          (view_of c.hand_over.new.follower.client) c.hand_over.new.follower.subjects.items c.hand_over.new.line.entries.items
+          (told_by c.hand_over.new.actions.items) c.in-Ok.heard
           c.in-Ok.ensures.hands c.args.self.now.asked;
     }

@@ -8,7 +8,8 @@ use Rattle.zk_agent.proofs.asker.Asker.renew.Goals as goal
 pub invariant_of-self : goal.invariant_of-self
 invariant_of-self g c =
     record {
-      asked = subst (All (IsAsked (view_of c.begin.new.follower.client))) (sym (c.in-Ok.ensures.line ∙ none_at_expiry c.args.self.now.line.entries.items))
+      asked = subst (All (IsAsked (view_of c.begin.new.follower.client)))
+          (sym (c.in-Ok.ensures.line ∙ none_at_expiry c.args.self.now.line.entries.items))
           (λ k d below. absurd (omega arith));
     }
 

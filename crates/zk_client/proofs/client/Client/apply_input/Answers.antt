@@ -14,8 +14,10 @@ returns-then-self-clause-halt g c =
     let core = client.core in
     let new = c.halt.new.self in
     let last : to_z w64 (of_z w64 c.last_zxid-last.result) ≡ c.last_zxid-last.result = omega (arith, ints) in
-    halts client.reader.bytes client.reader.bytes core.halted new.halted core.session new.session core.conversation new.conversation core.registry new.registry core.cache new.cache
-    c.halt.ensures.halted (c.halt.ensures.state ∙ c.state-state.ensures) (rw last at c.halt.ensures.last ∙ c.last_zxid-last.ensures.last) c.halt.ensures.saved c.halt.ensures.lists c.halt.ensures.answers
+    halts client.reader.bytes client.reader.bytes core.halted new.halted core.session new.session core.conversation new.conversation
+    core.registry new.registry core.cache new.cache
+    c.halt.ensures.halted (c.halt.ensures.state ∙ c.state-state.ensures)
+    (rw last at c.halt.ensures.last ∙ c.last_zxid-last.ensures.last) c.halt.ensures.saved c.halt.ensures.lists c.halt.ensures.answers
 
 pub returns-in_default-clause-halt : goal.returns-in_default-clause-halt
 returns-in_default-clause-halt g c =
@@ -23,8 +25,10 @@ returns-in_default-clause-halt g c =
     let core = client.core in
     let new = c.halt-in_default.new.self in
     let last : to_z w64 (of_z w64 c.last_zxid-last.result) ≡ c.last_zxid-last.result = omega (arith, ints) in
-    halts client.reader.bytes c.turn.new.reader.bytes core.halted new.halted core.session new.session core.conversation new.conversation core.registry new.registry core.cache new.cache
-    c.halt-in_default.ensures.halted (c.halt-in_default.ensures.state ∙ c.state-state.ensures) (rw last at c.halt-in_default.ensures.last ∙ c.last_zxid-last.ensures.last)
+    halts client.reader.bytes c.turn.new.reader.bytes core.halted new.halted core.session new.session core.conversation new.conversation
+    core.registry new.registry core.cache new.cache
+    c.halt-in_default.ensures.halted (c.halt-in_default.ensures.state ∙ c.state-state.ensures)
+    (rw last at c.halt-in_default.ensures.last ∙ c.last_zxid-last.ensures.last)
     (c.halt-in_default.ensures.saved ∙ c.turn.ensures.origin) c.halt-in_default.ensures.lists c.halt-in_default.ensures.answers
 
 pub returns-clause-rule : goal.returns-clause-rule

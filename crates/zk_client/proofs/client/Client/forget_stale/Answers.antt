@@ -8,4 +8,5 @@ pub returns-clause-view : goal.returns-clause-view
 returns-clause-view g c = c.forget_stale.ensures.view c.args.self.now.reader.bytes
 
 pub returns-clause-stands : goal.returns-clause-stands
-returns-clause-stands g c = λ start items s. subst (λ (v : View). Stands start (Forgets ∷ items) v) (sym (c.forget_stale.ensures.view c.args.self.now.reader.bytes)) (c.one_forget.ensures start items _ s)
+returns-clause-stands g c = λ start items s. subst (λ (v : View). Stands start (Forgets ∷ items) v)
+    (sym (c.forget_stale.ensures.view c.args.self.now.reader.bytes)) (c.one_forget.ensures start items _ s)

@@ -5,4 +5,5 @@ use Rattle.zk_client.proofs.client.Client.take_at.Goals as goal
 
 pub returns-clause-stands : goal.returns-clause-stands
 returns-clause-stands g c = λ start items s.
-    stands_behind c.args.now (input_view c.args.input) _ _ _ _ _ _ (ap said c.requires) c.in_ok-apply_input.ensures.rule c.in_ok-apply_input-2.ensures.rule start items s
+    stands_behind c.args.now (input_view c.args.input) _ _ _ _ _ _
+    (ap said c.requires) c.in_ok-apply_input.ensures.rule c.in_ok-apply_input-2.ensures.rule start items s

@@ -18,4 +18,5 @@ returns-clause-next g c =
     let lt : pos 0 <ℤ c.args.response.now.time_out = omega (arith, ints) in
     let timeout : to_z w32 (of_z w32 c.args.response.now.time_out) ≡ c.args.response.now.time_out = omega (arith, ints) in
     let session : to_z w64 (of_z w64 c.args.response.now.session_id) ≡ c.args.response.now.session_id = omega (arith, ints) in
-    on_ok_weaker c.welcome.result (λ next. λ held pending left. rw (takes-welcome response lt) (rw (timeout, session, c.or_empty.ensures) at (next held pending))) c.welcome.ensures.next
+    on_ok_weaker c.welcome.result (λ next. λ held pending left.
+    rw (takes-welcome response lt) (rw (timeout, session, c.or_empty.ensures) at (next held pending))) c.welcome.ensures.next

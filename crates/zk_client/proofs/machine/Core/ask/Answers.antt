@@ -18,5 +18,6 @@ pub returns-clause-sound : goal.returns-clause-sound
 returns-clause-sound g c =
     let free = (c.in_default.ensures []).0 in
     let core = c.args.self.now in
-    let sound = asked-sound core.session c.sent.new.self core.conversation c.send.new.self core.registry c.args.ticket (call_view c.args.call) c.requires.sound free.talks free.room c.sent.ensures c.in_ok-asked.ensures.ok in
+    let sound = asked-sound core.session c.sent.new.self core.conversation c.send.new.self core.registry c.args.ticket
+    (call_view c.args.call) c.requires.sound free.talks free.room c.sent.ensures c.in_ok-asked.ensures.ok in
     on_ok_weaker c.say-2.result (λ _. sound) c.say-2.ensures

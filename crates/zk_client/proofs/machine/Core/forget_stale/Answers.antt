@@ -5,4 +5,5 @@ use Rattle.zk_client.proofs.CacheLemmas.{good-kept}
 use Rattle.zk_client.proofs.machine.Core.forget_stale.Goals as goal
 
 pub returns-clause-view : goal.returns-clause-view
-returns-clause-view g c = λ held. ap (λ (kept : Cache). let view : View = record (view_with held c.args.self.now) { cache = kept } in view) (good-kept c.args.self.now.cache c.forget_stale.new.self c.forget_stale.ensures)
+returns-clause-view g c = λ held. ap (λ (kept : Cache). let view : View = record (view_with held c.args.self.now) { cache = kept } in view)
+    (good-kept c.args.self.now.cache c.forget_stale.new.self c.forget_stale.ensures)

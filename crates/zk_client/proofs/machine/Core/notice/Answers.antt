@@ -9,5 +9,6 @@ returns-clause-sound g c =
     let core = c.args.self.now in
     on_ok_weaker c.report-2.result (λ _. record {
       tied = tied-talking core.session core.conversation c.requires.phase c.requires.comes c.requires.short;
-      room = rw c.fire-fired.ensures.lists (fired-room core.registry c.args.event c.args.path.now core.conversation.pending (subst (HasRoom core.registry) c.requires.left c.requires.room));
+      room = rw c.fire-fired.ensures.lists (fired-room core.registry c.args.event c.args.path.now core.conversation.pending
+          (subst (HasRoom core.registry) c.requires.left c.requires.room));
     }) c.report-2.ensures

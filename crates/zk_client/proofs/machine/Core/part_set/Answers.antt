@@ -14,4 +14,5 @@ pub returns-then-err-ne0-clause-says : goal.returns-then-err-ne0-clause-says
 returns-then-err-ne0-clause-says g c =
     let apart : c.args.err ≢ pos 0 = λ e. omega (arith, ints) in
     let err : to_z w32 (of_z w32 c.args.err) ≡ c.args.err = omega (arith, ints) in
-    on_ok_weaker c.give_up.result (λ says. λ held pending left. rw (not-same c.args.err (pos 0) apart, left.1) (rw err at (says held))) c.give_up.ensures.says
+    on_ok_weaker c.give_up.result
+    (λ says. λ held pending left. rw (not-same c.args.err (pos 0) apart, left.1) (rw err at (says held))) c.give_up.ensures.says

@@ -18,7 +18,8 @@ pub arrive-requires : goal.arrive-requires
 arrive-requires g c =
     let core = c.args.self.now in
     let are : IsBytes c.args.payload.now = λ i. omega (arith, c.type_inv.payload i) in
-    let all = comes (arrival_view c.in-Ok.arrival) core.session core.conversation core.registry c.args.payload.now c.requires.sound c.requires.up are c.requires.admitted c.in-Ok.ensures.answers.0 in
+    let all = comes (arrival_view c.in-Ok.arrival) core.session core.conversation core.registry c.args.payload.now c.requires.sound
+    c.requires.up are c.requires.admitted c.in-Ok.ensures.answers.0 in
     rw c.in-Ok.ensures.answers.1 all.has
 
 pub returns-in-Ok-clause-next : goal.returns-in-Ok-clause-next
@@ -26,11 +27,14 @@ returns-in-Ok-clause-next g c = on_ok_weaker c.arrive.result (λ told. λ held.
     let core = c.args.self.now in
     let are : IsBytes c.args.payload.now = λ i. omega (arith, c.type_inv.payload i) in
     let arrived = arrival_view c.in-Ok.arrival in
-    let all = comes arrived core.session core.conversation core.registry c.args.payload.now c.requires.sound c.requires.up are c.requires.admitted c.in-Ok.ensures.answers.0 in
+    let all = comes arrived core.session core.conversation core.registry c.args.payload.now c.requires.sound c.requires.up are
+    c.requires.admitted c.in-Ok.ensures.answers.0 in
     let left : IsLeft arrived core.conversation.pending c.arrived.new.self.pending = rw c.in-Ok.ensures.answers.1 all.left in
     told held core.conversation.pending left
-    ∙ ap (λ (v : View). next v (taken_of core.session.saved.last arrived)) (before-it held core.halted core.session core.conversation c.arrived.new.self core.registry core.cache arrived c.in-Ok.ensures.answers.1)
-    ∙ ap (next (view_with held core)) (sym (arrives held core.halted core.session core.conversation core.registry core.cache c.args.payload.now (Ok arrived) c.requires.sound c.in-Ok.ensures.answers.0))) c.arrive.ensures.next
+    ∙ ap (λ (v : View). next v (taken_of core.session.saved.last arrived)) (before-it held core.halted core.session core.conversation
+    c.arrived.new.self core.registry core.cache arrived c.in-Ok.ensures.answers.1)
+    ∙ ap (next (view_with held core)) (sym (arrives held core.halted core.session core.conversation core.registry core.cache
+    c.args.payload.now (Ok arrived) c.requires.sound c.in-Ok.ensures.answers.0))) c.arrive.ensures.next
 
 pub returns-in-Ok-clause-says : goal.returns-in-Ok-clause-says
 returns-in-Ok-clause-says g c = on_ok_weaker c.arrive.result (λ told. λ held.
@@ -38,11 +42,14 @@ returns-in-Ok-clause-says g c = on_ok_weaker c.arrive.result (λ told. λ held.
     let are : IsBytes c.args.payload.now = λ i. omega (arith, c.type_inv.payload i) in
     let arrived = arrival_view c.in-Ok.arrival in
     let before = said c.args.outputs.now.items in
-    let all = comes arrived core.session core.conversation core.registry c.args.payload.now c.requires.sound c.requires.up are c.requires.admitted c.in-Ok.ensures.answers.0 in
+    let all = comes arrived core.session core.conversation core.registry c.args.payload.now c.requires.sound c.requires.up are
+    c.requires.admitted c.in-Ok.ensures.answers.0 in
     let left : IsLeft arrived core.conversation.pending c.arrived.new.self.pending = rw c.in-Ok.ensures.answers.1 all.left in
     told held core.conversation.pending left
-    ∙ ap (λ (v : View). before ++ says v (taken_of core.session.saved.last arrived)) (before-it held core.halted core.session core.conversation c.arrived.new.self core.registry core.cache arrived c.in-Ok.ensures.answers.1)
-    ∙ ap (λ (h : Happening). before ++ says (view_with held core) h) (sym (arrives held core.halted core.session core.conversation core.registry core.cache c.args.payload.now (Ok arrived) c.requires.sound c.in-Ok.ensures.answers.0))) c.arrive.ensures.says
+    ∙ ap (λ (v : View). before ++ says v (taken_of core.session.saved.last arrived)) (before-it held core.halted core.session
+    core.conversation c.arrived.new.self core.registry core.cache arrived c.in-Ok.ensures.answers.1)
+    ∙ ap (λ (h : Happening). before ++ says (view_with held core) h) (sym (arrives held core.halted core.session core.conversation
+    core.registry core.cache c.args.payload.now (Ok arrived) c.requires.sound c.in-Ok.ensures.answers.0))) c.arrive.ensures.says
 
 pub returns-else-is_memory-clause-next : goal.returns-else-is_memory-clause-next
 returns-else-is_memory-clause-next g c = on_ok_weaker c.give_up.result (λ told. λ held.
@@ -50,8 +57,10 @@ returns-else-is_memory-clause-next g c = on_ok_weaker c.give_up.result (λ told.
     let fault = c.in-Err.fault in
     let read = c.in-Err.ensures.answers.0 (c.is_memory.ensures c.if-is_memory.false) in
     told held
-    ∙ ap (λ (t : Talk). next (shown held core.halted core.session t core.registry core.cache) (Dropped (Talked fault))) c.in-Err.ensures.answers.1
-    ∙ ap (next (view_with held core)) (sym (arrives held core.halted core.session core.conversation core.registry core.cache c.args.payload.now (Err fault) c.requires.sound read))) c.give_up.ensures.next
+    ∙ ap (λ (t : Talk). next (shown held core.halted core.session t core.registry core.cache) (Dropped (Talked fault)))
+    c.in-Err.ensures.answers.1
+    ∙ ap (next (view_with held core)) (sym (arrives held core.halted core.session core.conversation core.registry core.cache
+    c.args.payload.now (Err fault) c.requires.sound read))) c.give_up.ensures.next
 
 pub returns-else-is_memory-clause-says : goal.returns-else-is_memory-clause-says
 returns-else-is_memory-clause-says g c = on_ok_weaker c.give_up.result (λ told. λ held.
@@ -60,5 +69,7 @@ returns-else-is_memory-clause-says g c = on_ok_weaker c.give_up.result (λ told.
     let before = said c.args.outputs.now.items in
     let read = c.in-Err.ensures.answers.0 (c.is_memory.ensures c.if-is_memory.false) in
     told held
-    ∙ ap (λ (t : Talk). before ++ says (shown held core.halted core.session t core.registry core.cache) (Dropped (Talked fault))) c.in-Err.ensures.answers.1
-    ∙ ap (λ (h : Happening). before ++ says (view_with held core) h) (sym (arrives held core.halted core.session core.conversation core.registry core.cache c.args.payload.now (Err fault) c.requires.sound read))) c.give_up.ensures.says
+    ∙ ap (λ (t : Talk). before ++ says (shown held core.halted core.session t core.registry core.cache) (Dropped (Talked fault)))
+    c.in-Err.ensures.answers.1
+    ∙ ap (λ (h : Happening). before ++ says (view_with held core) h) (sym (arrives held core.halted core.session core.conversation
+    core.registry core.cache c.args.payload.now (Err fault) c.requires.sound read))) c.give_up.ensures.says

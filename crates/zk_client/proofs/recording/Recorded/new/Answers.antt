@@ -14,5 +14,6 @@ alike a b s t e f = λ i. fresh (e i) (f i)
 
 pub returns : goal.returns
 returns g c =
-    alike _ _ _ _ (map_back (λ copies. input_view copies.handed) c.in_ok-coming.coming.items c.reverse.new.self.items c.reverse.ensures.items ∙ c.in_ok-coming.ensures.inputs)
+    alike _ _ _ _ (map_back (λ copies. input_view copies.handed) c.in_ok-coming.coming.items c.reverse.new.self.items
+    c.reverse.ensures.items ∙ c.in_ok-coming.ensures.inputs)
     (ap (λ l. reverse (map turn_view l)) c.in_ok-turns.ensures.items)

@@ -7,7 +7,8 @@ use Rattle.zk_client.proofs.saved_session.SavedSession.from_text.Goals as goal
 pub returns-in-Ok-clause-only : goal.returns-in-Ok-clause-only
 returns-in-Ok-clause-only g c value can e =
     let decoded = decode_of-saved_text value c.args.text.now can e in
-    let same : c.in-Ok.bytes.items ≡ saved_bytes value = decode_of-same c.args.text.now c.in-Ok.bytes.items (saved_bytes value) c.in-Ok.ensures.ok decoded in
+    let same : c.in-Ok.bytes.items ≡ saved_bytes value =
+    decode_of-same c.args.text.now c.in-Ok.bytes.items (saved_bytes value) c.in-Ok.ensures.ok decoded in
     c.from_bytes.ensures.only value can (c.as_slice.ensures.value ∙ same)
 
 pub returns-in-Err-clause-only : goal.returns-in-Err-clause-only

@@ -8,14 +8,17 @@ use Rattle.zk_conclusions.proofs.holder.Holder.of.Goals as goal
 
 pub returns-then-not-is_shown_first-clause-none : goal.returns-then-not-is_shown_first-clause-none
 returns-then-not-is_shown_first-clause-none g c e token shows =
-    not_first (view_of c.args.client.now) c.args.directory.now c.args.prefix.now c.args.path.now c.in_ok-own.own.now token c.in_ok-own.ensures.some.0
+    not_first (view_of c.args.client.now) c.args.directory.now c.args.prefix.now c.args.path.now c.in_ok-own.own.now token
+    c.in_ok-own.ensures.some.0
     (λ first. (let k = c.is_shown_first.ensures.1 first in let l = c.if-not-is_shown_first.true in absurd cc)) shows
 
 pub returns-clause-shows : goal.returns-clause-shows
 returns-clause-shows g c =
     let same : to_z w64 (of_z w64 c.in_ok-token.token) ≡ c.in_ok-token.token = omega (arith, ints) in
-    rw same (shows_holder (view_of c.args.client.now) c.args.directory.now c.args.prefix.now c.args.path.now c.in_ok-own.own.now c.in_ok-token.token c.in_ok-own.ensures.some
+    rw same (shows_holder (view_of c.args.client.now) c.args.directory.now c.args.prefix.now c.args.path.now c.in_ok-own.own.now
+    c.in_ok-token.token c.in_ok-own.ensures.some
     (c.is_shown_first.ensures.0 c.if-not-is_shown_first.false) c.in_ok-token.ensures)
 
 pub returns-clause-holds : goal.returns-clause-holds
-returns-clause-holds g c h served = held_here h (view_of c.args.client.now) c.args.directory.now c.args.prefix.now c.args.path.now (to_z w64 (of_z w64 c.in_ok-token.token)) served (returns-clause-shows g c)
+returns-clause-holds g c h served = held_here h (view_of c.args.client.now) c.args.directory.now c.args.prefix.now c.args.path.now
+    (to_z w64 (of_z w64 c.in_ok-token.token)) served (returns-clause-shows g c)

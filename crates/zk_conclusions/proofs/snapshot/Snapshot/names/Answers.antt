@@ -4,7 +4,8 @@ use Rattle.zk_conclusions.proofs.snapshot.Snapshot.names.Goals as goal
 
 pub returns-clause-kept : goal.returns-clause-kept
 returns-clause-kept g c path at =
-    names_at (view_of c.args.self.now.client.now) c.args.self.now.nodes.now c.args.self.now.parents.now c.args.place c.index-self-place.result path _ c.args.self.now.whole c.in-Some.ensures at
+    names_at (view_of c.args.self.now.client.now) c.args.self.now.nodes.now c.args.self.now.parents.now c.args.place
+    c.index-self-place.result path _ c.args.self.now.whole c.in-Some.ensures at
 
 pub returns-clause-holds : goal.returns-clause-holds
 returns-clause-holds g c h path served at = names_fit h (view_of c.args.self.now.client.now) path _ served (returns-clause-kept g c path at)

@@ -5,7 +5,8 @@ use Rattle.zk_conclusions.proofs.subtree.Subtree.names.Goals as goal
 
 pub returns-clause-kept : goal.returns-clause-kept
 returns-clause-kept g c path at =
-    names_at (view_of c.args.self.now.client.now).cache c.args.self.now.paths.items c.args.place c.index.result.now path _ c.args.self.now.full c.index.ensures c.in-Some.ensures at
+    names_at (view_of c.args.self.now.client.now).cache c.args.self.now.paths.items c.args.place c.index.result.now path _
+    c.args.self.now.full c.index.ensures c.in-Some.ensures at
 
 pub returns-clause-holds : goal.returns-clause-holds
 returns-clause-holds g c h path served at = names_fit h (view_of c.args.self.now.client.now) path _ served (returns-clause-kept g c path at)

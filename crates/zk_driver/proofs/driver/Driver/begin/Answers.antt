@@ -8,5 +8,6 @@ use Rattle.zk_driver.proofs.driver.Driver.begin.Goals as goal
 pub returns-clause-client : goal.returns-clause-client
 returns-clause-client g c =
     let asked : to_z w32 (of_z w32 c.args.timeout_ms) ≡ c.args.timeout_ms = search rules in
-    ap (λ (a : Agent g.row.A.Denot). view_of a.asker.follower.client) c.new-3.ensures.agent ∙ c.in_ok-agent.ensures.client ∙ c.new.ensures.view
+    ap (λ (a : Agent g.row.A.Denot). view_of a.asker.follower.client) c.new-3.ensures.agent
+    ∙ c.in_ok-agent.ensures.client ∙ c.new.ensures.view
     ∙ ap (λ ms. view_at (new_start (unsigned_abs ms)) []) asked

@@ -7,10 +7,13 @@ use Rattle.zk_driver.proofs.Flowed.{flow_asked}
 use Rattle.zk_driver.proofs.driver.Driver.hand.Goals as goal
 
 pub hand-requires : goal.hand-requires
-hand-requires g c = asked_patiently c.moment_of_hand-moment.result c.args.input (course_of c.now-now.new.self.engine None) c.requires c.moment_of_hand-moment.ensures.quiet
+hand-requires g c = asked_patiently c.moment_of_hand-moment.result c.args.input
+    (course_of c.now-now.new.self.engine None) c.requires c.moment_of_hand-moment.ensures.quiet
 
 pub returns-in-Ok-clause-flows : goal.returns-in-Ok-clause-flows
 returns-in-Ok-clause-flows g c =
     let new = flow_of g.D.Stream.Read.remaining g.D.Stream.Write.contents c.hand.new.self None in
-    subst (λ (e : Engine g.row.A.Denot g.row.D-Stream.Denot). Flows (flow_of g.D.Stream.Read.remaining g.D.Stream.Write.contents e None) new) c.now-now.ensures.engine
-    (flow_asked c.args.input (flow_of g.D.Stream.Read.remaining g.D.Stream.Write.contents c.now-now.new.self.engine None) new refl c.requires c.in-Ok.ensures.flows)
+    subst (λ (e : Engine g.row.A.Denot g.row.D-Stream.Denot).
+    Flows (flow_of g.D.Stream.Read.remaining g.D.Stream.Write.contents e None) new) c.now-now.ensures.engine
+    (flow_asked c.args.input (flow_of g.D.Stream.Read.remaining g.D.Stream.Write.contents c.now-now.new.self.engine None) new refl
+    c.requires c.in-Ok.ensures.flows)

@@ -10,7 +10,8 @@ use Rattle.zk_driver.proofs.driver.Driver.listen.Goals as goal
 
 pub returns-in_err-glance-2-clause-kept : goal.returns-in_err-glance-2-clause-kept
 returns-in_err-glance-2-clause-kept g c =
-    extends_on (told_by c.args.self.now.engine.waiting.items) (told_by c.loop.self.engine.waiting.items) (told_by c.read-in-loop.new.self.engine.waiting.items) c.loop.invariant.kept
+    extends_on (told_by c.args.self.now.engine.waiting.items) (told_by c.loop.self.engine.waiting.items)
+    (told_by c.read-in-loop.new.self.engine.waiting.items) c.loop.invariant.kept
     c.read-in-loop.ensures.kept
 
 pub loop-preserved : goal.loop-preserved
@@ -21,8 +22,11 @@ loop-preserved g c =
     let again : c.loop.glance.is_again ≡ true = search rules in
     let notes = notes_of_event c.in_ok-glance-2.glance.event in
     record {
-      goes = by_after [] notes old so_far new (subst (λ ns. GoesBy ns old so_far) (c.loop.invariant.quiet again) c.loop.invariant.goes) c.in_ok-glance-2.ensures.goes;
-      flows = flow_after (flow_of g.D.Stream.Read.remaining g.D.Stream.Write.contents c.args.self.now.engine None) (flow_of g.D.Stream.Read.remaining g.D.Stream.Write.contents c.loop.self.engine None) (flow_of g.D.Stream.Read.remaining g.D.Stream.Write.contents c.read-in-loop.new.self.engine None)
+      goes = by_after [] notes old so_far new
+          (subst (λ ns. GoesBy ns old so_far) (c.loop.invariant.quiet again) c.loop.invariant.goes) c.in_ok-glance-2.ensures.goes;
+      flows = flow_after (flow_of g.D.Stream.Read.remaining g.D.Stream.Write.contents c.args.self.now.engine None)
+          (flow_of g.D.Stream.Read.remaining g.D.Stream.Write.contents c.loop.self.engine None)
+          (flow_of g.D.Stream.Read.remaining g.D.Stream.Write.contents c.read-in-loop.new.self.engine None)
           c.loop.invariant.flows c.in_ok-glance-2.ensures.flows;
       told = c.in_ok-glance-2.ensures.told;
       none = c.in_ok-glance-2.ensures.none;

@@ -29,7 +29,8 @@ returns-clause-goes g c =
     by_same_notes notes (notes_of_event c.event_of-event.result) old new c.event_of-event.ensures
     (by_after [] notes old later new
     (by_after [] [] old between later (looked_by look old between (c.in-Ok.ensures.looks, refl))
-    (same_by between later (sym (ap (λ (e : Engine g.row.A.Denot g.row.D-Stream.Denot). course_of e None) c.now-now.ensures.engine)))) c.in_ok-told.ensures.goes)
+    (same_by between later (sym (ap (λ (e : Engine g.row.A.Denot g.row.D-Stream.Denot). course_of e None) c.now-now.ensures.engine))))
+    c.in_ok-told.ensures.goes)
 
 pub returns-then-puts_off-clause-flows : goal.returns-then-puts_off-clause-flows
 returns-then-puts_off-clause-flows g c =
@@ -45,7 +46,8 @@ returns-then-puts_off-clause-flows g c =
     } in
     let later = record (flow_of remaining contents c.now-now.new.self.engine None) { held = held } in
     let there : between ≡ later =
-    sym (ap (λ (e : Engine g.row.A.Denot g.row.D-Stream.Denot). record (flow_of remaining contents e None) { held = held }) c.now-now.ensures.engine) in
+    sym (ap (λ (e : Engine g.row.A.Denot g.row.D-Stream.Denot). record (flow_of remaining contents e None) { held = held })
+    c.now-now.ensures.engine) in
     let looked = flow_one (Made (Looked look)) old between ((c.in-Ok.ensures.looks, refl), c.in-Ok.ensures.whole, refl) in
     let none : held ≡ [] = c.puts_off.ensures.none c.if-puts_off.true in
     flow_after old between (flow_of remaining contents c.now-now.new.self.engine None) looked
@@ -66,7 +68,8 @@ returns-clause-flows g c =
     } in
     let later = record (flow_of remaining contents c.now-now.new.self.engine None) { held = held } in
     let there : between ≡ later =
-    sym (ap (λ (e : Engine g.row.A.Denot g.row.D-Stream.Denot). record (flow_of remaining contents e None) { held = held }) c.now-now.ensures.engine) in
+    sym (ap (λ (e : Engine g.row.A.Denot g.row.D-Stream.Denot). record (flow_of remaining contents e None) { held = held })
+    c.now-now.ensures.engine) in
     let looked = flow_one (Made (Looked look)) old between ((c.in-Ok.ensures.looks, refl), c.in-Ok.ensures.whole, refl) in
     let new = flow_of remaining contents c.apply_read.new.self None in
     flow_after old between new looked (flow_after between later new (flow_same between later there) c.in_ok-told.ensures.flows)

@@ -7,7 +7,8 @@ use Rattle.zk_driver.proofs.Going.{same_by}
 use Rattle.zk_driver.proofs.driver.Driver.turn.Goals as goal
 
 pub returns-in-Some-clause-goes : goal.returns-in-Some-clause-goes
-returns-in-Some-clause-goes g c = same_by (course_of c.args.self.now.engine None) (course_of c.pop.new.self (Some c.in-Some.action)) (sym c.in-Some.ensures.same)
+returns-in-Some-clause-goes g c =
+    same_by (course_of c.args.self.now.engine None) (course_of c.pop.new.self (Some c.in-Some.action)) (sym c.in-Some.ensures.same)
 
 pub returns-then-announces-clause-goes : goal.returns-then-announces-clause-goes
 returns-then-announces-clause-goes g c =
@@ -15,9 +16,12 @@ returns-then-announces-clause-goes g c =
     (sym c.in_default.ensures.same ∙ sym (ap (λ (e : Engine g.row.A.Denot g.row.D-Stream.Denot). course_of e None) c.announces.ensures))
 
 pub returns-in-Some-clause-flows : goal.returns-in-Some-clause-flows
-returns-in-Some-clause-flows g c = flow_same (flow_of g.D.Stream.Read.remaining g.D.Stream.Write.contents c.args.self.now.engine None) (flow_of g.D.Stream.Read.remaining g.D.Stream.Write.contents c.pop.new.self (Some c.in-Some.action)) (sym c.in-Some.ensures.flow)
+returns-in-Some-clause-flows g c = flow_same (flow_of g.D.Stream.Read.remaining g.D.Stream.Write.contents c.args.self.now.engine None)
+    (flow_of g.D.Stream.Read.remaining g.D.Stream.Write.contents c.pop.new.self (Some c.in-Some.action)) (sym c.in-Some.ensures.flow)
 
 pub returns-then-announces-clause-flows : goal.returns-then-announces-clause-flows
 returns-then-announces-clause-flows g c =
-    flow_same (flow_of g.D.Stream.Read.remaining g.D.Stream.Write.contents c.args.self.now.engine None) (flow_of g.D.Stream.Read.remaining g.D.Stream.Write.contents c.announces.new.self.engine None)
-    (sym c.in_default.ensures.flow ∙ sym (ap (λ (e : Engine g.row.A.Denot g.row.D-Stream.Denot). flow_of g.D.Stream.Read.remaining g.D.Stream.Write.contents e None) c.announces.ensures))
+    flow_same (flow_of g.D.Stream.Read.remaining g.D.Stream.Write.contents c.args.self.now.engine None)
+    (flow_of g.D.Stream.Read.remaining g.D.Stream.Write.contents c.announces.new.self.engine None)
+    (sym c.in_default.ensures.flow ∙ sym (ap (λ (e : Engine g.row.A.Denot g.row.D-Stream.Denot).
+    flow_of g.D.Stream.Read.remaining g.D.Stream.Write.contents e None) c.announces.ensures))

@@ -11,7 +11,8 @@ use Rattle.zk_driver.proofs.engine.Engine.bytes.Goals as goal
 
 pub returns-then-told-now-clause-goes : goal.returns-then-told-now-clause-goes
 returns-then-told-now-clause-goes g c =
-    noted_so (happens.Bytes c.args.bytes) (course_of c.args.self.now None) (course_of c.hand.new.self None) (channel_view c.args.self.now.channel) (c.requires.none, c.requires.open, refl)
+    noted_so (happens.Bytes c.args.bytes) (course_of c.args.self.now None) (course_of c.hand.new.self None)
+    (channel_view c.args.self.now.channel) (c.requires.none, c.requires.open, refl)
     c.in_ok-told.ensures.hands
 
 pub returns-clause-goes : goal.returns-clause-goes
@@ -19,15 +20,18 @@ returns-clause-goes g c =
     let old = course_of c.args.self.now None in
     let between = course_of c.hand.new.self None in
     ok_by_after c.catch_up.result old between (course_of c.catch_up.new.self None)
-    (noted_so (happens.Bytes c.args.bytes) old between (channel_view c.args.self.now.channel) (c.requires.none, c.requires.open, refl) c.in_ok-told.ensures.hands) c.catch_up.ensures.goes
+    (noted_so (happens.Bytes c.args.bytes) old between (channel_view c.args.self.now.channel)
+    (c.requires.none, c.requires.open, refl) c.in_ok-told.ensures.hands) c.catch_up.ensures.goes
 
 pub returns-clause-kept : goal.returns-clause-kept
 returns-clause-kept g c =
-    extends_on (told_by c.args.self.now.waiting.items) (told_by c.hand.new.self.waiting.items) (told_by c.catch_up.new.self.waiting.items) c.hand.ensures.kept c.catch_up.ensures.kept
+    extends_on (told_by c.args.self.now.waiting.items) (told_by c.hand.new.self.waiting.items)
+    (told_by c.catch_up.new.self.waiting.items) c.hand.ensures.kept c.catch_up.ensures.kept
 
 pub returns-then-told-now-clause-notes : goal.returns-then-told-now-clause-notes
 returns-then-told-now-clause-notes g c =
-    first_so (happens.Bytes c.args.bytes) (course_of c.args.self.now None) (course_of c.hand.new.self None) (channel_view c.args.self.now.channel) (c.requires.none, c.requires.open, refl)
+    first_so (happens.Bytes c.args.bytes) (course_of c.args.self.now None) (course_of c.hand.new.self None)
+    (channel_view c.args.self.now.channel) (c.requires.none, c.requires.open, refl)
     c.in_ok-told.ensures.hands
 
 pub returns-clause-notes : goal.returns-clause-notes
@@ -35,13 +39,15 @@ returns-clause-notes g c =
     let old = course_of c.args.self.now None in
     let between = course_of c.hand.new.self None in
     first_then c.catch_up.result (happens.Bytes c.args.bytes) old between (course_of c.catch_up.new.self None)
-    (first_so (happens.Bytes c.args.bytes) old between (channel_view c.args.self.now.channel) (c.requires.none, c.requires.open, refl) c.in_ok-told.ensures.hands) c.catch_up.ensures.goes
+    (first_so (happens.Bytes c.args.bytes) old between (channel_view c.args.self.now.channel)
+    (c.requires.none, c.requires.open, refl) c.in_ok-told.ensures.hands) c.catch_up.ensures.goes
 
 pub returns-then-told-now-clause-flows : goal.returns-then-told-now-clause-flows
 returns-then-told-now-clause-flows g c =
     let old = record (flow_of g.S.Read.remaining g.S.Write.contents c.args.self.now None) { held = c.args.bytes.items } in
     let new = (flow_of g.S.Read.remaining g.S.Write.contents c.hand.new.self None) in
-    flow_noted (happens.Bytes c.args.bytes) old new (channel_view c.args.self.now.channel) (known_of g.S.Read.remaining g.S.Write.contents c.args.self.now.channel.stream)
+    flow_noted (happens.Bytes c.args.bytes) old new (channel_view c.args.self.now.channel)
+    (known_of g.S.Read.remaining g.S.Write.contents c.args.self.now.channel.stream)
     (c.requires.none, c.requires.open, refl) refl (λ between lasts. lasts) c.in_ok-told.ensures.flows
 
 pub returns-clause-flows : goal.returns-clause-flows
@@ -49,5 +55,6 @@ returns-clause-flows g c =
     let old = record (flow_of g.S.Read.remaining g.S.Write.contents c.args.self.now None) { held = c.args.bytes.items } in
     let new = (flow_of g.S.Read.remaining g.S.Write.contents c.hand.new.self None) in
     ok_flow_after c.catch_up.result old new (flow_of g.S.Read.remaining g.S.Write.contents c.catch_up.new.self None)
-    (flow_noted (happens.Bytes c.args.bytes) old new (channel_view c.args.self.now.channel) (known_of g.S.Read.remaining g.S.Write.contents c.args.self.now.channel.stream)
+    (flow_noted (happens.Bytes c.args.bytes) old new (channel_view c.args.self.now.channel)
+    (known_of g.S.Read.remaining g.S.Write.contents c.args.self.now.channel.stream)
     (c.requires.none, c.requires.open, refl) refl (λ between lasts. lasts) c.in_ok-told.ensures.flows) c.catch_up.ensures.flows

@@ -8,7 +8,8 @@ use Rattle.zk_driver.proofs.engine.Engine.hand.Goals as goal
 pub returns-clause-hands : goal.returns-clause-hands
 returns-clause-hands g c = record {
   now = c.args.now;
-  between = record { agent = c.step.new.self; channel = channel_view c.carry_all.new.channel; told = told_by c.carry_all.new.waiting.items };
+  between =
+      record { agent = c.step.new.self; channel = channel_view c.carry_all.new.channel; told = told_by c.carry_all.new.waiting.items };
   takes = record {
     patient = c.requires;
     actions = c.in-Ok.actions.items;
@@ -42,7 +43,8 @@ returns-clause-flows g c =
       held = refl;
       writes = (
         hands.writes,
-        exchanges_none c.carry_all.new.channel.unsent.items c.flush.new.self.unsent.items (know c.carry_all.new.channel.stream) (know c.flush.new.self.stream)
+        exchanges_none c.carry_all.new.channel.unsent.items c.flush.new.self.unsent.items (know c.carry_all.new.channel.stream)
+            (know c.flush.new.self.stream)
             c.flush.ensures.sends c.flush.ensures.gives,
         refl,
       );

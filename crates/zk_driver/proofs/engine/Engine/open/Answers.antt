@@ -8,12 +8,16 @@ use Rattle.zk_driver.proofs.Going.{first, noted}
 use Rattle.zk_driver.proofs.engine.Engine.open.Goals as goal
 
 pub returns-clause-goes : goal.returns-clause-goes
-returns-clause-goes g c = noted c.hand.result happens.Opened (course_of c.args.self.now None) (course_of c.hand.new.self None) (channel_view c.hold.new.self) (c.requires, c.hold.ensures) c.hand.ensures.hands
+returns-clause-goes g c = noted c.hand.result happens.Opened (course_of c.args.self.now None) (course_of c.hand.new.self None)
+    (channel_view c.hold.new.self) (c.requires, c.hold.ensures) c.hand.ensures.hands
 
 pub returns-clause-notes : goal.returns-clause-notes
-returns-clause-notes g c = first c.hand.result happens.Opened (course_of c.args.self.now None) (course_of c.hand.new.self None) (channel_view c.hold.new.self) (c.requires, c.hold.ensures) c.hand.ensures.hands
+returns-clause-notes g c = first c.hand.result happens.Opened (course_of c.args.self.now None) (course_of c.hand.new.self None)
+    (channel_view c.hold.new.self) (c.requires, c.hold.ensures) c.hand.ensures.hands
 
 pub returns-clause-flows : goal.returns-clause-flows
 returns-clause-flows g c =
-    ok_flow_noted c.hand.result happens.Opened (flow_of g.S.Read.remaining g.S.Write.contents c.args.self.now None) (flow_of g.S.Read.remaining g.S.Write.contents c.hand.new.self None) (channel_view c.hold.new.self)
-    (known_of g.S.Read.remaining g.S.Write.contents c.hold.new.self.stream) (c.requires, c.hold.ensures) refl (λ between lasts. tt) c.hand.ensures.flows
+    ok_flow_noted c.hand.result happens.Opened (flow_of g.S.Read.remaining g.S.Write.contents c.args.self.now None)
+    (flow_of g.S.Read.remaining g.S.Write.contents c.hand.new.self None) (channel_view c.hold.new.self)
+    (known_of g.S.Read.remaining g.S.Write.contents c.hold.new.self.stream) (c.requires, c.hold.ensures) refl
+    (λ between lasts. tt) c.hand.ensures.flows

@@ -9,22 +9,27 @@ use Rattle.zk_driver.proofs.Going.{goes, ok_after, ok_goes}
 use Rattle.zk_driver.proofs.engine.Engine.settle.Goals as goal
 
 pub returns-in-Some-clause-goes : goal.returns-in-Some-clause-goes
-returns-in-Some-clause-goes g c = ok_goes c.fail.result (Missed ∷ []) (course_of c.args.self.now None) (course_of c.fail.new.self None) c.fail.ensures.goes
+returns-in-Some-clause-goes g c =
+    ok_goes c.fail.result (Missed ∷ []) (course_of c.args.self.now None) (course_of c.fail.new.self None) c.fail.ensures.goes
 
 pub returns-in_ok-end-in-None-clause-goes : goal.returns-in_ok-end-in-None-clause-goes
 returns-in_ok-end-in-None-clause-goes g c =
     let old = course_of c.args.self.now None in
     let between = course_of c.end.new.self None in
-    ok_after c.settle_closed.result old between (course_of c.settle_closed.new.self None) (goes (Lost ∷ []) old between c.in_ok-end-in-None.ensures.goes) c.settle_closed.ensures.goes
+    ok_after c.settle_closed.result old between (course_of c.settle_closed.new.self None)
+    (goes (Lost ∷ []) old between c.in_ok-end-in-None.ensures.goes) c.settle_closed.ensures.goes
 
 pub returns-in_ok-end-in-None-clause-flows : goal.returns-in_ok-end-in-None-clause-flows
 returns-in_ok-end-in-None-clause-flows g c =
     let flow = flow_of g.S.Read.remaining g.S.Write.contents in
-    ok_flow_after c.settle_closed.result (flow c.args.self.now None) (flow c.end.new.self None) (flow c.settle_closed.new.self None) c.in_ok-end-in-None.ensures.flows c.settle_closed.ensures.flows
+    ok_flow_after c.settle_closed.result (flow c.args.self.now None) (flow c.end.new.self None)
+    (flow c.settle_closed.new.self None) c.in_ok-end-in-None.ensures.flows c.settle_closed.ensures.flows
 
 pub returns-in_ok-end-in-None-clause-kept : goal.returns-in_ok-end-in-None-clause-kept
 returns-in_ok-end-in-None-clause-kept g c =
-    extends_on (told_by c.args.self.now.waiting.items) (told_by c.end.new.self.waiting.items) (told_by c.settle_closed.new.self.waiting.items) c.end.ensures.kept c.settle_closed.ensures.kept
+    extends_on (told_by c.args.self.now.waiting.items) (told_by c.end.new.self.waiting.items)
+    (told_by c.settle_closed.new.self.waiting.items) c.end.ensures.kept c.settle_closed.ensures.kept
 
 pub returns-in-None-2-clause-goes : goal.returns-in-None-2-clause-goes
-returns-in-None-2-clause-goes g c = ok_goes c.pass_moment.result [] (course_of c.args.self.now None) (course_of c.pass_moment.new.self None) c.pass_moment.ensures.goes
+returns-in-None-2-clause-goes g c =
+    ok_goes c.pass_moment.result [] (course_of c.args.self.now None) (course_of c.pass_moment.new.self None) c.pass_moment.ensures.goes

@@ -5,7 +5,9 @@ use Rattle.zk_driver.proofs.Going.{ok_goes}
 use Rattle.zk_driver.proofs.engine.Engine.settle_closed.Goals as goal
 
 pub returns-in-Some-clause-goes : goal.returns-in-Some-clause-goes
-returns-in-Some-clause-goes g c = ok_goes c.fail.result (Missed ∷ []) (course_of c.args.self.now None) (course_of c.fail.new.self None) c.fail.ensures.goes
+returns-in-Some-clause-goes g c =
+    ok_goes c.fail.result (Missed ∷ []) (course_of c.args.self.now None) (course_of c.fail.new.self None) c.fail.ensures.goes
 
 pub returns-in-None-clause-goes : goal.returns-in-None-clause-goes
-returns-in-None-clause-goes g c = ok_goes c.pass_moment.result [] (course_of c.args.self.now None) (course_of c.pass_moment.new.self None) c.pass_moment.ensures.goes
+returns-in-None-clause-goes g c =
+    ok_goes c.pass_moment.result [] (course_of c.args.self.now None) (course_of c.pass_moment.new.self None) c.pass_moment.ensures.goes

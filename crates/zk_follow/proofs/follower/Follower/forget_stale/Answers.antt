@@ -9,7 +9,10 @@ pub invariant_of-self : goal.invariant_of-self
 invariant_of-self g c =
     let view = view_of c.args.self.now.client in
     let items = c.args.self.now.subjects.items in
-    record { counted = subst (λ after. All (IsCounted after) items) (sym c.forget_stale.ensures.view) (all_counted_still view items c.args.self.now.counted) }
+    record {
+      counted = subst (λ after. All (IsCounted after) items) (sym c.forget_stale.ensures.view)
+          (all_counted_still view items c.args.self.now.counted);
+    }
 
 pub returns-clause-followed : goal.returns-clause-followed
 returns-clause-followed g c = λ now all.

@@ -9,21 +9,33 @@ use Rattle.zk_follow.proofs.follower.Follower.renew.Goals as goal
 
 pub invariant_of-self-2 : goal.invariant_of-self-2
 invariant_of-self-2 g c =
-    let size : c.args.self.now.subjects.len ≡ length c.begin_all.new.subjects = omega (arith, c.begin_all.auto.subjects, c.as_mut_slice-subjects.ensures.len) in
-    let written : take c.args.self.now.subjects.len (c.begin_all.new.subjects ++ drop (length c.begin_all.new.subjects) c.args.self.now.subjects.items) ≡ map due_again c.args.self.now.subjects.items =
-    whole_written c.args.self.now.subjects.len c.begin_all.new.subjects (drop (length c.begin_all.new.subjects) c.args.self.now.subjects.items) size
+    let size : c.args.self.now.subjects.len ≡ length c.begin_all.new.subjects =
+    omega (arith, c.begin_all.auto.subjects, c.as_mut_slice-subjects.ensures.len) in
+    let written : take c.args.self.now.subjects.len
+    (c.begin_all.new.subjects ++ drop (length c.begin_all.new.subjects) c.args.self.now.subjects.items)
+    ≡ map due_again c.args.self.now.subjects.items =
+    whole_written c.args.self.now.subjects.len c.begin_all.new.subjects
+    (drop (length c.begin_all.new.subjects) c.args.self.now.subjects.items) size
     ∙ c.begin_all.ensures ∙ ap (map due_again) c.as_mut_slice-subjects.ensures.value in
-    record { counted = subst (All (IsCounted (view_of c.begin_client.new.client))) (sym written) (begun_counted (view_of c.begin_client.new.client) c.args.self.now.subjects.items) }
+    record {
+      counted = subst (All (IsCounted (view_of c.begin_client.new.client))) (sym written)
+          (begun_counted (view_of c.begin_client.new.client) c.args.self.now.subjects.items);
+    }
 
 pub returns-clause-subjects : goal.returns-clause-subjects
 returns-clause-subjects g c =
-    let size : c.args.self.now.subjects.len ≡ length c.begin_all.new.subjects = omega (arith, c.begin_all.auto.subjects, c.as_mut_slice-subjects.ensures.len) in
-    let written : take c.args.self.now.subjects.len (c.begin_all.new.subjects ++ drop (length c.begin_all.new.subjects) c.args.self.now.subjects.items) ≡ map due_again c.args.self.now.subjects.items =
-    whole_written c.args.self.now.subjects.len c.begin_all.new.subjects (drop (length c.begin_all.new.subjects) c.args.self.now.subjects.items) size
+    let size : c.args.self.now.subjects.len ≡ length c.begin_all.new.subjects =
+    omega (arith, c.begin_all.auto.subjects, c.as_mut_slice-subjects.ensures.len) in
+    let written : take c.args.self.now.subjects.len
+    (c.begin_all.new.subjects ++ drop (length c.begin_all.new.subjects) c.args.self.now.subjects.items)
+    ≡ map due_again c.args.self.now.subjects.items =
+    whole_written c.args.self.now.subjects.len c.begin_all.new.subjects
+    (drop (length c.begin_all.new.subjects) c.args.self.now.subjects.items) size
     ∙ c.begin_all.ensures ∙ ap (map due_again) c.as_mut_slice-subjects.ensures.value in
     written
 
 pub returns-clause-followed : goal.returns-clause-followed
 returns-clause-followed g c = λ now.
     begun_followed now (view_of c.begin_client.new.client) _
-    (subst (λ (v : View). v.standing.state ≢ Connected) (sym c.in_ok-begin_client.ensures.view) (not_connected c.args.timeout_ms (view_of c.args.self.now.client)))
+    (subst (λ (v : View). v.standing.state ≢ Connected) (sym c.in_ok-begin_client.ensures.view)
+    (not_connected c.args.timeout_ms (view_of c.args.self.now.client)))

@@ -8,29 +8,35 @@ use Rattle.zk_follow.proofs.follower.Follower.step.Goals as goal
 
 pub returns-in-Ok-clause-followed : goal.returns-in-Ok-clause-followed
 returns-in-Ok-clause-followed g c =
-    let size : c.args.self.now.subjects.len ≡ length c.advance.new.subjects = omega (arith, c.advance.auto.subjects, c.as_mut_slice-subjects.ensures.len) in
+    let size : c.args.self.now.subjects.len ≡ length c.advance.new.subjects =
+    omega (arith, c.advance.auto.subjects, c.as_mut_slice-subjects.ensures.len) in
     written_back (IsFollowed c.args.now (view_of c.advance.new.client)) c.args.self.now.subjects.len c.advance.new.subjects
     (drop (length c.advance.new.subjects) c.args.self.now.subjects.items) size c.in-Ok.ensures.followed
 
 pub returns-in-Ok-clause-ahead : goal.returns-in-Ok-clause-ahead
 returns-in-Ok-clause-ahead g c =
-    let size : c.args.self.now.subjects.len ≡ length c.advance.new.subjects = omega (arith, c.advance.auto.subjects, c.as_mut_slice-subjects.ensures.len) in
+    let size : c.args.self.now.subjects.len ≡ length c.advance.new.subjects =
+    omega (arith, c.advance.auto.subjects, c.as_mut_slice-subjects.ensures.len) in
     written_back (λ subject. IsAhead c.args.now subject.progress) c.args.self.now.subjects.len c.advance.new.subjects
     (drop (length c.advance.new.subjects) c.args.self.now.subjects.items) size c.in-Ok.ensures.ahead
 
 pub returns-in-Ok-clause-steps : goal.returns-in-Ok-clause-steps
 returns-in-Ok-clause-steps g c =
-    let size : c.args.self.now.subjects.len ≡ length c.advance.new.subjects = omega (arith, c.advance.auto.subjects, c.as_mut_slice-subjects.ensures.len) in
+    let size : c.args.self.now.subjects.len ≡ length c.advance.new.subjects =
+    omega (arith, c.advance.auto.subjects, c.as_mut_slice-subjects.ensures.len) in
     let old = view_of c.args.self.now.client in
     let input = input_view c.args.input in
     let given = said c.in-Ok.outputs.items in
     subst (Steps c.args.now old input c.args.self.now.subjects.items (view_of c.advance.new.client) given)
-    (sym (whole_written c.args.self.now.subjects.len c.advance.new.subjects (drop (length c.advance.new.subjects) c.args.self.now.subjects.items) size))
-    (subst (λ before. Steps c.args.now old input before (view_of c.advance.new.client) given c.advance.new.subjects) c.as_mut_slice-subjects.ensures.value c.in-Ok.ensures.steps)
+    (sym (whole_written c.args.self.now.subjects.len c.advance.new.subjects
+    (drop (length c.advance.new.subjects) c.args.self.now.subjects.items) size))
+    (subst (λ before. Steps c.args.now old input before (view_of c.advance.new.client) given c.advance.new.subjects)
+    c.as_mut_slice-subjects.ensures.value c.in-Ok.ensures.steps)
 
 pub invariant_of-self : goal.invariant_of-self
 invariant_of-self g c =
-    let size : c.args.self.now.subjects.len ≡ length c.advance.new.subjects = omega (arith, c.advance.auto.subjects, c.as_mut_slice-subjects.ensures.len) in
+    let size : c.args.self.now.subjects.len ≡ length c.advance.new.subjects =
+    omega (arith, c.advance.auto.subjects, c.as_mut_slice-subjects.ensures.len) in
     record {
       counted = written_back (IsCounted (view_of c.advance.new.client)) c.args.self.now.subjects.len c.advance.new.subjects
           (drop (length c.advance.new.subjects) c.args.self.now.subjects.items) size c.in-Ok.ensures.counted;

@@ -10,5 +10,6 @@ invariant_of-self g c =
     let view = view_of c.args.self.now.client in
     record {
       counted = subst (All (IsCounted view)) (sym c.remove.ensures)
-          (All-filter (λ subject. not (subject.ticket == c.args.ticket)) (IsCounted view) c.args.self.now.subjects.items c.args.self.now.counted);
+          (All-filter (λ subject. not (subject.ticket == c.args.ticket))
+          (IsCounted view) c.args.self.now.subjects.items c.args.self.now.counted);
     }

@@ -47,5 +47,9 @@ pub returns-in-Ok-append-clause-asked : goal.returns-in-Ok-append-clause-asked
 returns-in-Ok-append-clause-asked g c =
     let reading = record c.args.self.now { progress = Reading } in
     let heard : c.note_outputs.new.self ≡ heard_all c.args.now reading (said c.in-Ok.outputs.items) =
-    c.note_outputs.ensures ∙ ap (λ outputs. heard_all c.args.now reading (said outputs)) c.as_slice.ensures.value in
-    (said c.in-Ok.outputs.items, c.in-Ok.ensures.rule, heard, ap said c.in-Ok-append.ensures.items ∙ map-append output_view c.args.made.now.items c.in-Ok.outputs.items)
+    c.note_outputs.ensures ∙ ap (λ outputs. heard_all c.args.now reading (said outputs)) c.as_slice.ensures.value in (
+      said c.in-Ok.outputs.items,
+      c.in-Ok.ensures.rule,
+      heard,
+      ap said c.in-Ok-append.ensures.items ∙ map-append output_view c.args.made.now.items c.in-Ok.outputs.items,
+    )

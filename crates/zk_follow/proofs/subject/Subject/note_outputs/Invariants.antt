@@ -5,4 +5,5 @@ use Rattle.zk_follow.proofs.subject.Subject.note_outputs.Given as goal
 
 -- what was heard so far
 abbrev pub invariant-loop-output : goal.invariant-loop-output
-invariant-loop-output g l = l.self ≡ fold (λ subject output. heard l.now subject (output_view output)) l.fn.self (take l.output-index l.outputs)
+invariant-loop-output g l =
+    l.self ≡ fold (λ subject output. heard l.now subject (output_view output)) l.fn.self (take l.output-index l.outputs)

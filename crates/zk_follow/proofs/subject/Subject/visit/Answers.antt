@@ -11,25 +11,32 @@ pub returns-then-not-is_connected-clause-followed : goal.returns-then-not-is_con
 returns-then-not-is_connected-clause-followed g c = inr (inr (inr (inl (c.is_connected.ensures.no c.if-not-is_connected.true))))
 
 pub returns-then-not-is_connected-clause-counted : goal.returns-then-not-is_connected-clause-counted
-returns-then-not-is_connected-clause-counted g c = subst (IsCounted (view_of c.args.client.now)) (sym c.pass_moment.ensures) (woken_counted c.args.now (view_of c.args.client.now) (heard_all c.args.now c.args.self.now (said c.args.outputs.now)) c.requires.counted)
+returns-then-not-is_connected-clause-counted g c = subst (IsCounted (view_of c.args.client.now)) (sym c.pass_moment.ensures) (woken_counted
+    c.args.now (view_of c.args.client.now) (heard_all c.args.now c.args.self.now (said c.args.outputs.now)) c.requires.counted)
 
 pub returns-then-not-is_unread-clause-followed : goal.returns-then-not-is_unread-clause-followed
 returns-then-not-is_unread-clause-followed g c =
     not_due c.args.now (view_of c.args.client.now) c.pass_moment.new.self
-    (subst (λ subject. IsAhead c.args.now subject.progress) (sym c.pass_moment.ensures) (woken_ahead c.args.now (heard_all c.args.now c.args.self.now (said c.args.outputs.now)).progress)) (c.is_unread.ensures.no c.if-not-is_unread.true) c.requires.goes_on
-    (subst (IsCounted (view_of c.args.client.now)) (sym c.pass_moment.ensures) (woken_counted c.args.now (view_of c.args.client.now) (heard_all c.args.now c.args.self.now (said c.args.outputs.now)) c.requires.counted))
+    (subst (λ subject. IsAhead c.args.now subject.progress) (sym c.pass_moment.ensures)
+    (woken_ahead c.args.now (heard_all c.args.now c.args.self.now (said c.args.outputs.now)).progress))
+    (c.is_unread.ensures.no c.if-not-is_unread.true) c.requires.goes_on
+    (subst (IsCounted (view_of c.args.client.now)) (sym c.pass_moment.ensures) (woken_counted c.args.now (view_of c.args.client.now)
+    (heard_all c.args.now c.args.self.now (said c.args.outputs.now)) c.requires.counted))
 
 pub returns-then-not-is_unread-clause-counted : goal.returns-then-not-is_unread-clause-counted
-returns-then-not-is_unread-clause-counted g c = subst (IsCounted (view_of c.args.client.now)) (sym c.pass_moment.ensures) (woken_counted c.args.now (view_of c.args.client.now) (heard_all c.args.now c.args.self.now (said c.args.outputs.now)) c.requires.counted)
+returns-then-not-is_unread-clause-counted g c = subst (IsCounted (view_of c.args.client.now)) (sym c.pass_moment.ensures) (woken_counted
+    c.args.now (view_of c.args.client.now) (heard_all c.args.now c.args.self.now (said c.args.outputs.now)) c.requires.counted)
 
 pub ask-requires-clause-connected : goal.ask-requires-clause-connected
 ask-requires-clause-connected g c = c.is_connected.ensures.yes c.if-not-is_connected.false
 
 pub returns-then-is_shown-clause-visits : goal.returns-then-is_shown-clause-visits
-returns-then-is_shown-clause-visits g c = ([], inl (refl, refl, inr (c.rest.ensures ∙ ap rested c.pass_moment.ensures)), nothing_more (said c.args.made.now.items))
+returns-then-is_shown-clause-visits g c =
+    ([], inl (refl, refl, inr (c.rest.ensures ∙ ap rested c.pass_moment.ensures)), nothing_more (said c.args.made.now.items))
 
 pub returns-then-not-is_connected-clause-visits : goal.returns-then-not-is_connected-clause-visits
-returns-then-not-is_connected-clause-visits g c = ([], inl (refl, refl, inl c.pass_moment.ensures), nothing_more (said c.args.made.now.items))
+returns-then-not-is_connected-clause-visits g c =
+    ([], inl (refl, refl, inl c.pass_moment.ensures), nothing_more (said c.args.made.now.items))
 
 pub returns-then-not-is_unread-clause-visits : goal.returns-then-not-is_unread-clause-visits
 returns-then-not-is_unread-clause-visits g c = ([], inl (refl, refl, inl c.pass_moment.ensures), nothing_more (said c.args.made.now.items))
@@ -38,18 +45,22 @@ pub returns-in-Ok-clause-visits : goal.returns-in-Ok-clause-visits
 returns-in-Ok-clause-visits g c =
     let old = view_of c.args.client.now in
     let new = view_of c.ask.new.client in
-    visited c.ask.result c.args.now old (said c.args.made.now.items) c.pass_moment.new.self _ new (said c.ask.new.made.items) c.ask.new.self (call_view c.in-Ok.call) c.pass_moment.ensures c.in-Ok.ensures c.ask.ensures.asked
+    visited c.ask.result c.args.now old (said c.args.made.now.items) c.pass_moment.new.self _ new (said c.ask.new.made.items) c.ask.new.self
+    (call_view c.in-Ok.call) c.pass_moment.ensures c.in-Ok.ensures c.ask.ensures.asked
 
 pub returns-then-is_shown-clause-counted : goal.returns-then-is_shown-clause-counted
 returns-then-is_shown-clause-counted g c =
     let view = view_of c.args.client.now in
-    subst (IsCounted view) (sym c.rest.ensures) (rest_counted view c.pass_moment.new.self (subst (IsCounted view) (sym c.pass_moment.ensures) (woken_counted c.args.now (view_of c.args.client.now) (heard_all c.args.now c.args.self.now (said c.args.outputs.now)) c.requires.counted)))
+    subst (IsCounted view) (sym c.rest.ensures)
+    (rest_counted view c.pass_moment.new.self (subst (IsCounted view) (sym c.pass_moment.ensures) (woken_counted c.args.now
+    (view_of c.args.client.now) (heard_all c.args.now c.args.self.now (said c.args.outputs.now)) c.requires.counted)))
 
 pub returns-then-is_full-clause-followed : goal.returns-then-is_full-clause-followed
 returns-then-is_full-clause-followed g c = inr (inr (inl (c.requires.full c.if-is_full.true)))
 
 pub returns-then-is_full-clause-counted : goal.returns-then-is_full-clause-counted
-returns-then-is_full-clause-counted g c = subst (IsCounted (view_of c.args.client.now)) (sym c.pass_moment.ensures) (woken_counted c.args.now (view_of c.args.client.now) (heard_all c.args.now c.args.self.now (said c.args.outputs.now)) c.requires.counted)
+returns-then-is_full-clause-counted g c = subst (IsCounted (view_of c.args.client.now)) (sym c.pass_moment.ensures) (woken_counted
+    c.args.now (view_of c.args.client.now) (heard_all c.args.now c.args.self.now (said c.args.outputs.now)) c.requires.counted)
 
 pub returns-then-is_full-clause-visits : goal.returns-then-is_full-clause-visits
 returns-then-is_full-clause-visits g c = ([], inl (refl, refl, inl c.pass_moment.ensures), nothing_more (said c.args.made.now.items))

@@ -6,4 +6,5 @@ pub returns-in_default-clause-next : goal.returns-in_default-clause-next
 returns-in_default-clause-next g c = no_next c.args.self.now.entries.items (sym c.place_of_next.ensures ∙ c.in_default.is)
 
 pub returns-in_default-clause-entries : goal.returns-in_default-clause-entries
-returns-in_default-clause-entries g c = c.note_all.ensures ∙ none_handed c.args.self.now.entries.items (sym c.place_of_next.ensures ∙ c.in_default.is)
+returns-in_default-clause-entries g c =
+    c.note_all.ensures ∙ none_handed c.args.self.now.entries.items (sym c.place_of_next.ensures ∙ c.in_default.is)
