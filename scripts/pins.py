@@ -18,7 +18,7 @@ from pathlib import Path
 TOP = Path(__file__).resolve().parent.parent
 CRATES = TOP / "crates"
 # The crates of tests state nothing that a caller has.
-NOT_PINNED = "tests_of_"
+NOT_PINNED = ("test_layers/", "test_clients/", "test_scripts/", "test_links/", "test_callers/")
 
 QUOTED = r"""'(?:[^'\\\n]|\\[^'\n]+)'|"(?:[^"\\]|\\.)*\""""
 QUOTES = re.compile(QUOTED, re.S)

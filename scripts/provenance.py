@@ -6,10 +6,10 @@ from pathlib import Path
 
 TOP = Path(__file__).resolve().parent.parent
 PREBUILT = TOP / "prebuilt/x86_64-linux"
-ARCHIVE = TOP / "crates/zk_c/out/libzk_c.a"
+ARCHIVE = TOP / "crates/ffi_c/out/libffi_c.a"
 VERSION = (TOP / "VERSION").read_text(encoding="utf-8").strip()
 # the crates whose code is in the packages: the C interface, and the program
-LIBRARY, PROGRAM = "zk_c", "zk_shell"
+LIBRARY, PROGRAM = "ffi_c", "zk_shell"
 
 
 def crates_below(top: Path, *names: str) -> list[str]:
@@ -31,7 +31,7 @@ def sum_of(data: bytes) -> str:
 
 
 def sum_of_sources() -> str:
-    """A checksum of all that the archive is made from: the sources, specifications and proofs of zk_c and of the crates below it."""
+    """A checksum of all that the archive is made from: the sources, specifications and proofs of ffi_c and of the crates below it."""
     summed = hashlib.sha256()
     for crate in sorted(crates_below(TOP, LIBRARY)):
         for part in ("src", "specs", "proofs"):

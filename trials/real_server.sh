@@ -1,5 +1,5 @@
 #!/usr/bin/env bash
-# Runs `zk_shell live`, `zk_shell watch`, its commands that ask for one node and the examples `config_follower` and `conclusions_example`
+# Runs `zk_shell live`, `zk_shell watch`, its commands that ask for one node and the examples `example_config_follower` and `example_conclusions`
 # against real ZooKeeper servers: one alone, ensembles of three of which one stops, and one that is cut off for a while. What is printed is
 # checked line by line. All traffic stays on 127.0.0.1; servers and folders are gone at the end, however it ends.
 #
@@ -13,13 +13,13 @@ declare -A known=() seen=()
 build() {
     local example
     (cd "$top/crates/zk_shell" && rt run -- --help) >"$folder/build.log" 2>&1 || fail "zk_shell is not built"
-    for example in config_follower conclusions_example; do
+    for example in example_config_follower example_conclusions; do
         (cd "$top/crates/$example" && rt run) >"$folder/build.log" 2>&1 || true
         [[ -x $top/crates/$example/out/$example ]] || fail "$example is not built"
     done
     program=$top/crates/zk_shell/out/zk_shell
-    follower=$top/crates/config_follower/out/config_follower
-    conclusions=$top/crates/conclusions_example/out/conclusions_example
+    follower=$top/crates/example_config_follower/out/example_config_follower
+    conclusions=$top/crates/example_conclusions/out/example_conclusions
 }
 
 # A listener that holds the one connection that comes, until the file NAME.go is there, and then is gone. Its port is in NAME.port;

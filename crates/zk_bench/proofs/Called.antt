@@ -21,7 +21,7 @@ use Rattle.zk_turns.specs.Ranges.{IsTyped}
 use Rattle.zk_laws.specs.Messages as wanted
 use Rattle.zk_laws.specs.Parsed.{IsRecord, IsReadAs}
 use Rattle.zk_laws.specs.ServerSteps.{Serving}
-use Rattle.zk_serving.specs.Wires.{IsPathCall, IsFit, IsFor}
+use Rattle.theory_serving.specs.Wires.{IsPathCall, IsFit, IsFor}
 use Rattle.zk_bench.specs.Answering.{IsRead, IsReadOf, IsRestoring}
 use Rattle.zk_bench.specs.Asking.{Wants, IsBodyOf, IsPartOf, Asks, IsLook}
 use Rattle.zk_laws.specs.Server.{is_sequential}

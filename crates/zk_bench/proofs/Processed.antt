@@ -25,15 +25,15 @@ use Rattle.zk_laws.specs.Server.{Watches, both, sets, zxid_held, tree_held, IsOt
 use Rattle.zk_laws.specs.Messages.{Request, Connect, Ask, Restore, Ping, Replies}
 use Rattle.zk_laws.specs.Messages as message
 use Rattle.zk_laws.specs.Parsed.{IsRecord}
-use Rattle.zk_serving.specs.Wires.{IsFit, IsFor}
-use Rattle.zk_serving.proofs.Fronts.{front_field}
+use Rattle.theory_serving.specs.Wires.{IsFit, IsFor}
+use Rattle.theory_serving.proofs.Fronts.{front_field}
 use Rattle.zk_laws.specs.ServerSteps.{ServerEnd, Stage, Waiting, Serving, Ended as Silent, Admits, Refuses, Answers, Restores, Pongs, MayDo, messages_by, end_after}
 use Rattle.zk_laws.specs.Served.{ArePayloads, IsPayload, code_of}
-use Rattle.zk_serving.specs.GoingOn.{GoesOn}
-use Rattle.zk_serving.specs.Steps.{Step, Moves, ended_by, sent_by, processed_by, used_by}
-use Rattle.zk_serving.specs.Shown.{Shown, Open, Apart, Over}
-use Rattle.zk_serving.proofs.Stepping.{moves_more, ended_more, sent_more, processed_more, answer_moves, idle_moves, idle_processes, last_ended, last_sent, last_processed}
-use Rattle.zk_serving.proofs.Later.{moves_later, ended_later, taken_at, taken_set, taken_later}
+use Rattle.theory_serving.specs.GoingOn.{GoesOn}
+use Rattle.theory_serving.specs.Steps.{Step, Moves, ended_by, sent_by, processed_by, used_by}
+use Rattle.theory_serving.specs.Shown.{Shown, Open, Apart, Over}
+use Rattle.theory_serving.proofs.Stepping.{moves_more, ended_more, sent_more, processed_more, answer_moves, idle_moves, idle_processes, last_ended, last_sent, last_processed}
+use Rattle.theory_serving.proofs.Later.{moves_later, ended_later, taken_at, taken_set, taken_later}
 use Rattle.zk_bench.specs.declared.connection.Connection.{Connection}
 use Rattle.zk_bench.specs.declared.phase.Phase.{Phase}
 use Rattle.zk_bench.specs.declared.phase.Phase.TheVariants as phases

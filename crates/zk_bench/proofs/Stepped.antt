@@ -13,7 +13,7 @@ use Rattle.zk_nodes.specs.Path.{NodePath, path_eq}
 use Rattle.zk_history.specs.HistoryView.{HistoryView, history_of, root_tree}
 use Rattle.zk_nodes.specs.declared.side.Side.{Side}
 use Rattle.zk_nodes.specs.declared.side.Side.TheVariants.{Data, Child}
-use Rattle.zk_serving.specs.GoingOn.{GoesOn}
+use Rattle.theory_serving.specs.GoingOn.{GoesOn}
 use Rattle.zk_laws.specs.Server.{Watches, Notice, AreSent, fires, leaves_set, fires_all, leaves_set_all, no_watches, without, same_side, zxid_held, tree_held, Reads, Gives, both, sets}
 use Rattle.zk_laws.specs.Messages.{Request, Ask}
 use Rattle.zk_conversation.specs.Calls.{Call}
@@ -23,15 +23,15 @@ use Rattle.zk_conversation.specs.Pending.{closes}
 use Rattle.zk_conversation.specs.Results.{Result, Refused}
 use Rattle.zk_bench.specs.Answering.{IsRead, IsTold, AnswersRead}
 use Rattle.zk_laws.specs.ServerSteps.{ServerEnd, Stage, Waiting, Serving, Ended as Silent, Advances, Answers, MayDo, end_after, changes_next}
-use Rattle.zk_serving.specs.Steps.{Step, Moves, ended_by, sent_by}
-use Rattle.zk_serving.proofs.Stepping.{last_moves, last_ended, last_sent}
+use Rattle.theory_serving.specs.Steps.{Step, Moves, ended_by, sent_by}
+use Rattle.theory_serving.proofs.Stepping.{last_moves, last_ended, last_sent}
 use Rattle.zk_bench.specs.declared.connection.Connection.{Connection}
 use Rattle.zk_bench.specs.declared.phase.Phase.{Phase}
 use Rattle.zk_bench.specs.declared.phase.Phase.TheVariants.{Apart, Opening, Accepted, Ended}
 use Rattle.zk_bench.specs.Serving.{watched, Tells}
-use Rattle.zk_serving.specs.Shown as shows
-use Rattle.zk_serving.specs.Shown.{Shown, GoesBy}
-use Rattle.zk_serving.proofs.Later.{taken_set}
+use Rattle.theory_serving.specs.Shown as shows
+use Rattle.theory_serving.specs.Shown.{Shown, GoesBy}
+use Rattle.theory_serving.proofs.Later.{taken_set}
 use Rattle.zk_bench.specs.Served.{Served, Linked, is_open, advanced, advanced_by, ended, disconnected, Continues}
 use Rattle.zk_bench.specs.declared.stop.Stop.{Stop}
 use Rattle.zk_bench.specs.declared.stop.Stop.TheVariants as stops
@@ -41,7 +41,7 @@ use Rattle.zk_bench.proofs.Placed.{no_room}
 use Rattle.zk_bench.specs.Linked.{linked_of}
 use Rattle.zk_bench.specs.Stepping.{stage_of, end_at, Catches, CatchesUp, shown_watches, phase_of, end_of, shown_of, IsReady, TakesSome, ProcessesIf, ProcessesOne, AnswersOne, ProcessesFirst, AnswersFirst}
 use Rattle.zk_bench.specs.Front.{IsShort, IsWhole}
-use Rattle.zk_serving.proofs.Fronts.{front_there, front_field, front_behind, front_payload}
+use Rattle.theory_serving.proofs.Fronts.{front_there, front_field, front_behind, front_payload}
 
 -- no transaction is taken
 pub stays_there : {A : Type 0} (h : History) (place : ℕ) (old : Connection A) → place ≤ length h.transactions → CatchesUp h place old place old

@@ -15,11 +15,11 @@ use Rattle.zk_records.specs.declared.code.Code.TheVariants as codes
 use Rattle.zk_laws.specs.Server.{Watches, no_watches, both, sets, held, zxid_held, tree_held, LastHolds, Gives}
 use Rattle.zk_laws.specs.ServerSteps.{ServerEnd, Stage, Waiting, Serving, Ended as Silent}
 use Rattle.zk_laws.specs.Served.{code_of}
-use Rattle.zk_serving.specs.Steps.{Step, Moves, ended_by, sent_by, processed_by}
-use Rattle.zk_serving.specs.Shown.{Shown, AllTaken, Takes, GoesBy, Processes}
+use Rattle.theory_serving.specs.Steps.{Step, Moves, ended_by, sent_by, processed_by}
+use Rattle.theory_serving.specs.Shown.{Shown, AllTaken, Takes, GoesBy, Processes}
 use Rattle.zk_laws.specs.Messages.{Request, Ask}
-use Rattle.zk_serving.specs.Shown.{Phase as Going}
-use Rattle.zk_serving.specs.Shown as shows
+use Rattle.theory_serving.specs.Shown.{Phase as Going}
+use Rattle.theory_serving.specs.Shown as shows
 use Rattle.zk_bench.specs.declared.connection.Connection.{Connection}
 use Rattle.zk_bench.specs.declared.phase.Phase.{Phase}
 use Rattle.zk_bench.specs.declared.phase.Phase.TheVariants.{Apart, Opening, Accepted, Ended}

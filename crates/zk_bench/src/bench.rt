@@ -28,7 +28,7 @@ ghost use Rattle.zk_records.specs.Layouts.{create_response};
 ghost use Rattle.zk_bench.specs.Asking.{Asks, IsLook};
 ghost use Rattle.zk_bench.specs.Serving.{Sends, SendsHeader};
 ghost use Rattle.zk_laws.specs.Parsed.{IsReadAs};
-ghost use Rattle.zk_serving.specs.Wires.{IsFit, IsFor, StandsFirst};
+ghost use Rattle.theory_serving.specs.Wires.{IsFit, IsFor, StandsFirst};
 ghost use Rattle.zk_bench.specs.Served.{started, linked, connected, disconnected, ended, is_open, advanced, with_requests, without_output, Continues};
 
 use crate::connection::Connection;

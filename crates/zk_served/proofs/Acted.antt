@@ -4,12 +4,12 @@ use Rattle.std.specs.List.{FoldsTo}
 use Rattle.zk_frames.specs.Frame.{frame}
 use Rattle.zk_turns.specs.View.{View}
 use Rattle.zk_laws.specs.Messages.{Request}
-use Rattle.zk_serving.specs.GoingOn.{GoesOn}
-use Rattle.zk_serving.specs.Steps.{sent_by, Step}
-use Rattle.zk_serving.specs.Shown.{more_requests, GoesBy, Open, Phase, Processes, Shown, Takes as TakesMore}
-use Rattle.zk_serving.specs.Wires.{is_up, IsFor, StandsFirst, WasServed}
-use Rattle.zk_serving.proofs.Fronts.{front_field, front_payload, front_there}
-use Rattle.zk_serving.proofs.Views.{answers_session, rests_session, takes_session}
+use Rattle.theory_serving.specs.GoingOn.{GoesOn}
+use Rattle.theory_serving.specs.Steps.{sent_by, Step}
+use Rattle.theory_serving.specs.Shown.{more_requests, GoesBy, Open, Phase, Processes, Shown, Takes as TakesMore}
+use Rattle.theory_serving.specs.Wires.{is_up, IsFor, StandsFirst, WasServed}
+use Rattle.theory_serving.proofs.Fronts.{front_field, front_payload, front_there}
+use Rattle.theory_serving.proofs.Views.{answers_session, rests_session, takes_session}
 use Rattle.zk_served.specs.Acts.{given_in, taken_in, Act, EndsHere, Gives, Happens, ProcessesNext, Serves, Takes, TakesNext}
 use Rattle.zk_served.proofs.Turned.{more_twice, through, Kept}
 

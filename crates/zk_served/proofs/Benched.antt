@@ -1,8 +1,8 @@
 -- What servers in memory do, as acts.
 use Rattle.std.proofs.Common.{◌≡◌, inl, inr, true, false, [], ap, append-nil, refl, sym}
 use Rattle.std.proofs.lemmas.List.{take-append-drop}
-use Rattle.zk_serving.specs.Shown.{more_requests, Open}
-use Rattle.zk_serving.specs.Shown as shows
+use Rattle.theory_serving.specs.Shown.{more_requests, Open}
+use Rattle.theory_serving.specs.Shown as shows
 use Rattle.zk_bench.specs.declared.phase.Phase.{Phase}
 use Rattle.zk_bench.specs.declared.phase.Phase.TheVariants.{Accepted, Apart, Ended, Opening}
 use Rattle.zk_bench.specs.Served.{is_open}

@@ -24,8 +24,8 @@ use Rattle.zk_agent.specs.Calls.{answers, closings, endings, handed, hears, tell
 use Rattle.zk_agent.specs.Replies.{heard_in, is_lost, is_over}
 use Rattle.zk_agent.specs.Telling.{Told, Says, HangsUp, closed_told, ended_told, news_told}
 use Rattle.zk_driver.specs.Driving.{carried, ChannelView}
-use Rattle.zk_serving.specs.Shown.{connected, sent_in, EndsNothing, Shown}
-use Rattle.zk_serving.specs.Wires.{is_up}
+use Rattle.theory_serving.specs.Shown.{connected, sent_in, EndsNothing, Shown}
+use Rattle.theory_serving.specs.Wires.{is_up}
 use Rattle.zk_served.specs.Asking.{HearsFit, IsFitInput}
 use Rattle.zk_served.proofs.Turned.{bytes_kept, call_kept, cut_down, cut_kept, down_silent, ends_more, let_go, now_kept, opened_ends, opened_kept, sent_more, stays_down, stays_up, IsSilent, IsWithin, Kept, StaysUp}
 use Rattle.zk_served.proofs.Unlost.{any_both, none_over, turn_unlost, IsMuteInput}

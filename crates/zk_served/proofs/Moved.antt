@@ -28,9 +28,9 @@ use Rattle.zk_agent.specs.Replies.{heard_in, is_lost}
 use Rattle.zk_agent.specs.Telling.{due_told, Begins, Dials, HangsUp, Says, Told}
 use Rattle.zk_agent.proofs.Moves.{ours_is_open}
 use Rattle.zk_driver.specs.Driving.{carried, ChannelView}
-use Rattle.zk_serving.specs.Shown.{connected, Shown}
-use Rattle.zk_serving.specs.Wires.{is_up, WasServed}
-use Rattle.zk_serving.proofs.Views.{first_session}
+use Rattle.theory_serving.specs.Shown.{connected, Shown}
+use Rattle.theory_serving.specs.Wires.{is_up, WasServed}
+use Rattle.theory_serving.proofs.Views.{first_session}
 use Rattle.zk_served.specs.Asking.{HearsFit, LeavesFit, MoveFits, MovesFit}
 use Rattle.zk_served.proofs.Turned.{let_go, IsWithin, Kept}
 use Rattle.zk_served.proofs.Unlost.{IsMuteInput}

@@ -15,10 +15,10 @@ use Rattle.zk_dialler.specs.declared.dialler.Phase.TheVariants.{Dialling, Open, 
 use Rattle.zk_dialler.specs.Dialling.{is_open}
 use Rattle.zk_laws.specs.Headline.{IsCoherentWith}
 use Rattle.zk_laws.specs.Served.{Served}
-use Rattle.zk_serving.specs.Shown.{connected, Shown}
-use Rattle.zk_serving.specs.Wires.{is_up}
-use Rattle.zk_serving.proofs.Entries.{served_so}
-use Rattle.zk_serving.proofs.Views.{first_session, good_session}
+use Rattle.theory_serving.specs.Shown.{connected, Shown}
+use Rattle.theory_serving.specs.Wires.{is_up}
+use Rattle.theory_serving.proofs.Entries.{served_so}
+use Rattle.theory_serving.proofs.Views.{first_session, good_session}
 use Rattle.zk_conclusions.specs.Seen.{IsServedFrom}
 use Rattle.zk_agent.specs.declared.input.Input.{Input}
 use Rattle.zk_agent.specs.declared.input.Input.TheVariants as happens

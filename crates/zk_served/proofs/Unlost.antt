@@ -16,7 +16,7 @@ use Rattle.zk_turns.specs.Taken.{caused, happenings, opens, refusal, refusal_whe
 use Rattle.zk_turns.specs.Rule.{next, says, says_all, after_all, says_signals, loss, losses, Rule}
 use Rattle.zk_turns.proofs.Cases.{by_cond, by_open, by_due}
 use Rattle.zk_turns.proofs.Words.{calls}
-use Rattle.zk_serving.specs.Shown.{EndsNothing}
+use Rattle.theory_serving.specs.Shown.{EndsNothing}
 use Rattle.zk_agent.specs.Replies.{is_lost, is_over}
 
 abbrev IsOwn : Outcome → Type 0

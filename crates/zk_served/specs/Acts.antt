@@ -3,10 +3,10 @@ use Rattle.std.specs.Prelude.{◌≡◌, ◌<◌, ◌^◌, ◌⊎◌, ℤ, ℕ, 
 use Rattle.zk_frames.specs.Frame.{frame}
 use Rattle.zk_nodes.specs.History.{IsHistory}
 use Rattle.zk_laws.specs.Messages.{Request}
-use Rattle.zk_serving.specs.GoingOn.{GoesOn}
-use Rattle.zk_serving.specs.Steps.{Step}
-use Rattle.zk_serving.specs.Shown.{more_requests, Open, Over, Processes, Shown, Takes as TakesMore}
-use Rattle.zk_serving.specs.Wires.{IsFor, StandsFirst}
+use Rattle.theory_serving.specs.GoingOn.{GoesOn}
+use Rattle.theory_serving.specs.Steps.{Step}
+use Rattle.theory_serving.specs.Shown.{more_requests, Open, Over, Processes, Shown, Takes as TakesMore}
+use Rattle.theory_serving.specs.Wires.{IsFor, StandsFirst}
 
 -- ---- what the servers do
 

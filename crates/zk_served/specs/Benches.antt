@@ -4,8 +4,8 @@ use Rattle.zk_frames.specs.Frame.{frame}
 use Rattle.zk_nodes.specs.History.{IsHistory}
 use Rattle.zk_history.specs.HistoryView.{history_of}
 use Rattle.zk_laws.specs.Messages.{Request}
-use Rattle.zk_serving.specs.GoingOn.{GoesOn}
-use Rattle.zk_serving.specs.Wires.{IsFor, StandsFirst}
+use Rattle.theory_serving.specs.GoingOn.{GoesOn}
+use Rattle.theory_serving.specs.Wires.{IsFor, StandsFirst}
 use Rattle.zk_bench.specs.Served.{ended, is_open, with_requests, without_output, Served}
 use Rattle.zk_bench.specs.Stepping.{shown_of, ProcessesFirst, TakesSome}
 use Rattle.zk_served.specs.Acts.{Gives, Happens, Serves, Takes}

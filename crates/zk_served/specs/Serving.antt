@@ -6,7 +6,7 @@ use Rattle.zk_turns.specs.Ranges.{IsResumable}
 use Rattle.zk_turns.specs.Rule.{Stands}
 use Rattle.zk_client.specs.Clients.{view_of}
 use Rattle.zk_laws.specs.Headline.{IsCoherentWith}
-use Rattle.zk_serving.specs.Shown.{Shown}
+use Rattle.theory_serving.specs.Shown.{Shown}
 use Rattle.zk_conclusions.specs.Seen.{IsServedFrom}
 use Rattle.zk_driver.specs.Flowing.{Flow, Runs}
 use Rattle.zk_served.specs.Asking.{StepsFit}

@@ -1,8 +1,8 @@
 -- Servers at the far end of a driver's connections.
 use Rattle.std.specs.Prelude.{◌≡◌, ◌≤◌, ℕ, Bool, true, false, List, [], ◌∷◌, ◌++◌, length, Option, Some, None}
 use Rattle.std.specs.List.{FoldsTo}
-use Rattle.zk_serving.specs.GoingOn.{GoesOn}
-use Rattle.zk_serving.specs.Shown.{connected, Shown}
+use Rattle.theory_serving.specs.GoingOn.{GoesOn}
+use Rattle.theory_serving.specs.Shown.{connected, Shown}
 use Rattle.zk_agent.specs.declared.input.Input.TheVariants as happens
 use Rattle.zk_driver.specs.Driving.{Looked, Noted, Written}
 use Rattle.zk_driver.specs.Flowing.{Deed, Flow, Made, Passes}

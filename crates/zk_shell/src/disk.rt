@@ -2,9 +2,9 @@
 
 ghost use Rattle.std.specs.Prelude.{None};
 
+use shell_commands::files::Files;
 use std::fs::File;
 use std::io;
-use zk_commands::files::Files;
 
 /// What opens files of the system.
 #[derive(Drop)]

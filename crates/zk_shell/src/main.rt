@@ -4,10 +4,10 @@
 mod disk;
 
 use disk::Disk;
+use shell_commands::run::run;
+use shell_commands::status::Status;
 use std::io;
 use std::process::ExitCode;
-use zk_commands::run::run;
-use zk_commands::status::Status;
 use zk_link::{SystemClock, Tcp};
 
 /// Runs the command that the process's arguments ask for.

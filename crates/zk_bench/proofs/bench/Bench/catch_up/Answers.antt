@@ -1,6 +1,6 @@
 use Rattle.std.proofs.Common.{sym, subst}
 use Rattle.std.specs.Prelude.{OnOk, slice_set}
-use Rattle.zk_serving.proofs.Later.{taken_at}
+use Rattle.theory_serving.proofs.Later.{taken_at}
 use Rattle.zk_history.specs.HistoryView.{history_of}
 use Rattle.zk_bench.specs.Linked.{linked_of}
 use Rattle.zk_bench.specs.Served.{Served}

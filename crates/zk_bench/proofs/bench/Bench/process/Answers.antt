@@ -1,5 +1,5 @@
 use Rattle.std.proofs.Common.{◌≡◌, true, sym, ap, ◌∙◌, length}
-use Rattle.zk_serving.proofs.Fronts.{front_there, front_field}
+use Rattle.theory_serving.proofs.Fronts.{front_there, front_field}
 use Rattle.zk_bench.specs.Served.{Served, is_open, ended}
 use Rattle.zk_bench.specs.Stepping.{IsReady, ProcessesFirst, shown_of, AnswersFirst}
 use Rattle.zk_bench.proofs.Stepped.{settled, settled_so, ready_ended, ready_disconnected, ok_so, first_processed, processed_so, answered_so}

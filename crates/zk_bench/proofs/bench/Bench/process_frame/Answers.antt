@@ -3,7 +3,7 @@ use Rattle.std.proofs.Common.{take as first}
 use Rattle.std.specs.Prelude.{OnOk, IsErrOf}
 use Rattle.zk_laws.specs.Messages.{Request}
 use Rattle.zk_laws.specs.ServerSteps.{Stage}
-use Rattle.zk_serving.specs.Wires.{IsFor}
+use Rattle.theory_serving.specs.Wires.{IsFor}
 use Rattle.zk_bench.specs.Served.{Served}
 use Rattle.zk_bench.specs.declared.stop.Stop.TheVariants as stops
 use Rattle.zk_bench.specs.declared.phase.Phase.TheVariants.{Opening}

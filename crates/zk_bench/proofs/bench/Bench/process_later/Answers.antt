@@ -5,7 +5,7 @@ use Rattle.zk_records.specs.Codes.{code_number}
 use Rattle.zk_laws.specs.Messages.{Request}
 use Rattle.zk_laws.specs.Parsed.{IsReadAs}
 use Rattle.zk_laws.specs.ServerSteps.{Serving}
-use Rattle.zk_serving.specs.Wires.{IsFit, IsFor}
+use Rattle.theory_serving.specs.Wires.{IsFit, IsFor}
 use Rattle.zk_bench.specs.Linked.{linked_of}
 use Rattle.zk_bench.specs.Served.{Served, ended}
 use Rattle.zk_bench.specs.declared.stop.Stop.{Stop}

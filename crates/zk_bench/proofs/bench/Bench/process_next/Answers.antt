@@ -1,7 +1,7 @@
 use Rattle.std.proofs.Common.{ap, ◌∙◌, subst, ℕ, List}
 use Rattle.zk_frames.specs.Frame.{IsNegative}
 use Rattle.zk_laws.specs.Parsed.{IsReadAs}
-use Rattle.zk_serving.specs.Wires.{IsFit}
+use Rattle.theory_serving.specs.Wires.{IsFit}
 use Rattle.zk_bench.specs.Front.{IsShort, IsWhole}
 use Rattle.zk_bench.specs.Served.{Served}
 use Rattle.zk_bench.proofs.Stepped.{not_short, whole_payload}

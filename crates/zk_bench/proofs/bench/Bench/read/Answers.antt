@@ -4,7 +4,7 @@ use Rattle.zk_nodes.specs.History.{Tree}
 use Rattle.zk_history.specs.HistoryView.{history_of}
 use Rattle.zk_laws.specs.Server.{zxid_held, tree_held}
 use Rattle.zk_laws.specs.Messages.{Request, Ask, Restore}
-use Rattle.zk_serving.proofs.Later.{taken_at}
+use Rattle.theory_serving.proofs.Later.{taken_at}
 use Rattle.zk_bench.specs.Linked.{linked_of}
 use Rattle.zk_bench.specs.Served.{Served}
 use Rattle.zk_bench.specs.declared.stop.Stop.TheVariants as stops

@@ -1,5 +1,5 @@
 use Rattle.std.proofs.Common.{◌≡◌, refl, sym, ap, subst, ◌∙◌, Result, Ok, Err, OnOk, IsOk}
-use Rattle.zk_serving.specs.GoingOn.{GoesOn}
+use Rattle.theory_serving.specs.GoingOn.{GoesOn}
 use Rattle.zk_bench.specs.declared.stop.Stop.TheVariants as stops
 use Rattle.zk_history.specs.HistoryView.{history_of}
 use Rattle.zk_bench.specs.Served.{Served, ended}

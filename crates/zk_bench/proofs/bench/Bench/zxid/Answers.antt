@@ -2,7 +2,7 @@ use Rattle.std.proofs.Common.{rules, ◌≡◌, ◌∙◌, subst, pos, to_z, of_
 use Rattle.std.specs.Prelude.{slice_index}
 use Rattle.zk_history.specs.HistoryView.{history_of}
 use Rattle.zk_laws.specs.Server.{zxid_held}
-use Rattle.zk_serving.proofs.Later.{taken_at}
+use Rattle.theory_serving.proofs.Later.{taken_at}
 use Rattle.zk_bench.specs.Served.{Served}
 use Rattle.zk_bench.specs.Stepping.{IsReady}
 use Rattle.zk_bench.proofs.Fields.{bench_of}

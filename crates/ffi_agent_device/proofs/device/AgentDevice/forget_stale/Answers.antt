@@ -1,0 +1,25 @@
+use Rattle.std.proofs.Common.{refl, sym, subst}
+use Rattle.std.specs.Prelude.{All}
+use Rattle.zk_client.specs.Clients.{view_of}
+use Rattle.zk_follow.specs.Following.{IsFollowed}
+use Rattle.ffi_agent_device.proofs.device.AgentDevice.forget_stale.Goals as goal
+
+pub returns : goal.returns
+returns g =
+    let gone = g.forget_stale.ensures in
+    record {
+      view = gone.view;
+      led = gone.led;
+      followed = λ all. subst (λ now. All (IsFollowed now (view_of g.forget_stale.new.self.asker.follower.client)) g.forget_stale.new.self.asker.follower.subjects.items)
+          (sym gone.latest) (gone.followed g.args.self.now.agent.latest all);
+      subjects = gone.subjects;
+      calls = gone.calls;
+      dialler = gone.dialler;
+      timeout = gone.timeout;
+      latest = gone.latest;
+      heard = gone.heard;
+      said = refl;
+      read = refl;
+      over = refl;
+      number = refl;
+    }

@@ -1,0 +1,147 @@
+-- What becomes of an agent's device, by the number that is told.
+use Rattle.std.specs.Prelude.{◌≡◌, ◌≢◌, ◌+◌, ◌==◌, ◌^◌, Bool, ℕ, zero, ℤ, pos, negsuc, true, false, max, List, [], Option, Some, None, Result, All, MatchResult, if◌then◌else◌}
+use Rattle.std.specs.List.Sorted.{IsPermutation}
+use Rattle.std.specs.declared.alloc.Global.{Global}
+use Rattle.zk_nodes.specs.Path.{Text}
+use Rattle.zk_nodes.specs.declared.side.Side.{Side}
+use Rattle.zk_conversation.specs.Calls.{Call}
+use Rattle.zk_conversation.specs.Views.{call_view}
+use Rattle.zk_turns.specs.Turns.{Start}
+use Rattle.zk_turns.specs.Rule.{forgotten}
+use Rattle.zk_turns.specs.View.{View, view_at}
+use Rattle.zk_session.specs.declared.states.State.TheVariants.{Expired, Closed}
+use Rattle.zk_client.specs.Clients.{view_of}
+use Rattle.zk_dialler.specs.Dialling.{is_open}
+use Rattle.zk_dialler.specs.Orders.{numbers, shuffled}
+use Rattle.zk_dialler.specs.Chances.{state_after}
+use Rattle.zk_dialler.specs.declared.dialler.Dialler.{Dialler}
+use Rattle.zk_dialler.specs.declared.dialler.Phase.TheVariants.{Waiting}
+use Rattle.zk_follow.specs.Following.{IsFollowed}
+use Rattle.zk_agent.specs.declared.agent.Agent.{Agent}
+use Rattle.zk_agent.specs.declared.input.Input.{Input}
+use Rattle.zk_agent.specs.declared.input.Input.TheVariants as input
+use Rattle.zk_agent.specs.Agents.{given_of, heard_after, how_many_asked, how_many_ended, trail_of, Comes, IsAnswered, IsDecided, IsLed}
+use Rattle.zk_agent.specs.Calls.{how_many, IsInTime, IsServed}
+use Rattle.zk_agent.specs.Telling.{told_by}
+use Rattle.zk_conclusions.specs.Revisions.{raised}
+use Rattle.ffi_device.specs.Codes.{refusal_code}
+use Rattle.ffi_device.specs.declared.refusal.Refusal.{Refusal}
+use Rattle.ffi_agent_device.specs.Revisions.{revised}
+use Rattle.ffi_agent_device.specs.declared.device.AgentDevice.{AgentDevice}
+
+-- ---- what happens
+
+-- What a caller hands in, without where it lies in memory.
+pub data Happening : Type 0 where
+  Opened Failed Cut Moment : Happening
+  Bytes : List ℕ → Happening
+  Addressed : (count : ℕ) → Happening
+  Calls : (ticket : ℕ) → Call → (until : Option ℕ) → Happening
+  Follows : (ticket : ℕ) → Side → Text → Happening
+  Unfollows : (ticket : ℕ) → Happening
+
+abbrev pub happening : {A : Type 0} → Input A → Happening
+happening input.Opened = Opened
+happening input.Failed = Failed
+happening (input.Bytes bytes) = Bytes bytes.items
+happening input.Cut = Cut
+happening input.Moment = Moment
+happening (input.Addresses count) = Addressed count
+happening (input.Call ticket call until) = Calls ticket (call_view call) until
+happening (input.Follow ticket side path) = Follows ticket side path
+happening (input.Unfollow ticket) = Unfollows ticket
+
+-- whether bytes came
+abbrev pub is_bytes : Happening → Bool
+is_bytes (Bytes bytes) = true
+is_bytes _ = false
+
+-- the limit of a call at a moment: at the last one of all there is none
+abbrev pub limit_of : (until : ℕ) → Option ℕ
+limit_of until = if until == 18446744073709551615 then None else Some until
+
+-- ---- steps
+
+-- each subject is followed, at the latest moment
+abbrev pub AreFollowed : {A : Type 0} → Agent A → Type 0
+AreFollowed agent = All (IsFollowed agent.latest (view_of agent.asker.follower.client)) agent.asker.follower.subjects.items
+
+-- The agent took an input that was noticed at a moment, by all that a step of it promises. What it said is there, in its order, and none of
+-- it was read.
+pub record Took (now : ℕ) (given : Input Global) (before after : AgentDevice) : Type 0 where
+  pub went_on : before.is_over ≡ false
+  pub goes_on : after.is_over ≡ false
+  pub unread : after.read ≡ 0
+  pub comes : Comes (max before.agent.latest now) (given_of before.agent.dialler.phase (max before.agent.latest now) given) (trail_of before.agent []) (trail_of after.agent after.said.items)
+  pub followed : AreFollowed after.agent
+  pub calls : (ticket : ℕ) → how_many ticket after.agent.asker.line.entries.items + how_many_ended ticket (told_by after.said.items) ≡ how_many ticket before.agent.asker.line.entries.items + how_many_asked ticket given
+  pub served : All (IsServed (view_of after.agent.asker.follower.client)) after.agent.asker.line.entries.items
+  pub limits : All (IsInTime after.agent.latest) after.agent.asker.line.entries.items
+  pub answers : IsAnswered after.agent
+  pub closed : (view_of after.agent.asker.follower.client).standing.state ≡ Closed → after.agent.asker.line.entries.items ≡ []
+  pub renewed : (view_of after.agent.asker.follower.client).standing.state ≢ Expired
+  pub dials : (view_of after.agent.asker.follower.client).standing.state ≢ Closed → IsDecided (max before.agent.latest now) (trail_of after.agent after.said.items)
+  pub latest : after.agent.latest ≡ max before.agent.latest now
+  pub heard : after.agent.heard_at ≡ heard_after (is_open before.agent.dialler.phase) (max before.agent.latest now) given before.agent.heard_at
+  pub number : after.revision.number ≡ revised (is_bytes (happening given)) (told_by after.said.items) before.revision.number
+
+-- The same of an input that is this.
+pub record Stepped (now : ℕ) (what : Happening) (before after : AgentDevice) : Type 0 where
+  pub given : Input Global
+  pub is : happening given ≡ what
+  pub took : Took now given before after
+
+-- Memory ran out within this step, or within an earlier one: the agent goes on no further, and nothing is told. The revision is the next one.
+pub record Stopped (before after : AgentDevice) : Type 0 where
+  pub over : after.is_over ≡ true
+  pub silent : after.said.items ≡ []
+  pub number : after.revision.number ≡ raised before.revision.number
+
+-- What happened, at a moment: 0 where it was one step of the agent, -1 where the agent goes on no further, and any other number where nothing
+-- was done, for a reason that this number has.
+abbrev pub Steps : (Refuses : ℤ → Type 0) → (now : ℕ) → Happening → (before : AgentDevice) → (code : ℤ) → (after : AgentDevice) → Type 0
+Steps Refuses now what before (pos zero) after = Stepped now what before after
+Steps Refuses now what before (negsuc zero) after = Stopped before after
+Steps Refuses now what before code after = Refuses code × (after ≡ before)
+
+-- ---- beginnings
+
+-- The stale answers are gone from what the client keeps, and nothing else is another one.
+pub record Forgot (before after : AgentDevice) : Type 0 where
+  pub view : view_of after.agent.asker.follower.client ≡ record (view_of before.agent.asker.follower.client) { cache = forgotten (view_of before.agent.asker.follower.client).cache }
+  pub led : IsLed (view_of before.agent.asker.follower.client) → IsLed (view_of after.agent.asker.follower.client)
+  pub followed : AreFollowed before.agent → AreFollowed after.agent
+  pub subjects : after.agent.asker.follower.subjects ≡ before.agent.asker.follower.subjects
+  pub calls : after.agent.asker.line ≡ before.agent.asker.line
+  pub dialler : after.agent.dialler ≡ before.agent.dialler
+  pub timeout : after.agent.timeout_ms ≡ before.agent.timeout_ms
+  pub latest : after.agent.latest ≡ before.agent.latest
+  pub heard : after.agent.heard_at ≡ before.agent.heard_at
+  pub said : after.said ≡ before.said
+  pub read : after.read ≡ before.read
+  pub over : after.is_over ≡ before.is_over
+  pub number : after.revision ≡ before.revision
+
+-- Nothing was asked, followed, heard or said yet, and the client is this one. The revision is 1.
+pub record BeginsWith (view : View) (device : AgentDevice) : Type 0 where
+  pub client : view_of device.agent.asker.follower.client ≡ view
+  pub subjects : device.agent.asker.follower.subjects.items ≡ []
+  pub calls : device.agent.asker.line.entries.items ≡ []
+  pub latest : device.agent.latest ≡ 0
+  pub heard : device.agent.heard_at ≡ None
+  pub phase : device.agent.dialler.phase ≡ Waiting
+  pub silent : device.said.items ≡ []
+  pub goes_on : device.is_over ≡ false
+  pub number : device.revision.number ≡ 1
+
+-- a device that has begun so, or a refusal for a reason that its number has
+abbrev pub Begins : (Refuses : ℤ → Type 0) → Start → Result AgentDevice Refusal → Type 0
+Begins Refuses start made = MatchResult made (BeginsWith (view_at start [])) (λ refusal. Refuses (refusal_code refusal))
+
+-- Nothing was dialled yet, and this many addresses are there, in an order that is random by the seed.
+pub record Dials {A : Type 0} (addresses seed : ℕ) (dialler : Dialler A) : Type 0 where
+  pub phase : dialler.phase ≡ Waiting
+  pub order : dialler.ring.order.items ≡ shuffled seed addresses (numbers addresses)
+  pub each : IsPermutation (numbers addresses) dialler.ring.order.items
+  pub first : dialler.ring.next ≡ 0
+  pub backoff : dialler.backoff ≡ record { chance = record { state = state_after addresses seed }; failures = 0; connected = None; ended = 0; least = 0; moment = 0 }

@@ -1,0 +1,160 @@
+//! What a caller asks, from bytes.
+
+ghost use Rattle.std.specs.Prelude.{◌≡◌, IfErr, OnOk};
+ghost use Rattle.std.specs.Option.{option_map};
+ghost use Rattle.zk_conversation.specs.Calls.{Exists, GetData, GetChildren, SetData, Create, Delete, Close};
+ghost use Rattle.zk_conversation.specs.Views.{call_view};
+ghost use Rattle.ffi_device.specs.Codes.{code_of};
+ghost use Rattle.ffi_device.specs.Refused.{RefusesCreate, RefusesNothing, RefusesPath};
+ghost use Rattle.ffi_device.specs.declared.refusal.Refusal.TheVariants as refusals;
+ghost use Rattle.ffi_agent_device.specs.Steps.{Calls, Stepped, Steps, Stopped, limit_of};
+
+use crate::device::AgentDevice;
+use ffi_device::{Refusal, create, path_of, set_data};
+use std::alloc::Global;
+use zk_agent::Input;
+use zk_client::Call;
+
+// The limit of a call at this moment. At the last one of all there is none.
+fn limit_of(until: u64) -> Option<u64>
+    ensures { result ≡ limit_of until }
+{
+    if until == u64::MAX { None } else { Some(until) }
+}
+
+impl AgentDevice {
+    // A caller asks. The one refusal is `Halted`.
+    fn ask_at(
+        &mut self,
+        now: u64,
+        ticket: u64,
+        until: u64,
+        call: Call<Global>,
+    ) -> Result<(), Refusal>
+        ensures stepped { OnOk result (Stepped now (Calls ticket (call_view call) (limit_of until)) self.old self.new) }
+        ensures stopped { IfErr result (λ refusal. (refusal ≡ refusals.Halted) × Stopped self.old self.new) }
+    {
+        let until = limit_of(until);
+        self.step_at(
+            now,
+            Input::Call {
+                ticket,
+                call,
+                until,
+            },
+        )
+    }
+
+    /// Asks whether there is a node, and what is known of it. As each call it waits until this moment at most, and without a limit at the
+    /// last one of all.
+    #[tactic(auto, using(crate::proofs::Refusing::refuses))]
+    pub fn exists_at(
+        &mut self,
+        alloc: Global,
+        now: u64,
+        ticket: u64,
+        until: u64,
+        path: &[u8],
+        watch: bool,
+    ) -> Result<(), Refusal>
+        ensures { Steps (RefusesPath path.now) now (Calls ticket (Exists path.now watch) (limit_of until)) self.old (code_of result) self.new }
+    {
+        let path = path_of(alloc, path)?;
+        self.ask_at(now, ticket, until, Call::Exists { path, watch })
+    }
+
+    /// Asks for the data of a node.
+    #[tactic(auto, using(crate::proofs::Refusing::refuses))]
+    pub fn get_data_at(
+        &mut self,
+        alloc: Global,
+        now: u64,
+        ticket: u64,
+        until: u64,
+        path: &[u8],
+        watch: bool,
+    ) -> Result<(), Refusal>
+        ensures { Steps (RefusesPath path.now) now (Calls ticket (GetData path.now watch) (limit_of until)) self.old (code_of result) self.new }
+    {
+        let path = path_of(alloc, path)?;
+        self.ask_at(now, ticket, until, Call::GetData { path, watch })
+    }
+
+    /// Asks for the names below a node.
+    #[tactic(auto, using(crate::proofs::Refusing::refuses))]
+    pub fn get_children_at(
+        &mut self,
+        alloc: Global,
+        now: u64,
+        ticket: u64,
+        until: u64,
+        path: &[u8],
+        watch: bool,
+    ) -> Result<(), Refusal>
+        ensures { Steps (RefusesPath path.now) now (Calls ticket (GetChildren path.now watch) (limit_of until)) self.old (code_of result) self.new }
+    {
+        let path = path_of(alloc, path)?;
+        self.ask_at(now, ticket, until, Call::GetChildren { path, watch })
+    }
+
+    /// Asks to set the data of a node, null where there are none. Version -1 is any.
+    #[tactic(auto, using(crate::proofs::Refusing::refuses))]
+    pub fn set_data_at(
+        &mut self,
+        alloc: Global,
+        now: u64,
+        ticket: u64,
+        until: u64,
+        path: &[u8],
+        bytes: Option<&[u8]>,
+        version: i32,
+    ) -> Result<(), Refusal>
+        ensures { Steps (RefusesPath path.now) now (Calls ticket (SetData path.now (option_map (λ s. s.now) bytes.entry) version) (limit_of until)) self.old (code_of result) self.new }
+    {
+        let call = set_data(alloc, path, bytes, version)?;
+        self.ask_at(now, ticket, until, call)
+    }
+
+    /// Asks to make a node with these data, null where there are none. The mode is a sum: 1 where the node goes with the session, and 2
+    /// where a number is added to its name.
+    #[tactic(auto, using(crate::proofs::Refusing::refuses))]
+    pub fn create_at(
+        &mut self,
+        alloc: Global,
+        now: u64,
+        ticket: u64,
+        until: u64,
+        path: &[u8],
+        bytes: Option<&[u8]>,
+        mode: u32,
+    ) -> Result<(), Refusal>
+        ensures { Steps (RefusesCreate path.now mode) now (Calls ticket (Create path.now (option_map (λ s. s.now) bytes.entry) mode) (limit_of until)) self.old (code_of result) self.new }
+    {
+        let call = create(alloc, path, bytes, mode)?;
+        self.ask_at(now, ticket, until, call)
+    }
+
+    /// Asks to delete a node. Version -1 is any.
+    #[tactic(auto, using(crate::proofs::Refusing::refuses))]
+    pub fn delete_at(
+        &mut self,
+        alloc: Global,
+        now: u64,
+        ticket: u64,
+        until: u64,
+        path: &[u8],
+        version: i32,
+    ) -> Result<(), Refusal>
+        ensures { Steps (RefusesPath path.now) now (Calls ticket (Delete path.now version) (limit_of until)) self.old (code_of result) self.new }
+    {
+        let path = path_of(alloc, path)?;
+        self.ask_at(now, ticket, until, Call::Delete { path, version })
+    }
+
+    /// Asks to end the session.
+    pub fn close_session_at(&mut self, now: u64, ticket: u64, until: u64) -> Result<(), Refusal>
+        ensures { Steps RefusesNothing now (Calls ticket Close (limit_of until)) self.old (code_of result) self.new }
+    {
+        self.ask_at(now, ticket, until, Call::Close)
+    }
+}

@@ -1,0 +1,190 @@
+//! An agent with the actions of its last step.
+
+ghost use Rattle.std.specs.Prelude.{◌≡◌, ◌≢◌, ◌<ℤ◌, pos, true, [], IfErr, IfOk, OnOk, Ok, Err, unsigned_abs};
+ghost use Rattle.zk_turns.specs.Turns.{new_start};
+ghost use Rattle.zk_client.specs.Clients.{view_of};
+ghost use Rattle.zk_client.specs.SavedSessions.{PutAway, bytes_read};
+ghost use Rattle.zk_client.specs.declared.saved_fault.SavedFault.{SavedFault};
+ghost use Rattle.zk_client.specs.declared.saved_fault.SavedFault.TheVariants as saved_faults;
+ghost use Rattle.ffi_device.specs.declared.refusal.Refusal.TheVariants as refusals;
+ghost use Rattle.zk_conclusions.specs.Revisions.{raised};
+ghost use Rattle.ffi_device.specs.Codes.{code_of};
+ghost use Rattle.ffi_device.specs.Refused.{RefusesMemory, RefusesNothing, RefusesTimeout};
+ghost use Rattle.ffi_device.specs.Sessions.{put_start};
+ghost use Rattle.ffi_agent_device.specs.Steps.{Addressed, Bytes, Cut, Dials, Failed, Forgot, Moment, Opened, Begins, BeginsWith, Stepped, Steps, Stopped, happening};
+
+use crate::revisions::{is_bytes, revise};
+use ffi_device::{Device, Refusal};
+use std::alloc::Global;
+use zk_agent::{Action, Agent, Input, Settings};
+use zk_client::Client;
+use zk_conclusions::Revision;
+
+/// An agent, what it said at its last step, how much of that was read, whether it goes on no further, since memory ran out within a step, and
+/// a number that rises where what its client shows may change. Its methods stand by what they are about: calls in `calls`, what is followed in `subjects`, what was said in `outputs`, and here what
+/// comes from a connection. What is kept is looked up by functions of `ffi_device` over the agent's client.
+#[derive(Drop)]
+pub struct AgentDevice {
+    pub agent: Agent<Global>,
+    pub said: Vec<Action<Global>, Global>,
+    pub read: usize,
+    pub is_over: bool,
+    pub revision: Revision,
+}
+
+impl AgentDevice {
+    /// A session of no server yet, which asks for this timeout in milliseconds and has this many addresses. Their order and the pauses are
+    /// random by the seed. A refusal is `BadTimeout`, else `Memory`.
+    pub fn open(
+        alloc: Global,
+        timeout_ms: i32,
+        addresses: usize,
+        seed: u64,
+    ) -> Result<AgentDevice, Refusal>
+        ensures begins { Begins (RefusesTimeout timeout_ms) (new_start (unsigned_abs timeout_ms)) result }
+        ensures accepted { OnOk result (pos 0 <ℤ timeout_ms) }
+        ensures dials { IfOk result (λ device. Dials addresses seed device.agent.dialler) }
+        ensures timeout { IfOk result (λ device. device.agent.timeout_ms ≡ timeout_ms) }
+    {
+        if timeout_ms <= 0 {
+            return Err(Refusal::BadTimeout);
+        }
+        let settings = Settings {
+            timeout_ms,
+            addresses,
+            seed,
+        };
+        AgentDevice::of(alloc, Client::new(alloc, timeout_ms), settings)
+    }
+
+    /// The same, which takes up the session of these bytes first. A refusal is `BadTimeout`, else `NotSaved`, else `Memory`.
+    pub fn resume(
+        alloc: Global,
+        timeout_ms: i32,
+        addresses: usize,
+        seed: u64,
+        saved: &[u8],
+    ) -> Result<AgentDevice, Refusal>
+        ensures begins { (put : PutAway) → bytes_read saved.now ≡ Ok put → Begins (RefusesTimeout timeout_ms) (put_start timeout_ms put) result }
+        ensures accepted { OnOk result (pos 0 <ℤ timeout_ms) }
+        ensures dials { IfOk result (λ device. Dials addresses seed device.agent.dialler) }
+        ensures timeout { IfOk result (λ device. device.agent.timeout_ms ≡ timeout_ms) }
+        ensures unread { (fault : SavedFault) → bytes_read saved.now ≡ Err fault → fault ≢ saved_faults.Memory → pos 0 <ℤ timeout_ms → result ≡ Err refusals.NotSaved }
+    {
+        let Device {
+            client,
+            said,
+            read: _,
+            revision: _,
+        } = Device::resume(alloc, timeout_ms, saved)?;
+        drop(said);
+        let settings = Settings {
+            timeout_ms,
+            addresses,
+            seed,
+        };
+        AgentDevice::of(alloc, client, settings)
+    }
+
+    // An agent of this client, which has said nothing yet. The one refusal is `Memory`.
+    fn of(alloc: Global, client: Client<Global>, settings: Settings) -> Result<AgentDevice, Refusal>
+        requires { pos 0 <ℤ settings.timeout_ms }
+        ensures begins { IfOk result (BeginsWith (view_of client)) }
+        ensures dials { IfOk result (λ device. Dials settings.addresses settings.seed device.agent.dialler) }
+        ensures timeout { IfOk result (λ device. device.agent.timeout_ms ≡ settings.timeout_ms) }
+        ensures refused { IfErr result (λ refusal. refusal ≡ refusals.Memory) }
+    {
+        match Agent::new(alloc, client, settings) {
+            Ok(agent) => Ok(AgentDevice {
+                agent,
+                said: Vec::new(alloc),
+                read: 0,
+                is_over: false,
+                revision: Revision::new(),
+            }),
+            Err(_) => Err(Refusal::Memory),
+        }
+    }
+
+    // Memory ran out, within this step or an earlier one.
+    fn stop(&mut self) -> Refusal
+        ensures halted { result ≡ refusals.Halted }
+        ensures over { self.new.is_over ≡ true }
+        ensures said { self.new.said ≡ self.old.said }
+        ensures number { self.new.revision.number ≡ raised self.old.revision.number }
+    {
+        self.is_over = true;
+        self.revision.raise();
+        Refusal::Halted
+    }
+
+    /// Takes an input that is noticed at this moment. What was said before is forgotten. The one refusal is `Halted`, which each later step
+    /// answers too.
+    pub(crate) fn step_at(&mut self, now: u64, input: Input<Global>) -> Result<(), Refusal>
+        ensures stepped { OnOk result (Stepped now (happening input) self.old self.new) }
+        ensures stopped { IfErr result (λ refusal. (refusal ≡ refusals.Halted) × Stopped self.old self.new) }
+    {
+        self.said.clear();
+        self.read = 0;
+        if self.is_over {
+            return Err(self.stop());
+        }
+        let is_bytes = is_bytes(&input);
+        let Ok(said) = self.agent.step(now, input) else {
+            return Err(self.stop());
+        };
+        revise(&mut self.revision, is_bytes, said.as_slice());
+        self.said = said;
+        Ok(())
+    }
+
+    /// The connection that was asked for is there.
+    pub fn opened_at(&mut self, now: u64) -> Result<(), Refusal>
+        ensures { Steps RefusesNothing now Opened self.old (code_of result) self.new }
+    {
+        self.step_at(now, Input::Opened)
+    }
+
+    /// The connection that was asked for could not be made.
+    pub fn failed_at(&mut self, now: u64) -> Result<(), Refusal>
+        ensures { Steps RefusesNothing now Failed self.old (code_of result) self.new }
+    {
+        self.step_at(now, Input::Failed)
+    }
+
+    /// Bytes came from the server.
+    pub fn bytes_at(&mut self, alloc: Global, now: u64, bytes: &[u8]) -> Result<(), Refusal>
+        ensures { Steps RefusesMemory now (Bytes bytes.now) self.old (code_of result) self.new }
+    {
+        let owned = Vec::from_slice(alloc, bytes)?;
+        self.step_at(now, Input::Bytes(owned))
+    }
+
+    /// The connection is over.
+    pub fn cut_at(&mut self, now: u64) -> Result<(), Refusal>
+        ensures { Steps RefusesNothing now Cut self.old (code_of result) self.new }
+    {
+        self.step_at(now, Input::Cut)
+    }
+
+    /// The moment, and nothing else.
+    pub fn tick(&mut self, now: u64) -> Result<(), Refusal>
+        ensures { Steps RefusesNothing now Moment self.old (code_of result) self.new }
+    {
+        self.step_at(now, Input::Moment)
+    }
+
+    /// Takes the stale answers out of what the client keeps. It is no step: what was said is there still.
+    pub fn forget_stale(&mut self)
+        ensures { Forgot self.old self.new }
+    {
+        self.agent.forget_stale();
+    }
+
+    /// The list of addresses is another one, of this many.
+    pub fn addresses_at(&mut self, now: u64, count: usize) -> Result<(), Refusal>
+        ensures { Steps RefusesNothing now (Addressed count) self.old (code_of result) self.new }
+    {
+        self.step_at(now, Input::Addresses(count))
+    }
+}

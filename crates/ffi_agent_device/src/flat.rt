@@ -1,0 +1,83 @@
+//! Actions as numbers.
+
+ghost use Rattle.std.specs.Prelude.{◌≡◌, pos};
+ghost use Rattle.ffi_device.specs.Flats.{plain};
+ghost use Rattle.ffi_agent_device.specs.Flats.{action_flat, action_text, refusal_flat};
+
+use ffi_device::{
+    Flat, answer_flat, drop_flat, outcome_text, plain, report_flat, send_flat, state_flat,
+};
+use std::alloc::Global;
+use zk_agent::Action;
+use zk_follow::Refusal;
+
+// An action of this kind that is about the call or the subject of a ticket.
+fn about(flat: Flat, ticket: u64) -> Flat
+    ensures { result ≡ record flat { ticket = ticket } }
+{
+    let mut flat = flat;
+    flat.ticket = ticket;
+    flat
+}
+
+// Why a read was refused.
+fn refusal_flat(why: Refusal) -> Flat
+    ensures { result ≡ refusal_flat why }
+{
+    match why {
+        Refusal::Code(code) => {
+            let mut flat = plain(11, 1);
+            flat.code = code;
+            flat
+        }
+        Refusal::TooManyWatches => plain(11, 2),
+        Refusal::TooLarge => plain(11, 3),
+        Refusal::SessionClosed => plain(11, 4),
+    }
+}
+
+// An address is to be dialled.
+fn dial_flat(place: usize, within_ms: u64) -> Flat
+    ensures { result ≡ record (plain (pos 6) (pos 0)) { ticket = within_ms; names = place } }
+{
+    let mut flat = plain(6, 0);
+    flat.ticket = within_ms;
+    flat.names = place;
+    flat
+}
+
+/// An action, as numbers.
+pub(crate) fn action_flat(action: &Action<Global>) -> Flat
+    ensures { result ≡ action_flat action.now }
+{
+    match action {
+        Action::Dial { place, within_ms } => dial_flat(*place, *within_ms),
+        Action::HangUp => plain(7, 0),
+        Action::Send(bytes) => send_flat(bytes.as_slice()),
+        Action::Answer { ticket, outcome } => answer_flat(*ticket, outcome),
+        Action::TimedOut { ticket, was_sent } => {
+            let mut flat = about(plain(8, 0), *ticket);
+            flat.is_null = *was_sent;
+            flat
+        }
+        Action::Report { path, side, event } => report_flat(path.as_bytes(), *side, *event),
+        Action::State(state) => state_flat(*state),
+        Action::GivenUp(fault) => drop_flat(*fault),
+        Action::Renewed => plain(9, 0),
+        Action::Shown { ticket } => about(plain(10, 0), *ticket),
+        Action::Refused { ticket, why } => about(refusal_flat(*why), *ticket),
+    }
+}
+
+/// The text of an action: a frame, data, a path or the code of a fault, and else nothing.
+pub(crate) fn action_text(action: &Action<Global>) -> &[u8]
+    ensures { result.now ≡ action_text action.now }
+{
+    match action {
+        Action::Send(bytes) => bytes.as_slice(),
+        Action::Answer { outcome, .. } => outcome_text(outcome),
+        Action::Report { path, .. } => path.as_bytes(),
+        Action::GivenUp(fault) => fault.code().as_bytes(),
+        _ => b"",
+    }
+}

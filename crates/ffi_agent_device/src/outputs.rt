@@ -1,0 +1,109 @@
+//! What was said, one action at a time.
+
+ghost use Rattle.std.specs.Prelude.{◌≡◌, ◌++◌, IfOk, OnErr, drop, length, string_bytes, take};
+ghost use Rattle.std.specs.Option.{option_map};
+ghost use Rattle.std.specs.List.{slice_get};
+ghost use Rattle.ffi_device.specs.Kept.{WritesText};
+ghost use Rattle.ffi_device.specs.Outputs.{read_after};
+ghost use Rattle.ffi_device.specs.Texts.{AreTexts};
+ghost use Rattle.ffi_agent_device.specs.Flats.{action_flat};
+ghost use Rattle.ffi_agent_device.specs.Outputs.{told, told_name, told_names, told_text, told_words};
+
+use crate::device::AgentDevice;
+use crate::flat::{action_flat, action_text};
+use ffi_device::{Flat, copy_into, outcome_name, outcome_names};
+use std::alloc::{AllocError, Global};
+use zk_agent::Action;
+
+impl AgentDevice {
+    /// The next action of the last step, as numbers. The one before is over.
+    pub fn next(&mut self) -> Option<Flat>
+        ensures next { result ≡ option_map action_flat (slice_get self.old.said.items self.old.read) }
+        ensures agent { self.new.agent ≡ self.old.agent }
+        ensures said { self.new.said ≡ self.old.said }
+        ensures read { self.new.read ≡ read_after result self.old.read }
+        ensures over { self.new.is_over ≡ self.old.is_over }
+        ensures number { self.new.revision ≡ self.old.revision }
+    {
+        match self.said.as_slice().get(self.read) {
+            Some(action) => {
+                let flat = action_flat(action);
+                self.read += 1;
+                Some(flat)
+            }
+            None => None,
+        }
+    }
+
+    // The action that was told last.
+    fn told(&self) -> Option<&Action<Global>>
+        ensures { option_map (λ action. action.now) result ≡ told self.now.said.items self.now.read }
+    {
+        if self.read == 0 {
+            return None;
+        }
+        self.said.as_slice().get(self.read - 1)
+    }
+
+    // The text of the action that was told last, and nothing where none was told.
+    fn told_text(&self) -> &[u8]
+        ensures { result.now ≡ told_text self.now.said.items self.now.read }
+    {
+        match self.told() {
+            Some(action) => action_text(action),
+            None => b"",
+        }
+    }
+
+    /// Copies the text of the action that was told last, from this place on, as much of it as there is room for, and tells how many
+    /// bytes there are from there on.
+    pub fn copy_text(&self, from: usize, room: &mut [u8]) -> usize
+        ensures count { result ≡ length (drop from (told_text self.now.said.items self.now.read)) }
+        ensures copied { room.new ≡ take (length room.old) (drop from (told_text self.now.said.items self.now.read)) ++ drop (length (drop from (told_text self.now.said.items self.now.read))) room.old }
+    {
+        let text = self.told_text();
+        copy_into(&text[from.min(text.len())..], room)
+    }
+
+    /// The words of why a connection is given up, where that was told last. An error says that memory ran out.
+    pub fn words(&self, alloc: Global) -> Result<String<Global>, AllocError>
+        ensures { IfOk result (λ words. string_bytes words ≡ told_words self.now.said.items self.now.read) }
+    {
+        match self.told() {
+            Some(Action::GivenUp(fault)) => format!(in alloc; "{fault}"),
+            _ => Ok(String::new(alloc)),
+        }
+    }
+
+    // The name of this index in the listing that was told last, and nothing where there is none.
+    fn told_name(&self, index: usize) -> &[u8]
+        ensures { result.now ≡ told_name index self.now.said.items self.now.read }
+    {
+        match self.told() {
+            Some(Action::Answer { outcome, .. }) => outcome_name(outcome, index),
+            _ => b"",
+        }
+    }
+
+    /// Copies the name of this index in the listing that was told last, as much of it as there is room for, and tells how many
+    /// bytes it has.
+    pub fn copy_name(&self, index: usize, room: &mut [u8]) -> usize
+        ensures count { result ≡ length (told_name index self.now.said.items self.now.read) }
+        ensures copied { room.new ≡ take (length room.old) (told_name index self.now.said.items self.now.read) ++ drop (length (told_name index self.now.said.items self.now.read)) room.old }
+    {
+        copy_into(self.told_name(index), room)
+    }
+
+    /// Copies all names of the listing that was told last, in the order of the reply and each after its length in four bytes, as many
+    /// bytes of them as there is room for, and tells how many there are. An error says that memory ran out.
+    pub fn copy_names(&self, alloc: Global, room: &mut [u8]) -> Result<usize, AllocError>
+        ensures written { IfOk result (WritesText (AreTexts (told_names self.now.said.items self.now.read)) room.old room.new) }
+        ensures same { OnErr result (room.new ≡ room.old) }
+    {
+        let text = match self.told() {
+            Some(Action::Answer { outcome, .. }) => outcome_names(alloc, outcome)?,
+            _ => Vec::new(alloc),
+        };
+        Ok(copy_into(text.as_slice(), room))
+    }
+}

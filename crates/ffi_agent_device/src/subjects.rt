@@ -1,0 +1,53 @@
+//! What a caller follows, from bytes.
+
+ghost use Rattle.zk_nodes.specs.declared.side.Side.TheVariants.{Child, Data};
+ghost use Rattle.ffi_device.specs.Codes.{code_of};
+ghost use Rattle.ffi_device.specs.Refused.{RefusesNothing, RefusesPath};
+ghost use Rattle.ffi_agent_device.specs.Steps.{Follows, Steps, Unfollows};
+
+use crate::device::AgentDevice;
+use ffi_device::{Refusal, path_of};
+use std::alloc::Global;
+use zk_agent::Input;
+use zk_client::Side;
+
+impl AgentDevice {
+    /// Follows the data of a node, or that there is none.
+    #[tactic(auto, using(crate::proofs::Refusing::refuses))]
+    pub fn follow_data_at(
+        &mut self,
+        alloc: Global,
+        now: u64,
+        ticket: u64,
+        path: &[u8],
+    ) -> Result<(), Refusal>
+        ensures { Steps (RefusesPath path.now) now (Follows ticket Data path.now) self.old (code_of result) self.new }
+    {
+        let path = path_of(alloc, path)?;
+        let side = Side::Data;
+        self.step_at(now, Input::Follow { ticket, side, path })
+    }
+
+    /// Follows the names of the children of a node, or that there is no node.
+    #[tactic(auto, using(crate::proofs::Refusing::refuses))]
+    pub fn follow_names_at(
+        &mut self,
+        alloc: Global,
+        now: u64,
+        ticket: u64,
+        path: &[u8],
+    ) -> Result<(), Refusal>
+        ensures { Steps (RefusesPath path.now) now (Follows ticket Child path.now) self.old (code_of result) self.new }
+    {
+        let path = path_of(alloc, path)?;
+        let side = Side::Child;
+        self.step_at(now, Input::Follow { ticket, side, path })
+    }
+
+    /// Follows the subject of this ticket no more.
+    pub fn unfollow_at(&mut self, now: u64, ticket: u64) -> Result<(), Refusal>
+        ensures { Steps RefusesNothing now (Unfollows ticket) self.old (code_of result) self.new }
+    {
+        self.step_at(now, Input::Unfollow { ticket })
+    }
+}

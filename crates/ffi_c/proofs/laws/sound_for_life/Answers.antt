@@ -1,0 +1,5 @@
+use Rattle.ffi_c.proofs.SessionLives.{sound_for_life}
+use Rattle.ffi_c.proofs.laws.sound_for_life.Goals as goal
+
+pub returns : goal.returns
+returns c = sound_for_life

@@ -1,0 +1,78 @@
+-- The whole life of a session's handle: the functions that were called on it, with the numbers that they answered, and how its session stands.
+use Rattle.std.specs.Prelude.{◌≡◌, ⊤, ℕ, ℤ, false, List, [], ◌∷◌, Option, Some, None, Ok, Err, All, unsigned_abs}
+use Rattle.zk_turns.specs.Turns.{new_start}
+use Rattle.zk_client.specs.Clients.{view_of}
+use Rattle.zk_client.specs.SavedSessions.{PutAway, bytes_read}
+use Rattle.zk_client.specs.declared.saved_fault.SavedFault.{SavedFault}
+use Rattle.zk_agent.specs.Agents.{IsLed}
+use Rattle.zk_agent.specs.Calls.{IsInTime, IsServed}
+use Rattle.ffi_device.specs.Refused.{RefusesMemory, RefusesNothing, RefusesPath, RefusesTimeout}
+use Rattle.ffi_device.specs.Sessions.{put_start}
+use Rattle.ffi_device.specs.declared.flat.Flat.{Flat}
+use Rattle.ffi_agent_device.specs.Steps as step
+use Rattle.ffi_agent_device.specs.Steps.{Happening, AreFollowed}
+use Rattle.ffi_agent_device.specs.declared.device.AgentDevice.{AgentDevice}
+use Rattle.ffi_c.specs.Held.{Holds, IsClosed}
+use Rattle.ffi_c.specs.Lives.{RefusesCall}
+use Rattle.ffi_c.specs.Sessions.{Makes, Tells, ForgetsStale}
+
+-- A function that was called on a handle, with what was handed in, and the number that it answered. `Steps` is that of each input, call and
+-- subject, `Reads` that of dw_session_next, `Forgets` that of dw_session_forget; `Looks` is that of those that leave the handle as it is.
+pub data Use : Type 0 where
+  Opens : (timeout code : ℤ) → Use
+  Resumes : (timeout : ℤ) → (saved : List ℕ) → (code : ℤ) → Use
+  Steps : (now : ℕ) → Happening → (code : ℤ) → Use
+  Reads : (room told : Flat) → (code : ℤ) → Use
+  Forgets : (code : ℤ) → Use
+  Looks Frees : Use
+
+-- what is refused before a step
+abbrev pub RefusesHappening : Happening → ℤ → Type 0
+RefusesHappening (step.Bytes bytes) = RefusesMemory
+RefusesHappening (step.Calls ticket asked until) = RefusesCall asked
+RefusesHappening (step.Follows ticket side path) = RefusesPath path
+RefusesHappening _ = RefusesNothing
+
+-- A closed handle stays closed, which is told; of one that holds a session this is so.
+abbrev pub Drives : (Does : AgentDevice → ℤ → AgentDevice → Type 0) → (before : Option AgentDevice) → (code : ℤ) → (after : Option AgentDevice) → Type 0
+Drives Does None code after = IsClosed code after
+Drives Does (Some session) code after = Holds after (Does session code)
+
+-- what each function promises of its handle
+abbrev pub Does : (before : Option AgentDevice) → Use → (after : Option AgentDevice) → Type 0
+Does before (Opens timeout code) after = Makes (RefusesTimeout timeout) (new_start (unsigned_abs timeout)) code after
+Does before (Resumes timeout saved code) after =
+    ((put : PutAway) → bytes_read saved ≡ Ok put → Makes (RefusesTimeout timeout) (put_start timeout put) code after)
+    × ((fault : SavedFault) → bytes_read saved ≡ Err fault → after ≡ None)
+Does before (Steps now what code) after = Drives (step.Steps (RefusesHappening what) now what) before code after
+Does before (Reads room told code) after = Drives (λ session code. Tells session room code told) before code after
+Does before (Forgets code) after = Drives ForgetsStale before code after
+Does before Looks after = after ≡ before
+Does before Frees after = after ≡ None
+
+-- a use, and what the handle holds after it
+pub record Used : Type 0 where
+  pub use_of : Use
+  pub held : Option AgentDevice
+
+-- The life of a handle, the newest use first. It was all zeros before the first.
+abbrev pub held_after : List Used → Option AgentDevice
+held_after [] = None
+held_after (used ∷ earlier) = used.held
+
+abbrev pub IsLife : List Used → Type 0
+IsLife [] = ⊤
+IsLife (used ∷ earlier) = Does (held_after earlier) used.use_of used.held × IsLife earlier
+
+-- How a session stands: its client where turns by the rule have led; each subject good, or being read, or why not; each call on its way, or why
+-- not, and none past its limit.
+pub record IsSound (session : AgentDevice) : Type 0 where
+  pub led : IsLed (view_of session.agent.asker.follower.client)
+  pub followed : AreFollowed session.agent
+  pub served : All (IsServed (view_of session.agent.asker.follower.client)) session.agent.asker.line.entries.items
+  pub limits : All (IsInTime session.agent.latest) session.agent.asker.line.entries.items
+
+-- THE law of a session's handle: whoever made it by these functions alone, whatever they answered, and has a session in it within whose steps
+-- memory never ran out, has one that is sound.
+abbrev pub SoundForLife : Type 0
+SoundForLife = (uses : List Used) (session : AgentDevice) → IsLife uses → held_after uses ≡ Some session → session.is_over ≡ false → IsSound session

@@ -1,0 +1,45 @@
+-- What the handle of a session holds after a call, and what is told of it.
+use Rattle.std.specs.Prelude.{◌≡◌, ◌<◌, ◌^◌, ℕ, zero, suc, ℤ, pos, [], Option, Some, None}
+use Rattle.std.specs.Option.{option_map}
+use Rattle.std.specs.List.{slice_get}
+use Rattle.zk_turns.specs.Turns.{Start}
+use Rattle.zk_turns.specs.View.{view_at}
+use Rattle.zk_agent.specs.Agents.{NothingAt}
+use Rattle.ffi_agent_device.specs.declared.device.AgentDevice.{AgentDevice}
+use Rattle.ffi_agent_device.specs.Flats.{action_flat}
+use Rattle.ffi_agent_device.specs.Steps.{BeginsWith, Forgot}
+use Rattle.ffi_device.specs.Outputs.{read_after}
+use Rattle.ffi_device.specs.declared.flat.Flat.{Flat}
+use Rattle.ffi_c.specs.Held.{Holds, TellsOf}
+
+-- A session is made: 0 where the handle holds one that has begun so, and any other number where it holds nothing, for a reason that this
+-- number has.
+abbrev pub Makes : (Refuses : ℤ → Type 0) → Start → ℤ → Option AgentDevice → Type 0
+Makes Refuses start (pos zero) held = Holds held (BeginsWith (view_at start []))
+Makes Refuses start code held = Refuses code × (held ≡ None)
+
+-- An action is told, the next one, and nothing else changes than that one more was read.
+pub record Tells (before : AgentDevice) (room : Flat) (code : ℤ) (told : Flat) (after : AgentDevice) : Type 0 where
+  pub tells : TellsOf (option_map action_flat (slice_get before.said.items before.read)) room code told
+  pub agent : after.agent ≡ before.agent
+  pub said : after.said ≡ before.said
+  pub read : after.read ≡ read_after (option_map action_flat (slice_get before.said.items before.read)) before.read
+  pub over : after.is_over ≡ before.is_over
+  pub number : after.revision ≡ before.revision
+
+-- The stale answers are gone, which is told by 0, and nothing else is another one.
+pub record ForgetsStale (before : AgentDevice) (code : ℤ) (after : AgentDevice) : Type 0 where
+  pub told : code ≡ pos 0
+  pub forgot : Forgot before after
+
+-- The first moment at which something is due, with 0; or that nothing will be due, with 1.
+abbrev pub FirstDue : AgentDevice → ℤ → ℕ → Type 0
+FirstDue session (pos zero) first = ((moment : ℕ) → moment < 2 ^ 64 → moment < first → NothingAt session.agent moment) × ¬ (NothingAt session.agent first)
+FirstDue session (pos (suc zero)) first = (moment : ℕ) → moment < 2 ^ 64 → NothingAt session.agent moment
+FirstDue session code first = ⊥
+
+-- A moment, with 0; or that there is none, with 1, and then 0 is written.
+abbrev pub TellsMoment : Option ℕ → ℤ → ℕ → Type 0
+TellsMoment (Some moment) (pos zero) told = told ≡ moment
+TellsMoment None (pos (suc zero)) told = told ≡ 0
+TellsMoment moment code told = ⊥

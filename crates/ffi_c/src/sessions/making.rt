@@ -1,0 +1,79 @@
+//! A handle gets a session, and gives it up.
+
+ghost use Rattle.std.specs.Prelude.{◌≡◌, ◌≢◌, ◌<ℤ◌, ◌⊎◌, Some, None, Ok, Err, pos, negsuc, unsigned_abs};
+ghost use Rattle.zk_turns.specs.Turns.{new_start};
+ghost use Rattle.zk_client.specs.SavedSessions.{PutAway, bytes_read};
+ghost use Rattle.zk_client.specs.declared.saved_fault.SavedFault.{SavedFault};
+ghost use Rattle.zk_client.specs.declared.saved_fault.SavedFault.TheVariants as saved_faults;
+ghost use Rattle.ffi_device.specs.Refused.{RefusesTimeout};
+ghost use Rattle.ffi_device.specs.Sessions.{put_start};
+ghost use Rattle.ffi_c.specs.Sessions.{Makes};
+
+use crate::sessions::handle::DwSession;
+use ffi_agent_device::AgentDevice;
+use ffi_device::Refusal;
+use std::alloc::Global;
+
+/// Has a handle hold this session. Where there is no memory for it, the handle is left as it was.
+fn hold(alloc: Global, handle: &mut DwSession, session: AgentDevice) -> i32
+    ensures { ((result ≡ pos 0) × (handle.new.slot.held ≡ Some session)) ⊎ ((result ≡ negsuc 1) × (handle.new.slot.held ≡ handle.old.slot.held)) }
+{
+    match Box::new(alloc, session) {
+        Ok(held) => {
+            *handle = DwSession::of(held);
+            0
+        }
+        Err(failed) => {
+            drop(failed);
+            Refusal::Memory.code()
+        }
+    }
+}
+
+/// Makes a session of no server yet, which asks for this timeout in milliseconds and has this many addresses, in an order that is random by the
+/// seed. What the handle held is freed first.
+#[unsafe(no_mangle)]
+pub extern "C" fn dw_session_open(
+    alloc: Global,
+    handle: &mut DwSession,
+    timeout_ms: i32,
+    addresses: usize,
+    seed: u64,
+) -> i32
+    ensures { Makes (RefusesTimeout timeout_ms) (new_start (unsigned_abs timeout_ms)) result handle.new.slot.held }
+{
+    *handle = DwSession::closed(alloc);
+    match AgentDevice::open(alloc, timeout_ms, addresses, seed) {
+        Ok(session) => hold(alloc, handle, session),
+        Err(refusal) => refusal.code(),
+    }
+}
+
+/// The same, which takes up the session of these bytes first.
+#[unsafe(no_mangle)]
+pub extern "C" fn dw_session_resume(
+    alloc: Global,
+    handle: &mut DwSession,
+    timeout_ms: i32,
+    addresses: usize,
+    seed: u64,
+    saved: &[u8],
+) -> i32
+    ensures makes { (put : PutAway) → bytes_read saved.now ≡ Ok put → Makes (RefusesTimeout timeout_ms) (put_start timeout_ms put) result handle.new.slot.held }
+    ensures broken { (fault : SavedFault) → bytes_read saved.now ≡ Err fault → (result ≢ pos 0) × (handle.new.slot.held ≡ None) }
+    ensures unread { (fault : SavedFault) → bytes_read saved.now ≡ Err fault → fault ≢ saved_faults.Memory → pos 0 <ℤ timeout_ms → result ≡ negsuc 7 }
+{
+    *handle = DwSession::closed(alloc);
+    match AgentDevice::resume(alloc, timeout_ms, addresses, seed, saved) {
+        Ok(session) => hold(alloc, handle, session),
+        Err(refusal) => refusal.code(),
+    }
+}
+
+/// Frees the session of a handle, if it has one.
+#[unsafe(no_mangle)]
+pub extern "C" fn dw_session_free(alloc: Global, handle: &mut DwSession)
+    ensures { handle.new.slot.held ≡ None }
+{
+    *handle = DwSession::closed(alloc);
+}

@@ -1,0 +1,79 @@
+//! What happens to a session.
+
+ghost use Rattle.std.specs.Prelude.{◌≡◌, Some, None};
+ghost use Rattle.ffi_agent_device.specs.declared.device.AgentDevice.{AgentDevice};
+ghost use Rattle.ffi_agent_device.specs.Steps.{Addressed, Bytes, Cut, Failed, Moment, Opened, Steps};
+ghost use Rattle.ffi_device.specs.Refused.{RefusesMemory, RefusesNothing};
+ghost use Rattle.ffi_c.specs.Held.{Holds, IsClosed};
+
+use crate::sessions::handle::DwSession;
+use crate::sessions::taking::drive;
+use std::alloc::Global;
+
+/// The connection that was asked for is there at this moment.
+#[unsafe(no_mangle)]
+pub extern "C" fn dw_session_opened(alloc: Global, handle: &mut DwSession, now_ms: u64) -> i32
+    ensures closed { handle.old.slot.held ≡ None → IsClosed result handle.new.slot.held }
+    ensures steps { (d : AgentDevice) → handle.old.slot.held ≡ Some d → Holds handle.new.slot.held (Steps RefusesNothing now_ms Opened d result) }
+{
+    drive(alloc, handle, |session| session.opened_at(now_ms))
+}
+
+/// The connection that was asked for could not be made.
+#[unsafe(no_mangle)]
+pub extern "C" fn dw_session_failed(alloc: Global, handle: &mut DwSession, now_ms: u64) -> i32
+    ensures closed { handle.old.slot.held ≡ None → IsClosed result handle.new.slot.held }
+    ensures steps { (d : AgentDevice) → handle.old.slot.held ≡ Some d → Holds handle.new.slot.held (Steps RefusesNothing now_ms Failed d result) }
+{
+    drive(alloc, handle, |session| session.failed_at(now_ms))
+}
+
+/// Bytes came from the server at this moment, cut in any way.
+#[unsafe(no_mangle)]
+pub extern "C" fn dw_session_bytes(
+    alloc: Global,
+    handle: &mut DwSession,
+    now_ms: u64,
+    bytes: &[u8],
+) -> i32
+    ensures closed { handle.old.slot.held ≡ None → IsClosed result handle.new.slot.held }
+    ensures steps { (d : AgentDevice) → handle.old.slot.held ≡ Some d → Holds handle.new.slot.held (Steps RefusesMemory now_ms (Bytes bytes.now) d result) }
+{
+    drive(
+        alloc,
+        handle,
+        |session| session.bytes_at(alloc, now_ms, bytes),
+    )
+}
+
+/// The connection is over at this moment.
+#[unsafe(no_mangle)]
+pub extern "C" fn dw_session_cut(alloc: Global, handle: &mut DwSession, now_ms: u64) -> i32
+    ensures closed { handle.old.slot.held ≡ None → IsClosed result handle.new.slot.held }
+    ensures steps { (d : AgentDevice) → handle.old.slot.held ≡ Some d → Holds handle.new.slot.held (Steps RefusesNothing now_ms Cut d result) }
+{
+    drive(alloc, handle, |session| session.cut_at(now_ms))
+}
+
+/// The moment, in milliseconds of a clock that does not go back.
+#[unsafe(no_mangle)]
+pub extern "C" fn dw_session_moment(alloc: Global, handle: &mut DwSession, now_ms: u64) -> i32
+    ensures closed { handle.old.slot.held ≡ None → IsClosed result handle.new.slot.held }
+    ensures steps { (d : AgentDevice) → handle.old.slot.held ≡ Some d → Holds handle.new.slot.held (Steps RefusesNothing now_ms Moment d result) }
+{
+    drive(alloc, handle, |session| session.tick(now_ms))
+}
+
+/// The list of addresses is another one, of this many.
+#[unsafe(no_mangle)]
+pub extern "C" fn dw_session_addresses(
+    alloc: Global,
+    handle: &mut DwSession,
+    now_ms: u64,
+    count: usize,
+) -> i32
+    ensures closed { handle.old.slot.held ≡ None → IsClosed result handle.new.slot.held }
+    ensures steps { (d : AgentDevice) → handle.old.slot.held ≡ Some d → Holds handle.new.slot.held (Steps RefusesNothing now_ms (Addressed count) d result) }
+{
+    drive(alloc, handle, |session| session.addresses_at(now_ms, count))
+}

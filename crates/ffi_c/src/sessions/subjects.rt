@@ -1,0 +1,64 @@
+//! What a session follows.
+
+ghost use Rattle.std.specs.Prelude.{◌≡◌, Some, None};
+ghost use Rattle.ffi_agent_device.specs.declared.device.AgentDevice.{AgentDevice};
+ghost use Rattle.zk_nodes.specs.declared.side.Side.TheVariants.{Child, Data};
+ghost use Rattle.ffi_agent_device.specs.Steps.{Follows, Steps, Unfollows};
+ghost use Rattle.ffi_device.specs.Refused.{RefusesNothing, RefusesPath};
+ghost use Rattle.ffi_c.specs.Held.{Holds, IsClosed};
+
+use crate::sessions::handle::DwSession;
+use crate::sessions::taking::drive;
+use std::alloc::Global;
+
+/// Follows the data of a node, or that there is none.
+#[unsafe(no_mangle)]
+pub extern "C" fn dw_session_follow_data(
+    alloc: Global,
+    handle: &mut DwSession,
+    now_ms: u64,
+    ticket: u64,
+    path: &[u8],
+) -> i32
+    ensures closed { handle.old.slot.held ≡ None → IsClosed result handle.new.slot.held }
+    ensures steps { (d : AgentDevice) → handle.old.slot.held ≡ Some d → Holds handle.new.slot.held (Steps (RefusesPath path.now) now_ms (Follows ticket Data path.now) d result) }
+{
+    drive(
+        alloc,
+        handle,
+        |session| session.follow_data_at(alloc, now_ms, ticket, path),
+    )
+}
+
+/// Follows the names of the children of a node, or that there is no node.
+#[unsafe(no_mangle)]
+pub extern "C" fn dw_session_follow_names(
+    alloc: Global,
+    handle: &mut DwSession,
+    now_ms: u64,
+    ticket: u64,
+    path: &[u8],
+) -> i32
+    ensures closed { handle.old.slot.held ≡ None → IsClosed result handle.new.slot.held }
+    ensures steps { (d : AgentDevice) → handle.old.slot.held ≡ Some d → Holds handle.new.slot.held (Steps (RefusesPath path.now) now_ms (Follows ticket Child path.now) d result) }
+{
+    drive(
+        alloc,
+        handle,
+        |session| session.follow_names_at(alloc, now_ms, ticket, path),
+    )
+}
+
+/// Follows the subject of this ticket no more.
+#[unsafe(no_mangle)]
+pub extern "C" fn dw_session_unfollow(
+    alloc: Global,
+    handle: &mut DwSession,
+    now_ms: u64,
+    ticket: u64,
+) -> i32
+    ensures closed { handle.old.slot.held ≡ None → IsClosed result handle.new.slot.held }
+    ensures steps { (d : AgentDevice) → handle.old.slot.held ≡ Some d → Holds handle.new.slot.held (Steps RefusesNothing now_ms (Unfollows ticket) d result) }
+{
+    drive(alloc, handle, |session| session.unfollow_at(now_ms, ticket))
+}

@@ -1,0 +1,73 @@
+//! A device on the heap at a pointer that C may hold.
+
+ghost use Rattle.std.specs.Prelude.{◌≡◌, Option, Some, None, IsSome};
+ghost use Rattle.ffi_device.specs.declared.device.Device.{Device};
+ghost use Rattle.ffi_c.specs.Owned.{owned, coded_held};
+
+use crate::parts::Parts;
+use ffi_device::Device;
+use std::alloc::Global;
+use std::marker::Model;
+
+/// A device on the heap, or nothing.
+#[repr(C)]
+#[derive(Drop)]
+pub struct Slot {
+    at: *mut u8,
+    alloc: Global,
+    pub ghost held: { Option Device } by { coded_held },
+}
+
+impl Model for Slot {
+    ghost also_owns = { λ h. owned h.alloc h.at h.held };
+}
+
+impl Slot {
+    /// A slot with nothing.
+    pub fn empty(alloc: Global) -> Slot
+        ensures { result.held ≡ None }
+    {
+        Slot {
+            at: std::ptr::null_mut(),
+            alloc,
+        }
+    }
+
+    /// A slot with this device.
+    pub fn of(device: Box<Device, Global>) -> Slot
+        ensures { result.held ≡ Some device.value }
+    {
+        Slot::of_parts(Parts::of(device))
+    }
+
+    /// The device of a slot that has one.
+    pub fn into_box(self) -> Box<Device, Global>
+        requires { IsSome self.held }
+        ensures { Some result.value ≡ self.held }
+    {
+        self.into_parts().into_box()
+    }
+
+    fn of_parts(parts: Parts<Device, Global>) -> Slot
+        ensures { result.held ≡ Some parts.value }
+    {
+        let Parts { ptr, alloc } = parts;
+        Slot {
+            at: ptr.cast::<u8>(),
+            alloc,
+        }
+    }
+
+    fn into_parts(self) -> Parts<Device, Global>
+        requires { IsSome self.held }
+        ensures { Some result.value ≡ self.held }
+    {
+        let Slot { at, alloc } = self;
+        Parts {
+            ptr: at.cast::<Device>(),
+            alloc,
+        }
+    }
+}
+
+unsafe impl Send for Slot {}

@@ -1,0 +1,11 @@
+use Rattle.std.proofs.Common.{◌≡◌, ◌++◌, drop, map}
+use Rattle.std.specs.List.{AllByRecursion}
+use Rattle.zk_nodes.specs.PathFault.{IsPath}
+use Rattle.ffi_device.proofs.spelled_paths.copied_paths.Given as goal
+
+-- what was copied, with what is left
+abbrev pub invariant-loop-text : goal.invariant-loop-text
+invariant-loop-text l = record {
+  whole : l.paths.items ++ map (λ text. text.now) (drop l.text-index l.texts) ≡ map (λ text. text.now) l.texts;
+  each : AllByRecursion IsPath l.paths.items;
+}

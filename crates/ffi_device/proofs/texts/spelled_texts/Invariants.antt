@@ -1,0 +1,14 @@
+use Rattle.std.proofs.Common.{◌≡◌, ◌++◌, Some, drop, map, string_bytes}
+use Rattle.std.specs.List.{AllByRecursion, flat_map}
+use Rattle.zk_jute.specs.Layout.{ustring}
+use Rattle.zk_jute.specs.Spelling.{Fits, spelling}
+use Rattle.ffi_device.proofs.texts.spelled_texts.Given as goal
+
+-- what is written and what is left make up the whole
+abbrev pub invariant-loop-text : goal.invariant-loop-text
+invariant-loop-text l = record {
+  whole : l.spelled.items ++ flat_map (λ text. spelling ustring (Some text)) (map string_bytes (drop l.text-index l.texts))
+      ≡ flat_map (λ text. spelling ustring (Some text)) (map string_bytes l.texts);
+  fits : AllByRecursion (λ text. Fits ustring (Some text)) (map string_bytes (drop l.text-index l.texts))
+      → AllByRecursion (λ text. Fits ustring (Some text)) (map string_bytes l.texts);
+}

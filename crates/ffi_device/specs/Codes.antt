@@ -1,0 +1,30 @@
+-- The numbers that a caller is told.
+use Rattle.std.specs.Prelude.{⊤, ℤ, pos, negsuc, Result, Ok, Err}
+use Rattle.ffi_device.specs.declared.refusal.Refusal.{Refusal}
+use Rattle.ffi_device.specs.declared.refusal.Refusal.TheVariants.{Halted, Memory, NotText, NotPath, BadTimeout, NoSuchMode, NotSaved, NotWhole, TooMany, NotTexts}
+use Rattle.zk_conclusions.specs.declared.no_subtree.NoSubtree.{NoSubtree}
+use Rattle.zk_conclusions.specs.declared.no_subtree.NoSubtree.TheVariants as why
+
+-- the number of a refusal: -1, -2, and -4 to -11
+abbrev pub refusal_code : Refusal → ℤ
+refusal_code Halted = negsuc 0
+refusal_code Memory = negsuc 1
+refusal_code NotText = negsuc 3
+refusal_code NotPath = negsuc 4
+refusal_code BadTimeout = negsuc 5
+refusal_code NoSuchMode = negsuc 6
+refusal_code NotSaved = negsuc 7
+refusal_code NotWhole = negsuc 8
+refusal_code TooMany = negsuc 9
+refusal_code NotTexts = negsuc 10
+
+-- why there is no subtree, as a refusal
+abbrev pub refusal_of : NoSubtree → Refusal
+refusal_of why.NotWhole = NotWhole
+refusal_of why.TooMany = TooMany
+refusal_of why.Memory = Memory
+
+-- the number of what was done: 0 where nothing was refused
+abbrev pub code_of : Result ⊤ Refusal → ℤ
+code_of (Ok done) = pos 0
+code_of (Err refusal) = refusal_code refusal

@@ -1,0 +1,84 @@
+-- What was said, one output at a time.
+use Rattle.std.specs.Prelude.{ℕ, zero, suc, List, [], Option, Some, None, String, string_bytes, map}
+use Rattle.std.specs.List.{slice_get}
+use Rattle.zk_client.specs.FaultText.{fault_words}
+use Rattle.zk_client.specs.Views.{fault_view}
+use Rattle.zk_client.specs.declared.call_result.CallResult.{CallResult}
+use Rattle.zk_client.specs.declared.call_result.CallResult.TheVariants as result
+use Rattle.zk_client.specs.declared.output.Outcome.{Outcome}
+use Rattle.zk_client.specs.declared.output.Outcome.TheVariants as outcome
+use Rattle.zk_client.specs.declared.output.Output.{Output}
+use Rattle.zk_client.specs.declared.output.Output.TheVariants as output
+use Rattle.ffi_device.specs.declared.flat.Flat.{Flat}
+use Rattle.ffi_device.specs.Flats.{text_of}
+
+-- how many were read after one was asked for
+abbrev pub read_after : Option Flat → ℕ → ℕ
+read_after None read = read
+read_after (Some flat) read = suc read
+
+-- the text of an output, if there is one
+abbrev pub text_if : {A : Type 0} → Option (Output A) → List ℕ
+text_if None = []
+text_if (Some output) = text_of output
+
+-- the output that was told last
+abbrev pub told : {A : Type 0} → List (Output A) → (read : ℕ) → Option (Output A)
+told said zero = None
+told said (suc read) = slice_get said read
+
+-- the text of the output that was told last
+abbrev pub told_text : {A : Type 0} → List (Output A) → (read : ℕ) → List ℕ
+told_text said read = text_if (told said read)
+
+-- the words of a drop, and else nothing
+abbrev pub words_of : {A : Type 0} → Option (Output A) → List ℕ
+words_of (Some (output.Drop why)) = fault_words (fault_view why)
+words_of _ = []
+
+-- the words of a drop that was told last
+abbrev pub told_words : {A : Type 0} → List (Output A) → (read : ℕ) → List ℕ
+told_words said read = words_of (told said read)
+
+-- a text, if there is one
+abbrev pub name_if : {A : Type 0} → Option (String A) → List ℕ
+name_if None = []
+name_if (Some name) = string_bytes name
+
+-- the name of this index that a reply brings, if it does
+abbrev pub result_name : {A : Type 0} → (index : ℕ) → CallResult A → List ℕ
+result_name index (result.Names names stat) = name_if (slice_get names.items index)
+result_name index _ = []
+
+-- the same of an answer
+abbrev pub outcome_name : {A : Type 0} → (index : ℕ) → Outcome A → List ℕ
+outcome_name index (outcome.Replied zxid brought) = result_name index brought
+outcome_name index _ = []
+
+-- the name of this index in a listing, if there is one
+abbrev pub name_of : {A : Type 0} → (index : ℕ) → Option (Output A) → List ℕ
+name_of index (Some (output.Answer ticket (outcome.Replied zxid brought))) = result_name index brought
+name_of index _ = []
+
+-- the name of this index in the listing that was told last, if there is one
+abbrev pub told_name : {A : Type 0} → (index : ℕ) → List (Output A) → (read : ℕ) → List ℕ
+told_name index said read = name_of index (told said read)
+
+-- the names that a reply brings, if it does
+abbrev pub result_names : {A : Type 0} → CallResult A → List (List ℕ)
+result_names (result.Names names stat) = map string_bytes names.items
+result_names _ = []
+
+-- the same of an answer
+abbrev pub outcome_names : {A : Type 0} → Outcome A → List (List ℕ)
+outcome_names (outcome.Replied zxid brought) = result_names brought
+outcome_names _ = []
+
+-- the names of a listing, in the order of the reply
+abbrev pub names_in : {A : Type 0} → Option (Output A) → List (List ℕ)
+names_in (Some (output.Answer ticket (outcome.Replied zxid brought))) = result_names brought
+names_in _ = []
+
+-- the names of the listing that was told last
+abbrev pub told_names : {A : Type 0} → List (Output A) → (read : ℕ) → List (List ℕ)
+told_names said read = names_in (told said read)

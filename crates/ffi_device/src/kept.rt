@@ -1,0 +1,312 @@
+//! What a client keeps of a path, as numbers and texts.
+
+ghost use Rattle.std.specs.Prelude.{◌≡◌, ◌≢◌, ◌++◌, IfErr, IfOk, None, OnErr, OnOk, drop, length, option_map, slice_get, take};
+ghost use Rattle.std.specs.BTreeSet.{IsOrdered, btree_set_len};
+ghost use Rattle.std.specs.String.{string_cmp};
+ghost use Rattle.zk_cache.specs.Contents.{answer_of, names_in};
+ghost use Rattle.zk_client.specs.Clients.{view_of};
+ghost use Rattle.zk_nodes.specs.Names.{names_of};
+ghost use Rattle.zk_nodes.specs.PathFault.{IsPath};
+ghost use Rattle.ffi_device.specs.Codes.{refusal_code};
+ghost use Rattle.ffi_device.specs.Kept.{data_flat, data_stat_flat, data_text, mark_number, AreKeptNames, AreSpelled, IsKeptName, TellsNames, WritesName, WritesNames};
+ghost use Rattle.ffi_device.specs.Outputs.{name_if};
+ghost use Rattle.ffi_device.specs.Refused.{RefusesPath};
+ghost use Rattle.zk_turns.specs.Rule.{forgotten};
+
+use crate::copying::copy_into;
+use crate::paths::{path_of, refuse_no_path, text_of};
+use crate::refusal::Refusal;
+use std::alloc::{AllocError, Global};
+use zk_client::{Client, DataAnswer, DataStat, Mark, Names};
+use zk_jute::Record;
+
+/// What is kept of the fields of a node that change only where a data watch fires.
+#[repr(C)]
+#[derive(Clone, Copy, Debug)]
+pub struct FlatDataStat {
+    pub czxid: i64,
+    pub mzxid: i64,
+    pub ctime: i64,
+    pub mtime: i64,
+    pub ephemeral_owner: i64,
+    pub version: i32,
+    pub data_length: i32,
+}
+
+/// What is kept about the data of a path, as numbers. The data are read separately.
+#[repr(C)]
+#[derive(Clone, Copy, Debug)]
+pub struct KeptData {
+    /// 0 nothing is kept, 1 no node is there, 2 a node whose data were not read, 3 a node with its data.
+    pub kind: i32,
+    /// 1 good, 2 stale.
+    pub mark: i32,
+    /// How many bytes the data have.
+    pub length: usize,
+    /// Of a node with its data, whether these are null.
+    pub is_null: bool,
+    pub stat: FlatDataStat,
+}
+
+/// What is kept about the children of a path, as numbers. The names are read separately.
+#[repr(C)]
+#[derive(Clone, Copy, Debug)]
+pub struct KeptNames {
+    /// 0 nothing is kept, 1 good, 2 stale.
+    pub mark: i32,
+    /// How many names there are.
+    pub count: usize,
+    /// The zxid of the last change of this set.
+    pub pzxid: i64,
+}
+
+const NO_DATA: KeptData = KeptData {
+    kind: 0,
+    mark: 0,
+    length: 0,
+    is_null: false,
+    stat: FlatDataStat {
+        czxid: 0,
+        mzxid: 0,
+        ctime: 0,
+        mtime: 0,
+        ephemeral_owner: 0,
+        version: 0,
+        data_length: 0,
+    },
+};
+
+fn mark_number(mark: Mark) -> i32
+    ensures { result ≡ mark_number mark }
+{
+    match mark {
+        Mark::Good => 1,
+        Mark::Stale => 2,
+    }
+}
+
+fn data_stat_flat(stat: &DataStat) -> FlatDataStat
+    ensures { result ≡ data_stat_flat stat.now }
+{
+    FlatDataStat {
+        czxid: stat.czxid,
+        mzxid: stat.mzxid,
+        ctime: stat.ctime,
+        mtime: stat.mtime,
+        ephemeral_owner: stat.ephemeral_owner,
+        version: stat.version,
+        data_length: stat.data_length,
+    }
+}
+
+/// What is kept of the data, as numbers.
+pub(crate) fn data_flat(kept: Option<(&DataAnswer<Global>, Mark)>) -> KeptData
+    ensures { result ≡ data_flat (option_map (λ kept. record { answer = answer_of kept.0.now; mark = kept.1 }) kept.entry) }
+{
+    let mut flat = NO_DATA;
+    let Some((answer, mark)) = kept else {
+        return flat;
+    };
+    flat.mark = mark_number(mark);
+    match answer {
+        DataAnswer::Absent => flat.kind = 1,
+        DataAnswer::Known(stat) => {
+            flat.kind = 2;
+            flat.stat = data_stat_flat(stat);
+        }
+        DataAnswer::Full(bytes, stat) => {
+            flat.kind = 3;
+            flat.stat = data_stat_flat(stat);
+            match bytes {
+                Some(bytes) => flat.length = bytes.as_slice().len(),
+                None => flat.is_null = true,
+            }
+        }
+    }
+    flat
+}
+
+fn data_text(kept: Option<(&DataAnswer<Global>, Mark)>) -> &[u8]
+    ensures { result.now ≡ data_text (option_map (λ kept. record { answer = answer_of kept.0.now; mark = kept.1 }) kept.entry) }
+{
+    match kept {
+        Some((DataAnswer::Full(Some(bytes), _), _)) => bytes.as_slice(),
+        _ => b"",
+    }
+}
+
+// The numbers of names with their mark.
+fn flat_names(names: &Names<Global>, mark: Mark) -> KeptNames
+    ensures flat { result ≡ record { mark = mark_number mark; count = btree_set_len names.now.names; pzxid = names.now.pzxid } }
+    ensures ordered { IsOrdered string_cmp names.now.names }
+{
+    KeptNames {
+        mark: mark_number(mark),
+        count: names.names.len(),
+        pzxid: names.pzxid,
+    }
+}
+
+fn names_flat(kept: Option<(&Names<Global>, Mark)>) -> KeptNames
+    ensures { TellsNames (option_map (λ kept. record { answer = names_in kept.0.now; mark = kept.1 }) kept.entry) result }
+{
+    match kept {
+        Some((names, mark)) => flat_names(names, mark),
+        None => KeptNames {
+            mark: 0,
+            count: 0,
+            pzxid: 0,
+        },
+    }
+}
+
+// The name of this index in byte order, and nothing where there is none.
+fn nth_name(names: &Names<Global>, index: usize) -> &[u8]
+    ensures name { result.now ≡ name_if (slice_get names.now.names.keys index) }
+    ensures ordered { IsOrdered string_cmp names.now.names }
+{
+    match names.names.iter().nth(index) {
+        Some(name) => name.as_bytes(),
+        None => b"",
+    }
+}
+
+// The same of what is kept.
+fn name_at(kept: Option<(&Names<Global>, Mark)>, index: usize) -> &[u8]
+    ensures { IsKeptName index (option_map (λ kept. record { answer = names_in kept.0.now; mark = kept.1 }) kept.entry) result.now }
+{
+    match kept {
+        Some((names, _)) => nth_name(names, index),
+        None => b"",
+    }
+}
+
+// The names in byte order, each after its length. An error says that memory ran out: a name from a frame is never too long.
+fn spelled_names(alloc: Global, names: &Names<Global>) -> Result<Vec<u8>, AllocError>
+    ensures { IfOk result (λ text. AreSpelled (names_of names.now.names) text.items) }
+{
+    let mut text = Vec::new(alloc);
+    for name in &names.names {
+        let Ok(()) = name.as_str().write(&mut text) else {
+            return Err(AllocError);
+        };
+    }
+    Ok(text)
+}
+
+/// The names that are kept, in byte order and each after its length. An error says that memory ran out.
+pub(crate) fn names_text(
+    alloc: Global,
+    kept: Option<(&Names<Global>, Mark)>,
+) -> Result<Vec<u8>, AllocError>
+    ensures { IfOk result (λ text. AreKeptNames (option_map (λ kept. record { answer = names_in kept.0.now; mark = kept.1 }) kept.entry) text.items) }
+{
+    match kept {
+        Some((names, _)) => spelled_names(alloc, names),
+        None => Ok(Vec::new(alloc)),
+    }
+}
+
+// What is kept about the data of the path of these bytes.
+fn data_at<'a>(
+    client: &'a Client<Global>,
+    path: &[u8],
+) -> Result<Option<(&'a DataAnswer<Global>, Mark)>, Refusal>
+    ensures found { IfOk result (λ found. option_map (λ kept. record { answer = answer_of kept.0.now; mark = kept.1 }) found ≡ (view_of client.now).cache.nodes path.now) }
+    ensures checked { OnOk result ((view_of client.now).cache.nodes path.now ≡ None → IsPath path.now) }
+    ensures refused { IfErr result (λ refusal. RefusesPath path.now (refusal_code refusal)) }
+    ensures memory { IfErr result (λ refusal. refusal ≢ Refusal.Memory) }
+{
+    let text = text_of(path)?;
+    let kept = client.peek_data_at(text);
+    if kept.is_none() {
+        refuse_no_path(text)?;
+    }
+    Ok(kept)
+}
+
+// What is kept about the children of the path of these bytes.
+fn children_at<'a>(
+    client: &'a Client<Global>,
+    path: &[u8],
+) -> Result<Option<(&'a Names<Global>, Mark)>, Refusal>
+    ensures found { IfOk result (λ found. option_map (λ kept. record { answer = names_in kept.0.now; mark = kept.1 }) found ≡ (view_of client.now).cache.children path.now) }
+    ensures checked { OnOk result ((view_of client.now).cache.children path.now ≡ None → IsPath path.now) }
+    ensures refused { IfErr result (λ refusal. RefusesPath path.now (refusal_code refusal)) }
+    ensures memory { IfErr result (λ refusal. refusal ≢ Refusal.Memory) }
+{
+    let text = text_of(path)?;
+    let kept = client.peek_children_at(text);
+    if kept.is_none() {
+        refuse_no_path(text)?;
+    }
+    Ok(kept)
+}
+
+/// What is kept about the data of a path. The data are copied, as much of them as there is room for. A refusal is `NotText`,
+/// else `NotPath`. It takes no memory, and looks at the path only where nothing is kept of it.
+pub fn peek_data(client: &Client<Global>, path: &[u8], room: &mut [u8]) -> Result<KeptData, Refusal>
+    ensures found { IfOk result (λ flat. flat ≡ data_flat ((view_of client.now).cache.nodes path.now)) }
+    ensures copied { OnOk result (room.new ≡ take (length room.old) (data_text ((view_of client.now).cache.nodes path.now)) ++ drop (length (data_text ((view_of client.now).cache.nodes path.now))) room.old) }
+    ensures checked { OnOk result ((view_of client.now).cache.nodes path.now ≡ None → IsPath path.now) }
+    ensures refused { IfErr result (λ refusal. RefusesPath path.now (refusal_code refusal)) }
+    ensures memory { IfErr result (λ refusal. refusal ≢ Refusal.Memory) }
+    ensures same { OnErr result (room.new ≡ room.old) }
+{
+    let kept = data_at(client, path)?;
+    copy_into(data_text(kept), room);
+    Ok(data_flat(kept))
+}
+
+/// What is kept about the children of a path. A refusal is as of [`peek_data`].
+pub fn peek_children(client: &Client<Global>, path: &[u8]) -> Result<KeptNames, Refusal>
+    ensures found { IfOk result (TellsNames ((view_of client.now).cache.children path.now)) }
+    ensures checked { OnOk result ((view_of client.now).cache.children path.now ≡ None → IsPath path.now) }
+    ensures refused { IfErr result (λ refusal. RefusesPath path.now (refusal_code refusal)) }
+    ensures memory { IfErr result (λ refusal. refusal ≢ Refusal.Memory) }
+{
+    let kept = children_at(client, path)?;
+    Ok(names_flat(kept))
+}
+
+/// Copies the name of this index, in byte order, of those that are kept of a path, as much of it as there is room for, and
+/// tells how many bytes it has. A refusal is as of [`peek_data`].
+pub fn peek_name(
+    client: &Client<Global>,
+    path: &[u8],
+    index: usize,
+    room: &mut [u8],
+) -> Result<usize, Refusal>
+    ensures written { IfOk result (WritesName index ((view_of client.now).cache.children path.now) room.old room.new) }
+    ensures checked { OnOk result ((view_of client.now).cache.children path.now ≡ None → IsPath path.now) }
+    ensures refused { IfErr result (λ refusal. RefusesPath path.now (refusal_code refusal)) }
+    ensures memory { IfErr result (λ refusal. refusal ≢ Refusal.Memory) }
+    ensures same { OnErr result (room.new ≡ room.old) }
+{
+    let kept = children_at(client, path)?;
+    Ok(copy_into(name_at(kept, index), room))
+}
+
+/// Copies all names that are kept of a path, in byte order and each after its length in four bytes, as many bytes of them as
+/// there is room for, and tells how many there are. A refusal is `NotText`, else `NotPath`, else `Memory`.
+pub fn peek_names(
+    alloc: Global,
+    client: &Client<Global>,
+    path: &[u8],
+    room: &mut [u8],
+) -> Result<usize, Refusal>
+    ensures written { IfOk result (WritesNames ((view_of client.now).cache.children path.now) room.old room.new) }
+    ensures refused { IfErr result (λ refusal. RefusesPath path.now (refusal_code refusal)) }
+    ensures same { OnErr result (room.new ≡ room.old) }
+{
+    let path = path_of(alloc, path)?;
+    let text = names_text(alloc, client.peek_children(&path))?;
+    Ok(copy_into(text.as_slice(), room))
+}
+
+/// Takes the stale answers out.
+pub fn forget_stale(client: &mut Client<Global>)
+    ensures { view_of client.new ≡ record (view_of client.old) { cache = forgotten (view_of client.old).cache } }
+{
+    client.forget_stale();
+}

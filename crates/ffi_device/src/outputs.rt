@@ -1,0 +1,144 @@
+//! What was said, one output at a time.
+
+ghost use Rattle.std.specs.Prelude.{◌≡◌, ◌++◌, IfOk, OnErr, drop, length, string_bytes, take};
+ghost use Rattle.std.specs.Option.{option_map};
+ghost use Rattle.std.specs.List.{slice_get};
+ghost use Rattle.ffi_device.specs.Flats.{flat_of};
+ghost use Rattle.ffi_device.specs.Kept.{WritesText};
+ghost use Rattle.ffi_device.specs.Outputs.{names_in, outcome_name, outcome_names, read_after, told, told_name, told_names, told_text, told_words};
+ghost use Rattle.ffi_device.specs.Texts.{AreTexts};
+
+use crate::copying::copy_into;
+use crate::device::Device;
+use crate::flat::{Flat, flat_of, text_of};
+use crate::texts::spelled_texts;
+use std::alloc::{AllocError, Global};
+use zk_client::{CallResult, Outcome, Output};
+
+/// The names of a listing, each after its length, and nothing where the answer is none. An error says that memory ran out.
+pub fn outcome_names(alloc: Global, outcome: &Outcome<Global>) -> Result<Vec<u8>, AllocError>
+    ensures { IfOk result (λ text. AreTexts (outcome_names outcome.now) text.items) }
+{
+    match outcome {
+        Outcome::Replied {
+            result: CallResult::Names { names, .. },
+            ..
+        } => spelled_texts(alloc, names.as_slice()),
+        _ => Ok(Vec::new(alloc)),
+    }
+}
+
+/// The name of this index in a listing, and nothing where there is none.
+pub fn outcome_name(outcome: &Outcome<Global>, index: usize) -> &[u8]
+    ensures { result.now ≡ outcome_name index outcome.now }
+{
+    match outcome {
+        Outcome::Replied {
+            result: CallResult::Names { names, .. },
+            ..
+        } => match names.as_slice().get(index) {
+            Some(name) => name.as_bytes(),
+            None => b"",
+        },
+        _ => b"",
+    }
+}
+
+// The names of a listing, each after its length, and nothing where it is none.
+fn names_text(alloc: Global, told: Option<&Output<Global>>) -> Result<Vec<u8>, AllocError>
+    ensures { IfOk result (λ text. AreTexts (names_in (option_map (λ output. output.now) told.entry)) text.items) }
+{
+    match told {
+        Some(Output::Answer { outcome, .. }) => outcome_names(alloc, outcome),
+        _ => Ok(Vec::new(alloc)),
+    }
+}
+
+impl Device {
+    /// The next output of the last step, as numbers. The one before is over.
+    pub fn next(&mut self) -> Option<Flat>
+        ensures next { result ≡ option_map flat_of (slice_get self.old.said.items self.old.read) }
+        ensures client { self.new.client ≡ self.old.client }
+        ensures said { self.new.said ≡ self.old.said }
+        ensures read { self.new.read ≡ read_after result self.old.read }
+        ensures number { self.new.revision ≡ self.old.revision }
+    {
+        match self.said.as_slice().get(self.read) {
+            Some(output) => {
+                let flat = flat_of(output);
+                self.read += 1;
+                Some(flat)
+            }
+            None => None,
+        }
+    }
+
+    // The output that was told last.
+    fn told(&self) -> Option<&Output<Global>>
+        ensures { option_map (λ output. output.now) result ≡ told self.now.said.items self.now.read }
+    {
+        if self.read == 0 {
+            return None;
+        }
+        self.said.as_slice().get(self.read - 1)
+    }
+
+    // The text of the output that was told last, and nothing where none was told.
+    fn told_text(&self) -> &[u8]
+        ensures { result.now ≡ told_text self.now.said.items self.now.read }
+    {
+        match self.told() {
+            Some(output) => text_of(output),
+            None => b"",
+        }
+    }
+
+    /// Copies the text of the output that was told last, from this place on, as much of it as there is room for, and tells how
+    /// many bytes there are from there on.
+    pub fn copy_text(&self, from: usize, room: &mut [u8]) -> usize
+        ensures count { result ≡ length (drop from (told_text self.now.said.items self.now.read)) }
+        ensures copied { room.new ≡ take (length room.old) (drop from (told_text self.now.said.items self.now.read)) ++ drop (length (drop from (told_text self.now.said.items self.now.read))) room.old }
+    {
+        let text = self.told_text();
+        copy_into(&text[from.min(text.len())..], room)
+    }
+
+    /// The words of a drop that was told last: why the connection is given up. An error says that memory ran out.
+    pub fn words(&self, alloc: Global) -> Result<String<Global>, AllocError>
+        ensures { IfOk result (λ words. string_bytes words ≡ told_words self.now.said.items self.now.read) }
+    {
+        match self.told() {
+            Some(Output::Drop(fault)) => format!(in alloc; "{fault}"),
+            _ => Ok(String::new(alloc)),
+        }
+    }
+
+    // The name of this index in the listing that was told last, and nothing where there is none.
+    fn told_name(&self, index: usize) -> &[u8]
+        ensures { result.now ≡ told_name index self.now.said.items self.now.read }
+    {
+        match self.told() {
+            Some(Output::Answer { outcome, .. }) => outcome_name(outcome, index),
+            _ => b"",
+        }
+    }
+
+    /// Copies the name of this index in the listing that was told last, as much of it as there is room for, and tells how many
+    /// bytes it has.
+    pub fn copy_name(&self, index: usize, room: &mut [u8]) -> usize
+        ensures count { result ≡ length (told_name index self.now.said.items self.now.read) }
+        ensures copied { room.new ≡ take (length room.old) (told_name index self.now.said.items self.now.read) ++ drop (length (told_name index self.now.said.items self.now.read)) room.old }
+    {
+        copy_into(self.told_name(index), room)
+    }
+
+    /// Copies all names of the listing that was told last, in the order of the reply and each after its length in four bytes, as many
+    /// bytes of them as there is room for, and tells how many there are. An error says that memory ran out.
+    pub fn copy_names(&self, alloc: Global, room: &mut [u8]) -> Result<usize, AllocError>
+        ensures written { IfOk result (WritesText (AreTexts (told_names self.now.said.items self.now.read)) room.old room.new) }
+        ensures same { OnErr result (room.new ≡ room.old) }
+    {
+        let text = names_text(alloc, self.told())?;
+        Ok(copy_into(text.as_slice(), room))
+    }
+}

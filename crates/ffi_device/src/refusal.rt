@@ -1,0 +1,100 @@
+//! Why a device does not do what it is asked.
+
+ghost use Rattle.std.specs.Prelude.{◌≡◌};
+ghost use Rattle.ffi_device.specs.Codes.{refusal_code, code_of};
+
+use std::alloc::AllocError;
+use zk_client::Halt;
+use zk_conclusions::NoSubtree;
+
+/// Why a device does not do what it is asked. But for `Halted`, nothing happened then.
+#[derive(Clone, Copy, Debug, PartialEq, Eq)]
+pub enum Refusal {
+    /// The client ran out of memory within a step. It has no use from then on, but its saved session can be taken.
+    Halted,
+    /// There was no memory for what was given.
+    Memory,
+    /// The path is no UTF-8.
+    NotText,
+    /// The text is no path.
+    NotPath,
+    /// The timeout is not above 0.
+    BadTimeout,
+    /// No kind of node has this number.
+    NoSuchMode,
+    /// The bytes are no saved session.
+    NotSaved,
+    /// Not all nodes at and below the path are kept whole and good.
+    NotWhole,
+    /// There are more of them than were asked for.
+    TooMany,
+    /// The bytes are no texts that follow one another, each after its length.
+    NotTexts,
+}
+
+impl Refusal {
+    /// Its number, below 0.
+    pub fn code(self) -> i32
+        ensures { result ≡ refusal_code self }
+    {
+        match self {
+            Refusal::Halted => -1,
+            Refusal::Memory => -2,
+            Refusal::NotText => -4,
+            Refusal::NotPath => -5,
+            Refusal::BadTimeout => -6,
+            Refusal::NoSuchMode => -7,
+            Refusal::NotSaved => -8,
+            Refusal::NotWhole => -9,
+            Refusal::TooMany => -10,
+            Refusal::NotTexts => -11,
+        }
+    }
+}
+
+impl From<AllocError> for Refusal {
+    ghost use Rattle.std.specs.Prelude.{◌≡◌};
+    ghost use Rattle.ffi_device.specs.declared.refusal.Refusal.TheVariants.{Memory};
+
+    ghost from_gives = { λ _ refusal. refusal ≡ Memory };
+
+    fn from(_error: AllocError) -> Refusal {
+        Refusal::Memory
+    }
+}
+
+impl From<Halt> for Refusal {
+    ghost use Rattle.std.specs.Prelude.{◌≡◌};
+    ghost use Rattle.ffi_device.specs.declared.refusal.Refusal.TheVariants.{Halted};
+
+    ghost from_gives = { λ _ refusal. refusal ≡ Halted };
+
+    fn from(_halt: Halt) -> Refusal {
+        Refusal::Halted
+    }
+}
+
+impl From<NoSubtree> for Refusal {
+    ghost use Rattle.std.specs.Prelude.{◌≡◌};
+    ghost use Rattle.ffi_device.specs.Codes.{refusal_of};
+
+    ghost from_gives = { λ why refusal. refusal ≡ refusal_of why };
+
+    fn from(why: NoSubtree) -> Refusal {
+        match why {
+            NoSubtree::NotWhole => Refusal::NotWhole,
+            NoSubtree::TooMany => Refusal::TooMany,
+            NoSubtree::Memory => Refusal::Memory,
+        }
+    }
+}
+
+/// The number of what was done: that of the refusal, and 0 where there is none.
+pub fn code_of(done: Result<(), Refusal>) -> i32
+    ensures { result ≡ code_of done }
+{
+    match done {
+        Ok(()) => 0,
+        Err(refusal) => refusal.code(),
+    }
+}

@@ -1,0 +1,92 @@
+//! What a device shows of its session, the session put away and taken up, and a new one after it.
+
+ghost use Rattle.std.specs.Prelude.{◌≡◌, ◌≢◌, ◌<ℤ◌, pos, IfOk, MatchResult, OnOk, Ok, Err};
+ghost use Rattle.zk_client.specs.Clients.{view_of};
+ghost use Rattle.zk_client.specs.SavedSessions.{PutAway, bytes_read, saved_bytes};
+ghost use Rattle.zk_client.specs.declared.saved_fault.SavedFault.{SavedFault};
+ghost use Rattle.zk_client.specs.declared.saved_fault.SavedFault.TheVariants as saved_faults;
+ghost use Rattle.ffi_device.specs.declared.refusal.Refusal.TheVariants as refusals;
+ghost use Rattle.ffi_device.specs.Refused.{RefusesTimeout};
+ghost use Rattle.ffi_device.specs.Codes.{code_of};
+ghost use Rattle.ffi_device.specs.Sessions.{Begins, Renews, put_of, put_start, state_number};
+
+use crate::device::Device;
+use crate::refusal::Refusal;
+use std::alloc::{AllocError, Global};
+use zk_client::{Client, SavedFault, SavedSession, State};
+
+// What was put away as these bytes.
+fn read_saved(alloc: Global, saved: &[u8]) -> Result<SavedSession<Global>, Refusal>
+    ensures found { (put : PutAway) → bytes_read saved.now ≡ Ok put → MatchResult result (λ session. session ≡ put) (λ refusal. refusal ≡ refusals.Memory) }
+    ensures unread { (fault : SavedFault) → bytes_read saved.now ≡ Err fault → fault ≢ saved_faults.Memory → result ≡ Err refusals.NotSaved }
+{
+    match SavedSession::from_bytes(alloc, saved) {
+        Ok(session) => Ok(session),
+        Err(SavedFault::Memory) => Err(Refusal::Memory),
+        Err(_) => Err(Refusal::NotSaved),
+    }
+}
+
+impl Device {
+    /// A client that takes up the session of these bytes, with this timeout in milliseconds. A refusal is `BadTimeout`, else
+    /// `NotSaved`, else `Memory`.
+    pub fn resume(alloc: Global, timeout_ms: i32, saved: &[u8]) -> Result<Device, Refusal>
+        ensures begins { (put : PutAway) → bytes_read saved.now ≡ Ok put → Begins (RefusesTimeout timeout_ms) (put_start timeout_ms put) result }
+        ensures accepted { OnOk result (pos 0 <ℤ timeout_ms) }
+        ensures unread { (fault : SavedFault) → bytes_read saved.now ≡ Err fault → fault ≢ saved_faults.Memory → pos 0 <ℤ timeout_ms → result ≡ Err refusals.NotSaved }
+    {
+        if timeout_ms <= 0 {
+            return Err(Refusal::BadTimeout);
+        }
+        let session = match read_saved(alloc, saved) {
+            Ok(session) => session,
+            Err(refusal) => return Err(refusal),
+        };
+        let client = Client::resume(alloc, timeout_ms, &session.as_saved());
+        drop(session);
+        match client {
+            Ok(client) => Ok(Device::of(alloc, client)),
+            Err(_) => Err(Refusal::Memory),
+        }
+    }
+
+    /// Begins a new session, which asks for this timeout in milliseconds. The last seen zxid is kept, and nothing else; the revision goes on,
+    /// with the next number. A refusal is `BadTimeout`, else `Memory`.
+    pub fn renew(&mut self, alloc: Global, timeout_ms: i32) -> Result<(), Refusal>
+        ensures { Renews timeout_ms self.old (code_of result) self.new }
+    {
+        if timeout_ms <= 0 {
+            return Err(Refusal::BadTimeout);
+        }
+        let client = self.client.renewed(alloc, timeout_ms)?;
+        let mut device = Device::of(alloc, client);
+        device.revision = self.revision;
+        device.revision.raise();
+        *self = device;
+        Ok(())
+    }
+}
+
+/// The bytes from which the session can be taken up. An error says that memory ran out.
+pub fn saved(alloc: Global, client: &Client<Global>) -> Result<Vec<u8, Global>, AllocError>
+    ensures { IfOk result (λ bytes. bytes.items ≡ saved_bytes (put_of (view_of client.now).saved)) }
+{
+    let told = client.saved();
+    let Ok(session) = SavedSession::new(alloc, told.session, told.password, told.last_zxid) else {
+        return Err(AllocError);
+    };
+    session.to_bytes(alloc)
+}
+
+/// The number of the state: 0 idle, 1 connecting, 2 connected, 3 expired, 4 closed.
+pub fn state(client: &Client<Global>) -> i32
+    ensures { result ≡ pos (state_number (view_of client.now).standing.state) }
+{
+    match client.state() {
+        State::Idle => 0,
+        State::Connecting => 1,
+        State::Connected => 2,
+        State::Expired => 3,
+        State::Closed => 4,
+    }
+}

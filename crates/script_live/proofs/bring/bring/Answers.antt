@@ -1,0 +1,17 @@
+use Rattle.zk_link.proofs.Streaming.{consumes_none, keeps_on, read_kept}
+use Rattle.script_live.specs.Flowing.{piece_in}
+use Rattle.script_live.proofs.bring.bring.Goals as goal
+
+pub returns-then-is_err-clause-whole : goal.returns-then-is_err-clause-whole
+returns-then-is_err-clause-whole g c =
+    consumes_none (g.S.Read.remaining c.args.stream.now) (g.S.Read.remaining c.wait_at_most.new.self) c.wait_at_most.ensures.gives
+
+pub returns-clause-whole : goal.returns-clause-whole
+returns-clause-whole g c =
+    read_kept c.read_once.result piece_in (g.S.Read.remaining c.args.stream.now) (g.S.Read.remaining c.wait_at_most.new.self)
+    (g.S.Read.remaining c.read_once.new.stream) c.wait_at_most.ensures.gives c.read_once.ensures.whole
+
+pub returns-clause-took : goal.returns-clause-took
+returns-clause-took g c =
+    keeps_on (g.S.Write.contents c.args.stream.now) (g.S.Write.contents c.wait_at_most.new.self) (g.S.Write.contents c.read_once.new.stream)
+    c.wait_at_most.ensures.took c.read_once.ensures.took

@@ -1,0 +1,17 @@
+use Rattle.std.proofs.Common.{ap, false}
+use Rattle.std.specs.Prelude.{string_bytes}
+use Rattle.zk_turns.specs.Turns.{Cut}
+use Rattle.zk_client.specs.Views.{said}
+use Rattle.script_live.specs.Trails.{trail_of}
+use Rattle.script_live.specs.Heard.{TellsEach}
+use Rattle.script_live.proofs.HeardLemmas.{heard}
+use Rattle.script_live.proofs.heard.cut.Goals as goal
+
+pub returns-in-Ok-clause-ok : goal.returns-in-Ok-clause-ok
+returns-in-Ok-clause-ok g c =
+    let old = record (trail_of c.args.joint.now c.new-outputs.result.items) { is_open = false } in
+    let new = (trail_of c.cut.new.self c.cut.new.outputs.items) in
+    let told = c.in-Ok.ensures in
+    let tells : TellsEach (said c.cut.new.outputs.items) told.0 = rw (← c.as_slice.ensures.value) told.1 in
+    heard old new Cut (string_bytes c.args.text.now) told.0 (string_bytes c.push_told.new.text) (ap said c.new-outputs.ensures.items)
+    c.in_default.ensures.ok tells told.2

@@ -1,0 +1,5 @@
+use Rattle.script_live.proofs.Flowed.{go_whole}
+use Rattle.script_live.proofs.laws.bytes_go_whole.Goals as goal
+
+pub returns : goal.returns
+returns c = go_whole

@@ -1,0 +1,12 @@
+use Rattle.std.specs.Io.KnownBytes.{Keeps}
+use Rattle.zk_link.specs.Written.{IsLeftOf}
+use Rattle.zk_link.specs.Streams.{Sends}
+use Rattle.script_live.proofs.send.send.Given as goal
+
+-- what was written so far
+abbrev pub invariant-loop : goal.invariant-loop
+invariant-loop g l = record {
+  left : IsLeftOf l.fn.unsent.items l.unsent.items;
+  sends : Sends l.fn.unsent.items l.unsent.items (g.S.Write.contents l.fn.stream) (g.S.Write.contents l.stream);
+  gives : Keeps (g.S.Read.remaining l.fn.stream) (g.S.Read.remaining l.stream);
+}

@@ -1,0 +1,9 @@
+use Rattle.std.proofs.Common.{take}
+use Rattle.std.specs.Prelude.{string_bytes}
+use Rattle.zk_client.specs.Views.{said}
+use Rattle.script_replay.specs.Shown.{TellsAll}
+use Rattle.script_replay.proofs.outputs.outputs_text.Given as goal
+
+-- the text tells the outputs so far
+abbrev pub invariant-loop-output : goal.invariant-loop-output
+invariant-loop-output g l = TellsAll (said (take l.output-index l.outputs)) (string_bytes l.text)

@@ -1,0 +1,11 @@
+use Rattle.std.proofs.Common.{◌≡◌, ◌++◌, arith}
+use Rattle.std.proofs.lemmas.Grind.{common_steps}
+use Rattle.std.specs.Prelude.{string_bytes}
+use Rattle.std.specs.List.{flat_map}
+use Rattle.script_stream.proofs.FieldLemmas.{words_of, one_by_one}
+use Rattle.script_stream.proofs.fields.push_fields.Goals as goal
+
+pub returns : goal.returns
+returns g c =
+    let all : string_bytes c.loop-name.text ≡ string_bytes c.args.text.now ++ flat_map words_of c.args.fields.now = grind (arith, common_steps) in
+    rw (one_by_one c.args.fields.now) all

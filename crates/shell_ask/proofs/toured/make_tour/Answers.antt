@@ -1,0 +1,29 @@
+use Rattle.std.proofs.Common.{ℕ, ap, subst, None}
+use Rattle.zk_agent.specs.Telling.{told_by}
+use Rattle.zk_driver.specs.Driving.{course_of}
+use Rattle.zk_driver.specs.declared.engine.Engine.{Engine}
+use Rattle.shell_ask.specs.Trees.{ending_view, scope_of, WalksFrom}
+use Rattle.shell_ask.proofs.Walking.{undone}
+use Rattle.shell_ask.proofs.toured.make_tour.Goals as goal
+
+pub returns-in-Ok-tour-clause-tours : goal.returns-in-Ok-tour-clause-tours
+returns-in-Ok-tour-clause-tours g c =
+    let scope = scope_of c.args.plan.now in
+    let tour = c.in-Ok-tour.tour in
+    let start = course_of c.in-Ok.driver.engine None in
+    let until = c.saturating_add-until.result in
+    let first : WalksFrom start until scope (ending_view tour.ending) tour.printed.items
+    = subst (λ (e : Engine g.row.A.Denot g.row.D-Stream.Denot). WalksFrom (course_of e None) until scope (ending_view tour.ending) tour.printed.items) c.now.ensures.engine c.in-Ok-tour.ensures in
+    record {
+      timeout = 10000;
+      start = start;
+      begins = c.in-Ok.ensures.client;
+      parted = c.in-Ok.ensures.channel;
+      untold = ap told_by c.in-Ok.ensures.waiting;
+      from = c.now.result;
+      walks = subst (λ (u : ℕ). WalksFrom start u scope (ending_view tour.ending) tour.printed.items) c.saturating_add-until.ensures first;
+    }
+
+pub returns-in-Ok-tour-clause-undone : goal.returns-in-Ok-tour-clause-undone
+returns-in-Ok-tour-clause-undone g c =
+    let walks = c.in-Ok-tour.ensures in undone walks.bounds walks.last (ending_view c.in-Ok-tour.tour.ending) walks.ends

@@ -1,0 +1,64 @@
+-- What a program asks of a driver, and what it hears of that.
+use Rattle.std.specs.Prelude.{◌≡◌, ◌≤◌, ℕ, Bool, true, [], ◌∷◌, Some, is_some}
+use Rattle.zk_conversation.specs.Calls.{Call}
+use Rattle.zk_conversation.specs.Views.{call_view}
+use Rattle.zk_conversation.specs.declared.call.Call.{Call as Handed}
+use Rattle.zk_turns.specs.Turns.{Outcome, Answer, new_start}
+use Rattle.zk_turns.specs.View.{view_at}
+use Rattle.zk_client.specs.Clients.{view_of}
+use Rattle.zk_client.specs.Views.{outcome_view}
+use Rattle.zk_agent.specs.Telling.{Told, Says, TimesOut}
+use Rattle.zk_agent.specs.declared.input.Input.TheVariants as happens
+use Rattle.zk_driver.specs.Driving.{closed, Course, Goes, Hands}
+use Rattle.zk_link.specs.Streams.{Known}
+use Rattle.zk_driver.specs.Flowing.{Flow, Runs}
+use Rattle.shell_ask.specs.declared.came.Came.{Came}
+use Rattle.shell_ask.specs.declared.came.Came.TheVariants as came
+
+-- What came of a call: its answer, or its limit, with whether it was sent and whether a server was heard by then.
+pub data Coming : Type 0 where
+  Answered : Outcome → Coming
+  Late : (was_sent was_heard : Bool) → Coming
+
+abbrev pub came_view : {A : Type 0} → Came A → Coming
+came_view (came.Answered outcome) = Answered (outcome_view outcome)
+came_view (came.Late was_sent was_heard) = Late was_sent was_heard
+
+-- The program hears this next: the driver goes on, and this is the first that is told.
+abbrev pub Tells : {A : Type 0} → (old : Course A) → Told → (new : Course A) → Type 0
+Tells {A} old told new = (between : Course A) × Goes old between × (between.told ≡ told ∷ new.told) × (new ≡ record between { told = new.told })
+
+-- What a program hears of a call that waits to a moment, after whatever else it is told: its answer, that its limit has come, or nothing by this
+-- moment.
+pub data Hears {A : Type 0} (ticket until : ℕ) (new : Course A) : Course A → Coming → Type 0 where
+  answers : (old : Course A) (outcome : Outcome) → Tells old (Says (Answer ticket outcome)) new → Hears ticket until new old (Answered outcome)
+  ends : (old : Course A) (was_sent : Bool) → Tells old (TimesOut ticket was_sent) new → Hears ticket until new old (Late was_sent (is_some new.agent.heard_at))
+  passes : (old : Course A) → Goes old new → until ≤ new.agent.latest → Hears ticket until new old (Late true (is_some new.agent.heard_at))
+  goes_on : (old between : Course A) (told : Told) (coming : Coming) → Tells old told between → Hears ticket until new between coming → Hears ticket until new old coming
+
+-- A driver is handed a call that waits to a moment, and this comes of it.
+pub record Heard {A : Type 0} (call : Call) (until : ℕ) (start : Course A) (coming : Coming) (last : Course A) : Type 0 where
+  pub ticket : ℕ
+  pub handed : Handed A
+  pub asked : Course A
+  pub is : call_view handed ≡ call
+  pub hands : Hands (happens.Call ticket handed (Some until)) start asked
+  pub hears : Hears ticket until last asked coming
+
+-- how far a driver has come, what its stream knows, and nothing that was read and is not handed in
+abbrev pub flow_at : {A : Type 0} → Course A → Known → Flow A
+flow_at course known = record { course = course; known = known; held = [] }
+
+-- So does a driver with a new session, which has no connection yet. Byte by byte it is a run of that driver.
+pub record ComesOf (A : Type 0) (call : Call) (coming : Coming) : Type 0 where
+  pub timeout : ℕ
+  pub until : ℕ
+  pub start : Course A
+  pub last : Course A
+  pub begins : view_of start.agent.asker.follower.client ≡ view_at (new_start timeout) []
+  pub parted : start.channel ≡ closed
+  pub untold : start.told ≡ []
+  pub heard : Heard call until start coming last
+  pub before : Known
+  pub after : Known
+  pub runs : Runs (flow_at start before) (flow_at last after)

@@ -1,0 +1,121 @@
+//! A call, asked and told.
+
+ghost use Rattle.std.specs.Prelude.{◌≡◌, ◌≢◌, ◌⊎◌, ℕ, List};
+ghost use Rattle.std.specs.Io.KnownBytes.{Appends};
+ghost use Rattle.zk_conversation.specs.Views.{call_view};
+ghost use Rattle.shell_ask.specs.Asking.{came_view, ComesOf, Coming};
+ghost use Rattle.shell_ask.specs.Printing.{end_of, told, IsToldEnd, Prints};
+
+use crate::answered::come;
+use crate::came::Came;
+use crate::end::End;
+use crate::plan::{Form, Plan};
+use crate::result::printed;
+use crate::told::{end_of, told};
+use std::alloc::Allocator;
+use std::io::Write;
+use zk_link::{Clock, Dial};
+
+/// Writes bytes, and answers this end unless that fails.
+pub(crate) fn write<W: Write>(to: &mut W, text: &[u8], end: End) -> End
+    ensures written { result ≢ End.Stream → (result ≡ end) × Appends (W.contents to.old) (W.contents to.new) text.now }
+    ensures only { (result ≡ end) ⊎ (result ≡ End.Stream) }
+{
+    match to.write_all(text) {
+        Ok(()) => end,
+        Err(_) => End::Stream,
+    }
+}
+
+/// Prints what came of a call that is done.
+fn print<A: Allocator + Copy, O: Write>(
+    alloc: A,
+    form: Form,
+    chroot: &str,
+    came: &Came<A>,
+    out: &mut O,
+) -> End
+    ensures done { result ≡ End.Done → (text : List ℕ) × Prints form chroot.now (came_view came.now) text × Appends (O.contents out.old) (O.contents out.new) text }
+    ensures memory { result ≡ End.Memory → out.new ≡ out.old }
+    ensures only { (result ≡ End.Done) ⊎ (result ≡ End.Memory) ⊎ (result ≡ End.Stream) }
+{
+    match printed(alloc, form, chroot, came) {
+        Ok(text) => write(out, text.as_slice(), End::Done),
+        Err(_) => End::Memory,
+    }
+}
+
+/// Tells what came of a call that ends so, and is not done.
+fn print_end<A: Allocator + Copy, E: Write>(
+    alloc: A,
+    name: &str,
+    came: &Came<A>,
+    end: End,
+    errors: &mut E,
+) -> End
+    ensures told { IsToldEnd result → (result ≡ end) × Appends (E.contents errors.old) (E.contents errors.new) (told name.now (came_view came.now)) }
+    ensures memory { result ≡ End.Memory → IsToldEnd end → errors.new ≡ errors.old }
+    ensures only { (result ≡ end) ⊎ (result ≡ End.Memory) ⊎ (result ≡ End.Stream) }
+{
+    match told(alloc, name, came) {
+        Ok(text) => write(errors, text.as_bytes(), end),
+        Err(_) => End::Memory,
+    }
+}
+
+/// Prints what came of a call, or tells why it is not done.
+fn finish<A: Allocator + Copy, O: Write, E: Write>(
+    alloc: A,
+    form: Form,
+    chroot: &str,
+    name: &str,
+    came: &Came<A>,
+    out: &mut O,
+    errors: &mut E,
+) -> End
+    ensures done { result ≡ End.Done → (text : List ℕ) × (end_of (came_view came.now) ≡ End.Done) × Prints form chroot.now (came_view came.now) text
+        × Appends (O.contents out.old) (O.contents out.new) text × (errors.new ≡ errors.old) }
+    ensures told { IsToldEnd result → (result ≡ end_of (came_view came.now)) × Appends (E.contents errors.old) (E.contents errors.new) (told name.now (came_view came.now)) × (out.new ≡ out.old) }
+    ensures memory { result ≡ End.Memory → (out.new ≡ out.old) × (errors.new ≡ errors.old) }
+{
+    match end_of(came) {
+        End::Done => print(alloc, form, chroot, came, out),
+        end => print_end(alloc, name, came, end, errors),
+    }
+}
+
+/// Asks the call of a plan in a session of its own, prints to `out` what its answer brings, or tells `errors` why it is not done, and ends the
+/// session. It waits for the answer as long as the plan says; and for the end of the session a second at most.
+///
+/// The call is asked once. Where there is no answer to it, it may or may not be done.
+pub fn ask<A: Allocator + Copy, D: Dial + Drop, C: Clock + Drop, O: Write, E: Write>(
+    alloc: A,
+    dial: D,
+    clock: C,
+    plan: Plan<'_, A>,
+    out: &mut O,
+    errors: &mut E,
+) -> End
+    // It is done, and this is printed.
+    ensures done { result ≡ End.Done → (coming : Coming) × (text : List ℕ) × ComesOf A (call_view plan.entry.call) coming × (end_of coming ≡ End.Done)
+        × Prints plan.entry.form plan.entry.chroot.now coming text × Appends (O.contents out.old) (O.contents out.new) text × (errors.new ≡ errors.old) }
+    // It is not done, or may not be, and this is told.
+    ensures told { IsToldEnd result → (coming : Coming) × ComesOf A (call_view plan.entry.call) coming × (result ≡ end_of coming)
+        × Appends (E.contents errors.old) (E.contents errors.new) (told plan.entry.name.now coming) × (out.new ≡ out.old) }
+    ensures memory { result ≡ End.Memory → (out.new ≡ out.old) × (errors.new ≡ errors.old) }
+{
+    let Plan {
+        addresses,
+        call,
+        name,
+        chroot,
+        form,
+        wait_ms,
+    } = plan;
+    let Some(came) = come(alloc, dial, clock, addresses, call, wait_ms) else {
+        return End::Memory;
+    };
+    let end = finish(alloc, form, chroot, name, &came, out, errors);
+    drop(came);
+    end
+}

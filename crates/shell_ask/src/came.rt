@@ -1,0 +1,67 @@
+//! What comes of a call.
+
+ghost use Rattle.std.specs.Prelude.{◌≡◌, ◌∷◌, [], IfOk, OnOk, None, Some};
+ghost use Rattle.std.specs.Option.{is_some};
+ghost use Rattle.zk_conversation.specs.Views.{call_view};
+ghost use Rattle.zk_agent.specs.declared.input.Input.TheVariants as happens;
+ghost use Rattle.zk_driver.specs.Driving.{course_of, Course, Hands};
+ghost use Rattle.zk_driver.specs.Flowing.{flow_of, Runs};
+ghost use Rattle.shell_ask.specs.Asking.{came_view, Hears};
+
+use std::alloc::Allocator;
+use zk_client::{Call, Outcome};
+use zk_driver::{Action, Driver, Stop};
+use zk_link::{Clock, Dial};
+
+/// What came of a call.
+#[derive(Drop)]
+pub(crate) enum Came<A: Allocator> {
+    /// It was answered so.
+    Answered(Outcome<A>),
+    /// Its time was over: whether it may have been sent, and whether a server was heard by then.
+    Late { was_sent: bool, was_heard: bool },
+}
+
+/// Goes on with a driver until a call is answered, or this moment, which is its limit, has come.
+pub(crate) fn wait_for_answer<A: Allocator + Copy, D: Dial + Drop, C: Clock + Drop>(
+    driver: &mut Driver<'_, A, D, C>,
+    ticket: u64,
+    until: u64,
+) -> Result<Came<A>, Stop>
+    ensures hears { IfOk result (λ came. Hears ticket until (course_of driver.new.engine None) (course_of driver.old.engine None) (came_view came)) }
+    ensures runs { OnOk result (Runs (flow_of D.Stream.remaining D.Stream.contents driver.old.engine None) (flow_of D.Stream.remaining D.Stream.contents driver.new.engine None)) }
+{
+    for _ in 0..u64::MAX {
+        match driver.next(until)? {
+            Some(
+                Action::Answer {
+                    ticket: its,
+                    outcome,
+                },
+            ) if its == ticket => {
+                return Ok(Came::Answered(outcome));
+            }
+            Some(
+                Action::TimedOut {
+                    ticket: its,
+                    was_sent,
+                },
+            ) if its == ticket => {
+                let was_heard = driver.heard_at().is_some();
+                return Ok(Came::Late {
+                    was_sent,
+                    was_heard,
+                });
+            }
+            Some(_) => {}
+            None => {
+                let was_heard = driver.heard_at().is_some();
+                return Ok(Came::Late {
+                    was_sent: true,
+                    was_heard,
+                });
+            }
+        }
+    }
+    Err(Stop::Memory)
+}

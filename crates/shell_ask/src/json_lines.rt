@@ -1,0 +1,160 @@
+//! Answers as lines of JSON, an object a line.
+
+ghost use Rattle.std.specs.Prelude.{◌≡◌, ◌++◌, ◌∷◌, [], codes, IfOk, OnOk, map, string_bytes};
+ghost use Rattle.std.specs.BTreeSet.{IsOrdered};
+ghost use Rattle.std.specs.FinSet as set;
+ghost use Rattle.std.specs.List.{flat_map};
+ghost use Rattle.std.specs.Option.{option_map};
+ghost use Rattle.std.specs.String.{string_cmp};
+ghost use Rattle.json.specs.Print.{print};
+ghost use Rattle.zk_client.specs.Views.{call_result_view};
+ghost use Rattle.shell_ask.specs.Printing.{data_members, field_members, fields_line, read_line, text_line, text_members, PrintsEach, PrintsObjects};
+
+use crate::data::as_utf8;
+use crate::fields::fields_of;
+use crate::names::{below, set_of};
+use json::Writer;
+use script_words::words::bytes_to_word;
+use std::alloc::{AllocError, Allocator};
+use std::collections::BTreeSet;
+use zk_client::{CallResult, Stat};
+
+/// What a writer has written, and the end of its line.
+fn line_of<A: Allocator + Copy>(writer: Writer<A>) -> Result<Vec<u8, A>, AllocError>
+    ensures { IfOk result (λ line. line.items ≡ writer.before ++ (print writer.tokens ++ 10 ∷ [])) }
+{
+    let mut line = writer.into_inner();
+    line.push(b'\n')?;
+    Ok(line)
+}
+
+/// Writes a key and a text.
+fn put_text<A: Allocator + Copy>(
+    writer: &mut Writer<A>,
+    key: &str,
+    text: &str,
+) -> Result<(), AllocError>
+    ensures { OnOk result ((writer.new.before ≡ writer.old.before) × (writer.new.tokens ≡ writer.old.tokens ++ text_members key.now text.now)) }
+{
+    writer.key(key)?;
+    writer.string(text)
+}
+
+/// Writes data: a text, or hex under another key, or null.
+fn put_data<A: Allocator + Copy>(
+    writer: &mut Writer<A>,
+    alloc: A,
+    bytes: &Option<Vec<u8, A>>,
+) -> Result<(), AllocError>
+    ensures { OnOk result ((writer.new.before ≡ writer.old.before) × (writer.new.tokens ≡ writer.old.tokens ++ data_members (option_map (λ v. v.items) bytes.now))) }
+{
+    let Some(bytes) = bytes else {
+        writer.key("data")?;
+        return writer.null();
+    };
+    match as_utf8(bytes.as_slice()) {
+        Some(text) => put_text(writer, "data", text),
+        None => {
+            let hex = bytes_to_word(alloc, bytes.as_slice())?;
+            put_text(writer, "hex", hex.as_str())
+        }
+    }
+}
+
+/// Writes fields with their names.
+fn put_fields<A: Allocator + Copy>(
+    writer: &mut Writer<A>,
+    fields: &[(&'static str, i64)],
+) -> Result<(), AllocError>
+    ensures { OnOk result ((writer.new.before ≡ writer.old.before) × (writer.new.tokens ≡ writer.old.tokens ++ field_members (map (λ field. (field.0.now, field.1)) fields.now))) }
+{
+    for (name, number) in fields {
+        writer.key(name)?;
+        writer.i64(*number)?;
+    }
+    Ok(())
+}
+
+/// The line of data and a Stat.
+fn read_line<A: Allocator + Copy>(
+    alloc: A,
+    bytes: &Option<Vec<u8, A>>,
+    stat: &Stat,
+) -> Result<Vec<u8, A>, AllocError>
+    ensures { IfOk result (λ line. line.items ≡ read_line (option_map (λ v. v.items) bytes.now) stat.now) }
+{
+    let mut writer = Writer::new(Vec::new(alloc));
+    writer.begin_object()?;
+    put_data(&mut writer, alloc, bytes)?;
+    put_fields(&mut writer, &fields_of(stat))?;
+    writer.end_object()?;
+    line_of(writer)
+}
+
+/// The line of a Stat.
+fn fields_line<A: Allocator + Copy>(alloc: A, stat: &Stat) -> Result<Vec<u8, A>, AllocError>
+    ensures { IfOk result (λ line. line.items ≡ fields_line stat.now) }
+{
+    let mut writer = Writer::new(Vec::new(alloc));
+    writer.begin_object()?;
+    put_fields(&mut writer, &fields_of(stat))?;
+    writer.end_object()?;
+    line_of(writer)
+}
+
+/// Lines, and after them that of an object with one text.
+pub(crate) fn with_text<A: Allocator + Copy>(
+    lines: Vec<u8, A>,
+    key: &str,
+    text: &str,
+) -> Result<Vec<u8, A>, AllocError>
+    ensures { IfOk result (λ new. new.items ≡ lines.items ++ text_line key.now text.now) }
+{
+    let mut writer = Writer::new(lines);
+    writer.begin_object()?;
+    put_text(&mut writer, key, text)?;
+    writer.end_object()?;
+    line_of(writer)
+}
+
+/// A line for each name of a set.
+fn set_lines<A: Allocator + Copy>(
+    alloc: A,
+    names: &BTreeSet<String<A>, A>,
+) -> Result<Vec<u8, A>, AllocError>
+    ensures lines { IfOk result (λ lines. lines.items ≡ flat_map (text_line (codes "name")) (map string_bytes names.now.keys)) }
+    ensures ordered { OnOk result (IsOrdered string_cmp names.now) }
+{
+    let mut lines = Vec::new(alloc);
+    for name in names {
+        lines = with_text(lines, "name", name.as_str())?;
+    }
+    Ok(lines)
+}
+
+/// A line for each of names that come in any order, and may come more than once.
+fn name_lines<A: Allocator + Copy>(alloc: A, names: &[String<A>]) -> Result<Vec<u8, A>, AllocError>
+    ensures { IfOk result (λ lines. PrintsEach (text_line (codes "name")) (set.from_list (map string_bytes names.now)) lines.items) }
+{
+    let set = set_of(alloc, names)?;
+    set_lines(alloc, &set)
+}
+
+/// The lines of a result, below a chroot.
+pub(crate) fn objects<A: Allocator + Copy>(
+    alloc: A,
+    chroot: &str,
+    found: &CallResult<A>,
+) -> Result<Vec<u8, A>, AllocError>
+    ensures { IfOk result (λ lines. PrintsObjects chroot.now (call_result_view found.now) lines.items) }
+{
+    match found {
+        CallResult::Code(_) | CallResult::Done => Ok(Vec::new(alloc)),
+        CallResult::Stat(stat) => fields_line(alloc, stat),
+        CallResult::Data { bytes, stat } => read_line(alloc, bytes, stat),
+        CallResult::Names { names, stat: _ } => name_lines(alloc, names.as_slice()),
+        CallResult::Created(path) => {
+            with_text(Vec::new(alloc), "path", below(chroot, path.as_str()))
+        }
+    }
+}

@@ -1,0 +1,189 @@
+//! What is told of a call that is not done, and how it ends.
+
+ghost use Rattle.std.specs.Prelude.{◌≡◌, ◌++◌, IfOk, OnOk, string_bytes};
+ghost use Rattle.zk_records.specs.Codes.{code_number};
+ghost use Rattle.zk_conversation.specs.Views.{code_result};
+ghost use Rattle.zk_client.specs.Views.{outcome_view};
+ghost use Rattle.shell_ask.specs.Asking.{came_view};
+ghost use Rattle.shell_ask.specs.Printing.{code_words, end_of, fault_line, is_refused, late_told, outcome_end, outcome_told, refusal_words, result_told, told};
+
+use crate::came::Came;
+use crate::end::End;
+use script_words::values::push_value;
+use std::alloc::{AllocError, Allocator};
+use zk_client::{CallResult, Code, Outcome};
+
+/// The code of a node that is not there.
+const NO_NODE: i32 = -101;
+
+/// What a code of a server means.
+fn code_words(code: Code) -> &'static str
+    ensures { result.now ≡ code_words code }
+{
+    match code {
+        Code::ConnectionLoss => "the server has lost its connection",
+        Code::Unimplemented => "the server does not know the request",
+        Code::BadArguments => "the path, the flags or the data are refused",
+        Code::NoNode => "no node",
+        Code::NoAuth => "the ACL does not admit it",
+        Code::BadVersion => "the node has another version",
+        Code::NoChildrenForEphemerals => "the parent is ephemeral",
+        Code::NodeExists => "the node is there",
+        Code::NotEmpty => "the node has children",
+        Code::SessionExpired => "the session is over",
+        Code::InvalidAcl => "the open ACL is refused",
+        Code::SessionMoved => "the session was taken up over another connection",
+        Code::Other(_) => "the server refuses it",
+    }
+}
+
+/// Why a server refused a call, by the number of its code.
+fn refusal_words<A: Allocator + Copy>(alloc: A, number: i32) -> Result<String<A>, AllocError>
+    ensures { IfOk result (λ words. string_bytes words ≡ refusal_words number) }
+{
+    let mut words = String::from_str(alloc, code_words(Code::new(number)))?;
+    words.push_str(" (")?;
+    push_value(&mut words, alloc, &number)?;
+    words.push_str(")")?;
+    Ok(words)
+}
+
+/// A line of what a call has met, the name of its node, and why.
+pub(crate) fn fault_line<A: Allocator + Copy>(
+    alloc: A,
+    what: &str,
+    name: &str,
+    why: &str,
+) -> Result<String<A>, AllocError>
+    ensures { IfOk result (λ line. string_bytes line ≡ fault_line what.now name.now why.now) }
+{
+    let mut line = String::from_str(alloc, what)?;
+    line.push_str(name)?;
+    line.push_str(": ")?;
+    line.push_str(why)?;
+    line.push_str("\n")?;
+    Ok(line)
+}
+
+/// What is told of a call that its server refused.
+fn refusal<A: Allocator + Copy>(alloc: A, name: &str, code: Code) -> Result<String<A>, AllocError>
+    ensures { IfOk result (λ text. string_bytes text ≡ result_told name.now (code_result (code_number code))) }
+{
+    let number = code.number();
+    if number == NO_NODE {
+        let mut text = String::from_str(alloc, "no node: ")?;
+        text.push_str(name)?;
+        text.push_str("\n")?;
+        return Ok(text);
+    }
+    let why = refusal_words(alloc, number)?;
+    fault_line(alloc, "refused: ", name, why.as_str())
+}
+
+/// Whether the client itself refused a call.
+fn is_refused<A: Allocator>(outcome: &Outcome<A>) -> bool
+    ensures { result ≡ is_refused (outcome_view outcome.now) }
+{
+    matches!(
+        outcome,
+        Outcome::TooManyWatches | Outcome::TooLarge | Outcome::TooManyPending
+    )
+}
+
+/// What is told of the answer to a call.
+fn outcome_told<A: Allocator + Copy>(
+    alloc: A,
+    name: &str,
+    outcome: &Outcome<A>,
+) -> Result<String<A>, AllocError>
+    ensures { IfOk result (λ text. string_bytes text ≡ outcome_told name.now (outcome_view outcome.now)) }
+{
+    match outcome {
+        Outcome::Replied {
+            zxid: _,
+            result: CallResult::Code(code),
+        } => refusal(alloc, name, *code),
+        Outcome::Replied { .. } => Ok(String::new(alloc)),
+        _ => {
+            let what = if is_refused(outcome) {
+                "refused: "
+            } else {
+                "no answer: "
+            };
+            let why = outcome.to_string(alloc)?;
+            fault_line(alloc, what, name, why.as_str())
+        }
+    }
+}
+
+/// What a call met whose time is over, and why.
+fn late_words(was_sent: bool, was_heard: bool) -> (&'static str, &'static str)
+    ensures { (result.0.now, result.1.now) ≡ late_told was_sent was_heard }
+{
+    match (was_sent, was_heard) {
+        (_, false) => ("not connected: ", "no server has answered in time"),
+        (true, true) => (
+            "no answer: ",
+            "its time is over, and it may or may not have happened",
+        ),
+        (false, true) => ("no answer: ", "its time is over, and it was not sent"),
+    }
+}
+
+/// What is told of what came of a call.
+pub(crate) fn told<A: Allocator + Copy>(
+    alloc: A,
+    name: &str,
+    came: &Came<A>,
+) -> Result<String<A>, AllocError>
+    ensures { IfOk result (λ text. string_bytes text ≡ told name.now (came_view came.now)) }
+{
+    match came {
+        Came::Answered(outcome) => outcome_told(alloc, name, outcome),
+        Came::Late {
+            was_sent,
+            was_heard,
+        } => {
+            let (what, why) = late_words(*was_sent, *was_heard);
+            fault_line(alloc, what, name, why)
+        }
+    }
+}
+
+/// How a call ends that is answered so.
+fn outcome_end<A: Allocator>(outcome: &Outcome<A>) -> End
+    ensures { result ≡ outcome_end (outcome_view outcome.now) }
+{
+    match outcome {
+        Outcome::Replied {
+            zxid: _,
+            result: CallResult::Code(code),
+        } => {
+            if code.number() == NO_NODE {
+                End::NoNode
+            } else {
+                End::Refused
+            }
+        }
+        Outcome::Replied { .. } => End::Done,
+        _ if is_refused(outcome) => End::Refused,
+        _ => End::Unanswered,
+    }
+}
+
+/// How a call ends of which this came.
+pub(crate) fn end_of<A: Allocator>(came: &Came<A>) -> End
+    ensures { result ≡ end_of (came_view came.now) }
+{
+    match came {
+        Came::Answered(outcome) => outcome_end(outcome),
+        Came::Late {
+            was_heard: true,
+            ..
+        } => End::Unanswered,
+        Came::Late {
+            was_heard: false,
+            ..
+        } => End::Unconnected,
+    }
+}

@@ -1,0 +1,31 @@
+use Rattle.std.proofs.Common.{◌≡◌, ◌≢◌, true, false, sym, refl}
+use Rattle.shell_ask.specs.Asking.{Coming, Answered, Late}
+use Rattle.shell_ask.specs.Printing.{end_of}
+use Rattle.shell_ask.specs.declared.end.End.TheVariants as ends
+use Rattle.zk_conversation.specs.Results.{NoNode, Refused, Found, Read, Listing, Made, Done}
+use Rattle.zk_turns.specs.Turns.{Replied, ConnectionLoss, SessionExpired, SessionClosed, NotConnected, TooManyWatches, TooLarge, TooManyPending}
+use Rattle.shell_commands.proofs.ask.ask_over.Goals as goal
+
+-- one call is never cut off
+never_more : (coming : Coming) → end_of coming ≢ ends.More
+never_more (Answered (Replied zxid NoNode)) = λ e. cc
+never_more (Answered (Replied zxid (Refused number))) = λ e. cc
+never_more (Answered (Replied zxid (Found stat))) = λ e. cc
+never_more (Answered (Replied zxid (Read bytes stat))) = λ e. cc
+never_more (Answered (Replied zxid (Listing names stat))) = λ e. cc
+never_more (Answered (Replied zxid (Made path))) = λ e. cc
+never_more (Answered (Replied zxid Done)) = λ e. cc
+never_more (Answered ConnectionLoss) = λ e. cc
+never_more (Answered SessionExpired) = λ e. cc
+never_more (Answered SessionClosed) = λ e. cc
+never_more (Answered NotConnected) = λ e. cc
+never_more (Answered TooManyWatches) = λ e. cc
+never_more (Answered TooLarge) = λ e. cc
+never_more (Answered TooManyPending) = λ e. cc
+never_more (Late was_sent false) = λ e. cc
+never_more (Late was_sent true) = λ e. cc
+
+pub returns-in-More-clause-more : goal.returns-in-More-clause-more
+returns-in-More-clause-more g c = λ _.
+    let told = c.in-More.ensures.told tt in
+    never_more told.0 (sym told.2)

@@ -1,0 +1,19 @@
+use Rattle.std.proofs.Common.{rules, ◌≡◌, Bool, true, false, refl, sym, ◌∙◌, ap, map}
+use Rattle.std.specs.List.{list_all}
+use Rattle.script_live.specs.Addresses.{is_server}
+use Rattle.shell_commands.proofs.AddressLemmas.{each_is, one_is_not, tells}
+use Rattle.shell_commands.proofs.ask_words.hosts_of.Goals as goal
+
+not_true : (b : Bool) → (b ≡ true → ⊥) → b ≡ false
+not_true true h = absurd (h refl)
+not_true false h = refl
+
+pub returns-in-Some-clause-err : goal.returns-in-Some-clause-err
+returns-in-Some-clause-err c =
+    let words = c.in_ok-addresses.addresses.items in
+    let other = one_is_not is_server words c.in-Some.word (search rules) in
+    tells _ c.no_server.result c.no_server.ensures (rw (← c.in_ok-addresses.ensures) (not_true _ other))
+
+pub returns-clause-accepted : goal.returns-clause-accepted
+returns-clause-accepted c =
+    rw (← c.in_ok-addresses.ensures) (each_is is_server c.in_ok-addresses.addresses.items (search rules))

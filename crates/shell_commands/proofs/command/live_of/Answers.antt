@@ -1,0 +1,5 @@
+use Rattle.std.proofs.Common.{refl}
+use Rattle.shell_commands.proofs.command.live_of.Goals as goal
+
+pub returns-clause-ok : goal.returns-clause-ok
+returns-clause-ok c = (c.in_ok-addresses.addresses, refl, c.in_ok-addresses.ensures.ok)

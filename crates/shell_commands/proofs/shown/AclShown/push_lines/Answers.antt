@@ -1,0 +1,4 @@
+use Rattle.shell_commands.proofs.shown.AclShown.push_lines.Goals as goal
+
+pub returns : goal.returns
+returns g c = c.push_fields.ensures

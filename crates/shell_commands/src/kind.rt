@@ -1,0 +1,54 @@
+//! What kind of payload a frame has.
+
+ghost use Rattle.std.specs.Prelude.{◌≡◌, ◌≢◌, IfSome, IfNone};
+ghost use Rattle.shell_commands.specs.Kinds.{kind_word};
+
+/// What kind of payload a frame has.
+#[derive(Clone, Copy, Debug, PartialEq, Eq)]
+pub enum Kind {
+    /// A connection's first message, which has no header.
+    Connect,
+    /// The answer to it, which has no header.
+    Accepted,
+    /// A request, by the type that its header names.
+    Request,
+    /// What a watch tells.
+    Notice,
+    /// The reply to an exists request.
+    ReplyExists,
+    /// The reply to a setData request.
+    ReplySetData,
+    /// The reply to a getData request.
+    ReplyGetData,
+    /// The reply to a getChildren request.
+    ReplyGetChildren,
+    /// The reply to a getChildren2 request.
+    ReplyGetChildren2,
+    /// The reply to a create request.
+    ReplyCreate,
+    /// A reply that is a header alone.
+    ReplyHeader,
+}
+
+impl Kind {
+    /// The kind that a word names.
+    pub fn named(word: &str) -> Option<Kind>
+        ensures some { IfSome result (λ kind. word.now ≡ kind_word kind) }
+        ensures none { IfNone result ((kind : Kind) → word.now ≢ kind_word kind) }
+    {
+        match word {
+            "connect" => Some(Kind::Connect),
+            "accepted" => Some(Kind::Accepted),
+            "request" => Some(Kind::Request),
+            "notice" => Some(Kind::Notice),
+            "reply-exists" => Some(Kind::ReplyExists),
+            "reply-setdata" => Some(Kind::ReplySetData),
+            "reply-getdata" => Some(Kind::ReplyGetData),
+            "reply-getchildren" => Some(Kind::ReplyGetChildren),
+            "reply-getchildren2" => Some(Kind::ReplyGetChildren2),
+            "reply-create" => Some(Kind::ReplyCreate),
+            "reply-header" => Some(Kind::ReplyHeader),
+            _ => None,
+        }
+    }
+}

@@ -1,0 +1,150 @@
+//! Why a command line asks for nothing.
+
+ghost use Rattle.std.specs.Prelude.{◌≡◌};
+ghost use Rattle.shell_commands.specs.CommandLine.{IsNoHelp};
+ghost use Rattle.shell_commands.specs.declared.line_fault.LineFault.TheVariants as faults;
+
+use std::alloc::{AllocError, Global};
+use thiserror::Error;
+use zk_nodes::PathFault;
+
+/// Why a command line asks for nothing.
+#[derive(Debug, Drop, Error)]
+pub enum LineFault {
+    /// It asks for help or for the version, which this is.
+    #[error("{0}")]
+    Help(String),
+    /// It is refused, and this is why.
+    #[error("{0}")]
+    Refused(String),
+    #[error("out of memory")]
+    Memory,
+}
+
+impl From<AllocError> for LineFault {
+    ghost from_gives = { λ _ f. f ≡ faults.Memory };
+
+    fn from(_e: AllocError) -> LineFault {
+        LineFault::Memory
+    }
+}
+
+/// A refusal with this text.
+fn refusal(text: Result<String, AllocError>) -> LineFault
+    ensures { IsNoHelp result }
+{
+    match text {
+        Ok(text) => LineFault::Refused(text),
+        Err(_) => LineFault::Memory,
+    }
+}
+
+/// What is told where the words ask for nothing.
+pub(crate) fn no_command(alloc: Global) -> LineFault
+    ensures { IsNoHelp result }
+{
+    refusal(String::from_str(alloc, "error: no command\n"))
+}
+
+/// What is told of a word that is no address.
+pub(crate) fn no_address(alloc: Global, word: &str) -> LineFault
+    ensures { IsNoHelp result }
+{
+    refusal(format!(in alloc;
+        "error: {word:?} is no address: IP:PORT in numbers, as 127.0.0.1:2181\n"
+    ))
+}
+
+/// What is told of a word that is no server.
+pub(crate) fn no_server(alloc: Global, word: &str) -> LineFault
+    ensures { IsNoHelp result }
+{
+    refusal(format!(in alloc;
+        "error: {word:?} is no server: HOST:PORT, as zk1:2181 or [::1]:2181\n"
+    ))
+}
+
+/// What is told of a word that is no path.
+pub(crate) fn no_path(alloc: Global, word: &str, fault: PathFault) -> LineFault
+    ensures { IsNoHelp result }
+{
+    refusal(format!(in alloc; "error: {word:?}: {fault}\n"))
+}
+
+/// What is told of a word that is no timeout.
+pub(crate) fn no_timeout(alloc: Global, word: &str) -> LineFault
+    ensures { IsNoHelp result }
+{
+    refusal(format!(in alloc;
+        "error: {word:?} is no timeout: a number of milliseconds from 1 to 2147483647\n"
+    ))
+}
+
+/// What is told of a word that does not say how long to watch.
+pub(crate) fn no_duration(alloc: Global, word: &str) -> LineFault
+    ensures { IsNoHelp result }
+{
+    refusal(format!(in alloc;
+        "error: {word:?} is no time to watch: a number of seconds from 1 to 4294967\n"
+    ))
+}
+
+/// What is told of a word that does not say how long to wait.
+pub(crate) fn no_wait(alloc: Global, word: &str) -> LineFault
+    ensures { IsNoHelp result }
+{
+    refusal(format!(in alloc;
+        "error: {word:?} is no time to wait: a number of seconds from 1 to 4294967\n"
+    ))
+}
+
+/// What is told of a word that is no number of levels.
+pub(crate) fn no_depth(alloc: Global, word: &str) -> LineFault
+    ensures { IsNoHelp result }
+{
+    refusal(format!(in alloc; "error: {word:?} is no depth: a number from 0 to 4294967295\n"))
+}
+
+/// What is told of a word that is no number of nodes.
+pub(crate) fn no_most(alloc: Global, word: &str) -> LineFault
+    ensures { IsNoHelp result }
+{
+    refusal(format!(in alloc;
+        "error: {word:?} is no number of nodes: a number from 1 to 4294967295\n"
+    ))
+}
+
+/// What is told where no data are given.
+pub(crate) fn no_data(alloc: Global) -> LineFault
+    ensures { IsNoHelp result }
+{
+    refusal(String::from_str(
+        alloc,
+        "error: DATA is missing: give it, or --from FILE, or --null for null data\n",
+    ))
+}
+
+/// What is told of a word for data that others are given beside.
+pub(crate) fn two_data(alloc: Global, word: &str) -> LineFault
+    ensures { IsNoHelp result }
+{
+    refusal(format!(in alloc;
+        "error: {word:?}: give DATA, with --hex where it is hex, or --null, or --from FILE\n"
+    ))
+}
+
+/// What is told of a word that is no hex.
+pub(crate) fn no_hex(alloc: Global, word: &str) -> LineFault
+    ensures { IsNoHelp result }
+{
+    refusal(format!(in alloc;
+        "error: {word:?} is no hex: two digits for each byte, \\e for no bytes, or \\0 for null\n"
+    ))
+}
+
+/// What is told of a word that is no version.
+pub(crate) fn no_version(alloc: Global, word: &str) -> LineFault
+    ensures { IsNoHelp result }
+{
+    refusal(format!(in alloc; "error: {word:?} is no version: a number from 0 to 2147483647\n"))
+}

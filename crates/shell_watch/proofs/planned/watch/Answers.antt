@@ -1,0 +1,57 @@
+use Rattle.std.proofs.Common.{ap, refl, false, true, of_z, to_z, w32}
+use Rattle.std.specs.Prelude.{unsigned_abs}
+use Rattle.zk_agent.specs.Telling.{told_by}
+use Rattle.shell_watch.specs.Watching.{aims_of, stand_of, IsBegun}
+use Rattle.shell_watch.proofs.Ending.{printed, watched}
+use Rattle.shell_watch.proofs.planned.watch.Goals as goal
+
+pub returns-clause-over : goal.returns-clause-over
+returns-clause-over g c = λ is.
+    let first = stand_of g.D.Stream.Read.remaining g.D.Stream.Write.contents c.in-Ok-begin.driver.engine c.new.result.items false c.args.plan.style (record { roots = c.args.plan.trees; most = c.args.plan.most; is_bounded = false; ticket = 1 }) in
+    let begun : IsBegun c.args.plan.style c.args.plan.trees.items c.args.plan.most first = record {
+      timeout = unsigned_abs (to_z w32 (of_z w32 c.max.result));
+      client = c.in-Ok-begin.ensures.client;
+      followed = c.in-Ok-begin.ensures.followed;
+      channel = c.in-Ok-begin.ensures.channel;
+      told = ap told_by c.in-Ok-begin.ensures.waiting;
+      watched = c.new.ensures.items;
+      accepted = refl;
+      prints = refl;
+      growth = refl;
+    } in
+    let told = rw (c.as_slice-2.ensures.value, c.in-Ok.ensures, c.as_slice.ensures.value) at (c.watch_for-end.ensures.over is) in
+    (told.0, watched c.args.plan.style (aims_of c.args.plan.subjects.items) c.args.plan.trees.items c.args.plan.most first told.0 c.args.plan.for_ms true begun told.1, told.2)
+
+pub returns-clause-never : goal.returns-clause-never
+returns-clause-never g c = λ is.
+    let first = stand_of g.D.Stream.Read.remaining g.D.Stream.Write.contents c.in-Ok-begin.driver.engine c.new.result.items false c.args.plan.style (record { roots = c.args.plan.trees; most = c.args.plan.most; is_bounded = false; ticket = 1 }) in
+    let begun : IsBegun c.args.plan.style c.args.plan.trees.items c.args.plan.most first = record {
+      timeout = unsigned_abs (to_z w32 (of_z w32 c.max.result));
+      client = c.in-Ok-begin.ensures.client;
+      followed = c.in-Ok-begin.ensures.followed;
+      channel = c.in-Ok-begin.ensures.channel;
+      told = ap told_by c.in-Ok-begin.ensures.waiting;
+      watched = c.new.ensures.items;
+      accepted = refl;
+      prints = refl;
+      growth = refl;
+    } in
+    let told = rw (c.as_slice-2.ensures.value, c.in-Ok.ensures, c.as_slice.ensures.value) at (c.watch_for-end.ensures.never is) in
+    (told.0, watched c.args.plan.style (aims_of c.args.plan.subjects.items) c.args.plan.trees.items c.args.plan.most first told.0 c.args.plan.for_ms false begun told.1, told.2)
+
+pub returns-clause-printed : goal.returns-clause-printed
+returns-clause-printed g c = λ is.
+    let first = stand_of g.D.Stream.Read.remaining g.D.Stream.Write.contents c.in-Ok-begin.driver.engine c.new.result.items false c.args.plan.style (record { roots = c.args.plan.trees; most = c.args.plan.most; is_bounded = false; ticket = 1 }) in
+    let begun : IsBegun c.args.plan.style c.args.plan.trees.items c.args.plan.most first = record {
+      timeout = unsigned_abs (to_z w32 (of_z w32 c.max.result));
+      client = c.in-Ok-begin.ensures.client;
+      followed = c.in-Ok-begin.ensures.followed;
+      channel = c.in-Ok-begin.ensures.channel;
+      told = ap told_by c.in-Ok-begin.ensures.waiting;
+      watched = c.new.ensures.items;
+      accepted = refl;
+      prints = refl;
+      growth = refl;
+    } in
+    let told = rw (c.as_slice-2.ensures.value, c.in-Ok.ensures, c.as_slice.ensures.value) at (c.watch_for-end.ensures.printed is) in
+    (told.0, printed c.args.plan.style (aims_of c.args.plan.subjects.items) c.args.plan.trees.items c.args.plan.most first told.0 begun told.1, told.2)

@@ -1,0 +1,22 @@
+use Rattle.std.proofs.Common.{None, Some, ap, refl, subst}
+use Rattle.zk_agent.specs.declared.input.Input.TheVariants as happens
+use Rattle.zk_conversation.specs.declared.call.Call.TheVariants as call
+use Rattle.zk_driver.specs.declared.engine.Engine.{Engine}
+use Rattle.zk_driver.specs.Driving.{course_of, Hands}
+use Rattle.zk_driver.specs.Flowing.{flow_of, Runs}
+use Rattle.zk_driver.proofs.Running.{calls_run}
+use Rattle.shell_watch.specs.Trees.{growth_of}
+use Rattle.shell_watch.proofs.watcher.Watcher.ask_close.Goals as goal
+
+pub returns : goal.returns
+returns g c =
+    let old = c.args.self.now in
+    let remaining = g.D.Stream.Read.remaining in
+    let contents = g.D.Stream.Write.contents in
+    let until = c.saturating_add-until.result in
+    let asked = c.ask.new.self.engine in
+    let hands = subst (λ (e : Engine g.row.A.Denot g.row.D-Stream.Denot). Hands (happens.Call 0 call.Close (Some until)) (course_of e None) (course_of asked None)) c.now.ensures.engine
+    c.in_ok-ask.ensures.hands in
+    let runs = subst (λ (e : Engine g.row.A.Denot g.row.D-Stream.Denot). Runs (flow_of remaining contents e None) (flow_of remaining contents asked None)) c.now.ensures.engine
+    (calls_run (flow_of remaining contents c.now.new.self.engine None) (flow_of remaining contents asked None) c.in_ok-ask.ensures.flows) in
+    (hands, runs, refl, refl, refl, ap (λ l. record (growth_of old.trees) { roots = l }) c.new.ensures.items)

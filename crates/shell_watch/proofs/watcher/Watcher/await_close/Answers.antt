@@ -1,0 +1,35 @@
+use Rattle.std.proofs.Common.{ap}
+use Rattle.shell_watch.specs.Watching.{stand_of}
+use Rattle.shell_watch.proofs.Printing.{writes_after, writes_none, writes_on}
+use Rattle.shell_watch.proofs.watcher.Watcher.await_close.Goals as goal
+
+pub loop-init : goal.loop-init
+loop-init g c =
+    let first = c.args.self.now in
+    writes_none (stand_of g.D.Stream.Read.remaining g.D.Stream.Write.contents first.driver.engine first.watched.items first.is_accepted first.style first.trees) (g.O.Write.contents c.args.out.now)
+
+pub loop-preserved : goal.loop-preserved
+loop-preserved g c =
+    let contents = g.O.Write.contents in
+    let first = c.args.self.now in
+    let here = c.loop.self in
+    let new = c.round.new.self in
+    writes_after (stand_of g.D.Stream.Read.remaining g.D.Stream.Write.contents first.driver.engine first.watched.items first.is_accepted first.style first.trees) (stand_of g.D.Stream.Read.remaining g.D.Stream.Write.contents here.driver.engine here.watched.items here.is_accepted here.style here.trees) (stand_of g.D.Stream.Read.remaining g.D.Stream.Write.contents new.driver.engine new.watched.items new.is_accepted new.style new.trees)
+    (contents c.args.out.now) (contents c.loop.out) (contents c.round.new.out) c.loop.invariant c.in-Ok-false.ensures.ok
+
+pub returns-in-Ok-true-clause-ok : goal.returns-in-Ok-true-clause-ok
+returns-in-Ok-true-clause-ok g c =
+    let contents = g.O.Write.contents in
+    let first = c.args.self.now in
+    let here = c.loop.self in
+    let new = c.round.new.self in
+    writes_after (stand_of g.D.Stream.Read.remaining g.D.Stream.Write.contents first.driver.engine first.watched.items first.is_accepted first.style first.trees) (stand_of g.D.Stream.Read.remaining g.D.Stream.Write.contents here.driver.engine here.watched.items here.is_accepted here.style here.trees) (stand_of g.D.Stream.Read.remaining g.D.Stream.Write.contents new.driver.engine new.watched.items new.is_accepted new.style new.trees)
+    (contents c.args.out.now) (contents c.loop.out) (contents c.round.new.out) c.loop.invariant c.in-Ok-true.ensures.ok
+
+pub returns-in-Err-clause-err : goal.returns-in-Err-clause-err
+returns-in-Err-clause-err g c = λ well.
+    let contents = g.O.Write.contents in
+    let first = c.args.self.now in
+    let here = c.loop.self in
+    writes_on (stand_of g.D.Stream.Read.remaining g.D.Stream.Write.contents first.driver.engine first.watched.items first.is_accepted first.style first.trees) (stand_of g.D.Stream.Read.remaining g.D.Stream.Write.contents here.driver.engine here.watched.items here.is_accepted here.style here.trees)
+    (contents c.args.out.now) (contents c.loop.out) (contents c.round.new.out) (ap contents (c.in-Err.ensures.err well)) c.loop.invariant

@@ -1,5 +1,0 @@
-use Rattle.std.proofs.Common.{length}
-use Rattle.tests_of_layers.proofs.tests.conversation.count_of.Given as goal
-
-abbrev pub decreases-loop-payload : goal.decreases-loop-payload
-decreases-loop-payload l = length l.reader.bytes

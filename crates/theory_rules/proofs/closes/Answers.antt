@@ -1,0 +1,11 @@
+use Rattle.theory_rules.proofs.closes.Goals as goal
+use Rattle.theory_rules.proofs.Closed.{close_says, any_code, close_stays}
+
+pub returns-clause-says : goal.returns-clause-says
+returns-clause-says c = close_says
+
+pub returns-clause-code : goal.returns-clause-code
+returns-clause-code c = any_code
+
+pub returns-clause-stays : goal.returns-clause-stays
+returns-clause-stays c = close_stays

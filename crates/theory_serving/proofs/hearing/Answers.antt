@@ -1,0 +1,14 @@
+use Rattle.theory_serving.proofs.Heard.{hears_nothing, hears_bytes, hears_other, hears_end}
+use Rattle.theory_serving.proofs.hearing.Goals as goal
+
+pub returns-clause-nothing : goal.returns-clause-nothing
+returns-clause-nothing c = hears_nothing
+
+pub returns-clause-bytes : goal.returns-clause-bytes
+returns-clause-bytes c = hears_bytes
+
+pub returns-clause-other : goal.returns-clause-other
+returns-clause-other c = hears_other
+
+pub returns-clause-end : goal.returns-clause-end
+returns-clause-end c = hears_end

@@ -1,0 +1,139 @@
+-- Two wait in line, one after the other, and their names rise.
+use Rattle.std.proofs.Common.{◌≡◌, ◌≤◌, ℕ, pos, Bool, true, false, ◌&&◌, cond, [], ◌∷◌, refl, sym, ap, subst, arith, inl, inr, ◌⊎◌, Option, Some, None, is_some}
+use Rattle.std.specs.Prelude.{bytes_eq, nat_le}
+use Rattle.std.proofs.lemmas.Slice.Eq.{bytes_eq-Decides}
+use Rattle.zk_nodes.specs.Path.{Name}
+use Rattle.zk_nodes.specs.History.{Node, Tree, made, apply_all, after, tree_at, IsHistory}
+use Rattle.zk_laws.specs.Example.{root_alone}
+use Rattle.zk_laws.proofs.Shown.{is_history}
+use Rattle.zk_conclusions.specs.Holders.{is_before, IsHolder, NamesRise}
+use Rattle.theory_witnesses.specs.Rising.{line, in_line, first_name, second_name, first_comes, second_comes, first_goes, two_in_line}
+
+-- what is there in the line, and since when
+abbrev IsMade : Name → Node → Type 0
+IsMade name node = ((name ≡ first_name) × (node.czxid ≡ 5)) ⊎ ((name ≡ second_name) × (node.czxid ≡ 6))
+
+abbrev AllMade : Tree → Type 0
+AllMade tree = (name : Name) (node : Node) → tree (name ∷ line) ≡ Some node → IsMade name node
+
+abbrev czxid_in : Option Node → ℕ
+czxid_in None = 0
+czxid_in (Some node) = node.czxid
+
+none_made : AllMade root_alone
+none_made name node e = absurd cc
+
+first_made : (tree : Tree) → AllMade tree → AllMade (apply_all 5 (pos 1000) first_comes.changes tree)
+first_made tree all name node e = go (bytes_eq name first_name) refl e
+  where
+    go : (b : Bool) → bytes_eq name first_name ≡ b → cond (b && true) (Some (made 5 (pos 1000) None (pos 7))) (tree (name ∷ line)) ≡ Some node → IsMade name node
+    go true same e = inl ((bytes_eq-Decides name first_name).0 same, sym (ap czxid_in e))
+    go false apart e = all name node e
+
+second_made : (tree : Tree) → AllMade tree → AllMade (apply_all 6 (pos 2000) second_comes.changes tree)
+second_made tree all name node e = go (bytes_eq name second_name) refl e
+  where
+    go : (b : Bool) → bytes_eq name second_name ≡ b → cond (b && true) (Some (made 6 (pos 2000) None (pos 8))) (tree (name ∷ line)) ≡ Some node → IsMade name node
+    go true same e = inr ((bytes_eq-Decides name second_name).0 same, sym (ap czxid_in e))
+    go false apart e = all name node e
+
+first_gone : (tree : Tree) → AllMade tree → AllMade (apply_all 9 (pos 3000) first_goes.changes tree)
+first_gone tree all name node e = go (bytes_eq name first_name) e
+  where
+    go : (b : Bool) → cond (b && true) None (tree (name ∷ line)) ≡ Some node → IsMade name node
+    go true e = absurd cc
+    go false e = all name node e
+
+abbrev with_first : Tree → Tree
+with_first tree = apply_all 5 (pos 1000) first_comes.changes tree
+
+abbrev with_second : Tree → Tree
+with_second tree = apply_all 6 (pos 2000) second_comes.changes tree
+
+-- at whichever zxid
+made_at : (zxid : ℕ) → AllMade (tree_at two_in_line zxid)
+made_at zxid = go (nat_le 5 zxid) (nat_le 6 zxid) (nat_le 9 zxid)
+  where
+    go : (a b c : Bool) → AllMade (after (cond a (first_comes ∷ cond b (second_comes ∷ cond c (first_goes ∷ []) []) (cond c (first_goes ∷ []) [])) (cond b (second_comes ∷ cond c (first_goes ∷ []) []) (cond c (first_goes ∷ []) []))) root_alone)
+    go true true true = first_gone (with_second (with_first root_alone)) (second_made (with_first root_alone) (first_made root_alone none_made))
+    go true true false = second_made (with_first root_alone) (first_made root_alone none_made)
+    go true false true = first_gone (with_first root_alone) (first_made root_alone none_made)
+    go true false false = first_made root_alone none_made
+    go false true true = first_gone (with_second root_alone) (second_made root_alone none_made)
+    go false true false = second_made root_alone none_made
+    go false false true = first_gone root_alone none_made
+    go false false false = none_made
+
+pub names_rise : NamesRise two_in_line line in_line
+names_rise zxid one other node its e f p q before = go (made_at zxid one node e) (made_at zxid other its f)
+  where
+    go : IsMade one node → IsMade other its → node.czxid ≤ its.czxid
+    go (inl a) (inl b) = let x = a.1 in let y = b.1 in omega (arith, x, y)
+    go (inl a) (inr b) = let x = a.1 in let y = b.1 in omega (arith, x, y)
+    go (inr a) (inl b) =
+        let wrong : is_before second_name first_name ≡ true = subst (λ (n : Name). is_before second_name n ≡ true) b.0 (subst (λ (n : Name). is_before n other ≡ true) a.0 before) in absurd cc
+    go (inr a) (inr b) = let x = a.1 in let y = b.1 in omega (arith, x, y)
+
+-- which names are there at a zxid
+names_at : (zxid : ℕ) (name : Name) → is_some (tree_at two_in_line zxid (name ∷ line)) ≡ true → (name ≡ first_name) ⊎ (name ≡ second_name)
+names_at zxid name there = go (tree_at two_in_line zxid (name ∷ line)) refl there
+  where
+    of_made : (node : Node) → IsMade name node → (name ≡ first_name) ⊎ (name ≡ second_name)
+    of_made node (inl a) = inl a.0
+    of_made node (inr b) = inr b.0
+
+    go : (found : Option Node) → tree_at two_in_line zxid (name ∷ line) ≡ found → is_some found ≡ true → (name ≡ first_name) ⊎ (name ≡ second_name)
+    go None e s = absurd cc
+    go (Some node) e s = of_made node (made_at zxid name node e)
+
+pub first_holds : IsHolder (tree_at two_in_line 6) line in_line (first_name ∷ line) (pos 7) (pos 5)
+first_holds = record {
+  own = first_name;
+  below = refl;
+  begins = (49 ∷ [], refl);
+  node = made 5 (pos 1000) None (pos 7);
+  there = refl;
+  owner = refl;
+  owned = λ e. absurd cc;
+  made = refl;
+  first = λ name there begins. go name (names_at 6 name there);
+}
+  where
+    go : (name : Name) → (name ≡ first_name) ⊎ (name ≡ second_name) → is_before name first_name ≡ false
+    go name (inl e) = ap (λ (n : Name). is_before n first_name) e
+    go name (inr e) = ap (λ (n : Name). is_before n first_name) e
+
+pub second_holds : IsHolder (tree_at two_in_line 9) line in_line (second_name ∷ line) (pos 8) (pos 6)
+second_holds = record {
+  own = second_name;
+  below = refl;
+  begins = (50 ∷ [], refl);
+  node = made 6 (pos 2000) None (pos 8);
+  there = refl;
+  owner = refl;
+  owned = λ e. absurd cc;
+  made = refl;
+  first = λ name there begins. go name there (names_at 9 name there);
+}
+  where
+    go : (name : Name) → is_some (tree_at two_in_line 9 (name ∷ line)) ≡ true → (name ≡ first_name) ⊎ (name ≡ second_name) → is_before name second_name ≡ false
+    go name there (inl e) = let gone : is_some (tree_at two_in_line 9 (first_name ∷ line)) ≡ true = subst (λ (n : Name). is_some (tree_at two_in_line 9 (n ∷ line)) ≡ true) e there in absurd cc
+    go name there (inr e) = ap (λ (n : Name). is_before n second_name) e
+
+childless : (child : Name) → after (first_comes ∷ second_comes ∷ []) root_alone (child ∷ first_name ∷ line) ≡ None
+childless child = go (bytes_eq child second_name) (bytes_eq child first_name) _ _
+  where
+    go : (b c : Bool) (x y : Option Node) → cond (b && false) x (cond (c && false) y None) ≡ None
+    go true true x y = refl
+    go true false x y = refl
+    go false true x y = refl
+    go false false x y = refl
+
+pub line_history : IsHistory two_in_line
+line_history = record {
+  root = refl;
+  parents = λ name path e. absurd cc;
+  zeros = is_history.zeros;
+  rising = (omega arith, omega arith, (omega arith, omega arith, (omega arith, omega arith, tt)));
+  legal = (((refl, refl), tt), (((refl, refl), tt), (((refl, childless), tt), tt)));
+}

@@ -1,9 +1,0 @@
-use Rattle.std.proofs.Common.{◌≡◌, take, map}
-use Rattle.std.specs.Prelude.{string_bytes}
-use Rattle.std.specs.FinSet as set
-use Rattle.zk_nodes.specs.Names.{names_of}
-use Rattle.zk_ask.proofs.names.set_of.Given as goal
-
--- the names so far are the set
-abbrev pub invariant-loop-name : goal.invariant-loop-name
-invariant-loop-name g l = names_of l.set ≡ set.from_list (map string_bytes (take l.name-index l.names))

@@ -1,8 +1,0 @@
-use Rattle.std.proofs.Common.{None}
-use Rattle.zk_driver.specs.Driving.{course_of}
-use Rattle.zk_ask.specs.Trees.{stage_of, Reaches}
-use Rattle.zk_ask.proofs.walk.Walk.finish.Given as goal
-
--- it has come here from its beginning
-abbrev pub invariant-loop-ticket : goal.invariant-loop-ticket
-invariant-loop-ticket g l = Reaches l.bounds (stage_of (course_of l.fn.driver.engine None) l.fn.self) (stage_of (course_of l.driver.engine None) l.self)

@@ -1,5 +1,0 @@
-use Rattle.zk_c.proofs.SessionLives.{sound_for_life}
-use Rattle.zk_c.proofs.laws.sound_for_life.Goals as goal
-
-pub returns : goal.returns
-returns c = sound_for_life

@@ -1,7 +1,0 @@
-use Rattle.std.proofs.Common.{◌≡◌, ap, of_z, rules, subst, sym, to_z, true≢false, w32}
-use Rattle.std.specs.Prelude.{◌<ℤ◌, is_ok, pos}
-use Rattle.zk_c.proofs.Saved.{not_memory}
-use Rattle.zk_c.proofs.sessions.making.dw_session_resume.Goals as goal
-
-pub returns-in-Ok-clause-broken : goal.returns-in-Ok-clause-broken
-returns-in-Ok-clause-broken c fault reads = absurd (true≢false (ap is_ok (c.in-Ok.ensures.unread fault reads (not_memory c.args.saved.now fault reads) c.in-Ok.ensures.accepted)))

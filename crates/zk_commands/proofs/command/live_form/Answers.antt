@@ -1,8 +1,0 @@
-use Rattle.std.proofs.Common.{rules, ◌≡◌}
-use Rattle.std.proofs.lemmas.Result.{IfOk-weaker}
-use Rattle.clap.specs.Words.{app_of}
-use Rattle.zk_commands.specs.CommandLine.{live_app}
-use Rattle.zk_commands.proofs.command.live_form.Goals as goal
-
-pub returns : goal.returns
-returns c = IfOk-weaker c.arg.result _ _ (λ live adds. let is : app_of live ≡ live_app = search rules in is) c.arg.ensures

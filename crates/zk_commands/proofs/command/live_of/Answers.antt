@@ -1,5 +1,0 @@
-use Rattle.std.proofs.Common.{refl}
-use Rattle.zk_commands.proofs.command.live_of.Goals as goal
-
-pub returns-clause-ok : goal.returns-clause-ok
-returns-clause-ok c = (c.in_ok-addresses.addresses, refl, c.in_ok-addresses.ensures.ok)

@@ -1,5 +1,0 @@
-use Rattle.zk_story.specs.Stories.{first_position}
-use Rattle.zk_commands.proofs.plays.ToldHistoryPlays.transcript.Goals as goal
-
-pub returns : goal.returns
-returns g c = c.read_script-transcript.ensures first_position c.new-story.ensures

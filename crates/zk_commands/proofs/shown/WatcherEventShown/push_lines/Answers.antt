@@ -1,4 +1,0 @@
-use Rattle.zk_commands.proofs.shown.WatcherEventShown.push_lines.Goals as goal
-
-pub returns : goal.returns
-returns g c = c.push_fields.ensures

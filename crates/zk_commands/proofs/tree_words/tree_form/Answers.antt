@@ -1,9 +1,0 @@
-use Rattle.std.proofs.Common.{◌∙◌, ap₂}
-use Rattle.std.proofs.lemmas.Result.{IfOk-weaker}
-use Rattle.clap.specs.Words.{with_rule}
-use Rattle.zk_commands.proofs.tree_words.tree_form.Goals as goal
-
-pub returns : goal.returns
-returns c =
-    let one = c.in_ok-tree-2.ensures.shape c.depth_arg.ensures.local ∙ ap₂ with_rule c.in_ok-tree.ensures c.depth_arg.ensures.rule in
-    IfOk-weaker c.arg-2.result _ _ (λ tree adds. adds.shape c.most_arg.ensures.local ∙ ap₂ with_rule one c.most_arg.ensures.rule) c.arg-2.ensures

@@ -1,6 +1,0 @@
-use Rattle.std.proofs.Common.{ap, true≢false}
-use Rattle.std.specs.Prelude.{is_ok}
-use Rattle.zk_device.proofs.device.Device.resume.Goals as goal
-
-pub returns-in-Ok-client-clause-unread : goal.returns-in-Ok-client-clause-unread
-returns-in-Ok-client-clause-unread c fault is apart above = absurd (true≢false (ap is_ok (c.in-Ok.ensures.unread fault is apart)))

@@ -1,5 +1,0 @@
-use Rattle.std.proofs.Common.{refl}
-use Rattle.zk_device.proofs.holders.token_shown.Goals as goal
-
-pub returns-in-None : goal.returns-in-None
-returns-in-None c = c.in-None.ensures.none refl

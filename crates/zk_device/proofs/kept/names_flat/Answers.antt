@@ -1,5 +1,0 @@
-use Rattle.zk_device.proofs.Ordered.{tells}
-use Rattle.zk_device.proofs.kept.names_flat.Goals as goal
-
-pub returns-in-Some : goal.returns-in-Some
-returns-in-Some c = tells c.args.kept c.in-Some.names c.in-Some.mark c.flat_names.result c.in-Some.is c.flat_names.ensures.ordered c.flat_names.ensures.flat

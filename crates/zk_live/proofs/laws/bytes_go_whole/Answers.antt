@@ -1,5 +1,0 @@
-use Rattle.zk_live.proofs.Flowed.{go_whole}
-use Rattle.zk_live.proofs.laws.bytes_go_whole.Goals as goal
-
-pub returns : goal.returns
-returns c = go_whole

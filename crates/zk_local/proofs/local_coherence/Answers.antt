@@ -1,6 +1,0 @@
-use Rattle.zk_local.specs.LocalSteps.{IsOf}
-use Rattle.zk_local.proofs.Headlines_at.{coherent_at}
-use Rattle.zk_local.proofs.local_coherence.Goals as goal
-
-pub returns : goal.returns
-returns c paths h is start items view s served = coherent_at (IsOf paths) h is start items view s served

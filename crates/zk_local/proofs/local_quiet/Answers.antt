@@ -1,6 +1,0 @@
-use Rattle.zk_local.specs.LocalSteps.{IsOf}
-use Rattle.zk_local.proofs.Headlines_at.{quiet_at}
-use Rattle.zk_local.proofs.local_quiet.Goals as goal
-
-pub returns : goal.returns
-returns c paths h is start entries view may s quiet = quiet_at (IsOf paths) h is start entries view may s quiet

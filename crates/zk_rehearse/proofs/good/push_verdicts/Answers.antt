@@ -1,9 +1,0 @@
-use Rattle.std.specs.Prelude.{string_bytes}
-use Rattle.zk_client.specs.Clients.{view_of}
-use Rattle.zk_rehearse.proofs.GoodLemmas.{both_sides}
-use Rattle.zk_rehearse.proofs.good.push_verdicts.Goals as goal
-
-pub returns : goal.returns
-returns g c =
-    both_sides c.push_answer-2.result (view_of c.args.client.now) c.args.history.now c.args.path.now (string_bytes c.args.text.now) (string_bytes c.push_answer.new.text)
-    (string_bytes c.push_answer-2.new.text) c.in_ok-push_answer.ensures c.push_answer-2.ensures

@@ -1,8 +1,0 @@
-use Rattle.zk_rules.proofs.Looking_back.{nodes, children}
-use Rattle.zk_rules.proofs.stale_answers.Goals as goal
-
-pub returns-clause-nodes : goal.returns-clause-nodes
-returns-clause-nodes c path past answer = nodes path past answer
-
-pub returns-clause-children : goal.returns-clause-children
-returns-clause-children c path past names = children path past names

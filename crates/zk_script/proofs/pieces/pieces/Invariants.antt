@@ -1,8 +1,0 @@
-use Rattle.std.proofs.Common.{◌≡◌, ◌≤◌, ◌++◌, drop, take, map}
-use Rattle.zk_script.specs.Pieces.{pieces_at, with_front}
-use Rattle.zk_script.proofs.pieces.pieces.Given as goal
-
--- the pieces so far, the bytes since the last separator, and the pieces of what is left are all pieces
-abbrev pub invariant-loop-at : goal.invariant-loop-at
-invariant-loop-at g l = (l.start ≤ l.at)
-    × (map (λ p. p.now) l.pieces.items ++ with_front (drop l.start (take l.at l.text)) (pieces_at l.separator (drop l.at l.text)) ≡ pieces_at l.separator l.text)

@@ -1,6 +1,0 @@
-use Rattle.zk_script.specs.Scripts.{lines_of}
-use Rattle.zk_script.proofs.ScriptLemmas.{none_yet}
-use Rattle.zk_script.proofs.script.read_script.Goals as goal
-
-pub returns-in-Err : goal.returns-in-Err
-returns-in-Err g c = λ first stands. rw (c.nothing.ensures.end, c.nothing.ensures.text) (none_yet g.R.LineReader.rules first (lines_of c.args.script.now))

@@ -1,9 +1,0 @@
-use Rattle.std.proofs.Common.{◌≡◌, ◌++◌, drop}
-use Rattle.std.specs.Option.{option_map}
-use Rattle.zk_script.specs.Texts.{unescape}
-use Rattle.zk_script.specs.declared.texts.Place.TheVariants.{Plain}
-use Rattle.zk_script.proofs.texts.unescaped.Given as goal
-
--- the bytes so far, and those of what is left, are all bytes
-abbrev pub invariant-loop-byte : goal.invariant-loop-byte
-invariant-loop-byte g l = option_map (λ text. l.bytes.items ++ text) (unescape l.place (drop l.byte-index l.word)) ≡ unescape Plain l.word

@@ -1,8 +1,0 @@
-use Rattle.zk_serving.proofs.GoingOn.{goes_serving, goes_served}
-use Rattle.zk_serving.proofs.history_goes_on.Goals as goal
-
-pub returns-clause-serving : goal.returns-clause-serving
-returns-clause-serving c = goes_serving
-
-pub returns-clause-served : goal.returns-clause-served
-returns-clause-served c = goes_served

@@ -1,7 +1,0 @@
-use Rattle.zk_story.specs.Stories.{position_of}
-use Rattle.zk_story.proofs.StoryLemmas.{due}
-use Rattle.zk_story.proofs.story.StoryLineReader.read.Goals as goal
-
-pub returns-in-Err-clause-err : goal.returns-in-Err-clause-err
-returns-in-Err-clause-err g c = λ old is.
-    rw (c.from.ensures, ← is) (due c.args.line.now (position_of c.args.self.now) c.in-Err.fault c.in-Err.ensures.refused)

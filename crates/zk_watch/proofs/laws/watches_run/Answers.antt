@@ -1,8 +1,0 @@
-use Rattle.zk_watch.proofs.Running.{follows_run, watches_run}
-use Rattle.zk_watch.proofs.laws.watches_run.Goals as goal
-
-pub returns-clause-watches : goal.returns-clause-watches
-returns-clause-watches g c = watches_run g.row.A.Denot
-
-pub returns-clause-follows : goal.returns-clause-follows
-returns-clause-follows g c = follows_run g.row.A.Denot
