@@ -1,6 +1,6 @@
-//! A lock between sessions, by the recipe of ZooKeeper: each makes an ephemeral sequential node, and the one with the first number holds. Each
-//! other one watches the node before its own alone. The holder acts with a token, the zxid at which its node was made, and what the lock
-//! protects refuses a token below one that it has taken. So a session that has lost the lock and does not know it yet does no harm.
+//! A lock between sessions, by the recipe of ZooKeeper: each makes an ephemeral sequential node, and the one with the first number holds.
+//! Each other one watches the node before its own alone. The holder acts with a token, the zxid at which its node was made, and what the
+//! lock protects refuses a token below one that it has taken. So a session that has lost the lock and does not know it yet does no harm.
 
 use crate::Program;
 use anyhow::{Result, bail};
@@ -143,8 +143,8 @@ impl Place {
 }
 
 impl<'a> Contender<'a> {
-    /// A session that is to hold the lock of the directory, which is there, for this many milliseconds, and to leave it then. The names of its
-    /// nodes begin with its own; the marker is Curator's, `-lock-`, or kazoo's, `__lock__`.
+    /// A session that is to hold the lock of the directory, which is there, for this many milliseconds, and to leave it then. The names of
+    /// its nodes begin with its own; the marker is Curator's, `-lock-`, or kazoo's, `__lock__`.
     pub fn new(
         alloc: Global,
         name: &'a str,

@@ -27,8 +27,8 @@ static FIRST: [(&str, &str); 5] = [
     (DIRECTORY, ""),
 ];
 
-/// What two nodes of the configuration are set to by each of the first transactions, whose zxids are 1 to 5. One is made after each request, so
-/// the first reads are answered from several trees.
+/// What two nodes of the configuration are set to by each of the first transactions, whose zxids are 1 to 5. One is made after each
+/// request, so the first reads are answered from several trees.
 static NUMBERS: [&str; 5] = ["1", "2", "3", "4", "5"];
 
 /// The sessions of other contenders. A server in memory calls its client's session 1.
@@ -96,8 +96,8 @@ static TREE: [(u64, Step); 12] = [
     (12_000, Step::Ends),
 ];
 
-/// A contender waits for kazoo's, and holds; loses its session, while Curator's holds, and does not know it yet; makes two nodes, since an answer
-/// is lost, and removes one; waits, holds, and leaves.
+/// A contender waits for kazoo's, and holds; loses its session, while Curator's holds, and does not know it yet; makes two nodes, since an
+/// answer is lost, and removes one; waits, holds, and leaves.
 static LONG: [(u64, Step); 10] = [
     (
         0,

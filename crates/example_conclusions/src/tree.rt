@@ -1,5 +1,5 @@
-//! Follows a configuration, the nodes at and below a root, which come and go: prints all of it as it was at one moment, each time that this is
-//! known again and is something else than before. A transaction of another session is seen whole or not at all.
+//! Follows a configuration, the nodes at and below a root, which come and go: prints all of it as it was at one moment, each time that this
+//! is known again and is something else than before. A transaction of another session is seen whole or not at all.
 
 use crate::Program;
 use anyhow::Result;

@@ -1,5 +1,5 @@
-//! Follows the data of one node of real servers, through lost connections and expired sessions: tells what it holds at first, and after each
-//! change. Without words it does so over a server in memory.
+//! Follows the data of one node of real servers, through lost connections and expired sessions: tells what it holds at first, and after
+//! each change. Without words it does so over a server in memory.
 #![tactic(auto)]
 
 mod follower;

@@ -9,7 +9,9 @@ use Rattle.ffi_device.specs.declared.refusal.Refusal.TheVariants.{Memory}
 use Rattle.ffi_agent_device.specs.declared.device.AgentDevice.{AgentDevice}
 use Rattle.ffi_agent_device.specs.Steps.{BeginsWith}
 
-pub begins_with : (made : Result AgentDevice Refusal) (view other : View) (timeout : ℤ) → view ≡ other → pos 0 <ℤ timeout → IfOk made (BeginsWith view) → IfErr made (λ refusal. refusal ≡ Memory)
+pub begins_with : (made : Result AgentDevice Refusal) (view other : View) (timeout : ℤ)
+    → view ≡ other → pos 0 <ℤ timeout → IfOk made (BeginsWith view) → IfErr made (λ refusal. refusal ≡ Memory)
     → MatchResult made (BeginsWith other) (λ refusal. RefusesTimeout timeout (refusal_code refusal))
 begins_with (Ok device) view other timeout same above begins refused = subst (λ v. BeginsWith v device) same begins
-begins_with (Err refusal) view other timeout same above begins refused = subst (λ r. RefusesTimeout timeout (refusal_code r)) (sym refused) above
+begins_with (Err refusal) view other timeout same above begins refused =
+    subst (λ r. RefusesTimeout timeout (refusal_code r)) (sym refused) above

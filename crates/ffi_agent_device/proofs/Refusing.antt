@@ -2,7 +2,8 @@
 use mathlib.Core.Path.{refl}
 use Rattle.std.specs.Prelude.{ℕ, ℤ, negsuc}
 use Rattle.ffi_device.specs.declared.refusal.Refusal.{Refusal}
-use Rattle.ffi_device.specs.declared.refusal.Refusal.TheVariants.{Halted, Memory, NotText, NotPath, BadTimeout, NoSuchMode, NotSaved, NotWhole, TooMany, NotTexts}
+use Rattle.ffi_device.specs.declared.refusal.Refusal.TheVariants.{Halted, Memory, NotText, NotPath, BadTimeout, NoSuchMode, NotSaved}
+use Rattle.ffi_device.specs.declared.refusal.Refusal.TheVariants.{NotWhole, TooMany, NotTexts}
 use Rattle.ffi_device.specs.Codes.{refusal_code}
 use Rattle.ffi_agent_device.specs.declared.device.AgentDevice.{AgentDevice}
 use Rattle.ffi_agent_device.specs.Steps.{Happening, Steps}

@@ -22,7 +22,8 @@ refusal_flat why.SessionClosed = plain (pos 11) (pos 4)
 abbrev pub action_flat : {A : Type 0} → Action A → Flat
 action_flat (action.Send bytes) = record (plain (pos 1) (pos 0)) { length = length bytes.items }
 action_flat (action.Answer ticket outcome) = record (outcome_flat outcome) { ticket = ticket }
-action_flat (action.Report path side event) = record (plain (pos 3) (event_number event)) { result = side_number side; length = length (string_bytes path) }
+action_flat (action.Report path side event) =
+    record (plain (pos 3) (event_number event)) { result = side_number side; length = length (string_bytes path) }
 action_flat (action.State state) = plain (pos 4) (pos (state_number state))
 action_flat (action.GivenUp fault) = record (fault_flat fault) { length = length (fault_code (fault_view fault)) }
 action_flat (action.Dial place within) = record (plain (pos 6) (pos 0)) { ticket = within; names = place }

@@ -1,5 +1,6 @@
 -- What becomes of an agent's device, by the number that is told.
-use Rattle.std.specs.Prelude.{◌≡◌, ◌≢◌, ◌+◌, ◌==◌, ◌^◌, Bool, ℕ, zero, ℤ, pos, negsuc, true, false, max, List, [], Option, Some, None, Result, All, MatchResult, if◌then◌else◌}
+use Rattle.std.specs.Prelude.{◌≡◌, ◌≢◌, ◌+◌, ◌==◌, ◌^◌, Bool, ℕ, zero, ℤ, pos, negsuc, true, false, max, List, [], Option, Some, None}
+use Rattle.std.specs.Prelude.{Result, All, MatchResult, if◌then◌else◌}
 use Rattle.std.specs.List.Sorted.{IsPermutation}
 use Rattle.std.specs.declared.alloc.Global.{Global}
 use Rattle.zk_nodes.specs.Path.{Text}
@@ -72,17 +73,21 @@ pub record Took (now : ℕ) (given : Input Global) (before after : AgentDevice) 
   pub went_on : before.is_over ≡ false
   pub goes_on : after.is_over ≡ false
   pub unread : after.read ≡ 0
-  pub comes : Comes (max before.agent.latest now) (given_of before.agent.dialler.phase (max before.agent.latest now) given) (trail_of before.agent []) (trail_of after.agent after.said.items)
+  pub comes : Comes (max before.agent.latest now) (given_of before.agent.dialler.phase (max before.agent.latest now) given)
+      (trail_of before.agent []) (trail_of after.agent after.said.items)
   pub followed : AreFollowed after.agent
-  pub calls : (ticket : ℕ) → how_many ticket after.agent.asker.line.entries.items + how_many_ended ticket (told_by after.said.items) ≡ how_many ticket before.agent.asker.line.entries.items + how_many_asked ticket given
+  pub calls : (ticket : ℕ) → how_many ticket after.agent.asker.line.entries.items + how_many_ended ticket (told_by after.said.items)
+      ≡ how_many ticket before.agent.asker.line.entries.items + how_many_asked ticket given
   pub served : All (IsServed (view_of after.agent.asker.follower.client)) after.agent.asker.line.entries.items
   pub limits : All (IsInTime after.agent.latest) after.agent.asker.line.entries.items
   pub answers : IsAnswered after.agent
   pub closed : (view_of after.agent.asker.follower.client).standing.state ≡ Closed → after.agent.asker.line.entries.items ≡ []
   pub renewed : (view_of after.agent.asker.follower.client).standing.state ≢ Expired
-  pub dials : (view_of after.agent.asker.follower.client).standing.state ≢ Closed → IsDecided (max before.agent.latest now) (trail_of after.agent after.said.items)
+  pub dials : (view_of after.agent.asker.follower.client).standing.state ≢ Closed
+      → IsDecided (max before.agent.latest now) (trail_of after.agent after.said.items)
   pub latest : after.agent.latest ≡ max before.agent.latest now
-  pub heard : after.agent.heard_at ≡ heard_after (is_open before.agent.dialler.phase) (max before.agent.latest now) given before.agent.heard_at
+  pub heard : after.agent.heard_at ≡ heard_after (is_open before.agent.dialler.phase)
+      (max before.agent.latest now) given before.agent.heard_at
   pub number : after.revision.number ≡ revised (is_bytes (happening given)) (told_by after.said.items) before.revision.number
 
 -- The same of an input that is this.
@@ -91,14 +96,15 @@ pub record Stepped (now : ℕ) (what : Happening) (before after : AgentDevice) :
   pub is : happening given ≡ what
   pub took : Took now given before after
 
--- Memory ran out within this step, or within an earlier one: the agent goes on no further, and nothing is told. The revision is the next one.
+-- Memory ran out within this step, or within an earlier one: the agent goes on no further, and nothing is told. The revision is the next
+-- one.
 pub record Stopped (before after : AgentDevice) : Type 0 where
   pub over : after.is_over ≡ true
   pub silent : after.said.items ≡ []
   pub number : after.revision.number ≡ raised before.revision.number
 
--- What happened, at a moment: 0 where it was one step of the agent, -1 where the agent goes on no further, and any other number where nothing
--- was done, for a reason that this number has.
+-- What happened, at a moment: 0 where it was one step of the agent, -1 where the agent goes on no further, and any other number where
+-- nothing was done, for a reason that this number has.
 abbrev pub Steps : (Refuses : ℤ → Type 0) → (now : ℕ) → Happening → (before : AgentDevice) → (code : ℤ) → (after : AgentDevice) → Type 0
 Steps Refuses now what before (pos zero) after = Stepped now what before after
 Steps Refuses now what before (negsuc zero) after = Stopped before after
@@ -108,7 +114,8 @@ Steps Refuses now what before code after = Refuses code × (after ≡ before)
 
 -- The stale answers are gone from what the client keeps, and nothing else is another one.
 pub record Forgot (before after : AgentDevice) : Type 0 where
-  pub view : view_of after.agent.asker.follower.client ≡ record (view_of before.agent.asker.follower.client) { cache = forgotten (view_of before.agent.asker.follower.client).cache }
+  pub view : view_of after.agent.asker.follower.client ≡ record (view_of before.agent.asker.follower.client)
+      { cache = forgotten (view_of before.agent.asker.follower.client).cache }
   pub led : IsLed (view_of before.agent.asker.follower.client) → IsLed (view_of after.agent.asker.follower.client)
   pub followed : AreFollowed before.agent → AreFollowed after.agent
   pub subjects : after.agent.asker.follower.subjects ≡ before.agent.asker.follower.subjects
@@ -144,4 +151,5 @@ pub record Dials {A : Type 0} (addresses seed : ℕ) (dialler : Dialler A) : Typ
   pub order : dialler.ring.order.items ≡ shuffled seed addresses (numbers addresses)
   pub each : IsPermutation (numbers addresses) dialler.ring.order.items
   pub first : dialler.ring.next ≡ 0
-  pub backoff : dialler.backoff ≡ record { chance = record { state = state_after addresses seed }; failures = 0; connected = None; ended = 0; least = 0; moment = 0 }
+  pub backoff : dialler.backoff
+      ≡ record { chance = record { state = state_after addresses seed }; failures = 0; connected = None; ended = 0; least = 0; moment = 0 }

@@ -57,7 +57,8 @@ impl AgentDevice {
         path: &[u8],
         watch: bool,
     ) -> Result<(), Refusal>
-        ensures { Steps (RefusesPath path.now) now (Calls ticket (Exists path.now watch) (limit_of until)) self.old (code_of result) self.new }
+        ensures { Steps (RefusesPath path.now) now (Calls ticket (Exists path.now watch) (limit_of until)) self.old
+            (code_of result) self.new }
     {
         let path = path_of(alloc, path)?;
         self.ask_at(now, ticket, until, Call::Exists { path, watch })
@@ -74,7 +75,8 @@ impl AgentDevice {
         path: &[u8],
         watch: bool,
     ) -> Result<(), Refusal>
-        ensures { Steps (RefusesPath path.now) now (Calls ticket (GetData path.now watch) (limit_of until)) self.old (code_of result) self.new }
+        ensures { Steps (RefusesPath path.now) now (Calls ticket (GetData path.now watch) (limit_of until)) self.old
+            (code_of result) self.new }
     {
         let path = path_of(alloc, path)?;
         self.ask_at(now, ticket, until, Call::GetData { path, watch })
@@ -91,7 +93,8 @@ impl AgentDevice {
         path: &[u8],
         watch: bool,
     ) -> Result<(), Refusal>
-        ensures { Steps (RefusesPath path.now) now (Calls ticket (GetChildren path.now watch) (limit_of until)) self.old (code_of result) self.new }
+        ensures { Steps (RefusesPath path.now) now (Calls ticket (GetChildren path.now watch) (limit_of until)) self.old
+            (code_of result) self.new }
     {
         let path = path_of(alloc, path)?;
         self.ask_at(now, ticket, until, Call::GetChildren { path, watch })
@@ -109,7 +112,8 @@ impl AgentDevice {
         bytes: Option<&[u8]>,
         version: i32,
     ) -> Result<(), Refusal>
-        ensures { Steps (RefusesPath path.now) now (Calls ticket (SetData path.now (option_map (λ s. s.now) bytes.entry) version) (limit_of until)) self.old (code_of result) self.new }
+        ensures { Steps (RefusesPath path.now) now (Calls ticket (SetData path.now (option_map (λ s. s.now) bytes.entry) version)
+            (limit_of until)) self.old (code_of result) self.new }
     {
         let call = set_data(alloc, path, bytes, version)?;
         self.ask_at(now, ticket, until, call)
@@ -128,7 +132,8 @@ impl AgentDevice {
         bytes: Option<&[u8]>,
         mode: u32,
     ) -> Result<(), Refusal>
-        ensures { Steps (RefusesCreate path.now mode) now (Calls ticket (Create path.now (option_map (λ s. s.now) bytes.entry) mode) (limit_of until)) self.old (code_of result) self.new }
+        ensures { Steps (RefusesCreate path.now mode) now (Calls ticket (Create path.now (option_map (λ s. s.now) bytes.entry) mode)
+            (limit_of until)) self.old (code_of result) self.new }
     {
         let call = create(alloc, path, bytes, mode)?;
         self.ask_at(now, ticket, until, call)
@@ -145,7 +150,8 @@ impl AgentDevice {
         path: &[u8],
         version: i32,
     ) -> Result<(), Refusal>
-        ensures { Steps (RefusesPath path.now) now (Calls ticket (Delete path.now version) (limit_of until)) self.old (code_of result) self.new }
+        ensures { Steps (RefusesPath path.now) now (Calls ticket (Delete path.now version) (limit_of until)) self.old
+            (code_of result) self.new }
     {
         let path = path_of(alloc, path)?;
         self.ask_at(now, ticket, until, Call::Delete { path, version })

@@ -11,7 +11,8 @@ ghost use Rattle.zk_conclusions.specs.Revisions.{raised};
 ghost use Rattle.ffi_device.specs.Codes.{code_of};
 ghost use Rattle.ffi_device.specs.Refused.{RefusesMemory, RefusesNothing, RefusesTimeout};
 ghost use Rattle.ffi_device.specs.Sessions.{put_start};
-ghost use Rattle.ffi_agent_device.specs.Steps.{Addressed, Bytes, Cut, Dials, Failed, Forgot, Moment, Opened, Begins, BeginsWith, Stepped, Steps, Stopped, happening};
+ghost use Rattle.ffi_agent_device.specs.Steps.{Addressed, Bytes, Cut, Dials, Failed, Forgot, Moment, Opened, Begins, BeginsWith, Stepped};
+ghost use Rattle.ffi_agent_device.specs.Steps.{Steps, Stopped, happening};
 
 use crate::revisions::{is_bytes, revise};
 use ffi_device::{Device, Refusal};
@@ -20,9 +21,10 @@ use zk_agent::{Action, Agent, Input, Settings};
 use zk_client::Client;
 use zk_conclusions::Revision;
 
-/// An agent, what it said at its last step, how much of that was read, whether it goes on no further, since memory ran out within a step, and
-/// a number that rises where what its client shows may change. Its methods stand by what they are about: calls in `calls`, what is followed in `subjects`, what was said in `outputs`, and here what
-/// comes from a connection. What is kept is looked up by functions of `ffi_device` over the agent's client.
+/// An agent, what it said at its last step, how much of that was read, whether it goes on no further, since memory ran out within a step,
+/// and a number that rises where what its client shows may change. Its methods stand by what they are about: calls in `calls`, what is
+/// followed in `subjects`, what was said in `outputs`, and here what comes from a connection. What is kept is looked up by functions of
+/// `ffi_device` over the agent's client.
 #[derive(Drop)]
 pub struct AgentDevice {
     pub agent: Agent<Global>,
@@ -65,11 +67,13 @@ impl AgentDevice {
         seed: u64,
         saved: &[u8],
     ) -> Result<AgentDevice, Refusal>
-        ensures begins { (put : PutAway) → bytes_read saved.now ≡ Ok put → Begins (RefusesTimeout timeout_ms) (put_start timeout_ms put) result }
+        ensures begins { (put : PutAway) → bytes_read saved.now ≡ Ok put
+            → Begins (RefusesTimeout timeout_ms) (put_start timeout_ms put) result }
         ensures accepted { OnOk result (pos 0 <ℤ timeout_ms) }
         ensures dials { IfOk result (λ device. Dials addresses seed device.agent.dialler) }
         ensures timeout { IfOk result (λ device. device.agent.timeout_ms ≡ timeout_ms) }
-        ensures unread { (fault : SavedFault) → bytes_read saved.now ≡ Err fault → fault ≢ saved_faults.Memory → pos 0 <ℤ timeout_ms → result ≡ Err refusals.NotSaved }
+        ensures unread { (fault : SavedFault) → bytes_read saved.now ≡ Err fault → fault ≢ saved_faults.Memory → pos 0 <ℤ timeout_ms
+            → result ≡ Err refusals.NotSaved }
     {
         let Device {
             client,

@@ -59,7 +59,8 @@ impl AgentDevice {
     /// bytes there are from there on.
     pub fn copy_text(&self, from: usize, room: &mut [u8]) -> usize
         ensures count { result ≡ length (drop from (told_text self.now.said.items self.now.read)) }
-        ensures copied { room.new ≡ take (length room.old) (drop from (told_text self.now.said.items self.now.read)) ++ drop (length (drop from (told_text self.now.said.items self.now.read))) room.old }
+        ensures copied { room.new ≡ take (length room.old) (drop from (told_text self.now.said.items self.now.read))
+            ++ drop (length (drop from (told_text self.now.said.items self.now.read))) room.old }
     {
         let text = self.told_text();
         copy_into(&text[from.min(text.len())..], room)
@@ -89,7 +90,8 @@ impl AgentDevice {
     /// bytes it has.
     pub fn copy_name(&self, index: usize, room: &mut [u8]) -> usize
         ensures count { result ≡ length (told_name index self.now.said.items self.now.read) }
-        ensures copied { room.new ≡ take (length room.old) (told_name index self.now.said.items self.now.read) ++ drop (length (told_name index self.now.said.items self.now.read)) room.old }
+        ensures copied { room.new ≡ take (length room.old) (told_name index self.now.said.items self.now.read)
+            ++ drop (length (told_name index self.now.said.items self.now.read)) room.old }
     {
         copy_into(self.told_name(index), room)
     }

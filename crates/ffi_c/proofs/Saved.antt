@@ -1,12 +1,14 @@
 -- Bytes that are no saved session are so for another reason than want of memory.
-use Rattle.std.proofs.Common.{◌≡◌, Bool, true, false, List, [], ◌∷◌, ◌++◌, ℕ, ℤ, pos, Option, Some, None, length, refl, sym, ap, subst, ◌∙◌, true≢false}
+use Rattle.std.proofs.Common.{◌≡◌, Bool, true, false, List, [], ◌∷◌, ◌++◌, ℕ, ℤ, pos, Option, Some, None, length, refl, sym, ap, subst, ◌∙◌}
+use Rattle.std.proofs.Common.{true≢false}
 use Rattle.std.specs.Prelude.{◌≢◌, Result, Ok, Err, if◌then◌else◌, int_lt, nat_lt}
 use Rattle.zk_jute.specs.Layout.{Value}
 use Rattle.zk_jute.specs.Reading.{reading}
 use Rattle.zk_jute.specs.declared.fault.TakeError.{TakeError}
 use Rattle.zk_client.specs.SavedSessions.{PutAway, bytes_read, record_read, saved_layout}
 use Rattle.zk_client.specs.declared.saved_fault.SavedFault.{SavedFault}
-use Rattle.zk_client.specs.declared.saved_fault.SavedFault.TheVariants.{NotHex, OddDigits, Unread, BytesBehind, NoPassword, LongPassword, NegativeZxid, Memory}
+use Rattle.zk_client.specs.declared.saved_fault.SavedFault.TheVariants.{NotHex, OddDigits, Unread, BytesBehind, NoPassword, LongPassword}
+use Rattle.zk_client.specs.declared.saved_fault.SavedFault.TheVariants.{NegativeZxid, Memory}
 use Rattle.zk_limits.specs.declared.limits.TheConstants.{LONGEST_PASSWORD}
 
 abbrev is_memory : SavedFault → Bool
@@ -31,7 +33,8 @@ put_away_by false false password last put = refl
 
 record_wants : (r : Result (Value saved_layout × List ℕ) TakeError) → wants_memory (record_read r) ≡ false
 record_wants (Ok ((session, (Some password, last)), [])) =
-    put_away_by (nat_lt LONGEST_PASSWORD (length password)) (int_lt last (pos 0)) password last (record { session = session; password = password; last = last })
+    put_away_by (nat_lt LONGEST_PASSWORD (length password)) (int_lt last (pos 0)) password last
+    (record { session = session; password = password; last = last })
 record_wants (Ok ((session, (None, last)), [])) = refl
 record_wants (Ok (fields, b ∷ rest)) = refl
 record_wants (Err fault) = refl

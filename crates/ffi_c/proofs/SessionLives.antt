@@ -21,7 +21,8 @@ use Rattle.ffi_agent_device.specs.Steps.{BeginsWith, Happening, Stepped}
 use Rattle.ffi_agent_device.specs.declared.device.AgentDevice.{AgentDevice}
 use Rattle.ffi_c.specs.Held.{Holds}
 use Rattle.ffi_c.specs.Sessions.{Makes, Tells, ForgetsStale}
-use Rattle.ffi_c.specs.SessionLives.{Use, Opens, Resumes, Steps, Reads, Forgets, Looks, Frees, Does, Used, held_after, IsLife, IsSound, RefusesHappening, SoundForLife}
+use Rattle.ffi_c.specs.SessionLives.{Use, Opens, Resumes, Steps, Reads, Forgets, Looks, Frees, Does, Used, held_after, IsLife, IsSound}
+use Rattle.ffi_c.specs.SessionLives.{RefusesHappening, SoundForLife}
 
 -- the session of a handle, if it has one that goes on, is sound
 abbrev Sound : Option AgentDevice → Type 0
@@ -39,19 +40,23 @@ in_held P session held holds is = subst (λ h. IfSome h P) is holds.1
 begun : (start : Start) (session : AgentDevice) → BeginsWith (view_at start []) session → IsSound session
 begun start session begins = record {
   led = (start, [], subst (Stands start []) (sym begins.client) (fresh start));
-  followed = let P = IsFollowed session.agent.latest (view_of session.agent.asker.follower.client) in subst (All P) (sym begins.subjects) (All-nil P);
+  followed = let P = IsFollowed session.agent.latest (view_of session.agent.asker.follower.client) in
+      subst (All P) (sym begins.subjects) (All-nil P);
   served = let P = IsServed (view_of session.agent.asker.follower.client) in subst (All P) (sym begins.calls) (All-nil P);
   limits = let P = IsInTime session.agent.latest in subst (All P) (sym begins.calls) (All-nil P);
 }
 
 made : (Refuses : ℤ → Type 0) (start : Start) (code : ℤ) (after : Option AgentDevice) → Makes Refuses start code after → Sound after
-made Refuses start (pos zero) after makes session is on = begun start session (in_held (BeginsWith (view_at start [])) session after makes is)
+made Refuses start (pos zero) after makes session is on =
+    begun start session (in_held (BeginsWith (view_at start [])) session after makes is)
 made Refuses start (pos (suc n)) after makes session is on = empty_holds_none session after makes.1 is
 made Refuses start (negsuc n) after makes session is on = empty_holds_none session after makes.1 is
 
-resumed : (timeout : ℤ) (saved : List ℕ) (code : ℤ) (before after : Option AgentDevice) (read : Result PutAway SavedFault) → bytes_read saved ≡ read
+resumed : (timeout : ℤ) (saved : List ℕ) (code : ℤ) (before after : Option AgentDevice) (read : Result PutAway SavedFault)
+    → bytes_read saved ≡ read
     → Does before (Resumes timeout saved code) after → Sound after
-resumed timeout saved code before after (Ok put) reads does session is on = made (RefusesTimeout timeout) (put_start timeout put) code after (does.0 put reads) session is on
+resumed timeout saved code before after (Ok put) reads does session is on =
+    made (RefusesTimeout timeout) (put_start timeout put) code after (does.0 put reads) session is on
 resumed timeout saved code before after (Err fault) reads does session is on = empty_holds_none session after (does.1 fault reads) is
 
 stepped : (now : ℕ) (what : Happening) (old session : AgentDevice) → Sound (Some old) → Stepped now what old session → IsSound session
@@ -65,7 +70,8 @@ stepped now what old session sound does = record {
 over_goes_on : {P : Type 0} (is_over : Bool) → is_over ≡ true → is_over ≡ false → P
 over_goes_on is_over over on = absurd (true≢false (sym over ∙ on))
 
-steps : (now : ℕ) (what : Happening) (code : ℤ) (before after : Option AgentDevice) → Sound before → Does before (Steps now what code) after → Sound after
+steps : (now : ℕ) (what : Happening) (code : ℤ) (before after : Option AgentDevice)
+    → Sound before → Does before (Steps now what code) after → Sound after
 steps now what code None after sound does session is on = empty_holds_none session after does.empty is
 steps now what (pos zero) (Some old) after sound does session is on =
     stepped now what old session sound (in_held (step.Steps (RefusesHappening what) now what old (pos zero)) session after does is)
@@ -85,7 +91,8 @@ same_agent old session same sound = record {
   limits = subst (λ (a : Agent _). All (IsInTime a.latest) a.asker.line.entries.items) (sym same) sound.limits;
 }
 
-reads : (room told : Flat) (code : ℤ) (before after : Option AgentDevice) → Sound before → Does before (Reads room told code) after → Sound after
+reads : (room told : Flat) (code : ℤ) (before after : Option AgentDevice)
+    → Sound before → Does before (Reads room told code) after → Sound after
 reads room told code None after sound does session is on = empty_holds_none session after does.empty is
 reads room told code (Some old) after sound does session is on =
     let tells = in_held (λ s. Tells old room code told s) session after does is in
@@ -116,7 +123,8 @@ one Frees before after sound does = λ session is on. empty_holds_none session a
 
 all_sound : (uses : List Used) → IsLife uses → Sound (held_after uses)
 all_sound [] lived session is on = absurd (let e : None ≡ Some session = is in cc)
-all_sound (used ∷ earlier) lived session is on = one used.use_of (held_after earlier) used.held (all_sound earlier lived.1) lived.0 session is on
+all_sound (used ∷ earlier) lived session is on =
+    one used.use_of (held_after earlier) used.held (all_sound earlier lived.1) lived.0 session is on
 
 pub sound_for_life : SoundForLife
 sound_for_life uses session lived is on = all_sound uses lived session is on

@@ -29,9 +29,11 @@ module _ {M : Type 1} {𝓤 : Ura M} (𝓛 : Logic 𝓤) where
     abbrev pub here : Tables 𝓤 H
     here = tables_of 𝓤 H 𝓜 (tables 𝓤 H 𝓜 𝓡 𝓡.env)
 
-    pub meets : (T : Ended) (hs : Stays T.signature.params T.kept) → AllGo 𝓛 T.signature.lifetimes T.signature.params T.kept hs → (c : Clauses 𝓤 T) (name : Callee) (f : Fn)
+    pub meets : (T : Ended) (hs : Stays T.signature.params T.kept)
+        → AllGo 𝓛 T.signature.lifetimes T.signature.params T.kept hs → (c : Clauses 𝓤 T) (name : Callee) (f : Fn)
         → Closed 𝓤 H (tables 𝓤 H 𝓜 𝓡 𝓡.env).C (tables 𝓤 H 𝓜 𝓡 𝓡.env).Λ name f → Walks 𝓛 T hs (WpFn 𝓤 H here.C here.Λ f) c
         → Triple 𝓤 ((tables 𝓤 H 𝓜 𝓡 𝓡.env).C name) (triple_of 𝓛 T.signature (closing 𝓛 T c))
     unfolding tables_of
     meets T hs gs c name f closed walk =
-        entered 𝓤 H (triple_of 𝓛 T.signature (closing 𝓛 T c)) here.C here.Λ name f closed (walk_Meets 𝓛 T hs gs c (WpFn 𝓤 H here.C here.Λ f) (WpFn-mono 𝓤 H 𝓛.laws here f) walk)
+        entered 𝓤 H (triple_of 𝓛 T.signature (closing 𝓛 T c)) here.C here.Λ name f closed
+        (walk_Meets 𝓛 T hs gs c (WpFn 𝓤 H here.C here.Λ f) (WpFn-mono 𝓤 H 𝓛.laws here f) walk)

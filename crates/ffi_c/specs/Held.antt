@@ -26,8 +26,8 @@ pub record LeavesRoom (code : ℤ) (room written : List ℕ) (count : ℕ) : Typ
   pub unwritten : written ≡ room
   pub none : count ≡ 0
 
--- A client is made: 0 where the handle holds one that has begun so, at revision 1, and any other number where it holds nothing, for a reason
--- that this number has.
+-- A client is made: 0 where the handle holds one that has begun so, at revision 1, and any other number where it holds nothing, for a
+-- reason that this number has.
 abbrev pub Makes : (Refuses : ℤ → Type 0) → Start → ℤ → Option Device → Type 0
 Makes Refuses start (pos zero) held = Holds held (BeginsAt start 1)
 Makes Refuses start code held = Refuses code × (held ≡ None)

@@ -1,5 +1,7 @@
--- The whole life of a handle: the functions that were called on it, with the numbers that they answered, and what its client has come through.
-use Rattle.std.specs.Prelude.{◌≡◌, ◌<◌, ◌-◌, ◌^◌, ⊤, ◌⊎◌, ℕ, zero, ℤ, pos, negsuc, List, [], ◌∷◌, ◌++◌, Option, Some, None, Ok, Err, unsigned_abs}
+-- The whole life of a handle: the functions that were called on it, with the numbers that they answered, and what its client has come
+-- through.
+use Rattle.std.specs.Prelude.{◌≡◌, ◌<◌, ◌-◌, ◌^◌, ⊤, ◌⊎◌, ℕ, zero, ℤ, pos, negsuc, List, [], ◌∷◌, ◌++◌, Option, Some, None, Ok, Err}
+use Rattle.std.specs.Prelude.{unsigned_abs}
 use Rattle.std.specs.List.{AllByRecursion}
 use Rattle.zk_conversation.specs.Calls as call
 use Rattle.zk_turns.specs.Turns.{Input, Now, Bytes, Item, Turned, Halts, Output, Start, new_start}
@@ -121,8 +123,8 @@ abbrev pub Came : List Used → Start → List Item → Type 0
 Came [] start items = ⊥
 Came (used ∷ earlier) start items = CameBy used.use_of (held_after earlier) used.held (Came earlier) start items
 
--- THE law of a handle: whoever made it by these functions alone, and has a client in it, has all that holds of a client that has come through
--- the turns that its steps were.
+-- THE law of a handle: whoever made it by these functions alone, and has a client in it, has all that holds of a client that has come
+-- through the turns that its steps were.
 abbrev pub HoldsForLife : Type 0
 HoldsForLife = (uses : List Used) (device : Device) → IsLife uses → held_after uses ≡ Some device
     → (start : Start) × (items : List Item) × Came uses start items × run.Holds start items (view_of device.client)
@@ -139,8 +141,10 @@ GoesOn used = ⊤
 abbrev pub AllGoOn : List Used → Type 0
 AllGoOn uses = AllByRecursion (λ used. GoesOn used.use_of) uses
 
--- THE law of a revision: whoever was told the same number twice, below the last one, of a client that was not made again in between, has what is
--- kept and good, the state and the session as they were, whatever functions were called between.
+-- THE law of a revision: whoever was told the same number twice, below the last one, of a client that was not made again in between, has
+-- what is kept and good, the state and the session as they were, whatever functions were called between.
 abbrev pub SameForLife : Type 0
-SameForLife = (more earlier : List Used) (before after : Device) → IsLife (more ++ earlier) → AllGoOn more → held_after earlier ≡ Some before → held_after (more ++ earlier) ≡ Some after
-    → before.revision.number < 2 ^ 64 - 1 → after.revision.number ≡ before.revision.number → IsUnchanged (view_of before.client) (view_of after.client)
+SameForLife = (more earlier : List Used) (before after : Device) → IsLife (more ++ earlier) → AllGoOn more
+    → held_after earlier ≡ Some before → held_after (more ++ earlier) ≡ Some after
+    → before.revision.number < 2 ^ 64 - 1 → after.revision.number ≡ before.revision.number
+    → IsUnchanged (view_of before.client) (view_of after.client)

@@ -1,4 +1,5 @@
--- What a handle owns: nothing where it is closed, and else a device, or the device of a session, at its pointer, with the right to free its block.
+-- What a handle owns: nothing where it is closed, and else a device, or the device of a session, at its pointer, with the right to free its
+-- block.
 use Rattle.std.specs.Prelude.{Option, Some, None}
 use base.Fml.{Fml, ftrue}
 use denote.RawPtr.{Ptr}

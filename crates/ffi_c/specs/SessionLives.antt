@@ -1,4 +1,5 @@
--- The whole life of a session's handle: the functions that were called on it, with the numbers that they answered, and how its session stands.
+-- The whole life of a session's handle: the functions that were called on it, with the numbers that they answered, and how its session
+-- stands.
 use Rattle.std.specs.Prelude.{◌≡◌, ⊤, ℕ, ℤ, false, List, [], ◌∷◌, Option, Some, None, Ok, Err, All, unsigned_abs}
 use Rattle.zk_turns.specs.Turns.{new_start}
 use Rattle.zk_client.specs.Clients.{view_of}
@@ -34,7 +35,8 @@ RefusesHappening (step.Follows ticket side path) = RefusesPath path
 RefusesHappening _ = RefusesNothing
 
 -- A closed handle stays closed, which is told; of one that holds a session this is so.
-abbrev pub Drives : (Does : AgentDevice → ℤ → AgentDevice → Type 0) → (before : Option AgentDevice) → (code : ℤ) → (after : Option AgentDevice) → Type 0
+abbrev pub Drives : (Does : AgentDevice → ℤ → AgentDevice → Type 0) → (before : Option AgentDevice) → (code : ℤ)
+    → (after : Option AgentDevice) → Type 0
 Drives Does None code after = IsClosed code after
 Drives Does (Some session) code after = Holds after (Does session code)
 
@@ -64,15 +66,16 @@ abbrev pub IsLife : List Used → Type 0
 IsLife [] = ⊤
 IsLife (used ∷ earlier) = Does (held_after earlier) used.use_of used.held × IsLife earlier
 
--- How a session stands: its client where turns by the rule have led; each subject good, or being read, or why not; each call on its way, or why
--- not, and none past its limit.
+-- How a session stands: its client where turns by the rule have led; each subject good, or being read, or why not; each call on its way, or
+-- why not, and none past its limit.
 pub record IsSound (session : AgentDevice) : Type 0 where
   pub led : IsLed (view_of session.agent.asker.follower.client)
   pub followed : AreFollowed session.agent
   pub served : All (IsServed (view_of session.agent.asker.follower.client)) session.agent.asker.line.entries.items
   pub limits : All (IsInTime session.agent.latest) session.agent.asker.line.entries.items
 
--- THE law of a session's handle: whoever made it by these functions alone, whatever they answered, and has a session in it within whose steps
--- memory never ran out, has one that is sound.
+-- THE law of a session's handle: whoever made it by these functions alone, whatever they answered, and has a session in it within whose
+-- steps memory never ran out, has one that is sound.
 abbrev pub SoundForLife : Type 0
-SoundForLife = (uses : List Used) (session : AgentDevice) → IsLife uses → held_after uses ≡ Some session → session.is_over ≡ false → IsSound session
+SoundForLife = (uses : List Used) (session : AgentDevice) → IsLife uses → held_after uses ≡ Some session
+    → session.is_over ≡ false → IsSound session

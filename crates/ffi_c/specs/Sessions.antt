@@ -34,7 +34,8 @@ pub record ForgetsStale (before : AgentDevice) (code : ℤ) (after : AgentDevice
 
 -- The first moment at which something is due, with 0; or that nothing will be due, with 1.
 abbrev pub FirstDue : AgentDevice → ℤ → ℕ → Type 0
-FirstDue session (pos zero) first = ((moment : ℕ) → moment < 2 ^ 64 → moment < first → NothingAt session.agent moment) × ¬ (NothingAt session.agent first)
+FirstDue session (pos zero) first =
+    ((moment : ℕ) → moment < 2 ^ 64 → moment < first → NothingAt session.agent moment) × ¬ (NothingAt session.agent first)
 FirstDue session (pos (suc zero)) first = (moment : ℕ) → moment < 2 ^ 64 → NothingAt session.agent moment
 FirstDue session code first = ⊥
 

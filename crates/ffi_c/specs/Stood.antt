@@ -19,10 +19,14 @@ TellsStands (Err refusal) code token count = (code ≡ refusal_code refusal) × 
 
 -- 0 where the session stands first, by the token; 2 where it waits for the rival whose name is written; 1 where neither is shown; and any
 -- other number where nothing is told, for a reason that it has.
-abbrev pub FindsStanding : View → (directory name : Text) (names : List ℕ) (listed : ℤ) (markers : List ℕ) → (code token : ℤ) (room written : List ℕ) (count : ℕ) → Type 0
-FindsStanding view directory name names listed markers (pos zero) token room written count = Stood view directory name names listed markers (First token) room written × (count ≡ 0)
-FindsStanding view directory name names listed markers (pos (suc zero)) token room written count = Stood view directory name names listed markers Unsure room written × (token ≡ pos 0) × (count ≡ 0)
-FindsStanding view directory name names listed markers (pos (suc (suc zero))) token room written count = Stood view directory name names listed markers (After count) room written × (token ≡ pos 0)
+abbrev pub FindsStanding : View → (directory name : Text) (names : List ℕ) (listed : ℤ) (markers : List ℕ)
+    → (code token : ℤ) (room written : List ℕ) (count : ℕ) → Type 0
+FindsStanding view directory name names listed markers (pos zero) token room written count =
+    Stood view directory name names listed markers (First token) room written × (count ≡ 0)
+FindsStanding view directory name names listed markers (pos (suc zero)) token room written count =
+    Stood view directory name names listed markers Unsure room written × (token ≡ pos 0) × (count ≡ 0)
+FindsStanding view directory name names listed markers (pos (suc (suc zero))) token room written count =
+    Stood view directory name names listed markers (After count) room written × (token ≡ pos 0)
 FindsStanding view directory name names listed markers code token room written count =
     RefusesStanding directory name names markers code × (written ≡ room) × (token ≡ pos 0) × (count ≡ 0)
 
@@ -30,5 +34,6 @@ FindsStanding view directory name names listed markers code token room written c
 -- reason that it has.
 abbrev pub FindsHolder : View → (directory prefix path : Text) → (code token : ℤ) → Type 0
 FindsHolder view directory prefix path (pos zero) token = HoldsFirst view directory prefix path token × ArePlace directory prefix path
-FindsHolder view directory prefix path (pos (suc zero)) token = ((other : ℤ) → ¬ (ShowsHolder view directory prefix path other)) × ArePlace directory prefix path × (token ≡ pos 0)
+FindsHolder view directory prefix path (pos (suc zero)) token =
+    ((other : ℤ) → ¬ (ShowsHolder view directory prefix path other)) × ArePlace directory prefix path × (token ≡ pos 0)
 FindsHolder view directory prefix path code token = RefusesHolder directory prefix path code × (token ≡ pos 0)

@@ -31,7 +31,8 @@ pub extern "C" fn dw_exists(
     watch: bool,
 ) -> i32
     ensures closed { handle.old.slot.held ≡ None → IsClosed result handle.new.slot.held }
-    ensures steps { (d : Device) → handle.old.slot.held ≡ Some d → Holds handle.new.slot.held (Steps (RefusesPath path.now) now_ms (Calls ticket (Exists path.now watch)) d result) }
+    ensures steps { (d : Device) → handle.old.slot.held ≡ Some d
+        → Holds handle.new.slot.held (Steps (RefusesPath path.now) now_ms (Calls ticket (Exists path.now watch)) d result) }
 {
     drive(alloc, handle, |device| {
         device.exists_at(alloc, now_ms, ticket, path, watch)
@@ -49,7 +50,8 @@ pub extern "C" fn dw_get_data(
     watch: bool,
 ) -> i32
     ensures closed { handle.old.slot.held ≡ None → IsClosed result handle.new.slot.held }
-    ensures steps { (d : Device) → handle.old.slot.held ≡ Some d → Holds handle.new.slot.held (Steps (RefusesPath path.now) now_ms (Calls ticket (GetData path.now watch)) d result) }
+    ensures steps { (d : Device) → handle.old.slot.held ≡ Some d
+        → Holds handle.new.slot.held (Steps (RefusesPath path.now) now_ms (Calls ticket (GetData path.now watch)) d result) }
 {
     drive(alloc, handle, |device| {
         device.get_data_at(alloc, now_ms, ticket, path, watch)
@@ -67,7 +69,8 @@ pub extern "C" fn dw_get_children(
     watch: bool,
 ) -> i32
     ensures closed { handle.old.slot.held ≡ None → IsClosed result handle.new.slot.held }
-    ensures steps { (d : Device) → handle.old.slot.held ≡ Some d → Holds handle.new.slot.held (Steps (RefusesPath path.now) now_ms (Calls ticket (GetChildren path.now watch)) d result) }
+    ensures steps { (d : Device) → handle.old.slot.held ≡ Some d
+        → Holds handle.new.slot.held (Steps (RefusesPath path.now) now_ms (Calls ticket (GetChildren path.now watch)) d result) }
 {
     drive(alloc, handle, |device| {
         device.get_children_at(alloc, now_ms, ticket, path, watch)
@@ -87,7 +90,8 @@ pub extern "C" fn dw_set_data(
     version: i32,
 ) -> i32
     ensures closed { handle.old.slot.held ≡ None → IsClosed result handle.new.slot.held }
-    ensures steps { (d : Device) → handle.old.slot.held ≡ Some d → Holds handle.new.slot.held (Steps (RefusesPath path.now) now_ms (Calls ticket (SetData path.now (if is_null then None else Some bytes.now) version)) d result) }
+    ensures steps { (d : Device) → handle.old.slot.held ≡ Some d → Holds handle.new.slot.held (Steps (RefusesPath path.now) now_ms
+        (Calls ticket (SetData path.now (if is_null then None else Some bytes.now) version)) d result) }
 {
     drive(alloc, handle, |device| {
         let data = data_of(bytes, is_null);
@@ -108,7 +112,8 @@ pub extern "C" fn dw_create(
     mode: u32,
 ) -> i32
     ensures closed { handle.old.slot.held ≡ None → IsClosed result handle.new.slot.held }
-    ensures steps { (d : Device) → handle.old.slot.held ≡ Some d → Holds handle.new.slot.held (Steps (RefusesCreate path.now mode) now_ms (Calls ticket (Create path.now (if is_null then None else Some bytes.now) mode)) d result) }
+    ensures steps { (d : Device) → handle.old.slot.held ≡ Some d → Holds handle.new.slot.held (Steps (RefusesCreate path.now mode) now_ms
+        (Calls ticket (Create path.now (if is_null then None else Some bytes.now) mode)) d result) }
 {
     drive(alloc, handle, |device| {
         let data = data_of(bytes, is_null);
@@ -127,7 +132,8 @@ pub extern "C" fn dw_delete(
     version: i32,
 ) -> i32
     ensures closed { handle.old.slot.held ≡ None → IsClosed result handle.new.slot.held }
-    ensures steps { (d : Device) → handle.old.slot.held ≡ Some d → Holds handle.new.slot.held (Steps (RefusesPath path.now) now_ms (Calls ticket (Delete path.now version)) d result) }
+    ensures steps { (d : Device) → handle.old.slot.held ≡ Some d
+        → Holds handle.new.slot.held (Steps (RefusesPath path.now) now_ms (Calls ticket (Delete path.now version)) d result) }
 {
     drive(alloc, handle, |device| {
         device.delete_at(alloc, now_ms, ticket, path, version)
@@ -143,7 +149,8 @@ pub extern "C" fn dw_close_session(
     ticket: u64,
 ) -> i32
     ensures closed { handle.old.slot.held ≡ None → IsClosed result handle.new.slot.held }
-    ensures steps { (d : Device) → handle.old.slot.held ≡ Some d → Holds handle.new.slot.held (Steps RefusesNothing now_ms (Calls ticket Close) d result) }
+    ensures steps { (d : Device) → handle.old.slot.held ≡ Some d
+        → Holds handle.new.slot.held (Steps RefusesNothing now_ms (Calls ticket Close) d result) }
 {
     drive(alloc, handle, |device| {
         device.close_session_at(now_ms, ticket)

@@ -25,7 +25,8 @@ pub extern "C" fn dw_peek_data(
     out: &mut [u8],
 ) -> i32
     ensures closed { handle.old.slot.held ≡ None → (result ≡ negsuc 2) × (kept.new ≡ kept.old) × (out.new ≡ out.old) }
-    ensures finds { (d : Device) → handle.old.slot.held ≡ Some d → FindsData (RefusesPath path.now) ((view_of d.client).cache.nodes path.now) result kept.old kept.new out.old out.new }
+    ensures finds { (d : Device) → handle.old.slot.held ≡ Some d
+        → FindsData (RefusesPath path.now) ((view_of d.client).cache.nodes path.now) result kept.old kept.new out.old out.new }
     ensures same { handle.new.slot.held ≡ handle.old.slot.held }
 {
     let Some(device) = take_device(alloc, handle) else {
@@ -51,7 +52,8 @@ pub extern "C" fn dw_peek_children(
     kept: &mut KeptNames,
 ) -> i32
     ensures closed { handle.old.slot.held ≡ None → (result ≡ negsuc 2) × (kept.new ≡ kept.old) }
-    ensures finds { (d : Device) → handle.old.slot.held ≡ Some d → FindsNames (RefusesPath path.now) ((view_of d.client).cache.children path.now) result kept.old kept.new }
+    ensures finds { (d : Device) → handle.old.slot.held ≡ Some d
+        → FindsNames (RefusesPath path.now) ((view_of d.client).cache.children path.now) result kept.old kept.new }
     ensures same { handle.new.slot.held ≡ handle.old.slot.held }
 {
     let Some(device) = take_device(alloc, handle) else {
@@ -80,7 +82,8 @@ pub extern "C" fn dw_peek_name(
     count: &mut usize,
 ) -> i32
     ensures closed { handle.old.slot.held ≡ None → LeavesRoom result out.old out.new count.new }
-    ensures finds { (d : Device) → handle.old.slot.held ≡ Some d → FindsText (RefusesPath path.now) (WritesName index ((view_of d.client).cache.children path.now)) result out.old out.new count.new }
+    ensures finds { (d : Device) → handle.old.slot.held ≡ Some d → FindsText (RefusesPath path.now)
+        (WritesName index ((view_of d.client).cache.children path.now)) result out.old out.new count.new }
     ensures same { handle.new.slot.held ≡ handle.old.slot.held }
 {
     *count = 0;
@@ -109,7 +112,8 @@ pub extern "C" fn dw_peek_names(
     count: &mut usize,
 ) -> i32
     ensures closed { handle.old.slot.held ≡ None → LeavesRoom result out.old out.new count.new }
-    ensures finds { (d : Device) → handle.old.slot.held ≡ Some d → FindsText (RefusesPath path.now) (WritesNames ((view_of d.client).cache.children path.now)) result out.old out.new count.new }
+    ensures finds { (d : Device) → handle.old.slot.held ≡ Some d
+        → FindsText (RefusesPath path.now) (WritesNames ((view_of d.client).cache.children path.now)) result out.old out.new count.new }
     ensures same { handle.new.slot.held ≡ handle.old.slot.held }
 {
     *count = 0;

@@ -3,23 +3,23 @@
 ghost use Rattle.ffi_c.specs.Lives.{HoldsForLife, SameForLife};
 ghost use Rattle.ffi_c.specs.SessionLives.{SoundForLife};
 
-/// Whoever took a handle of zeros, used it by the functions of this library alone, one after the other and whatever they answered, and has a
-/// client in it has all of [`holds`](zk_client::holds) for the turns that the steps were since the client was made or renewed, with
+/// Whoever took a handle of zeros, used it by the functions of this library alone, one after the other and whatever they answered, and has
+/// a client in it has all of [`holds`](zk_client::holds) for the turns that the steps were since the client was made or renewed, with
 /// the outputs that `dw_next` gave: its good answers are the history's, and each notice that ended one was told once.
 pub fn holds_for_life()
     ensures { HoldsForLife }
 {}
 
-/// Whoever was told the same number twice by `dw_revision`, below the last one, of a handle that was not opened, resumed or closed in between,
-/// has each good answer as it was, and no other is good; state and session are the same, whatever functions were called between. So
-/// `dw_subtree` and its like tell the same (`same_conclusions` of `zk_conclusions`).
+/// Whoever was told the same number twice by `dw_revision`, below the last one, of a handle that was not opened, resumed or closed in
+/// between, has each good answer as it was, and no other is good; state and session are the same, whatever functions were called between.
+/// So `dw_subtree` and its like tell the same (`same_conclusions` of `zk_conclusions`).
 pub fn same_for_life()
     ensures { SameForLife }
 {}
 
-/// Whoever took a session's handle of zeros, used it by the functions of this library alone, one after the other and whatever they answered,
-/// and has a session in it within whose steps memory never ran out, has one whose client stands where turns by the rule have led, whose
-/// subjects are good, or being read, or why not, and of whose calls each is on its way, or why not, and none is past its limit.
+/// Whoever took a session's handle of zeros, used it by the functions of this library alone, one after the other and whatever they
+/// answered, and has a session in it within whose steps memory never ran out, has one whose client stands where turns by the rule have led,
+/// whose subjects are good, or being read, or why not, and of whose calls each is on its way, or why not, and none is past its limit.
 pub fn sound_for_life()
     ensures { SoundForLife }
 {}

@@ -11,7 +11,8 @@ use std::alloc::Global;
 
 /// Has a handle hold this client. Where there is no memory for it, the handle is left as it was.
 pub fn hold(alloc: Global, handle: &mut DwClient, device: Device) -> i32
-    ensures { ((result ≡ pos 0) × (handle.new.slot.held ≡ Some device)) ⊎ ((result ≡ negsuc 1) × (handle.new.slot.held ≡ handle.old.slot.held)) }
+    ensures { ((result ≡ pos 0) × (handle.new.slot.held ≡ Some device))
+        ⊎ ((result ≡ negsuc 1) × (handle.new.slot.held ≡ handle.old.slot.held)) }
 {
     match Box::new(alloc, device) {
         Ok(held) => {

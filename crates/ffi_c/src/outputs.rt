@@ -45,7 +45,8 @@ pub extern "C" fn dw_copy(
 ) -> usize
     ensures closed { handle.old.slot.held ≡ None → (result ≡ 0) × (out.new ≡ out.old) }
     ensures count { (d : Device) → handle.old.slot.held ≡ Some d → result ≡ length (drop from (told_text d.said.items d.read)) }
-    ensures copied { (d : Device) → handle.old.slot.held ≡ Some d → out.new ≡ take (length out.old) (drop from (told_text d.said.items d.read)) ++ drop (length (drop from (told_text d.said.items d.read))) out.old }
+    ensures copied { (d : Device) → handle.old.slot.held ≡ Some d → out.new ≡ take (length out.old)
+        (drop from (told_text d.said.items d.read)) ++ drop (length (drop from (told_text d.said.items d.read))) out.old }
     ensures same { handle.new.slot.held ≡ handle.old.slot.held }
 {
     let Some(device) = take_device(alloc, handle) else {
@@ -67,7 +68,8 @@ pub extern "C" fn dw_name(
 ) -> usize
     ensures closed { handle.old.slot.held ≡ None → (result ≡ 0) × (out.new ≡ out.old) }
     ensures count { (d : Device) → handle.old.slot.held ≡ Some d → result ≡ length (told_name index d.said.items d.read) }
-    ensures copied { (d : Device) → handle.old.slot.held ≡ Some d → out.new ≡ take (length out.old) (told_name index d.said.items d.read) ++ drop (length (told_name index d.said.items d.read)) out.old }
+    ensures copied { (d : Device) → handle.old.slot.held ≡ Some d → out.new
+        ≡ take (length out.old) (told_name index d.said.items d.read) ++ drop (length (told_name index d.said.items d.read)) out.old }
     ensures same { handle.new.slot.held ≡ handle.old.slot.held }
 {
     let Some(device) = take_device(alloc, handle) else {
@@ -88,7 +90,8 @@ pub extern "C" fn dw_names(
     count: &mut usize,
 ) -> i32
     ensures closed { handle.old.slot.held ≡ None → LeavesRoom result out.old out.new count.new }
-    ensures names { (d : Device) → handle.old.slot.held ≡ Some d → FindsText RefusesMemory (WritesText (AreTexts (told_names d.said.items d.read))) result out.old out.new count.new }
+    ensures names { (d : Device) → handle.old.slot.held ≡ Some d
+        → FindsText RefusesMemory (WritesText (AreTexts (told_names d.said.items d.read))) result out.old out.new count.new }
     ensures same { handle.new.slot.held ≡ handle.old.slot.held }
 {
     *count = 0;
@@ -115,7 +118,8 @@ pub extern "C" fn dw_words(
     count: &mut usize,
 ) -> i32
     ensures closed { handle.old.slot.held ≡ None → LeavesRoom result out.old out.new count.new }
-    ensures words { (d : Device) → handle.old.slot.held ≡ Some d → Writes (told_words d.said.items d.read) result out.old out.new count.new }
+    ensures words { (d : Device) → handle.old.slot.held ≡ Some d
+        → Writes (told_words d.said.items d.read) result out.old out.new count.new }
     ensures same { handle.new.slot.held ≡ handle.old.slot.held }
 {
     *count = 0;

@@ -24,9 +24,11 @@ pub extern "C" fn dw_resume(
     timeout_ms: i32,
     saved: &[u8],
 ) -> i32
-    ensures makes { (put : PutAway) → bytes_read saved.now ≡ Ok put → Makes (RefusesTimeout timeout_ms) (put_start timeout_ms put) result handle.new.slot.held }
+    ensures makes { (put : PutAway) → bytes_read saved.now ≡ Ok put
+        → Makes (RefusesTimeout timeout_ms) (put_start timeout_ms put) result handle.new.slot.held }
     ensures broken { (fault : SavedFault) → bytes_read saved.now ≡ Err fault → (result ≢ pos 0) × (handle.new.slot.held ≡ None) }
-    ensures unread { (fault : SavedFault) → bytes_read saved.now ≡ Err fault → fault ≢ saved_faults.Memory → pos 0 <ℤ timeout_ms → result ≡ negsuc 7 }
+    ensures unread { (fault : SavedFault) → bytes_read saved.now ≡ Err fault → fault ≢ saved_faults.Memory
+        → pos 0 <ℤ timeout_ms → result ≡ negsuc 7 }
 {
     *handle = DwClient::closed(alloc);
     match Device::resume(alloc, timeout_ms, saved) {
@@ -137,7 +139,8 @@ pub extern "C" fn dw_saved(
     count: &mut usize,
 ) -> i32
     ensures closed { handle.old.slot.held ≡ None → LeavesRoom result out.old out.new count.new }
-    ensures saved { (d : Device) → handle.old.slot.held ≡ Some d → Writes (saved_bytes (put_of (view_of d.client).saved)) result out.old out.new count.new }
+    ensures saved { (d : Device) → handle.old.slot.held ≡ Some d
+        → Writes (saved_bytes (put_of (view_of d.client).saved)) result out.old out.new count.new }
     ensures same { handle.new.slot.held ≡ handle.old.slot.held }
 {
     *count = 0;

@@ -15,7 +15,8 @@ use std::alloc::Global;
 #[unsafe(no_mangle)]
 pub extern "C" fn dw_opened(alloc: Global, handle: &mut DwClient, now_ms: u64) -> i32
     ensures closed { handle.old.slot.held ≡ None → IsClosed result handle.new.slot.held }
-    ensures steps { (d : Device) → handle.old.slot.held ≡ Some d → Holds handle.new.slot.held (Steps RefusesNothing now_ms Opened d result) }
+    ensures steps { (d : Device) → handle.old.slot.held ≡ Some d
+        → Holds handle.new.slot.held (Steps RefusesNothing now_ms Opened d result) }
 {
     drive(alloc, handle, |device| device.opened_at(now_ms))
 }
@@ -42,7 +43,8 @@ pub extern "C" fn dw_tick(alloc: Global, handle: &mut DwClient, now_ms: u64) -> 
 #[unsafe(no_mangle)]
 pub extern "C" fn dw_bytes(alloc: Global, handle: &mut DwClient, now_ms: u64, bytes: &[u8]) -> i32
     ensures closed { handle.old.slot.held ≡ None → IsClosed result handle.new.slot.held }
-    ensures steps { (d : Device) → handle.old.slot.held ≡ Some d → Holds handle.new.slot.held (Steps RefusesMemory now_ms (Bytes bytes.now) d result) }
+    ensures steps { (d : Device) → handle.old.slot.held ≡ Some d
+        → Holds handle.new.slot.held (Steps RefusesMemory now_ms (Bytes bytes.now) d result) }
 {
     drive(alloc, handle, |device| {
         device.bytes_at(alloc, now_ms, bytes)

@@ -1,5 +1,6 @@
 -- The texts of an ordered set are its names in byte order.
-use Rattle.std.proofs.Common.{◌≡◌, Bor, ℕ, List, [], ◌∷◌, map, Option, Some, None, option_map, slice_get, String, string_bytes, refl, subst, sym, ap, ◌∙◌}
+use Rattle.std.proofs.Common.{◌≡◌, Bor, ℕ, List, [], ◌∷◌, map, Option, Some, None, option_map, slice_get, String, string_bytes, refl, subst}
+use Rattle.std.proofs.Common.{sym, ap, ◌∙◌}
 use Rattle.std.proofs.lemmas.List.{length-map}
 use Rattle.std.proofs.lemmas.Option.{slice_get-map}
 use Rattle.std.specs.BTreeSet.{BTreeSet, IsOrdered, btree_set_len}
@@ -18,7 +19,8 @@ use Rattle.ffi_device.specs.Kept.{AreSpelled, IsKeptName, IsListing, TellsNames,
 use Rattle.ffi_device.specs.Outputs.{name_if}
 
 module _ {A : Type 0} where
-  below_texts : (k : String A) (ks : List (String A)) → AllByRecursion (λ y. string_cmp k y ≡ Less) ks → AllByRecursion (λ y. name_cmp (string_bytes k) y ≡ Less) (map string_bytes ks)
+  below_texts : (k : String A) (ks : List (String A))
+      → AllByRecursion (λ y. string_cmp k y ≡ Less) ks → AllByRecursion (λ y. name_cmp (string_bytes k) y ≡ Less) (map string_bytes ks)
   below_texts k [] below = tt
   below_texts k (y ∷ ys) below = (below.0, below_texts k ys (below.1))
 
@@ -33,11 +35,17 @@ module _ {A : Type 0} where
 
   -- the numbers of names with their mark tell what is kept
   pub tells : (kept : Option (Bor (Names A) × Mark)) (names : Bor (Names A)) (mark : Mark) (flat : KeptNames)
-      → kept ≡ Some (names, mark) → IsOrdered string_cmp names.now.names → flat ≡ record { mark = mark_number mark; count = btree_set_len names.now.names; pzxid = names.now.pzxid }
+      → kept ≡ Some (names, mark) → IsOrdered string_cmp names.now.names
+      → flat ≡ record { mark = mark_number mark; count = btree_set_len names.now.names; pzxid = names.now.pzxid }
       → TellsNames (option_map (λ kept. record { answer = names_in kept.0.now; mark = kept.1 }) kept) flat
   tells kept names mark flat some ordered is =
       subst (λ kept. TellsNames (option_map (λ kept. record { answer = names_in kept.0.now; mark = kept.1 }) kept) flat) (sym some)
-      (record { listed = map string_bytes names.now.names.keys; listing = lists names.now.names ordered; is = is ∙ ap (λ count. record { mark = mark_number mark; count = count; pzxid = names.now.pzxid }) (sym (length-map names.now.names.keys string_bytes)) })
+      (record {
+        listed = map string_bytes names.now.names.keys;
+        listing = lists names.now.names ordered;
+        is = is ∙ ap (λ count. record { mark = mark_number mark; count = count; pzxid = names.now.pzxid })
+            (sym (length-map names.now.names.keys string_bytes));
+      })
 
   text_at : (name : Option (String A)) → name_if name ≡ text_or_none (option_map string_bytes name)
   text_at None = refl
@@ -49,9 +57,15 @@ module _ {A : Type 0} where
       → IsKeptName index (option_map (λ kept. record { answer = names_in kept.0.now; mark = kept.1 }) kept) name
   is_name kept names mark index name some ordered is =
       subst (λ kept. IsKeptName index (option_map (λ kept. record { answer = names_in kept.0.now; mark = kept.1 }) kept) name) (sym some)
-      (record { listed = map string_bytes names.now.names.keys; listing = lists names.now.names ordered; is = is ∙ text_at (slice_get names.now.names.keys index) ∙ ap text_or_none (sym (slice_get-map string_bytes names.now.names.keys index)) })
+      (record {
+        listed = map string_bytes names.now.names.keys;
+        listing = lists names.now.names ordered;
+        is = is ∙ text_at
+            (slice_get names.now.names.keys index) ∙ ap text_or_none (sym (slice_get-map string_bytes names.now.names.keys index));
+      })
 
   -- what spells the texts of the keys spells the names
-  pub are_spelled : (kept : BTreeSet (String A)) (text : List ℕ) → IsOrdered string_cmp kept → AllByRecursion (λ name. Fits ustring (Some name)) (map string_bytes kept.keys)
+  pub are_spelled : (kept : BTreeSet (String A)) (text : List ℕ)
+      → IsOrdered string_cmp kept → AllByRecursion (λ name. Fits ustring (Some name)) (map string_bytes kept.keys)
       → text ≡ flat_map (λ name. spelling ustring (Some name)) (map string_bytes kept.keys) → AreSpelled (names_of kept) text
   are_spelled kept text ordered fits is = record { listed = map string_bytes kept.keys; listing = lists kept ordered; fits = fits; is = is }

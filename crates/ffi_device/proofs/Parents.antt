@@ -1,5 +1,6 @@
 -- Parents that are written one after the other.
-use Rattle.std.proofs.Common.{◌≡◌, ◌++◌, ◌∙◌, ◌+◌, ◌<◌, ℕ, suc, List, [], ◌∷◌, drop, get_or, length, ap, append-nil, append_assoc, arith, refl, subst, sym}
+use Rattle.std.proofs.Common.{◌≡◌, ◌++◌, ◌∙◌, ◌+◌, ◌<◌, ℕ, suc, List, [], ◌∷◌, drop, get_or, length, ap, append-nil, append_assoc, arith}
+use Rattle.std.proofs.Common.{refl, subst, sym}
 use Rattle.std.proofs.Math.Seq.{drop-cons}
 use Rattle.zk_nodes.specs.Path.{Text}
 use Rattle.zk_turns.specs.View.{Cache}
@@ -16,13 +17,15 @@ abbrev pub Written : Cache → (left paths : List Text) → List ℕ → Type 0
 Written cache left paths text = (rest : List ℕ) → AreParents cache left rest → AreParents cache paths (text ++ rest)
 
 -- one more is written
-pub written_one : (cache : Cache) (path : Text) (before left paths : List Text) (text more one : List ℕ) → before ≡ path ∷ left → Written cache before paths text
+pub written_one : (cache : Cache) (path : Text) (before left paths : List Text) (text more one : List ℕ)
+    → before ≡ path ∷ left → Written cache before paths text
     → more ≡ text ++ one → IsParent cache path one → Written cache left paths more
 written_one cache path before left paths text more one e written is parent rest after =
     subst (AreParents cache paths) (sym (append_assoc text one rest) ∙ ap (λ front. front ++ rest) (sym is))
     (written (one ++ rest) (subst (λ before. AreParents cache before (one ++ rest)) (sym e) (one, rest, refl, parent, after)))
 
 -- none is left
-pub written_all : (cache : Cache) (left paths : List Text) (text : List ℕ) → left ≡ [] → Written cache left paths text → AreParents cache paths text
+pub written_all : (cache : Cache) (left paths : List Text) (text : List ℕ)
+    → left ≡ [] → Written cache left paths text → AreParents cache paths text
 written_all cache left paths text e written =
     subst (AreParents cache paths) (append-nil text) (written [] (subst (λ left. AreParents cache left []) (sym e) refl))

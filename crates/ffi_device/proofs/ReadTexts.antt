@@ -1,5 +1,6 @@
 -- Texts that are read one after the other, and whether each of them is a path.
-use Rattle.std.proofs.Common.{◌≡◌, ◌≢◌, ◌++◌, ◌∙◌, Bool, true, false, ℕ, List, [], ◌∷◌, IsSome, ap, append_assoc, inl, inr, refl, sym, true≢false}
+use Rattle.std.proofs.Common.{◌≡◌, ◌≢◌, ◌++◌, ◌∙◌, Bool, true, false, ℕ, List, [], ◌∷◌, IsSome, ap, append_assoc, inl, inr, refl, sym}
+use Rattle.std.proofs.Common.{true≢false}
 use Rattle.std.proofs.lemmas.List.{flat_map_more}
 use Rattle.std.specs.List.{AllByRecursion, flat_map}
 use Rattle.zk_nodes.specs.PathFault.{IsPath, fault_of}
@@ -46,17 +47,20 @@ more bytes before after text done whole e =
     ∙ ap (λ front. front ++ after) (flat_map_more spelled [] done text)
 
 -- one more text was read, which is a path
-pub read_path : (bytes before after text : List ℕ) (are : Bool) → Read bytes before are → FitText text → before ≡ spelled text ++ after → IsPath text → Read bytes after are
+pub read_path : (bytes before after text : List ℕ) (are : Bool)
+    → Read bytes before are → FitText text → before ≡ spelled text ++ after → IsPath text → Read bytes after are
 read_path bytes before after text are read fit e path = record {
   done = read.done ++ text ∷ [];
   fits = all_more FitText read.done text read.fits fit;
   whole = more bytes before after text read.done read.whole e;
   fine = λ all. all_more IsPath read.done text (read.fine all) path;
-  faulty = λ none. let has = read.faulty none in record { text = has.text; among = among_more has.text read.done text has.among; fault = has.fault };
+  faulty = λ none. let has = read.faulty none in
+      record { text = has.text; among = among_more has.text read.done text has.among; fault = has.fault };
 }
 
 -- one more text was read, which is none
-pub read_fault : (bytes before after text : List ℕ) (are is : Bool) → Read bytes before are → FitText text → before ≡ spelled text ++ after → is ≡ false → IsSome (fault_of text)
+pub read_fault : (bytes before after text : List ℕ) (are is : Bool)
+    → Read bytes before are → FitText text → before ≡ spelled text ++ after → is ≡ false → IsSome (fault_of text)
     → Read bytes after is
 read_fault bytes before after text are is read fit e none fault = record {
   done = read.done ++ text ∷ [];
@@ -67,6 +71,7 @@ read_fault bytes before after text are is read fit e none fault = record {
 }
 
 -- where no text begins what is left, no texts are spelled so
-pub read_no_more : (bytes rest : List ℕ) (are : Bool) → Read bytes rest are → rest ≢ [] → ((text after : List ℕ) → FitText text → rest ≡ spelled text ++ after → ⊥)
+pub read_no_more : (bytes rest : List ℕ) (are : Bool)
+    → Read bytes rest are → rest ≢ [] → ((text after : List ℕ) → FitText text → rest ≡ spelled text ++ after → ⊥)
     → AreNoTexts bytes
 read_no_more bytes rest are read some none texts is = no_more rest some none read.done texts read.fits is.fits (sym read.whole ∙ is.is)

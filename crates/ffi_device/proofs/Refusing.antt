@@ -6,7 +6,8 @@ use Rattle.zk_turns.specs.Turns.{Input}
 use Rattle.zk_turns.specs.View.{Cache}
 use Rattle.ffi_device.specs.declared.device.Device.{Device}
 use Rattle.ffi_device.specs.declared.refusal.Refusal.{Refusal}
-use Rattle.ffi_device.specs.declared.refusal.Refusal.TheVariants.{Halted, Memory, NotText, NotPath, BadTimeout, NoSuchMode, NotSaved, NotWhole, TooMany, NotTexts}
+use Rattle.ffi_device.specs.declared.refusal.Refusal.TheVariants.{Halted, Memory, NotText, NotPath, BadTimeout, NoSuchMode, NotSaved}
+use Rattle.ffi_device.specs.declared.refusal.Refusal.TheVariants.{NotWhole, TooMany, NotTexts}
 use Rattle.ffi_device.specs.Codes.{refusal_code, refusal_of}
 use Rattle.ffi_device.specs.Refused.{RefusesPath, RefusesCreate, RefusesNodes}
 use Rattle.zk_nodes.specs.PathFault.{IsPath}
@@ -31,7 +32,8 @@ refuses Refuses moment input device NotWhole is goes_on = (is, refl)
 refuses Refuses moment input device TooMany is goes_on = (is, refl)
 refuses Refuses moment input device NotTexts is goes_on = (is, refl)
 
-pub refuses_create : (path : List ℕ) (mode : ℕ) (refusal : Refusal) → RefusesPath path (refusal_code refusal) → RefusesCreate path mode (refusal_code refusal)
+pub refuses_create : (path : List ℕ) (mode : ℕ) (refusal : Refusal) → RefusesPath path (refusal_code refusal)
+    → RefusesCreate path mode (refusal_code refusal)
 refuses_create path mode Halted is = is
 refuses_create path mode Memory is = is
 refuses_create path mode NotText is = is
@@ -44,7 +46,8 @@ refuses_create path mode TooMany is = is
 refuses_create path mode NotTexts is = is
 
 -- the same of a path for all nodes at and below it
-pub refuses_path : (lacking many : Type 0) (path : List ℕ) (refusal : Refusal) → RefusesPath path (refusal_code refusal) → RefusesNodes lacking many path (refusal_code refusal)
+pub refuses_path : (lacking many : Type 0) (path : List ℕ) (refusal : Refusal) → RefusesPath path (refusal_code refusal)
+    → RefusesNodes lacking many path (refusal_code refusal)
 refuses_path lacking many path Halted is = is
 refuses_path lacking many path Memory is = is
 refuses_path lacking many path NotText is = is
@@ -57,19 +60,23 @@ refuses_path lacking many path TooMany is = absurd is
 refuses_path lacking many path NotTexts is = is
 
 -- what a refusal of them says, by its number
-pub refuses_nodes : (lacking many : Type 0) (path : List ℕ) (why : NoSubtree) → IsPath path → Says why lacking many → RefusesNodes lacking many path (refusal_code (refusal_of why))
+pub refuses_nodes : (lacking many : Type 0) (path : List ℕ) (why : NoSubtree)
+    → IsPath path → Says why lacking many → RefusesNodes lacking many path (refusal_code (refusal_of why))
 refuses_nodes lacking many path why.NotWhole fine is = is
 refuses_nodes lacking many path why.TooMany fine is = is
 refuses_nodes lacking many path why.Memory fine is = fine
 
 -- the same where it is handed on
 pub handed_on : {T : Type 0} (r : Result T Refusal) (why : NoSubtree) (lacking many : Type 0) (path : List ℕ)
-    → IsErrAnd r (λ refusal. refusal ≡ refusal_of why) → IsPath path → Says why lacking many → IfErr r (λ refusal. RefusesNodes lacking many path (refusal_code refusal))
+    → IsErrAnd r (λ refusal. refusal ≡ refusal_of why) → IsPath path → Says why lacking many
+    → IfErr r (λ refusal. RefusesNodes lacking many path (refusal_code refusal))
 handed_on (Ok x) why lacking many path is fine says = tt
-handed_on (Err refusal) why lacking many path is fine says = subst (λ refusal. RefusesNodes lacking many path (refusal_code refusal)) (sym is) (refuses_nodes lacking many path why fine says)
+handed_on (Err refusal) why lacking many path is fine says =
+    subst (λ refusal. RefusesNodes lacking many path (refusal_code refusal)) (sym is) (refuses_nodes lacking many path why fine says)
 
 -- no markers are spelled so
-pub refuses_markers : (directory name names markers : List ℕ) (refusal : Refusal) → RefusesTexts markers (refusal_code refusal) → RefusesStanding directory name names markers (refusal_code refusal)
+pub refuses_markers : (directory name names markers : List ℕ) (refusal : Refusal) → RefusesTexts markers (refusal_code refusal)
+    → RefusesStanding directory name names markers (refusal_code refusal)
 refuses_markers directory name names markers Halted is = absurd is
 refuses_markers directory name names markers Memory is = is
 refuses_markers directory name names markers NotText is = absurd is
@@ -82,7 +89,8 @@ refuses_markers directory name names markers TooMany is = absurd is
 refuses_markers directory name names markers NotTexts is = inr (λ own against are. is (own ∷ against) are)
 
 -- what spells no nodes of a snapshot
-pub refuses_first : (cache : Cache) (nodes parents : List ℕ) (refusal : Refusal) → RefusesPaths nodes (refusal_code refusal) → RefusesSnapshot cache nodes parents (refusal_code refusal)
+pub refuses_first : (cache : Cache) (nodes parents : List ℕ) (refusal : Refusal) → RefusesPaths nodes (refusal_code refusal)
+    → RefusesSnapshot cache nodes parents (refusal_code refusal)
 refuses_first cache nodes parents Halted is = absurd is
 refuses_first cache nodes parents Memory is = absurd is
 refuses_first cache nodes parents NotText is = absurd is
@@ -95,7 +103,8 @@ refuses_first cache nodes parents TooMany is = absurd is
 refuses_first cache nodes parents NotTexts is = inl is
 
 -- what spells no parents
-pub refuses_second : (cache : Cache) (nodes parents : List ℕ) (refusal : Refusal) → RefusesPaths parents (refusal_code refusal) → RefusesSnapshot cache nodes parents (refusal_code refusal)
+pub refuses_second : (cache : Cache) (nodes parents : List ℕ) (refusal : Refusal) → RefusesPaths parents (refusal_code refusal)
+    → RefusesSnapshot cache nodes parents (refusal_code refusal)
 refuses_second cache nodes parents Halted is = absurd is
 refuses_second cache nodes parents Memory is = absurd is
 refuses_second cache nodes parents NotText is = absurd is
@@ -108,6 +117,7 @@ refuses_second cache nodes parents TooMany is = absurd is
 refuses_second cache nodes parents NotTexts is = inr is
 
 -- what is so of a refusal is so of what is handed on
-pub on_refused : {T : Type 0} (r : Result T Refusal) (refusal : Refusal) (P : Refusal → Type 0) → IsErrAnd r (λ one. one ≡ refusal) → P refusal → IfErr r P
+pub on_refused : {T : Type 0} (r : Result T Refusal) (refusal : Refusal) (P : Refusal → Type 0)
+    → IsErrAnd r (λ one. one ≡ refusal) → P refusal → IfErr r P
 on_refused (Ok x) refusal P is so = tt
 on_refused (Err one) refusal P is so = subst P (sym is) so

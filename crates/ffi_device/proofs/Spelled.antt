@@ -27,14 +27,18 @@ shorter text before after e = omega (arith, ap length e, length-append (spelled 
 
 -- where no text begins what is left, no texts are spelled so as a whole
 pub no_more : (rest : List ℕ) → rest ≢ [] → ((text after : List ℕ) → FitText text → rest ≡ spelled text ++ after → ⊥)
-    → (done texts : List (List ℕ)) → AllByRecursion FitText done → AllByRecursion FitText texts → flat_map spelled done ++ rest ≡ flat_map spelled texts → ⊥
+    → (done texts : List (List ℕ)) → AllByRecursion FitText done → AllByRecursion FitText texts
+    → flat_map spelled done ++ rest ≡ flat_map spelled texts → ⊥
 no_more rest some none [] [] fd ft e = some e
 no_more rest some none [] (t ∷ ts) fd ft e = none t (flat_map spelled ts) ft.0 e
-no_more rest some none (d ∷ ds) [] fd ft e = some_bytes d (flat_map spelled ds ++ rest) (sym e ∙ append_assoc (spelled d) (flat_map spelled ds) rest)
+no_more rest some none (d ∷ ds) [] fd ft e =
+    some_bytes d (flat_map spelled ds ++ rest) (sym e ∙ append_assoc (spelled d) (flat_map spelled ds) rest)
 no_more rest some none (d ∷ ds) (t ∷ ts) fd ft e =
-    let both = one_spelling ustring (Some d) (Some t) (flat_map spelled ds ++ rest) (flat_map spelled ts) fd.0 ft.0 (sym (append_assoc (spelled d) (flat_map spelled ds) rest) ∙ e) in
+    let both = one_spelling ustring (Some d) (Some t) (flat_map spelled ds ++ rest) (flat_map spelled ts) fd.0 ft.0
+    (sym (append_assoc (spelled d) (flat_map spelled ds) rest) ∙ e) in
     no_more rest some none ds ts fd.1 ft.1 both.1
 
 -- where no texts are spelled, not one marker is
 pub no_markers : (texts : List (List ℕ)) (bytes : List ℕ) → texts ≡ [] → AreTexts texts bytes → AreNoMarkers bytes
-no_markers texts bytes none are own against other = some_bytes own (flat_map spelled against) (sym (are.is ∙ ap (flat_map spelled) none) ∙ other.is)
+no_markers texts bytes none are own against other =
+    some_bytes own (flat_map spelled against) (sym (are.is ∙ ap (flat_map spelled) none) ∙ other.is)

@@ -1,7 +1,8 @@
 -- The numbers that a caller is told.
 use Rattle.std.specs.Prelude.{⊤, ℤ, pos, negsuc, Result, Ok, Err}
 use Rattle.ffi_device.specs.declared.refusal.Refusal.{Refusal}
-use Rattle.ffi_device.specs.declared.refusal.Refusal.TheVariants.{Halted, Memory, NotText, NotPath, BadTimeout, NoSuchMode, NotSaved, NotWhole, TooMany, NotTexts}
+use Rattle.ffi_device.specs.declared.refusal.Refusal.TheVariants.{Halted, Memory, NotText, NotPath, BadTimeout, NoSuchMode, NotSaved}
+use Rattle.ffi_device.specs.declared.refusal.Refusal.TheVariants.{NotWhole, TooMany, NotTexts}
 use Rattle.zk_conclusions.specs.declared.no_subtree.NoSubtree.{NoSubtree}
 use Rattle.zk_conclusions.specs.declared.no_subtree.NoSubtree.TheVariants as why
 

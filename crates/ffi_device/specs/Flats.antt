@@ -21,23 +21,61 @@ use Rattle.ffi_device.specs.Sessions.{state_number}
 
 -- no stat: zeros
 abbrev pub no_stat : FlatStat
-no_stat = record { czxid = pos 0; mzxid = pos 0; ctime = pos 0; mtime = pos 0; ephemeral_owner = pos 0; pzxid = pos 0; version = pos 0; cversion = pos 0; aversion = pos 0; data_length = pos 0; num_children = pos 0 }
+no_stat = record {
+  czxid = pos 0;
+  mzxid = pos 0;
+  ctime = pos 0;
+  mtime = pos 0;
+  ephemeral_owner = pos 0;
+  pzxid = pos 0;
+  version = pos 0;
+  cversion = pos 0;
+  aversion = pos 0;
+  data_length = pos 0;
+  num_children = pos 0;
+}
 
 -- the same eleven fields
 abbrev pub stat_of : Stat → FlatStat
-stat_of stat = record { czxid = stat.czxid; mzxid = stat.mzxid; ctime = stat.ctime; mtime = stat.mtime; ephemeral_owner = stat.ephemeral_owner; pzxid = stat.pzxid; version = stat.version; cversion = stat.cversion; aversion = stat.aversion; data_length = stat.data_length; num_children = stat.num_children }
+stat_of stat = record {
+  czxid = stat.czxid;
+  mzxid = stat.mzxid;
+  ctime = stat.ctime;
+  mtime = stat.mtime;
+  ephemeral_owner = stat.ephemeral_owner;
+  pzxid = stat.pzxid;
+  version = stat.version;
+  cversion = stat.cversion;
+  aversion = stat.aversion;
+  data_length = stat.data_length;
+  num_children = stat.num_children;
+}
 
 -- an output of this kind, and nothing else
 abbrev pub plain : (kind detail : ℤ) → Flat
-plain kind detail = record { kind = kind; detail = detail; result = pos 0; code = pos 0; ticket = 0; zxid = pos 0; length = 0; names = 0; is_null = false; has_stat = false; stat = no_stat }
+plain kind detail = record {
+  kind = kind;
+  detail = detail;
+  result = pos 0;
+  code = pos 0;
+  ticket = 0;
+  zxid = pos 0;
+  length = 0;
+  names = 0;
+  is_null = false;
+  has_stat = false;
+  stat = no_stat;
+}
 
 -- a reply with what it brings
 abbrev pub with_result : {A : Type 0} → Flat → CallResult A → Flat
 with_result flat (result.Code code) = record flat { result = pos 1; code = code_number code }
 with_result flat (result.Stat stat) = record flat { result = pos 2; has_stat = true; stat = stat_of stat }
-with_result flat (result.Data (Some bytes) stat) = record flat { result = pos 3; has_stat = true; stat = stat_of stat; length = length bytes.items }
+with_result flat (result.Data (Some bytes) stat) =
+    record flat { result = pos 3; has_stat = true; stat = stat_of stat; length = length bytes.items }
 with_result flat (result.Data None stat) = record flat { result = pos 3; has_stat = true; stat = stat_of stat; is_null = true }
-with_result flat (result.Names names stat) = record flat { result = pos 4; has_stat = true; stat = stat_of stat; names = length names.items }
+with_result flat (result.Names names stat) =
+    record flat { result = pos 4; has_stat = true; stat = stat_of stat; names = length names.items }
 with_result flat (result.Created path) = record flat { result = pos 5; length = length (string_bytes path) }
 with_result flat result.Done = record flat { result = pos 6 }
 
@@ -69,7 +107,8 @@ side_number Child = pos 2
 abbrev pub flat_of : {A : Type 0} → Output A → Flat
 flat_of (output.Send bytes) = record (plain (pos 1) (pos 0)) { length = length bytes.items }
 flat_of (output.Answer ticket why) = record (outcome_flat why) { ticket = ticket }
-flat_of (output.Report path side event) = record (plain (pos 3) (event_number event)) { result = side_number side; length = length (string_bytes path) }
+flat_of (output.Report path side event) =
+    record (plain (pos 3) (event_number event)) { result = side_number side; length = length (string_bytes path) }
 flat_of (output.State state) = plain (pos 4) (pos (state_number state))
 flat_of (output.Drop why) = record (fault_flat why) { length = length (fault_code (fault_view why)) }
 

@@ -8,11 +8,12 @@ use Rattle.zk_turns.specs.View.{View}
 use Rattle.zk_conclusions.specs.Holders.{IsHolder, ShowsHolder}
 use Rattle.zk_conclusions.specs.Seen.{IsServedFrom, tree_seen}
 
--- The session holds by the node of the path, which has the token: as the client shows it, and under servers of a history so there at the last
--- seen zxid.
+-- The session holds by the node of the path, which has the token: as the client shows it, and under servers of a history so there at the
+-- last seen zxid.
 pub record HoldsFirst (view : View) (directory prefix path : Text) (token : ℤ) : Type 0 where
   pub shows : ShowsHolder view directory prefix path token
-  pub holds : (h : History) → IsServedFrom h view → IsHolder (tree_seen h view) (path_of directory) prefix (path_of path) view.saved.session.session token
+  pub holds : (h : History)
+      → IsServedFrom h view → IsHolder (tree_seen h view) (path_of directory) prefix (path_of path) view.saved.session.session token
 
 -- It holds by this token, or none is shown.
 abbrev pub TellsHolder : View → (directory prefix path : Text) → Option ℤ → Type 0
@@ -25,8 +26,8 @@ pub record ArePlace (directory prefix path : List ℕ) : Type 0 where
   pub text : IsUtf8 prefix
   pub below : IsPath path
 
--- what is refused: -2 where the directory is a path and the prefix a text; -4 where one of them is no UTF-8; and -5 where the directory or the
--- path is no path
+-- what is refused: -2 where the directory is a path and the prefix a text; -4 where one of them is no UTF-8; and -5 where the directory or
+-- the path is no path
 abbrev pub RefusesHolder : (directory prefix path : List ℕ) → ℤ → Type 0
 RefusesHolder directory prefix path (negsuc (suc zero)) = IsPath directory × IsUtf8 prefix
 RefusesHolder directory prefix path (negsuc (suc (suc (suc zero)))) = ¬ (IsUtf8 directory) ⊎ (¬ (IsUtf8 prefix) ⊎ ¬ (IsUtf8 path))

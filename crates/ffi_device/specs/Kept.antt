@@ -23,11 +23,20 @@ mark_number Stale = pos 2
 
 -- no stat: zeros
 abbrev pub no_data_stat : FlatDataStat
-no_data_stat = record { czxid = pos 0; mzxid = pos 0; ctime = pos 0; mtime = pos 0; ephemeral_owner = pos 0; version = pos 0; data_length = pos 0 }
+no_data_stat =
+    record { czxid = pos 0; mzxid = pos 0; ctime = pos 0; mtime = pos 0; ephemeral_owner = pos 0; version = pos 0; data_length = pos 0 }
 
 -- the same seven fields
 abbrev pub data_stat_flat : DataStat → FlatDataStat
-data_stat_flat stat = record { czxid = stat.czxid; mzxid = stat.mzxid; ctime = stat.ctime; mtime = stat.mtime; ephemeral_owner = stat.ephemeral_owner; version = stat.version; data_length = stat.data_length }
+data_stat_flat stat = record {
+  czxid = stat.czxid;
+  mzxid = stat.mzxid;
+  ctime = stat.ctime;
+  mtime = stat.mtime;
+  ephemeral_owner = stat.ephemeral_owner;
+  version = stat.version;
+  data_length = stat.data_length;
+}
 
 -- nothing is kept of the data
 abbrev pub no_data : KeptData

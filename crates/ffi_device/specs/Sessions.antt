@@ -19,8 +19,8 @@ use Rattle.ffi_device.specs.Steps.{BeginsAt}
 abbrev pub Begins : (Refuses : ℤ → Type 0) → Start → Result Device Refusal → Type 0
 Begins Refuses start made = MatchResult made (BeginsAt start 1) (λ refusal. Refuses (refusal_code refusal))
 
--- Another session: 0 where the client begins so, with no outputs and at the next revision, and any other number where nothing happened, for a reason that this
--- number has.
+-- Another session: 0 where the client begins so, with no outputs and at the next revision, and any other number where nothing happened, for
+-- a reason that this number has.
 abbrev pub Renews : (timeout : ℤ) → (before : Device) → (code : ℤ) → (after : Device) → Type 0
 Renews timeout before (pos zero) after = BeginsAt (renewed_start timeout (view_of before.client)) (raised before.revision.number) after
 Renews timeout before code after = RefusesTimeout timeout code × (after ≡ before)

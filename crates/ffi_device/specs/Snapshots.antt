@@ -12,14 +12,17 @@ use Rattle.ffi_device.specs.Kept.{AreKeptNames, data_flat}
 use Rattle.ffi_device.specs.Subtrees.{AreRecords, bytes_in, pzxid_in, stat_in}
 use Rattle.ffi_device.specs.Texts.{AreNoTexts, ArePaths, SpellsNoPath, SpellsPaths}
 
--- A node: path, kind, data, czxid, mzxid, ctime, mtime, version, ephemeralOwner, dataLength. What follows the data is in the order of a Stat.
+-- A node: path, kind, data, czxid, mzxid, ctime, mtime, version, ephemeralOwner, dataLength. What follows the data is in the order of a
+-- Stat.
 abbrev pub shown_layout : Layout
 shown_layout = ustring ⨾ (int ⨾ (buffer ⨾ (long ⨾ (long ⨾ (long ⨾ (long ⨾ (int ⨾ (long ⨾ int))))))))
 
 -- its values
 abbrev pub shown_value : Text → (kind : ℤ) → Option (List ℕ) → DataStat → Value shown_layout
-shown_value path kind bytes stat =
-    (Some path, (kind, (bytes, (stat.czxid, (stat.mzxid, (stat.ctime, (stat.mtime, (stat.version, (stat.ephemeral_owner, stat.data_length)))))))))
+shown_value path kind bytes stat = (
+  Some path,
+  (kind, (bytes, (stat.czxid, (stat.mzxid, (stat.ctime, (stat.mtime, (stat.version, (stat.ephemeral_owner, stat.data_length)))))))),
+)
 
 -- what is kept of the node at a path, with the number of its kind
 abbrev pub shown_kept : Cache → Text → Value shown_layout
@@ -43,7 +46,8 @@ pub record IsParent (cache : Cache) (path : Text) (text : List ℕ) : Type 0 whe
 -- The same of these paths, one after the other.
 abbrev pub AreParents : Cache → List Text → List ℕ → Type 0
 AreParents cache [] text = text ≡ []
-AreParents cache (path ∷ paths) text = (front : List ℕ) × (back : List ℕ) × (text ≡ front ++ back) × IsParent cache path front × AreParents cache paths back
+AreParents cache (path ∷ paths) text =
+    (front : List ℕ) × (back : List ℕ) × (text ≡ front ++ back) × IsParent cache path front × AreParents cache paths back
 
 -- What is kept of the nodes of the first paths, and of the names below the second ones: all of it is good, and under servers of a history
 -- all of it is what the history has at the last seen zxid.
@@ -78,5 +82,6 @@ abbrev pub RefusesSnapshot : Cache → (nodes parents : List ℕ) → ℤ → Ty
 RefusesSnapshot cache nodes parents (negsuc (suc zero)) = SpellsPaths nodes × SpellsPaths parents
 RefusesSnapshot cache nodes parents (negsuc (suc (suc (suc (suc zero))))) = SpellsNoPath nodes ⊎ SpellsNoPath parents
 RefusesSnapshot cache nodes parents (negsuc (suc (suc (suc (suc (suc (suc (suc (suc zero))))))))) = SpellsNotWhole cache nodes parents
-RefusesSnapshot cache nodes parents (negsuc (suc (suc (suc (suc (suc (suc (suc (suc (suc (suc zero))))))))))) = AreNoTexts nodes ⊎ AreNoTexts parents
+RefusesSnapshot cache nodes parents (negsuc (suc (suc (suc (suc (suc (suc (suc (suc (suc (suc zero))))))))))) =
+    AreNoTexts nodes ⊎ AreNoTexts parents
 RefusesSnapshot cache nodes parents code = ⊥

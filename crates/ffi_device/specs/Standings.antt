@@ -28,7 +28,8 @@ AreNoMarkers markers = (own : List ℕ) (against : List (List ℕ)) → ¬ (AreT
 -- there at the last seen zxid, where numbers rise with creation and the listing was true.
 pub record StandsFirst (view : View) (directory name : Text) (listing : List Name) (listed : ℤ) (kind : Kind) (token : ℤ) : Type 0 where
   pub shows : ShowsStanding view directory kind listing listed (child_text directory name) token
-  pub holds : (h : History) → IsServedFrom h view → NumbersRise h (path_of directory) kind → ListsAll (tree_at h (from_zero listed)) (path_of directory) listing
+  pub holds : (h : History)
+      → IsServedFrom h view → NumbersRise h (path_of directory) kind → ListsAll (tree_at h (from_zero listed)) (path_of directory) listing
       → IsStanding (tree_seen h view) (path_of directory) kind (path_of (child_text directory name)) view.saved.session.session token
 
 -- No such token is shown, and no listed rival is before the name.
@@ -38,12 +39,16 @@ pub record StandsUnsure (view : View) (directory name : Text) (listing : List Na
 
 -- Where it stands: first, and nothing is written; after the last rival before it, whose name is written; or neither is shown.
 abbrev pub StandsBy : View → (directory name : Text) (listing : List Name) (listed : ℤ) → Kind → Stands → (room written : List ℕ) → Type 0
-StandsBy view directory name listing listed kind (First token) room written = StandsFirst view directory name listing listed kind token × (written ≡ room)
-StandsBy view directory name listing listed kind (After count) room written = WritesText (IsPredecessor kind listing name) room written count
-StandsBy view directory name listing listed kind Unsure room written = StandsUnsure view directory name listing listed kind × (written ≡ room)
+StandsBy view directory name listing listed kind (First token) room written =
+    StandsFirst view directory name listing listed kind token × (written ≡ room)
+StandsBy view directory name listing listed kind (After count) room written =
+    WritesText (IsPredecessor kind listing name) room written count
+StandsBy view directory name listing listed kind Unsure room written =
+    StandsUnsure view directory name listing listed kind × (written ≡ room)
 
 -- the same of what was asked
-pub record Stood (view : View) (directory name : Text) (names : List ℕ) (listed : ℤ) (markers : List ℕ) (stands : Stands) (room written : List ℕ) : Type 0 where
+pub record Stood (view : View) (directory name : Text) (names : List ℕ) (listed : ℤ) (markers : List ℕ) (stands : Stands)
+    (room written : List ℕ) : Type 0 where
   pub listing : List Name
   pub kind : Kind
   pub asked : IsAsked names markers listing kind
@@ -54,6 +59,8 @@ pub record Stood (view : View) (directory name : Text) (names : List ℕ) (liste
 abbrev pub RefusesStanding : (directory name names markers : List ℕ) → ℤ → Type 0
 RefusesStanding directory name names markers (negsuc (suc zero)) = ⊤
 RefusesStanding directory name names markers (negsuc (suc (suc (suc zero)))) = ¬ (IsUtf8 directory) ⊎ ¬ (IsUtf8 name)
-RefusesStanding directory name names markers (negsuc (suc (suc (suc (suc zero))))) = IsSome (fault_of directory) ⊎ (child_fault directory name ≢ None)
-RefusesStanding directory name names markers (negsuc (suc (suc (suc (suc (suc (suc (suc (suc (suc (suc zero))))))))))) = AreNoTexts names ⊎ AreNoMarkers markers
+RefusesStanding directory name names markers (negsuc (suc (suc (suc (suc zero))))) =
+    IsSome (fault_of directory) ⊎ (child_fault directory name ≢ None)
+RefusesStanding directory name names markers (negsuc (suc (suc (suc (suc (suc (suc (suc (suc (suc (suc zero))))))))))) =
+    AreNoTexts names ⊎ AreNoMarkers markers
 RefusesStanding directory name names markers code = ⊥

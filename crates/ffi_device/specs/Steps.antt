@@ -8,7 +8,8 @@ use Rattle.zk_client.specs.Clients.{view_of}
 use Rattle.zk_conclusions.specs.Revisions.{noted, raised}
 use Rattle.ffi_device.specs.declared.device.Device.{Device}
 
--- A moment and an input were two turns by the rule of the client. Their outputs are there, and none was read. They were noted in the revision.
+-- A moment and an input were two turns by the rule of the client. Their outputs are there, and none was read. They were noted in the
+-- revision.
 pub record Heard (moment : ℕ) (input : Input) (before after : Device) : Type 0 where
   pub rule : RuleAt moment (view_of before.client) (record { input = input; outputs = said after.said.items }) (view_of after.client)
   pub unread : after.read ≡ 0

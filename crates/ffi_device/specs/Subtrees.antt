@@ -23,7 +23,8 @@ node_layout = ustring ⨾ (buffer ⨾ (long ⨾ (long ⨾ (long ⨾ (long ⨾ (i
 
 -- no stat: zeros
 abbrev pub no_stat : DataStat
-no_stat = record { czxid = pos 0; mzxid = pos 0; ctime = pos 0; mtime = pos 0; version = pos 0; ephemeral_owner = pos 0; data_length = pos 0 }
+no_stat =
+    record { czxid = pos 0; mzxid = pos 0; ctime = pos 0; mtime = pos 0; version = pos 0; ephemeral_owner = pos 0; data_length = pos 0 }
 
 -- the data of a node that is kept with its data
 abbrev pub bytes_in : Option (Kept Answer) → Option (List ℕ)
@@ -42,8 +43,10 @@ pzxid_in (Some kept) = kept.answer.pzxid
 
 -- the values of a node
 abbrev pub node_value : Text → Option (List ℕ) → DataStat → (pzxid : ℤ) → Value node_layout
-node_value path bytes stat pzxid =
-    (Some path, (bytes, (stat.czxid, (stat.mzxid, (stat.ctime, (stat.mtime, (stat.version, (stat.ephemeral_owner, (stat.data_length, pzxid)))))))))
+node_value path bytes stat pzxid = (
+  Some path,
+  (bytes, (stat.czxid, (stat.mzxid, (stat.ctime, (stat.mtime, (stat.version, (stat.ephemeral_owner, (stat.data_length, pzxid)))))))),
+)
 
 -- what is kept of the node at a path
 abbrev pub node_kept : Cache → Text → Value node_layout

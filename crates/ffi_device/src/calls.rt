@@ -137,7 +137,8 @@ impl Device {
         bytes: Option<&[u8]>,
         version: i32,
     ) -> Result<(), Refusal>
-        ensures { Steps (RefusesPath path.now) now (Calls ticket (SetData path.now (option_map (λ s. s.now) bytes.entry) version)) self.old (code_of result) self.new }
+        ensures { Steps (RefusesPath path.now) now (Calls ticket (SetData path.now (option_map (λ s. s.now) bytes.entry) version)) self.old
+            (code_of result) self.new }
     {
         let call = set_data(alloc, path, bytes, version)?;
         self.ask_at(now, ticket, call)
@@ -155,7 +156,8 @@ impl Device {
         bytes: Option<&[u8]>,
         mode: u32,
     ) -> Result<(), Refusal>
-        ensures { Steps (RefusesCreate path.now mode) now (Calls ticket (Create path.now (option_map (λ s. s.now) bytes.entry) mode)) self.old (code_of result) self.new }
+        ensures { Steps (RefusesCreate path.now mode) now
+            (Calls ticket (Create path.now (option_map (λ s. s.now) bytes.entry) mode)) self.old (code_of result) self.new }
     {
         let call = create(alloc, path, bytes, mode)?;
         self.ask_at(now, ticket, call)

@@ -5,7 +5,8 @@ ghost use Rattle.zk_client.specs.FaultText.{fault_code};
 ghost use Rattle.zk_client.specs.Views.{fault_view};
 ghost use Rattle.zk_records.specs.Events.{event_number};
 ghost use Rattle.ffi_device.specs.Sessions.{state_number};
-ghost use Rattle.ffi_device.specs.Flats.{fault_flat, flat_of, outcome_flat, outcome_text, plain, side_number, stat_of, text_of, with_result};
+ghost use Rattle.ffi_device.specs.Flats.{fault_flat, flat_of, outcome_flat, outcome_text, plain, side_number, stat_of, text_of};
+ghost use Rattle.ffi_device.specs.Flats.{with_result};
 
 use std::alloc::Global;
 use zk_client::{CallResult, Event, Fault, Outcome, Output, Side, Stat, State};

@@ -8,7 +8,8 @@ ghost use Rattle.zk_client.specs.Clients.{view_of};
 ghost use Rattle.zk_nodes.specs.Names.{names_of};
 ghost use Rattle.zk_nodes.specs.PathFault.{IsPath};
 ghost use Rattle.ffi_device.specs.Codes.{refusal_code};
-ghost use Rattle.ffi_device.specs.Kept.{data_flat, data_stat_flat, data_text, mark_number, AreKeptNames, AreSpelled, IsKeptName, TellsNames, WritesName, WritesNames};
+ghost use Rattle.ffi_device.specs.Kept.{data_flat, data_stat_flat, data_text, mark_number, AreKeptNames, AreSpelled, IsKeptName};
+ghost use Rattle.ffi_device.specs.Kept.{TellsNames, WritesName, WritesNames};
 ghost use Rattle.ffi_device.specs.Outputs.{name_if};
 ghost use Rattle.ffi_device.specs.Refused.{RefusesPath};
 ghost use Rattle.zk_turns.specs.Rule.{forgotten};
@@ -199,7 +200,8 @@ pub(crate) fn names_text(
     alloc: Global,
     kept: Option<(&Names<Global>, Mark)>,
 ) -> Result<Vec<u8>, AllocError>
-    ensures { IfOk result (λ text. AreKeptNames (option_map (λ kept. record { answer = names_in kept.0.now; mark = kept.1 }) kept.entry) text.items) }
+    ensures { IfOk result
+        (λ text. AreKeptNames (option_map (λ kept. record { answer = names_in kept.0.now; mark = kept.1 }) kept.entry) text.items) }
 {
     match kept {
         Some((names, _)) => spelled_names(alloc, names),
@@ -212,7 +214,8 @@ fn data_at<'a>(
     client: &'a Client<Global>,
     path: &[u8],
 ) -> Result<Option<(&'a DataAnswer<Global>, Mark)>, Refusal>
-    ensures found { IfOk result (λ found. option_map (λ kept. record { answer = answer_of kept.0.now; mark = kept.1 }) found ≡ (view_of client.now).cache.nodes path.now) }
+    ensures found { IfOk result (λ found. option_map (λ kept. record { answer = answer_of kept.0.now; mark = kept.1 }) found
+        ≡ (view_of client.now).cache.nodes path.now) }
     ensures checked { OnOk result ((view_of client.now).cache.nodes path.now ≡ None → IsPath path.now) }
     ensures refused { IfErr result (λ refusal. RefusesPath path.now (refusal_code refusal)) }
     ensures memory { IfErr result (λ refusal. refusal ≢ Refusal.Memory) }
@@ -230,7 +233,8 @@ fn children_at<'a>(
     client: &'a Client<Global>,
     path: &[u8],
 ) -> Result<Option<(&'a Names<Global>, Mark)>, Refusal>
-    ensures found { IfOk result (λ found. option_map (λ kept. record { answer = names_in kept.0.now; mark = kept.1 }) found ≡ (view_of client.now).cache.children path.now) }
+    ensures found { IfOk result (λ found. option_map (λ kept. record { answer = names_in kept.0.now; mark = kept.1 }) found
+        ≡ (view_of client.now).cache.children path.now) }
     ensures checked { OnOk result ((view_of client.now).cache.children path.now ≡ None → IsPath path.now) }
     ensures refused { IfErr result (λ refusal. RefusesPath path.now (refusal_code refusal)) }
     ensures memory { IfErr result (λ refusal. refusal ≢ Refusal.Memory) }
@@ -247,7 +251,8 @@ fn children_at<'a>(
 /// else `NotPath`. It takes no memory, and looks at the path only where nothing is kept of it.
 pub fn peek_data(client: &Client<Global>, path: &[u8], room: &mut [u8]) -> Result<KeptData, Refusal>
     ensures found { IfOk result (λ flat. flat ≡ data_flat ((view_of client.now).cache.nodes path.now)) }
-    ensures copied { OnOk result (room.new ≡ take (length room.old) (data_text ((view_of client.now).cache.nodes path.now)) ++ drop (length (data_text ((view_of client.now).cache.nodes path.now))) room.old) }
+    ensures copied { OnOk result (room.new ≡ take (length room.old) (data_text ((view_of client.now).cache.nodes path.now))
+        ++ drop (length (data_text ((view_of client.now).cache.nodes path.now))) room.old) }
     ensures checked { OnOk result ((view_of client.now).cache.nodes path.now ≡ None → IsPath path.now) }
     ensures refused { IfErr result (λ refusal. RefusesPath path.now (refusal_code refusal)) }
     ensures memory { IfErr result (λ refusal. refusal ≢ Refusal.Memory) }

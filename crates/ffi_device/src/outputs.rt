@@ -5,7 +5,8 @@ ghost use Rattle.std.specs.Option.{option_map};
 ghost use Rattle.std.specs.List.{slice_get};
 ghost use Rattle.ffi_device.specs.Flats.{flat_of};
 ghost use Rattle.ffi_device.specs.Kept.{WritesText};
-ghost use Rattle.ffi_device.specs.Outputs.{names_in, outcome_name, outcome_names, read_after, told, told_name, told_names, told_text, told_words};
+ghost use Rattle.ffi_device.specs.Outputs.{names_in, outcome_name, outcome_names, read_after, told, told_name, told_names, told_text};
+ghost use Rattle.ffi_device.specs.Outputs.{told_words};
 ghost use Rattle.ffi_device.specs.Texts.{AreTexts};
 
 use crate::copying::copy_into;
@@ -97,7 +98,8 @@ impl Device {
     /// many bytes there are from there on.
     pub fn copy_text(&self, from: usize, room: &mut [u8]) -> usize
         ensures count { result ≡ length (drop from (told_text self.now.said.items self.now.read)) }
-        ensures copied { room.new ≡ take (length room.old) (drop from (told_text self.now.said.items self.now.read)) ++ drop (length (drop from (told_text self.now.said.items self.now.read))) room.old }
+        ensures copied { room.new ≡ take (length room.old) (drop from (told_text self.now.said.items self.now.read))
+            ++ drop (length (drop from (told_text self.now.said.items self.now.read))) room.old }
     {
         let text = self.told_text();
         copy_into(&text[from.min(text.len())..], room)
@@ -127,7 +129,8 @@ impl Device {
     /// bytes it has.
     pub fn copy_name(&self, index: usize, room: &mut [u8]) -> usize
         ensures count { result ≡ length (told_name index self.now.said.items self.now.read) }
-        ensures copied { room.new ≡ take (length room.old) (told_name index self.now.said.items self.now.read) ++ drop (length (told_name index self.now.said.items self.now.read)) room.old }
+        ensures copied { room.new ≡ take (length room.old) (told_name index self.now.said.items self.now.read)
+            ++ drop (length (told_name index self.now.said.items self.now.read)) room.old }
     {
         copy_into(self.told_name(index), room)
     }

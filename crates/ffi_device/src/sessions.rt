@@ -17,8 +17,10 @@ use zk_client::{Client, SavedFault, SavedSession, State};
 
 // What was put away as these bytes.
 fn read_saved(alloc: Global, saved: &[u8]) -> Result<SavedSession<Global>, Refusal>
-    ensures found { (put : PutAway) → bytes_read saved.now ≡ Ok put → MatchResult result (λ session. session ≡ put) (λ refusal. refusal ≡ refusals.Memory) }
-    ensures unread { (fault : SavedFault) → bytes_read saved.now ≡ Err fault → fault ≢ saved_faults.Memory → result ≡ Err refusals.NotSaved }
+    ensures found { (put : PutAway) → bytes_read saved.now ≡ Ok put
+        → MatchResult result (λ session. session ≡ put) (λ refusal. refusal ≡ refusals.Memory) }
+    ensures unread { (fault : SavedFault) → bytes_read saved.now ≡ Err fault → fault ≢ saved_faults.Memory
+        → result ≡ Err refusals.NotSaved }
 {
     match SavedSession::from_bytes(alloc, saved) {
         Ok(session) => Ok(session),
@@ -31,9 +33,11 @@ impl Device {
     /// A client that takes up the session of these bytes, with this timeout in milliseconds. A refusal is `BadTimeout`, else
     /// `NotSaved`, else `Memory`.
     pub fn resume(alloc: Global, timeout_ms: i32, saved: &[u8]) -> Result<Device, Refusal>
-        ensures begins { (put : PutAway) → bytes_read saved.now ≡ Ok put → Begins (RefusesTimeout timeout_ms) (put_start timeout_ms put) result }
+        ensures begins { (put : PutAway) → bytes_read saved.now ≡ Ok put
+            → Begins (RefusesTimeout timeout_ms) (put_start timeout_ms put) result }
         ensures accepted { OnOk result (pos 0 <ℤ timeout_ms) }
-        ensures unread { (fault : SavedFault) → bytes_read saved.now ≡ Err fault → fault ≢ saved_faults.Memory → pos 0 <ℤ timeout_ms → result ≡ Err refusals.NotSaved }
+        ensures unread { (fault : SavedFault) → bytes_read saved.now ≡ Err fault → fault ≢ saved_faults.Memory → pos 0 <ℤ timeout_ms
+            → result ≡ Err refusals.NotSaved }
     {
         if timeout_ms <= 0 {
             return Err(Refusal::BadTimeout);
@@ -50,8 +54,8 @@ impl Device {
         }
     }
 
-    /// Begins a new session, which asks for this timeout in milliseconds. The last seen zxid is kept, and nothing else; the revision goes on,
-    /// with the next number. A refusal is `BadTimeout`, else `Memory`.
+    /// Begins a new session, which asks for this timeout in milliseconds. The last seen zxid is kept, and nothing else; the revision goes
+    /// on, with the next number. A refusal is `BadTimeout`, else `Memory`.
     pub fn renew(&mut self, alloc: Global, timeout_ms: i32) -> Result<(), Refusal>
         ensures { Renews timeout_ms self.old (code_of result) self.new }
     {

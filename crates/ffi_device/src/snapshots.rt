@@ -6,7 +6,8 @@ ghost use Rattle.zk_conclusions.specs.Snapshots.{is_whole};
 ghost use Rattle.zk_jute.specs.Spelling.{Fits, spelling};
 ghost use Rattle.ffi_device.specs.Codes.{refusal_code};
 ghost use Rattle.ffi_device.specs.Kept.{WritesText};
-ghost use Rattle.ffi_device.specs.Snapshots.{AreParents, IsParent, IsSnapshotOf, IsSnapshotText, RefusesSnapshot, parent_layout, parent_value, shown_kept, shown_layout, shown_value};
+ghost use Rattle.ffi_device.specs.Snapshots.{AreParents, IsParent, IsSnapshotOf, IsSnapshotText, RefusesSnapshot, parent_layout};
+ghost use Rattle.ffi_device.specs.Snapshots.{parent_value, shown_kept, shown_layout, shown_value};
 ghost use Rattle.ffi_device.specs.Subtrees.{AreRecords};
 
 use crate::copying::copy_into;
@@ -28,7 +29,8 @@ fn write_shown(
     stat: DataStat,
     text: &mut Vec<u8>,
 ) -> Result<(), PutError>
-    ensures ok { OnOk result (text.new.items ≡ text.old.items ++ spelling shown_layout (shown_value path.now kind (option_map (λ bytes. bytes.now) bytes.entry) stat)) }
+    ensures ok { OnOk result (text.new.items
+        ≡ text.old.items ++ spelling shown_layout (shown_value path.now kind (option_map (λ bytes. bytes.now) bytes.entry) stat)) }
     ensures fits { OnOk result (Fits shown_layout (shown_value path.now kind (option_map (λ bytes. bytes.now) bytes.entry) stat)) }
 {
     let last = Then(stat.version, Then(stat.ephemeral_owner, stat.data_length));

@@ -48,7 +48,8 @@ fn stands_by(
     room: &mut [u8],
 ) -> Stands
     requires { path.now ≡ child_text listing.now.directory.now name.now }
-    ensures { StandsBy (view_of client.now) listing.now.directory.now name.now (map string_bytes listing.now.names.now) listing.now.zxid (kind_of kind.now) result room.old room.new }
+    ensures { StandsBy (view_of client.now) listing.now.directory.now name.now (map string_bytes listing.now.names.now) listing.now.zxid
+        (kind_of kind.now) result room.old room.new }
 {
     match Standing::of(client, listing, kind, path) {
         Some(standing) => Stands::First(standing.token()),
@@ -79,9 +80,11 @@ fn stands_among(
     contender: &Contender<'_>,
     room: &mut [u8],
 ) -> Result<Stands, Refusal>
-    ensures stood { IfOk result (λ stands. Stood (view_of client.now) directory.now name.now contender.now.names.now contender.now.listed contender.now.markers.now stands room.old room.new) }
+    ensures stood { IfOk result (λ stands. Stood (view_of client.now) directory.now name.now contender.now.names.now contender.now.listed
+        contender.now.markers.now stands room.old room.new) }
     ensures fine { OnOk result (child_fault directory.now name.now ≡ None) }
-    ensures refused { IfErr result (λ refusal. RefusesStanding directory.now name.now contender.now.names.now contender.now.markers.now (refusal_code refusal)) }
+    ensures refused { IfErr result
+        (λ refusal. RefusesStanding directory.now name.now contender.now.names.now contender.now.markers.now (refusal_code refusal)) }
     ensures same { OnErr result (room.new ≡ room.old) }
 {
     let path = child_of(alloc, directory, name)?;
@@ -114,8 +117,10 @@ pub fn standing(
     contender: &Contender<'_>,
     room: &mut [u8],
 ) -> Result<Stands, Refusal>
-    ensures stood { IfOk result (λ stands. Stood (view_of client.now) contender.now.directory.now contender.now.name.now contender.now.names.now contender.now.listed contender.now.markers.now stands room.old room.new) }
-    ensures refused { IfErr result (λ refusal. RefusesStanding contender.now.directory.now contender.now.name.now contender.now.names.now contender.now.markers.now (refusal_code refusal)) }
+    ensures stood { IfOk result (λ stands. Stood (view_of client.now) contender.now.directory.now contender.now.name.now
+        contender.now.names.now contender.now.listed contender.now.markers.now stands room.old room.new) }
+    ensures refused { IfErr result (λ refusal. RefusesStanding contender.now.directory.now contender.now.name.now contender.now.names.now
+        contender.now.markers.now (refusal_code refusal)) }
     ensures same { OnErr result (room.new ≡ room.old) }
 {
     let directory = path_of(alloc, contender.directory)?;

@@ -10,7 +10,8 @@ ghost use Rattle.ffi_device.specs.Codes.{refusal_code};
 ghost use Rattle.ffi_device.specs.Flats.{side_number};
 ghost use Rattle.ffi_device.specs.Kept.{WritesText};
 ghost use Rattle.ffi_device.specs.Refused.{RefusesNodes};
-ghost use Rattle.ffi_device.specs.Subtrees.{AreNodes, AreReads, IsLackingText, IsSubtreeText, bytes_in, node_kept, node_layout, node_value, pzxid_in, read_layout, read_value, stat_in};
+ghost use Rattle.ffi_device.specs.Subtrees.{AreNodes, AreReads, IsLackingText, IsSubtreeText, bytes_in, node_kept, node_layout, node_value};
+ghost use Rattle.ffi_device.specs.Subtrees.{pzxid_in, read_layout, read_value, stat_in};
 
 use crate::copying::copy_into;
 use crate::paths::path_of;
@@ -32,7 +33,8 @@ const NO_STAT: DataStat = DataStat {
 
 /// The data of a node that is kept with its data.
 pub(crate) fn bytes_in(kept: Option<(&DataAnswer<Global>, Mark)>) -> Option<&[u8]>
-    ensures { option_map (λ bytes. bytes.now) result ≡ bytes_in (option_map (λ kept. record { answer = answer_of kept.0.now; mark = kept.1 }) kept.entry) }
+    ensures { option_map (λ bytes. bytes.now) result
+        ≡ bytes_in (option_map (λ kept. record { answer = answer_of kept.0.now; mark = kept.1 }) kept.entry) }
 {
     match kept {
         Some((DataAnswer::Full(Some(bytes), _), _)) => Some(bytes.as_slice()),
@@ -69,7 +71,8 @@ fn write_node(
     pzxid: i64,
     text: &mut Vec<u8>,
 ) -> Result<(), PutError>
-    ensures ok { OnOk result (text.new.items ≡ text.old.items ++ spelling node_layout (node_value path.now (option_map (λ bytes. bytes.now) bytes.entry) stat pzxid)) }
+    ensures ok { OnOk result (text.new.items
+        ≡ text.old.items ++ spelling node_layout (node_value path.now (option_map (λ bytes. bytes.now) bytes.entry) stat pzxid)) }
     ensures fits { OnOk result (Fits node_layout (node_value path.now (option_map (λ bytes. bytes.now) bytes.entry) stat pzxid)) }
 {
     let last = Then(stat.data_length, pzxid);
@@ -118,7 +121,8 @@ fn subtree_text(
     most: usize,
 ) -> Result<Vec<u8>, NoSubtree>
     ensures text { IfOk result (λ text. IsSubtreeText (view_of client.now) root.now most text.items) }
-    ensures refused { IfErr result (λ why. Says why (¬ (IsWholeBelow (view_of client.now).cache root.now)) (HasMoreNodes (view_of client.now).cache root.now most)) }
+    ensures refused { IfErr result
+        (λ why. Says why (¬ (IsWholeBelow (view_of client.now).cache root.now)) (HasMoreNodes (view_of client.now).cache root.now most)) }
 {
     let subtree = Subtree::of(client, alloc, root, most)?;
     let text = spelled_nodes(alloc, client, subtree.paths())?;
@@ -163,7 +167,8 @@ fn lacking_text(
     most: usize,
 ) -> Result<Vec<u8>, NoSubtree>
     ensures text { IfOk result (λ text. IsLackingText (view_of client.now).cache root.now most text.items) }
-    ensures refused { IfErr result (λ why. Says why (HasNoPath (view_of client.now).cache root.now) (HasMoreNodes (view_of client.now).cache root.now most)) }
+    ensures refused { IfErr result
+        (λ why. Says why (HasNoPath (view_of client.now).cache root.now) (HasMoreNodes (view_of client.now).cache root.now most)) }
 {
     let lacking = Lacking::of(client, alloc, root, most)?;
     let mut text = spelled_reads(alloc, lacking.data.as_slice(), Side::Data)?;
@@ -182,7 +187,8 @@ pub fn subtree(
     room: &mut [u8],
 ) -> Result<usize, Refusal>
     ensures written { IfOk result (WritesText (IsSubtreeText (view_of client.now) path.now most) room.old room.new) }
-    ensures refused { IfErr result (λ refusal. RefusesNodes (¬ (IsWholeBelow (view_of client.now).cache path.now)) (HasMoreNodes (view_of client.now).cache path.now most) path.now (refusal_code refusal)) }
+    ensures refused { IfErr result (λ refusal. RefusesNodes (¬ (IsWholeBelow (view_of client.now).cache path.now))
+        (HasMoreNodes (view_of client.now).cache path.now most) path.now (refusal_code refusal)) }
     ensures same { OnErr result (room.new ≡ room.old) }
 {
     let path = path_of(alloc, path)?;
@@ -200,7 +206,8 @@ pub fn lacking(
     room: &mut [u8],
 ) -> Result<usize, Refusal>
     ensures written { IfOk result (WritesText (IsLackingText (view_of client.now).cache path.now most) room.old room.new) }
-    ensures refused { IfErr result (λ refusal. RefusesNodes (HasNoPath (view_of client.now).cache path.now) (HasMoreNodes (view_of client.now).cache path.now most) path.now (refusal_code refusal)) }
+    ensures refused { IfErr result (λ refusal. RefusesNodes (HasNoPath (view_of client.now).cache path.now)
+        (HasMoreNodes (view_of client.now).cache path.now most) path.now (refusal_code refusal)) }
     ensures same { OnErr result (room.new ≡ room.old) }
 {
     let path = path_of(alloc, path)?;

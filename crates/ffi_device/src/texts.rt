@@ -26,8 +26,10 @@ pub(crate) fn spelled_texts(alloc: Global, texts: &[String<Global>]) -> Result<V
 
 /// The next text, which the cursor moves past, and nothing where there is none. It takes no memory.
 pub(crate) fn next_text<'a>(alloc: Global, at: &mut Cursor<'a>) -> Option<&'a str>
-    ensures some { IfSome result (λ text. Fits ustring (Some text.now) × (bytes_left at.old ≡ spelling ustring (Some text.now) ++ bytes_left at.new)) }
-    ensures none { result ≡ None → (text rest : List ℕ) → Fits ustring (Some text) → ¬ (bytes_left at.old ≡ spelling ustring (Some text) ++ rest) }
+    ensures some { IfSome result
+        (λ text. Fits ustring (Some text.now) × (bytes_left at.old ≡ spelling ustring (Some text.now) ++ bytes_left at.new)) }
+    ensures none { result ≡ None → (text rest : List ℕ) → Fits ustring (Some text)
+        → ¬ (bytes_left at.old ≡ spelling ustring (Some text) ++ rest) }
 {
     match take(alloc, at) {
         Ok(TextRef { text }) => text,

@@ -1,5 +1,6 @@
 -- What goes through a client's connection: deeds one after the other; and that bytes come and go whole.
-use Rattle.std.proofs.Common.{◌≡◌, ◌++◌, ◌∙◌, ℕ, Bool, true, false, List, [], ◌∷◌, ap, append-nil, append_assoc, refl, sym, subst, Option, Some, None, Vec}
+use Rattle.std.proofs.Common.{◌≡◌, ◌++◌, ◌∙◌, ℕ, Bool, true, false, List, [], ◌∷◌, ap, append-nil, append_assoc, refl, sym, subst, Option}
+use Rattle.std.proofs.Common.{Some, None, Vec}
 use Rattle.std.specs.Prelude.{Result, Ok, Err, OnOk, IfOk, IsOk, IfSome, if◌then◌else◌}
 use Rattle.std.specs.List.{filter, flat_map, list_any, FoldsTo}
 use Rattle.std.specs.Io.KnownBytes.{Appends, Consumes}
@@ -9,14 +10,17 @@ use Rattle.zk_link.specs.declared.brought.Brought.{Brought}
 use Rattle.script_live.specs.Frames.{frames}
 use Rattle.script_live.specs.Trails.{is_given, kept}
 use Rattle.zk_link.specs.Streams.{Exchanges, Known, Sends}
-use Rattle.script_live.specs.Flowing.{bytes_of, handed_by, holding, piece_bytes, piece_in, sent_by, AreWithin, BytesComeWhole, BytesGoWhole, Carries, Deed, Delivers, Ends, Flow, Flows, Hears, Holds, Reads}
+use Rattle.script_live.specs.Flowing.{bytes_of, handed_by, holding, piece_bytes, piece_in, sent_by, AreWithin, BytesComeWhole, BytesGoWhole}
+use Rattle.script_live.specs.Flowing.{Carries, Deed, Delivers, Ends, Flow, Flows, Hears, Holds, Reads}
 use Rattle.zk_link.proofs.Streaming.{appends_none, appends_on}
 
 -- ---- deeds, one after the other
 
-carries_on : (deeds more : List Deed) (old between new : Flow) → FoldsTo Carries old deeds between → FoldsTo Carries between more new → FoldsTo Carries old (deeds ++ more) new
+carries_on : (deeds more : List Deed) (old between new : Flow)
+    → FoldsTo Carries old deeds between → FoldsTo Carries between more new → FoldsTo Carries old (deeds ++ more) new
 carries_on [] more old between new same rest = subst (λ (f : Flow). FoldsTo Carries f more new) (sym same) rest
-carries_on (deed ∷ deeds) more old between new carries rest = (carries.0, carries.1, carries_on deeds more carries.0 between new carries.2 rest)
+carries_on (deed ∷ deeds) more old between new carries rest =
+    (carries.0, carries.1, carries_on deeds more carries.0 between new carries.2 rest)
 
 pub flow_same : (old new : Flow) → old ≡ new → Flows old new
 flow_same old new is = record { deeds = []; carries = is }
@@ -25,9 +29,11 @@ pub flow_one : (deed : Deed) (old new : Flow) → Carries old deed new → Flows
 flow_one deed old new carries = record { deeds = deed ∷ []; carries = (new, carries, refl) }
 
 pub flow_after : (old between new : Flow) → Flows old between → Flows between new → Flows old new
-flow_after old between new first rest = record { deeds = first.deeds ++ rest.deeds; carries = carries_on first.deeds rest.deeds old between new first.carries rest.carries }
+flow_after old between new first rest =
+    record { deeds = first.deeds ++ rest.deeds; carries = carries_on first.deeds rest.deeds old between new first.carries rest.carries }
 
-pub ok_flow_after : {X E : Type 0} (result : Result X E) (old between new : Flow) → Flows old between → OnOk result (Flows between new) → OnOk result (Flows old new)
+pub ok_flow_after : {X E : Type 0} (result : Result X E) (old between new : Flow) → Flows old between → OnOk result (Flows between new)
+    → OnOk result (Flows old new)
 ok_flow_after (Ok x) old between new first rest = flow_after old between new first rest
 ok_flow_after (Err e) old between new first rest = tt
 
@@ -39,7 +45,8 @@ open_kept false is_open there = there
 
 open_before : (deed : Deed) (old new : Flow) → Carries old deed new → AreWithin (deed ∷ []) → new.is_open ≡ true → old.is_open ≡ true
 open_before Reads old new carries within there = sym carries.4 ∙ there
-open_before (Hears turn) old new carries within there = open_kept (list_any ends_connection turn.outputs) old.is_open (sym carries.1 ∙ there)
+open_before (Hears turn) old new carries within there =
+    open_kept (list_any ends_connection turn.outputs) old.is_open (sym carries.1 ∙ there)
 open_before Holds old new carries within there = absurd within
 open_before Ends old new carries within there = let e : true ≡ false = sym there ∙ carries.1 in cc
 
@@ -55,10 +62,12 @@ within_rest (Hears turn) deeds within = within
 within_rest Holds deeds within = absurd within
 within_rest Ends deeds within = within
 
-open_through : (deeds : List Deed) (old new : Flow) → FoldsTo Carries old deeds new → AreWithin deeds → new.is_open ≡ true → old.is_open ≡ true
+open_through : (deeds : List Deed) (old new : Flow)
+    → FoldsTo Carries old deeds new → AreWithin deeds → new.is_open ≡ true → old.is_open ≡ true
 open_through [] old new same within there = ap (λ (f : Flow). f.is_open) same ∙ there
 open_through (deed ∷ deeds) old new carries within there =
-    open_before deed old carries.0 carries.1 (within_first deed deeds within) (open_through deeds carries.0 new carries.2 (within_rest deed deeds within) there)
+    open_before deed old carries.0 carries.1 (within_first deed deeds within)
+    (open_through deeds carries.0 new carries.2 (within_rest deed deeds within) there)
 
 -- ---- what the client is handed
 
@@ -74,7 +83,8 @@ record Idle (flow : Flow) : Type 0 where
 idle_on : (deed : Deed) (old new : Flow) → Carries old deed new → AreWithin (deed ∷ []) → Idle old → Idle new
 idle_on Reads old new carries within idle = record { shut = carries.4 ∙ idle.shut; none = carries.2 idle.shut }
 idle_on (Hears turn) old new carries within idle = record {
-  shut = unless_true new.is_open (λ there. let e : true ≡ false = sym (open_before (Hears turn) old new carries within there) ∙ idle.shut in cc);
+  shut = unless_true new.is_open
+      (λ there. let e : true ≡ false = sym (open_before (Hears turn) old new carries within there) ∙ idle.shut in cc);
   none = carries.3;
 }
 idle_on Holds old new carries within idle = absurd within
@@ -86,7 +96,8 @@ none_handed (Hears turn) old new carries within idle = carries.2 ∙ idle.none
 none_handed Holds old new carries within idle = refl
 none_handed Ends old new carries within idle = refl
 
-none_through : (deeds : List Deed) (old new : Flow) → FoldsTo Carries old deeds new → AreWithin deeds → Idle old → flat_map handed_by deeds ≡ []
+none_through : (deeds : List Deed) (old new : Flow)
+    → FoldsTo Carries old deeds new → AreWithin deeds → Idle old → flat_map handed_by deeds ≡ []
 none_through [] old new same within idle = refl
 none_through (deed ∷ deeds) old new carries within idle =
     let first = within_first deed deeds within in
@@ -109,12 +120,14 @@ begins_read held handed None b gives begins = tt
 begins_read held handed (Some x) None gives begins = absurd gives
 begins_read held handed (Some x) (Some y) gives begins = (begins.0, gives ∙ begins.1)
 
-begins_handed : (held bytes handed : List ℕ) (left : Option (List ℕ)) → bytes ≡ held → Begins [] handed left → Begins held (bytes ++ handed) left
+begins_handed : (held bytes handed : List ℕ) (left : Option (List ℕ))
+    → bytes ≡ held → Begins [] handed left → Begins held (bytes ++ handed) left
 begins_handed held bytes handed None is begins = tt
 begins_handed held bytes handed (Some x) is begins =
     (begins.0, ap (λ l. l ++ x) (sym is) ∙ ap (λ l. bytes ++ l) begins.1 ∙ sym (append_assoc bytes handed begins.0))
 
-comes_heard : (turn : Turn) (deeds : List Deed) (old mid new : Flow) → Carries old (Hears turn) mid → FoldsTo Carries mid deeds new → AreWithin deeds
+comes_heard : (turn : Turn) (deeds : List Deed) (old mid new : Flow)
+    → Carries old (Hears turn) mid → FoldsTo Carries mid deeds new → AreWithin deeds
     → (is_open : Bool) → mid.is_open ≡ is_open → Begins mid.held (flat_map handed_by deeds) mid.known.left
     → Begins old.held (bytes_of turn.input ++ flat_map handed_by deeds) old.known.left
 comes_heard turn deeds old mid new carries rest within true there begins =
@@ -126,24 +139,29 @@ comes_heard turn deeds old mid new carries rest within false shut begins =
     (ap (λ l. bytes_of turn.input ++ l) (none_through deeds mid new rest within (record { shut = shut; none = carries.3 }))
     ∙ append-nil (bytes_of turn.input) ∙ carries.2)
 
-comes : (deeds : List Deed) (old new : Flow) (carries : FoldsTo Carries old deeds new) → AreWithin deeds → Begins old.held (flat_map handed_by deeds) old.known.left
+comes : (deeds : List Deed) (old new : Flow) (carries : FoldsTo Carries old deeds new)
+    → AreWithin deeds → Begins old.held (flat_map handed_by deeds) old.known.left
 comes [] old new carries within = begins_none old.held old.known.left
 comes (Reads ∷ deeds) old new carries within =
     subst (λ held. Begins held (flat_map handed_by deeds) old.known.left) (sym carries.1.1)
-    (begins_read carries.0.held (flat_map handed_by deeds) old.known.left carries.0.known.left carries.1.0.gives (comes deeds carries.0 new carries.2 within))
+    (begins_read carries.0.held (flat_map handed_by deeds) old.known.left carries.0.known.left carries.1.0.gives
+    (comes deeds carries.0 new carries.2 within))
 comes (Hears turn ∷ deeds) old new carries within =
-    comes_heard turn deeds old carries.0 new carries.1 carries.2 within (carries.0.is_open) refl (comes deeds carries.0 new carries.2 within)
+    comes_heard turn deeds old carries.0 new carries.1 carries.2 within (carries.0.is_open) refl
+    (comes deeds carries.0 new carries.2 within)
 comes (Holds ∷ deeds) old new carries within = absurd within
 comes (Ends ∷ deeds) old new carries within =
     begins_all old.held (flat_map handed_by deeds) old.known.left
     (none_through deeds carries.0 new carries.2 within (record { shut = carries.1.1; none = carries.1.3 }) ∙ sym carries.1.2)
 
 pub come_whole : BytesComeWhole
-come_whole deeds old new carries within none = subst (λ held. Begins held (flat_map handed_by deeds) old.known.left) none (comes deeds old new carries within)
+come_whole deeds old new carries within none =
+    subst (λ held. Begins held (flat_map handed_by deeds) old.known.left) none (comes deeds old new carries within)
 
 -- ---- what the stream took
 
-sent_after : (unsent mid rest sent : List ℕ) (a b c : Option (List ℕ)) → Sends unsent mid a b → (written : List ℕ) × Appends b c written × (mid ++ sent ≡ written ++ rest)
+sent_after : (unsent mid rest sent : List ℕ) (a b c : Option (List ℕ))
+    → Sends unsent mid a b → (written : List ℕ) × Appends b c written × (mid ++ sent ≡ written ++ rest)
     → (written : List ℕ) × Appends a c written × (unsent ++ sent ≡ written ++ rest)
 sent_after unsent mid rest sent a b c sends goes = (
   sends.0 ++ goes.0,
@@ -151,7 +169,8 @@ sent_after unsent mid rest sent a b c sends goes = (
   ap (λ l. l ++ sent) sends.1 ∙ append_assoc sends.0 mid sent ∙ ap (λ l. sends.0 ++ l) goes.2 ∙ sym (append_assoc sends.0 goes.0 rest),
 )
 
-sent_more : (unsent frames sent rest : List ℕ) (a c : Option (List ℕ)) → (written : List ℕ) × Appends a c written × ((unsent ++ frames) ++ sent ≡ written ++ rest)
+sent_more : (unsent frames sent rest : List ℕ) (a c : Option (List ℕ))
+    → (written : List ℕ) × Appends a c written × ((unsent ++ frames) ++ sent ≡ written ++ rest)
     → (written : List ℕ) × Appends a c written × (unsent ++ (frames ++ sent) ≡ written ++ rest)
 sent_more unsent frames sent rest a c goes = (goes.0, goes.1, sym (append_assoc unsent frames sent) ∙ goes.2)
 
@@ -166,7 +185,8 @@ go_whole (Reads ∷ deeds) old new carries within there =
 go_whole (Hears turn ∷ deeds) old new carries within there =
     let mid = carries.0 in
     sent_more old.unsent (frames turn.outputs) (flat_map sent_by deeds) new.unsent old.known.took new.known.took
-    (sent_after (old.unsent ++ frames turn.outputs) mid.unsent new.unsent (flat_map sent_by deeds) old.known.took mid.known.took new.known.took
+    (sent_after (old.unsent ++ frames turn.outputs) mid.unsent new.unsent
+    (flat_map sent_by deeds) old.known.took mid.known.took new.known.took
     (carries.1.4 (open_through deeds mid new carries.2 within there)).sends (go_whole deeds mid new carries.2 within there))
 go_whole (Holds ∷ deeds) old new carries within there = absurd within
 go_whole (Ends ∷ deeds) old new carries within there =
@@ -174,26 +194,34 @@ go_whole (Ends ∷ deeds) old new carries within there =
 
 -- ---- one input
 
-pub delivered : {X E : Type 0} (result : Result X E) (input : Input) (before after made : List Output) (old new : Flow) → Rule old.view (record { input = input; outputs = made }) new.view
+pub delivered : {X E : Type 0} (result : Result X E) (input : Input) (before after made : List Output) (old new : Flow)
+    → Rule old.view (record { input = input; outputs = made }) new.view
     → new.is_open ≡ kept made old.is_open → new.held ≡ [] → OnOk result (after ≡ before ++ filter is_given made)
-    → (new.is_open ≡ true → OnOk result (Exchanges (old.unsent ++ frames made) new.unsent old.known new.known [])) → OnOk result (Delivers input before after old new)
-delivered (Ok x) input before after made old new rule lasts none given sends = record { outputs = made; given = given; hears = (rule, lasts, refl, none, sends) }
+    → (new.is_open ≡ true → OnOk result (Exchanges (old.unsent ++ frames made) new.unsent old.known new.known []))
+    → OnOk result (Delivers input before after old new)
+delivered (Ok x) input before after made old new rule lasts none given sends =
+    record { outputs = made; given = given; hears = (rule, lasts, refl, none, sends) }
 delivered (Err e) input before after made old new rule lasts none given sends = tt
 
-pub flow_heard : (input : Input) (before after : List Output) (old new : Flow) → Delivers input before after old new → Flows (holding (bytes_of input) old) new
-flow_heard input before after old new delivers = flow_one (Hears (record { input = input; outputs = delivers.outputs })) (holding (bytes_of input) old) new delivers.hears
+pub flow_heard : (input : Input) (before after : List Output) (old new : Flow)
+    → Delivers input before after old new → Flows (holding (bytes_of input) old) new
+flow_heard input before after old new delivers =
+    flow_one (Hears (record { input = input; outputs = delivers.outputs })) (holding (bytes_of input) old) new delivers.hears
 
 -- the connection is let go first
-pub flow_cut : (before after : List Output) (old ended new : Flow) → Carries old Ends ended → ended.held ≡ [] → Delivers Cut before after ended new → Flows old new
+pub flow_cut : (before after : List Output) (old ended new : Flow)
+    → Carries old Ends ended → ended.held ≡ [] → Delivers Cut before after ended new → Flows old new
 flow_cut before after old ended new ends none delivers =
     flow_after old (holding [] ended) new
     (flow_one Ends old (holding [] ended) (ends.0, ends.1, ends.2, refl))
     (flow_heard Cut before after ended new delivers)
 
 -- a read, and the piece that it has brought
-pub ok_read : {A E : Type 0} (result : Result (Option (Vec ℕ A)) E) (brought : Result (Brought A) E) (old new : Flow) → old.held ≡ [] → new.view ≡ old.view → new.is_open ≡ old.is_open
+pub ok_read : {A E : Type 0} (result : Result (Option (Vec ℕ A)) E) (brought : Result (Brought A) E) (old new : Flow)
+    → old.held ≡ [] → new.view ≡ old.view → new.is_open ≡ old.is_open
     → IfOk result (λ piece. IsOk brought × IfOk brought (λ b. piece_bytes piece ≡ piece_in b))
-    → IfOk brought (λ b. Exchanges old.unsent new.unsent old.known new.known (piece_in b)) → (old.is_open ≡ false → IfOk brought (λ b. piece_in b ≡ []))
+    → IfOk brought (λ b. Exchanges old.unsent new.unsent old.known new.known (piece_in b))
+    → (old.is_open ≡ false → IfOk brought (λ b. piece_in b ≡ []))
     → IfOk result (λ piece. Flows old (holding (piece_bytes piece) new))
 ok_read (Ok piece) (Ok b) old new none view lasts is whole apart =
     flow_one Reads old (holding (piece_bytes piece) new)

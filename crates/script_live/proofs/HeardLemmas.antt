@@ -11,10 +11,12 @@ use Rattle.script_live.specs.Trails.{is_given, Fails, Hears as JointHears, IsLou
 use Rattle.script_words.specs.declared.stop.LineStop.{LineStop}
 use Rattle.script_words.specs.declared.stop.LineStop.TheVariants as stops
 use Rattle.script_words.specs.Stops.{IfHalted, IsWant}
-use Rattle.script_live.specs.Heard.{is_waiting, tape, AllBrought, Awaits, Brings, Connects, Halts, HaltsAmong, HaltsAwaiting, HaltsBrought, HaltsConnecting, Hears, IsBrought, MayEnd, Takes, Tape, TellsEach}
+use Rattle.script_live.specs.Heard.{is_waiting, tape, AllBrought, Awaits, Brings, Connects, Halts, HaltsAmong, HaltsAwaiting, HaltsBrought}
+use Rattle.script_live.specs.Heard.{HaltsConnecting, Hears, IsBrought, MayEnd, Takes, Tape, TellsEach}
 
 -- one output, given or sent, and what is printed of it
-told_first : (output : Output) (given outputs : List Output) (text : List ℕ) → ((rest : List ℕ) → TellsEach given rest → TellsEach outputs rest)
+told_first : (output : Output) (given outputs : List Output) (text : List ℕ)
+    → ((rest : List ℕ) → TellsEach given rest → TellsEach outputs rest)
     → TellsEach (if is_given output then output ∷ given else given) text → TellsEach (output ∷ outputs) text
 told_first (Send bytes) given outputs text all tells = ([], text, refl, all text tells, refl)
 told_first (Answer ticket transcript) given outputs text all tells = (tells.0, tells.1, tells.2, all tells.1 tells.3, tells.4)
@@ -28,7 +30,8 @@ told_all [] text none = none
 told_all (output ∷ outputs) text tells = told_first output (filter is_given outputs) outputs text (told_all outputs) tells
 
 -- one input, of which what is given is printed
-pub heard : (old new : Trail) (input : Input) (before told after : List ℕ) → old.given ≡ [] → JointHears old input new → TellsEach new.given told
+pub heard : (old new : Trail) (input : Input) (before told after : List ℕ)
+    → old.given ≡ [] → JointHears old input new → TellsEach new.given told
     → after ≡ before ++ told → Hears (tape old.view before) input (tape new.view after)
 heard old new input before told after none hears tells printed =
     let given : new.given ≡ filter is_given hears.outputs = hears.given ∙ ap (λ g. g ++ filter is_given hears.outputs) none in
@@ -84,7 +87,8 @@ may_end old new (inr hears) = one old new Cut tt hears
 
 -- a piece, and then perhaps the end
 pub piece : (old new : Tape) (bytes : List ℕ) → Takes old (Bytes bytes) new → Brings old new
-piece old new bytes takes = behind old takes.between new (one old takes.between (Bytes bytes) tt takes.hears) (may_end takes.between new takes.ends)
+piece old new bytes takes =
+    behind old takes.between new (one old takes.between (Bytes bytes) tt takes.hears) (may_end takes.between new takes.ends)
 
 -- a call, and what is awaited
 pub asks : (old between new : Tape) (input : Input) → Takes old input between → Brings between new → Awaits old input new
@@ -124,7 +128,8 @@ going_cut Connected view = refl
 going_cut Expired view = refl
 going_cut Closed view = refl
 
-is_going : (view : View) (halted : Bool) → halted ≡ false → record view { standing = record { halted = halted; state = view.standing.state } } ≡ going view.standing.state view
+is_going : (view : View) (halted : Bool)
+    → halted ≡ false → record view { standing = record { halted = halted; state = view.standing.state } } ≡ going view.standing.state view
 is_going view halted goes_on = rw goes_on refl
 
 -- where the connection has ended, the client does not wait
@@ -141,7 +146,8 @@ if_halted a b stops.Halted to h = to h
 if_halted a b stops.Memory to h = tt
 
 -- a halt at a piece, or where the connection ends after it
-pub halts_piece : (old new : Tape) (bytes : List ℕ) (stop : LineStop) → IfHalted (HaltsAmong old (Bytes bytes ∷ Cut ∷ []) new) stop → IfHalted (HaltsBrought old new) stop
+pub halts_piece : (old new : Tape) (bytes : List ℕ) (stop : LineStop)
+    → IfHalted (HaltsAmong old (Bytes bytes ∷ Cut ∷ []) new) stop → IfHalted (HaltsBrought old new) stop
 halts_piece old new bytes stop =
     if_halted (HaltsAmong old (Bytes bytes ∷ Cut ∷ []) new) (HaltsBrought old new) stop
     (λ halts. record { inputs = Bytes bytes ∷ Cut ∷ []; brought = (tt, (tt, tt)); halts = halts })
@@ -154,7 +160,8 @@ halts_cut old new stop =
 among_behind : (first second : List Input) (old between new : Tape) → FoldsTo Hears old first between → HaltsAmong between second new
     → HaltsAmong old (first ++ second) new
 among_behind [] second old between new same halts = rw same halts
-among_behind (input ∷ first) second old between new heard halts = inr (heard.0, heard.1, among_behind first second heard.0 between new heard.2 halts)
+among_behind (input ∷ first) second old between new heard halts =
+    inr (heard.0, heard.1, among_behind first second heard.0 between new heard.2 halts)
 
 brought_behind : (old between new : Tape) → Brings old between → HaltsBrought between new → HaltsBrought old new
 brought_behind old between new brings halts = record {
@@ -164,17 +171,21 @@ brought_behind old between new brings halts = record {
 }
 
 -- a halt after what came
-pub halts_behind : (old between new : Tape) (stop : LineStop) → Brings old between → IfHalted (HaltsBrought between new) stop → IfHalted (HaltsBrought old new) stop
-halts_behind old between new stop brings = if_halted (HaltsBrought between new) (HaltsBrought old new) stop (brought_behind old between new brings)
+pub halts_behind : (old between new : Tape) (stop : LineStop)
+    → Brings old between → IfHalted (HaltsBrought between new) stop → IfHalted (HaltsBrought old new) stop
+halts_behind old between new stop brings =
+    if_halted (HaltsBrought between new) (HaltsBrought old new) stop (brought_behind old between new brings)
 
 -- a halt at the end, after what came
-pub halts_ended : (old between new : Tape) (stop : LineStop) → Brings old between → IfHalted (Halts between Cut new) stop → IfHalted (HaltsBrought old new) stop
+pub halts_ended : (old between new : Tape) (stop : LineStop)
+    → Brings old between → IfHalted (Halts between Cut new) stop → IfHalted (HaltsBrought old new) stop
 halts_ended old between new stop brings halts = halts_behind old between new stop brings (halts_cut between new stop halts)
 
 awaiting_first : (old new : Tape) (input : Input) → HaltsAmong old (input ∷ Cut ∷ []) new → HaltsAwaiting old input new
 awaiting_first old new input halts = record { inputs = Cut ∷ []; brought = (tt, tt); halts = halts }
 
-awaiting_behind : (old between new : Tape) (input : Input) → Takes old input between → HaltsBrought between new → HaltsAwaiting old input new
+awaiting_behind : (old between new : Tape) (input : Input)
+    → Takes old input between → HaltsBrought between new → HaltsAwaiting old input new
 awaiting_behind old between new input takes halts =
     let rest : HaltsBrought takes.between new = brought_behind takes.between between new (may_end takes.between between takes.ends) halts in
     record { inputs = rest.inputs; brought = rest.brought; halts = inr (takes.between, takes.hears, rest.halts) }
@@ -182,10 +193,12 @@ awaiting_behind old between new input takes halts =
 -- a halt at a call
 pub halts_asked : (old new : Tape) (input : Input) (stop : LineStop) → IfHalted (HaltsAmong old (input ∷ Cut ∷ []) new) stop
     → IfHalted (HaltsAwaiting old input new) stop
-halts_asked old new input stop = if_halted (HaltsAmong old (input ∷ Cut ∷ []) new) (HaltsAwaiting old input new) stop (awaiting_first old new input)
+halts_asked old new input stop =
+    if_halted (HaltsAmong old (input ∷ Cut ∷ []) new) (HaltsAwaiting old input new) stop (awaiting_first old new input)
 
 -- a halt at what is awaited
-pub halts_awaiting : (old between new : Tape) (input : Input) (stop : LineStop) → Takes old input between → IfHalted (HaltsBrought between new) stop
+pub halts_awaiting : (old between new : Tape) (input : Input) (stop : LineStop)
+    → Takes old input between → IfHalted (HaltsBrought between new) stop
     → IfHalted (HaltsAwaiting old input new) stop
 halts_awaiting old between new input stop takes =
     if_halted (HaltsBrought between new) (HaltsAwaiting old input new) stop (awaiting_behind old between new input takes)
@@ -194,10 +207,13 @@ halts_awaiting old between new input stop takes =
 pub halts_opened : (old ended new : Tape) (stop : LineStop) → MayEnd old ended → IfHalted (HaltsAmong ended (Opened ∷ Cut ∷ []) new) stop
     → IfHalted (HaltsConnecting old new) stop
 halts_opened old ended new stop ends =
-    if_halted (HaltsAmong ended (Opened ∷ Cut ∷ []) new) (HaltsConnecting old new) stop (λ halts. inr (ended, ends, awaiting_first ended new Opened halts))
+    if_halted (HaltsAmong ended (Opened ∷ Cut ∷ []) new) (HaltsConnecting old new) stop
+    (λ halts. inr (ended, ends, awaiting_first ended new Opened halts))
 
 -- a halt before the server has answered
-pub halts_settling : (old ended between new : Tape) (stop : LineStop) → MayEnd old ended → Takes ended Opened between → IfHalted (HaltsBrought between new) stop
+pub halts_settling : (old ended between new : Tape) (stop : LineStop)
+    → MayEnd old ended → Takes ended Opened between → IfHalted (HaltsBrought between new) stop
     → IfHalted (HaltsConnecting old new) stop
 halts_settling old ended between new stop ends takes =
-    if_halted (HaltsBrought between new) (HaltsConnecting old new) stop (λ halts. inr (ended, ends, awaiting_behind ended between new Opened takes halts))
+    if_halted (HaltsBrought between new) (HaltsConnecting old new) stop
+    (λ halts. inr (ended, ends, awaiting_behind ended between new Opened takes halts))

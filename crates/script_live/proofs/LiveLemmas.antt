@@ -15,7 +15,8 @@ use Rattle.script_replay.specs.Played.{start_of}
 use Rattle.script_live.specs.Begins.{begun_by, Begins}
 use Rattle.script_live.specs.Heard.{tape, Connects, Tape}
 use Rattle.script_live.specs.LiveLines.{LiveValue, OpensLine, says_at}
-use Rattle.script_live.specs.Lives.{position, rules, DoesLive, HaltsFirst, HaltsLine, HaltsLive, IsTranscript, IsUnread, Position, TakesLine}
+use Rattle.script_live.specs.Lives.{position, rules, DoesLive, HaltsFirst, HaltsLine, HaltsLive, IsTranscript, IsUnread, Position}
+use Rattle.script_live.specs.Lives.{TakesLine}
 
 -- a line that says nothing
 pub took_none : (line : Text) (begun : Bool) (view : View) (text : List ℕ) → says_at (words_of line) begun ≡ Ok None → text ≡ []
@@ -23,7 +24,8 @@ pub took_none : (line : Text) (begun : Bool) (view : View) (text : List ℕ) →
 took_none line begun view text says none = record { what = None; says = says; does = (refl, none) }
 
 -- a line that says something
-pub took : (line : Text) (begun : Bool) (old new : View) (text : List ℕ) (value : LiveValue) → says_at (words_of line) begun ≡ Ok (Some value)
+pub took : (line : Text) (begun : Bool) (old new : View) (text : List ℕ) (value : LiveValue)
+    → says_at (words_of line) begun ≡ Ok (Some value)
     → DoesLive value old new text → TakesLine line (position old begun) (position new true) text
 took line begun old new text value says does = record { what = Some value; says = says; does = (does, refl) }
 
@@ -41,22 +43,27 @@ due line old view after begun stops.Memory refused halted is = tt
 
 -- a client that was connected
 pub lived : (lines : List Text) (start : BeginValue) (view : View) (told text : List ℕ) (end : End) → begun_by lines ≡ Begins start
-    → Connects (tape (view_at (start_of start) []) []) (tape view told) → scripts.IsTranscript rules (progress (position view false) told) lines text end
+    → Connects (tape (view_at (start_of start) []) []) (tape view told)
+    → scripts.IsTranscript rules (progress (position view false) told) lines text end
     → IsTranscript lines text end
-lived lines start view told text end begins connects goes_on = inl (record { start = start; begins = begins; view = view; told = told; connects = connects; goes_on = goes_on })
+lived lines start view told text end begins connects goes_on =
+    inl (record { start = start; begins = begins; view = view; told = told; connects = connects; goes_on = goes_on })
 
 -- no client, and no text
 pub unlived : (lines : List Text) (text : List ℕ) (end : End) → text ≡ [] → IsUnread lines end → IsTranscript lines text end
 unlived lines text end none why = inr (none, why)
 
 -- a halt of a client that was made
-first_halts : (lines : List Text) (start : BeginValue) (made after : View) → begun_by lines ≡ Begins start → made ≡ view_at (start_of start) []
+first_halts : (lines : List Text) (start : BeginValue) (made after : View)
+    → begun_by lines ≡ Begins start → made ≡ view_at (start_of start) []
     → HaltsLive OpensLine made after → HaltsFirst lines
-first_halts lines start made after begins stands halts = record { start = start; begins = begins; after = after; halts = rw (sym stands) halts }
+first_halts lines start made after begins stands halts =
+    record { start = start; begins = begins; after = after; halts = rw (sym stands) halts }
 
 -- want of memory
 pub want : (lines : List Text) (start : BeginValue) (made after : View) (number : ℕ) (stop : LineStop) → begun_by lines ≡ Begins start
-    → made ≡ view_at (start_of start) [] → IsWant stop → IfHalted (HaltsLive OpensLine made after) stop → IsUnread lines (end_at number stop)
+    → made ≡ view_at (start_of start) [] → IsWant stop → IfHalted (HaltsLive OpensLine made after) stop
+    → IsUnread lines (end_at number stop)
 want lines start made after number (stops.Refused why) begins stands none halts = absurd none
 want lines start made after number stops.Halted begins stands none halts = first_halts lines start made after begins stands halts
 want lines start made after number stops.Memory begins stands none halts = tt

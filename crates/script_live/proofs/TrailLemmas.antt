@@ -23,13 +23,15 @@ lost old settled new view (inl same) = inl (same ∙ view)
 lost old settled new view (inr h) = inr (h.0, subst (λ (v : View). Rule v h.0 new.view) view h.1)
 
 -- What is said where memory ran out is about the client and what was given alone.
-pub same_fails : (stop : LineStop) (old settled new : Trail) → settled.view ≡ old.view → settled.given ≡ old.given → Fails stop settled new → Fails stop old new
+pub same_fails : (stop : LineStop) (old settled new : Trail)
+    → settled.view ≡ old.view → settled.given ≡ old.given → Fails stop settled new → Fails stop old new
 same_fails (Refused fault) old settled new view given fails = absurd fails
 same_fails Halted old settled new view given fails = (subst (λ (v : View). HaltsAs v new.view) view fails.0, fails.1 ∙ given)
 same_fails Memory old settled new view given fails = (lost old settled new view fails.0, fails.1 ∙ given)
 
 -- a turn of which nothing is given
-pub lost_turn : (stop : LineStop) (old new : Trail) (turn : Turn) → stop ≡ Memory → Rule old.view turn new.view → new.given ≡ old.given → Fails stop old new
+pub lost_turn : (stop : LineStop) (old new : Trail) (turn : Turn)
+    → stop ≡ Memory → Rule old.view turn new.view → new.given ≡ old.given → Fails stop old new
 lost_turn (Refused fault) old new turn e rule given = absurd cc
 lost_turn Halted old new turn e rule given = absurd cc
 lost_turn Memory old new turn e rule given = (inr (turn, rule), given)

@@ -29,7 +29,8 @@ abbrev pub piece_bytes : {A : Type 0} → Option (Vec ℕ A) → List ℕ
 piece_bytes None = []
 piece_bytes (Some bytes) = bytes.items
 
--- A client, whether it has a connection, what is left to be written, what the stream knows, and what was read and is not handed to the client yet.
+-- A client, whether it has a connection, what is left to be written, what the stream knows, and what was read and is not handed to the
+-- client yet.
 pub record Flow : Type 0 where
   pub view : View
   pub is_open : Bool
@@ -57,9 +58,9 @@ pub data Deed : Type 0 where
   Holds : Deed
   Ends : Deed
 
--- What each does. What a read brings is held, and is what the client is handed next, whole; nothing else is handed to it as bytes, and nothing is
--- read before that. Without a connection a read brings nothing. What a client sends by a turn goes after what is unsent, as long as the connection is
--- there after it.
+-- What each does. What a read brings is held, and is what the client is handed next, whole; nothing else is handed to it as bytes, and
+-- nothing is read before that. Without a connection a read brings nothing. What a client sends by a turn goes after what is unsent, as long
+-- as the connection is there after it.
 abbrev pub Carries : Flow → Deed → Flow → Type 0
 Carries old Reads new =
     Exchanges old.unsent new.unsent old.known new.known new.held × (old.held ≡ []) × (old.is_open ≡ false → new.held ≡ [])

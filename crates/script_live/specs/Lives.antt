@@ -33,7 +33,8 @@ abbrev pub HaltsLive : LiveValue → View → View → Type 0
 HaltsLive OpensLine old new = (text : List ℕ) × HaltsConnecting (tape old []) (tape new text)
 HaltsLive (DrivesLine CutLine) old new = HaltsAt Cut old new
 HaltsLive (DrivesLine (NowLine moment)) old new = (text : List ℕ) × HaltsAmong (tape old []) (Now moment ∷ Cut ∷ []) (tape new text)
-HaltsLive (DrivesLine (CallLine asked)) old new = (text : List ℕ) × HaltsAwaiting (tape old []) (Call asked.ticket asked.call) (tape new text)
+HaltsLive (DrivesLine (CallLine asked)) old new =
+    (text : List ℕ) × HaltsAwaiting (tape old []) (Call asked.ticket asked.call) (tape new text)
 HaltsLive value old new = ⊥
 
 -- So do the words of a line.

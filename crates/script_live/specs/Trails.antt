@@ -34,16 +34,16 @@ trail_of joint outputs = record { view = view_of joint.client; is_open = is_some
 abbrev pub kept : List Output → Bool → Bool
 kept outputs is_open = if list_any ends_connection outputs then false else is_open
 
--- One input is handed in. Whether a connection is there was settled before. What is said is given, in order, except what goes to the server.
--- A connection is let go where it is over.
+-- One input is handed in. Whether a connection is there was settled before. What is said is given, in order, except what goes to the
+-- server. A connection is let go where it is over.
 pub record Hears (old : Trail) (input : Input) (new : Trail) : Type 0 where
   pub outputs : List Output
   pub rule : Rule old.view (record { input = input; outputs = outputs }) new.view
   pub is_open : new.is_open ≡ kept outputs old.is_open
   pub given : new.given ≡ old.given ++ filter is_given outputs
 
--- Memory ran out. The client has halted, at no turn; or what came is lost: it is no turn, or nothing of what its turn said is given. Nothing
--- is refused.
+-- Memory ran out. The client has halted, at no turn; or what came is lost: it is no turn, or nothing of what its turn said is given.
+-- Nothing is refused.
 abbrev pub Fails : LineStop → Trail → Trail → Type 0
 Fails (Refused fault) old new = ⊥
 Fails Halted old new = HaltsAs old.view new.view × (new.given ≡ old.given)

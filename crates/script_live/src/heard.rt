@@ -21,7 +21,8 @@ fn push_heard<A: Allocator + Copy>(
     alloc: A,
     output: &Output<A>,
 ) -> Result<(), AllocError>
-    ensures { OnOk result ((told : List ℕ) × TellsHeard (output_view output.now) told × (string_bytes text.new ≡ string_bytes text.old ++ told)) }
+    ensures { OnOk result
+        ((told : List ℕ) × TellsHeard (output_view output.now) told × (string_bytes text.new ≡ string_bytes text.old ++ told)) }
 {
     match output {
         Output::Send(_) => Ok(()),
@@ -66,10 +67,13 @@ pub fn printed_step<A: Allocator + Copy, S: Stream>(
     input: Input<A>,
     text: &mut String<A>,
 ) -> Result<Heard<A>, LineStop>
-    ensures ok { OnOk result (Hears (tape (view_of joint.old.client) (string_bytes text.old)) (input_view input) (tape (view_of joint.new.client) (string_bytes text.new))) }
-    ensures flows { OnOk result (Flows (holding (bytes_of (input_view input)) (flow_of S.remaining S.contents joint.old)) (flow_of S.remaining S.contents joint.new)) }
+    ensures ok { OnOk result (Hears (tape (view_of joint.old.client) (string_bytes text.old)) (input_view input)
+        (tape (view_of joint.new.client) (string_bytes text.new))) }
+    ensures flows { OnOk result (Flows (holding (bytes_of (input_view input)) (flow_of S.remaining S.contents joint.old))
+        (flow_of S.remaining S.contents joint.new)) }
     ensures err { IfErr result IsWant }
-    ensures halt { IfErr result (IfHalted (Halts (tape (view_of joint.old.client) (string_bytes text.old)) (input_view input) (tape (view_of joint.new.client) (string_bytes text.new)))) }
+    ensures halt { IfErr result (IfHalted (Halts (tape (view_of joint.old.client) (string_bytes text.old)) (input_view input)
+        (tape (view_of joint.new.client) (string_bytes text.new)))) }
 {
     let mut outputs = Vec::new(alloc);
     let is_well = match joint.step(input, &mut outputs) {
@@ -86,10 +90,12 @@ pub fn cut<A: Allocator + Copy, S: Stream>(
     joint: &mut Joint<A, S>,
     text: &mut String<A>,
 ) -> Result<(), LineStop>
-    ensures ok { OnOk result (Hears (tape (view_of joint.old.client) (string_bytes text.old)) Cut (tape (view_of joint.new.client) (string_bytes text.new))) }
+    ensures ok { OnOk result
+        (Hears (tape (view_of joint.old.client) (string_bytes text.old)) Cut (tape (view_of joint.new.client) (string_bytes text.new))) }
     ensures flows { OnOk result (Flows (flow_of S.remaining S.contents joint.old) (flow_of S.remaining S.contents joint.new)) }
     ensures err { IfErr result IsWant }
-    ensures halt { IfErr result (IfHalted (Halts (tape (view_of joint.old.client) (string_bytes text.old)) Cut (tape (view_of joint.new.client) (string_bytes text.new)))) }
+    ensures halt { IfErr result (IfHalted
+        (Halts (tape (view_of joint.old.client) (string_bytes text.old)) Cut (tape (view_of joint.new.client) (string_bytes text.new)))) }
 {
     let mut outputs = Vec::new(alloc);
     if let Err(stop) = joint.cut(&mut outputs) {

@@ -126,8 +126,10 @@ impl<A: Allocator + Copy, S: Stream> Joint<A, S> {
     fn write(&mut self, outputs: &[Output<A>]) -> Result<bool, AllocError>
         ensures client { self.new.client ≡ self.old.client }
         ensures stream { is_some self.new.stream ≡ is_some self.old.stream }
-        ensures kept { is_some self.old.stream ≡ true → OnOk result (IsLeftOf (self.old.unsent.items ++ frames (said outputs.now)) self.new.unsent.items) }
-        ensures sends { is_some self.old.stream ≡ true → OnOk result (Exchanges (self.old.unsent.items ++ frames (said outputs.now)) self.new.unsent.items
+        ensures kept { is_some self.old.stream ≡ true
+            → OnOk result (IsLeftOf (self.old.unsent.items ++ frames (said outputs.now)) self.new.unsent.items) }
+        ensures sends { is_some self.old.stream ≡ true
+            → OnOk result (Exchanges (self.old.unsent.items ++ frames (said outputs.now)) self.new.unsent.items
             (known_of S.remaining S.contents self.old.stream) (known_of S.remaining S.contents self.new.stream) []) }
     {
         match &mut self.stream {
@@ -161,7 +163,8 @@ impl<A: Allocator + Copy, S: Stream> Joint<A, S> {
         ensures client { self.new.client ≡ self.old.client }
         ensures stream { is_some self.new.stream ≡ kept (said made.items) (is_some self.old.stream) }
         ensures given { OnOk result (said outputs.new.items ≡ said outputs.old.items ++ filter is_given (said made.items)) }
-        ensures sends { is_some self.new.stream ≡ true → OnOk result (Exchanges (self.old.unsent.items ++ frames (said made.items)) self.new.unsent.items
+        ensures sends { is_some self.new.stream ≡ true
+            → OnOk result (Exchanges (self.old.unsent.items ++ frames (said made.items)) self.new.unsent.items
             (known_of S.remaining S.contents self.old.stream) (known_of S.remaining S.contents self.new.stream) []) }
         ensures err { IfErr result (λ stop. (stop ≡ Memory) × (outputs.new.items ≡ outputs.old.items)) }
     {
@@ -189,7 +192,8 @@ impl<A: Allocator + Copy, S: Stream> Joint<A, S> {
     ) -> Result<bool, LineStop>
         ensures ok { OnOk result (Hears (trail_of self.old outputs.old.items) (input_view input) (trail_of self.new outputs.new.items)) }
         ensures err { IfErr result (λ stop. Fails stop (trail_of self.old outputs.old.items) (trail_of self.new outputs.new.items)) }
-        ensures flows { OnOk result (Delivers (input_view input) (said outputs.old.items) (said outputs.new.items) (flow_of S.remaining S.contents self.old) (flow_of S.remaining S.contents self.new)) }
+        ensures flows { OnOk result (Delivers (input_view input) (said outputs.old.items) (said outputs.new.items)
+            (flow_of S.remaining S.contents self.old) (flow_of S.remaining S.contents self.new)) }
         ensures loud { IfErr result (λ stop. IsLoud stop (view_of self.old.client) (input_view input)) }
     {
         let Ok(made) = self.client.step(input) else {
@@ -200,7 +204,8 @@ impl<A: Allocator + Copy, S: Stream> Joint<A, S> {
 
     /// The connection is over: it is let go, if it is there still, and the client is told.
     pub fn cut(&mut self, outputs: &mut Vec<Output<A>, A>) -> Result<(), LineStop>
-        ensures ok { OnOk result (Hears (record (trail_of self.old outputs.old.items) { is_open = false }) Cut (trail_of self.new outputs.new.items)) }
+        ensures ok { OnOk result
+            (Hears (record (trail_of self.old outputs.old.items) { is_open = false }) Cut (trail_of self.new outputs.new.items)) }
         ensures err { IfErr result (λ stop. Fails stop (trail_of self.old outputs.old.items) (trail_of self.new outputs.new.items)) }
         ensures flows { OnOk result (Flows (flow_of S.remaining S.contents self.old) (flow_of S.remaining S.contents self.new)) }
         ensures loud { IfErr result (λ stop. IsLoud stop (view_of self.old.client) Cut) }

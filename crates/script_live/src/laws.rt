@@ -2,8 +2,8 @@
 
 ghost use Rattle.script_live.specs.Flowing.{BytesComeWhole, BytesGoWhole};
 
-/// What the client is handed of a connection, joined, is a beginning of what its stream had to give: nothing is lost on the way, nothing comes
-/// twice, and nothing from elsewhere.
+/// What the client is handed of a connection, joined, is a beginning of what its stream had to give: nothing is lost on the way, nothing
+/// comes twice, and nothing from elsewhere.
 pub fn bytes_come_whole()
     ensures { BytesComeWhole }
 {}

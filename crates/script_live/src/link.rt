@@ -7,7 +7,8 @@ ghost use Rattle.zk_client.specs.Views.{input_view};
 ghost use Rattle.zk_turns.specs.Turns.{Call, Cut, Opened};
 ghost use Rattle.script_words.specs.Stops.{IfHalted, IsWant};
 ghost use Rattle.script_live.specs.Flowing.{bytes_of, flow_of, holding, piece_bytes, piece_in, Flows};
-ghost use Rattle.script_live.specs.Heard.{is_waiting, tape, Awaits, Brings, Connects, Halts, HaltsAmong, HaltsAwaiting, HaltsBrought, HaltsConnecting, Hears, MayEnd, Takes};
+ghost use Rattle.script_live.specs.Heard.{is_waiting, tape, Awaits, Brings, Connects, Halts, HaltsAmong, HaltsAwaiting, HaltsBrought};
+ghost use Rattle.script_live.specs.Heard.{HaltsConnecting, Hears, MayEnd, Takes};
 
 use crate::heard::{cut, printed_step};
 use crate::joint::Joint;
@@ -71,20 +72,26 @@ impl<A: Allocator + Copy, S: Stream> Link<A, S> {
 
     /// The connection ends.
     pub fn cut(&mut self, alloc: A, text: &mut String<A>) -> Result<(), LineStop>
-        ensures ok { OnOk result (Hears (tape (view_of self.old.joint.client) (string_bytes text.old)) Cut (tape (view_of self.new.joint.client) (string_bytes text.new))) }
-        ensures flows { OnOk result (Flows (flow_of S.remaining S.contents self.old.joint) (flow_of S.remaining S.contents self.new.joint)) }
+        ensures ok { OnOk result (Hears (tape (view_of self.old.joint.client) (string_bytes text.old)) Cut
+            (tape (view_of self.new.joint.client) (string_bytes text.new))) }
+        ensures flows { OnOk result
+            (Flows (flow_of S.remaining S.contents self.old.joint) (flow_of S.remaining S.contents self.new.joint)) }
         ensures err { IfErr result IsWant }
-        ensures halt { IfErr result (IfHalted (Halts (tape (view_of self.old.joint.client) (string_bytes text.old)) Cut (tape (view_of self.new.joint.client) (string_bytes text.new)))) }
+        ensures halt { IfErr result (IfHalted (Halts (tape (view_of self.old.joint.client) (string_bytes text.old)) Cut
+            (tape (view_of self.new.joint.client) (string_bytes text.new)))) }
     {
         cut(alloc, &mut self.joint, text)
     }
 
     /// Ends the connection, where it is over.
     fn end_if(&mut self, is_over: bool, alloc: A, text: &mut String<A>) -> Result<(), LineStop>
-        ensures ok { OnOk result (MayEnd (tape (view_of self.old.joint.client) (string_bytes text.old)) (tape (view_of self.new.joint.client) (string_bytes text.new))) }
-        ensures flows { OnOk result (Flows (flow_of S.remaining S.contents self.old.joint) (flow_of S.remaining S.contents self.new.joint)) }
+        ensures ok { OnOk result (MayEnd (tape (view_of self.old.joint.client) (string_bytes text.old))
+            (tape (view_of self.new.joint.client) (string_bytes text.new))) }
+        ensures flows { OnOk result
+            (Flows (flow_of S.remaining S.contents self.old.joint) (flow_of S.remaining S.contents self.new.joint)) }
         ensures err { IfErr result IsWant }
-        ensures halt { IfErr result (IfHalted (Halts (tape (view_of self.old.joint.client) (string_bytes text.old)) Cut (tape (view_of self.new.joint.client) (string_bytes text.new)))) }
+        ensures halt { IfErr result (IfHalted (Halts (tape (view_of self.old.joint.client) (string_bytes text.old)) Cut
+            (tape (view_of self.new.joint.client) (string_bytes text.new)))) }
     {
         if !is_over {
             return Ok(());
@@ -100,10 +107,13 @@ impl<A: Allocator + Copy, S: Stream> Link<A, S> {
         input: Input<A>,
         text: &mut String<A>,
     ) -> Result<Vec<Output<A>, A>, LineStop>
-        ensures ok { OnOk result (Takes (tape (view_of self.old.joint.client) (string_bytes text.old)) (input_view input) (tape (view_of self.new.joint.client) (string_bytes text.new))) }
-        ensures flows { OnOk result (Flows (holding (bytes_of (input_view input)) (flow_of S.remaining S.contents self.old.joint)) (flow_of S.remaining S.contents self.new.joint)) }
+        ensures ok { OnOk result (Takes (tape (view_of self.old.joint.client) (string_bytes text.old)) (input_view input)
+            (tape (view_of self.new.joint.client) (string_bytes text.new))) }
+        ensures flows { OnOk result (Flows (holding (bytes_of (input_view input)) (flow_of S.remaining S.contents self.old.joint))
+            (flow_of S.remaining S.contents self.new.joint)) }
         ensures err { IfErr result IsWant }
-        ensures halt { IfErr result (IfHalted (HaltsAmong (tape (view_of self.old.joint.client) (string_bytes text.old)) (input_view input ∷ Cut ∷ []) (tape (view_of self.new.joint.client) (string_bytes text.new)))) }
+        ensures halt { IfErr result (IfHalted (HaltsAmong (tape (view_of self.old.joint.client) (string_bytes text.old))
+            (input_view input ∷ Cut ∷ []) (tape (view_of self.new.joint.client) (string_bytes text.new)))) }
     {
         let heard = printed_step(alloc, &mut self.joint, input, text)?;
         self.end_if(!heard.is_well, alloc, text)?;
@@ -132,7 +142,8 @@ impl<A: Allocator + Copy, S: Stream> Link<A, S> {
     /// The next piece of the connection, and none where it has ended, or brings nothing in time.
     fn next_piece(&mut self) -> Result<Option<Vec<u8, A>>, AllocError>
         ensures view { view_of self.new.joint.client ≡ view_of self.old.joint.client }
-        ensures flows { IfOk result (λ piece. Flows (flow_of S.remaining S.contents self.old.joint) (holding (piece_bytes piece) (flow_of S.remaining S.contents self.new.joint))) }
+        ensures flows { IfOk result (λ piece. Flows (flow_of S.remaining S.contents self.old.joint)
+            (holding (piece_bytes piece) (flow_of S.remaining S.contents self.new.joint))) }
     {
         let wait = self.longest_wait();
         let brought = self.joint.read(wait);
@@ -141,10 +152,13 @@ impl<A: Allocator + Copy, S: Stream> Link<A, S> {
 
     /// Hands the client what the connection brings next. One that brings nothing in time ends.
     fn bring(&mut self, alloc: A, text: &mut String<A>) -> Result<Vec<Output<A>, A>, LineStop>
-        ensures ok { OnOk result (Brings (tape (view_of self.old.joint.client) (string_bytes text.old)) (tape (view_of self.new.joint.client) (string_bytes text.new))) }
-        ensures flows { OnOk result (Flows (flow_of S.remaining S.contents self.old.joint) (flow_of S.remaining S.contents self.new.joint)) }
+        ensures ok { OnOk result (Brings (tape (view_of self.old.joint.client) (string_bytes text.old))
+            (tape (view_of self.new.joint.client) (string_bytes text.new))) }
+        ensures flows { OnOk result
+            (Flows (flow_of S.remaining S.contents self.old.joint) (flow_of S.remaining S.contents self.new.joint)) }
         ensures err { IfErr result IsWant }
-        ensures halt { IfErr result (IfHalted (HaltsBrought (tape (view_of self.old.joint.client) (string_bytes text.old)) (tape (view_of self.new.joint.client) (string_bytes text.new)))) }
+        ensures halt { IfErr result (IfHalted (HaltsBrought (tape (view_of self.old.joint.client) (string_bytes text.old))
+            (tape (view_of self.new.joint.client) (string_bytes text.new)))) }
     {
         match self.next_piece()? {
             Some(bytes) => {
@@ -168,11 +182,14 @@ impl<A: Allocator + Copy, S: Stream> Link<A, S> {
     /// Reads until the server has answered that a connection begins. By the last piece it ends.
     #[tactic(auto, using(crate::proofs::HeardLemmas::nothing))]
     fn settle(&mut self, alloc: A, text: &mut String<A>) -> Result<(), LineStop>
-        ensures ok { OnOk result (Brings (tape (view_of self.old.joint.client) (string_bytes text.old)) (tape (view_of self.new.joint.client) (string_bytes text.new))) }
+        ensures ok { OnOk result (Brings (tape (view_of self.old.joint.client) (string_bytes text.old))
+            (tape (view_of self.new.joint.client) (string_bytes text.new))) }
         ensures settled { OnOk result (is_waiting (view_of self.new.joint.client).standing.state ≡ false) }
-        ensures flows { OnOk result (Flows (flow_of S.remaining S.contents self.old.joint) (flow_of S.remaining S.contents self.new.joint)) }
+        ensures flows { OnOk result
+            (Flows (flow_of S.remaining S.contents self.old.joint) (flow_of S.remaining S.contents self.new.joint)) }
         ensures err { IfErr result IsWant }
-        ensures halt { IfErr result (IfHalted (HaltsBrought (tape (view_of self.old.joint.client) (string_bytes text.old)) (tape (view_of self.new.joint.client) (string_bytes text.new)))) }
+        ensures halt { IfErr result (IfHalted (HaltsBrought (tape (view_of self.old.joint.client) (string_bytes text.old))
+            (tape (view_of self.new.joint.client) (string_bytes text.new)))) }
     {
         for _ in 0..PIECES {
             if !self.is_connecting() {
@@ -196,10 +213,13 @@ impl<A: Allocator + Copy, S: Stream> Link<A, S> {
         first: Vec<Output<A>, A>,
         text: &mut String<A>,
     ) -> Result<(), LineStop>
-        ensures ok { OnOk result (Brings (tape (view_of self.old.joint.client) (string_bytes text.old)) (tape (view_of self.new.joint.client) (string_bytes text.new))) }
-        ensures flows { OnOk result (Flows (flow_of S.remaining S.contents self.old.joint) (flow_of S.remaining S.contents self.new.joint)) }
+        ensures ok { OnOk result (Brings (tape (view_of self.old.joint.client) (string_bytes text.old))
+            (tape (view_of self.new.joint.client) (string_bytes text.new))) }
+        ensures flows { OnOk result
+            (Flows (flow_of S.remaining S.contents self.old.joint) (flow_of S.remaining S.contents self.new.joint)) }
         ensures err { IfErr result IsWant }
-        ensures halt { IfErr result (IfHalted (HaltsBrought (tape (view_of self.old.joint.client) (string_bytes text.old)) (tape (view_of self.new.joint.client) (string_bytes text.new)))) }
+        ensures halt { IfErr result (IfHalted (HaltsBrought (tape (view_of self.old.joint.client) (string_bytes text.old))
+            (tape (view_of self.new.joint.client) (string_bytes text.new)))) }
     {
         let mut outputs = first;
         for _ in 0..PIECES {
@@ -217,10 +237,13 @@ impl<A: Allocator + Copy, S: Stream> Link<A, S> {
 
     /// Asks the server, and waits for its answer.
     pub fn ask(&mut self, alloc: A, asked: Asked<A>, text: &mut String<A>) -> Result<(), LineStop>
-        ensures ok { OnOk result (Awaits (tape (view_of self.old.joint.client) (string_bytes text.old)) (Call asked.ticket (call_view asked.call)) (tape (view_of self.new.joint.client) (string_bytes text.new))) }
-        ensures flows { OnOk result (Flows (flow_of S.remaining S.contents self.old.joint) (flow_of S.remaining S.contents self.new.joint)) }
+        ensures ok { OnOk result (Awaits (tape (view_of self.old.joint.client) (string_bytes text.old))
+            (Call asked.ticket (call_view asked.call)) (tape (view_of self.new.joint.client) (string_bytes text.new))) }
+        ensures flows { OnOk result
+            (Flows (flow_of S.remaining S.contents self.old.joint) (flow_of S.remaining S.contents self.new.joint)) }
         ensures err { IfErr result IsWant }
-        ensures halt { IfErr result (IfHalted (HaltsAwaiting (tape (view_of self.old.joint.client) (string_bytes text.old)) (Call asked.ticket (call_view asked.call)) (tape (view_of self.new.joint.client) (string_bytes text.new)))) }
+        ensures halt { IfErr result (IfHalted (HaltsAwaiting (tape (view_of self.old.joint.client) (string_bytes text.old))
+            (Call asked.ticket (call_view asked.call)) (tape (view_of self.new.joint.client) (string_bytes text.new)))) }
     {
         let ticket = asked.ticket;
         let outputs = self.step(alloc, Input::Call(ticket, asked.call), text)?;
@@ -237,10 +260,13 @@ impl<A: Allocator + Copy, S: Stream> Link<A, S> {
         ring: &mut Ring<'_>,
         text: &mut String<A>,
     ) -> Result<(), LineStop>
-        ensures ok { OnOk result (Connects (tape (view_of self.old.joint.client) (string_bytes text.old)) (tape (view_of self.new.joint.client) (string_bytes text.new))) }
-        ensures flows { OnOk result (Flows (flow_of S.remaining S.contents self.old.joint) (flow_of S.remaining S.contents self.new.joint)) }
+        ensures ok { OnOk result (Connects (tape (view_of self.old.joint.client) (string_bytes text.old))
+            (tape (view_of self.new.joint.client) (string_bytes text.new))) }
+        ensures flows { OnOk result
+            (Flows (flow_of S.remaining S.contents self.old.joint) (flow_of S.remaining S.contents self.new.joint)) }
         ensures err { IfErr result IsWant }
-        ensures halt { IfErr result (IfHalted (HaltsConnecting (tape (view_of self.old.joint.client) (string_bytes text.old)) (tape (view_of self.new.joint.client) (string_bytes text.new)))) }
+        ensures halt { IfErr result (IfHalted (HaltsConnecting (tape (view_of self.old.joint.client) (string_bytes text.old))
+            (tape (view_of self.new.joint.client) (string_bytes text.new)))) }
     {
         let is_open = self.joint.is_open();
         self.end_if(is_open, alloc, text)?;

@@ -40,9 +40,11 @@ struct Session<'a, A: Allocator + Copy, D: Dial> {
 impl<A: Allocator + Copy, D: Dial> Session<'_, A, D> {
     /// Does what a line says that is the same whatever is at the other end.
     fn drive(&mut self, alloc: A, line: ClientLine<A>) -> Result<String<A>, LineStop>
-        ensures ok { IfOk result (λ text. DoesLive (DrivesLine (client_value_of line)) (view_of self.old.link.joint.client) (view_of self.new.link.joint.client) (string_bytes text)) }
+        ensures ok { IfOk result (λ text. DoesLive (DrivesLine (client_value_of line)) (view_of self.old.link.joint.client)
+            (view_of self.new.link.joint.client) (string_bytes text)) }
         ensures err { IfErr result IsWant }
-        ensures halt { IfErr result (IfHalted (HaltsLive (DrivesLine (client_value_of line)) (view_of self.old.link.joint.client) (view_of self.new.link.joint.client))) }
+        ensures halt { IfErr result (IfHalted
+            (HaltsLive (DrivesLine (client_value_of line)) (view_of self.old.link.joint.client) (view_of self.new.link.joint.client))) }
         ensures begun { self.new.is_begun ≡ self.old.is_begun }
     {
         let mut text = String::new(alloc);
@@ -59,9 +61,11 @@ impl<A: Allocator + Copy, D: Dial> Session<'_, A, D> {
 
     /// Does what a line says, and gives what is to be printed.
     fn act(&mut self, alloc: A, line: LiveLine<A>) -> Result<String<A>, LineStop>
-        ensures ok { IfOk result (λ text. DoesLive (live_value_of line) (view_of self.old.link.joint.client) (view_of self.new.link.joint.client) (string_bytes text)) }
+        ensures ok { IfOk result (λ text.
+            DoesLive (live_value_of line) (view_of self.old.link.joint.client) (view_of self.new.link.joint.client) (string_bytes text)) }
         ensures err { IfErr result IsWant }
-        ensures halt { IfErr result (IfHalted (HaltsLive (live_value_of line) (view_of self.old.link.joint.client) (view_of self.new.link.joint.client))) }
+        ensures halt { IfErr result
+            (IfHalted (HaltsLive (live_value_of line) (view_of self.old.link.joint.client) (view_of self.new.link.joint.client))) }
         ensures begun { self.new.is_begun ≡ self.old.is_begun }
     {
         let mut text = String::new(alloc);
@@ -80,7 +84,8 @@ impl<A: Allocator + Copy, D: Dial> Session<'_, A, D> {
     fn read_line(&mut self, alloc: A, line: &[u8]) -> Result<String<A>, LineStop>
         ensures ok { IfOk result (λ text. TakesLine line.now (position_of self.old) (position_of self.new) (string_bytes text)) }
         ensures err { IfErr result (IsDueBy (says_at (words_of line.now) self.old.is_begun)) }
-        ensures halt { IfErr result (IfHalted (HaltsLine line.now self.old.is_begun (view_of self.old.link.joint.client) (view_of self.new.link.joint.client))) }
+        ensures halt { IfErr result
+            (IfHalted (HaltsLine line.now self.old.is_begun (view_of self.old.link.joint.client) (view_of self.new.link.joint.client))) }
     {
         let Some(line) = parse_live_line(alloc, line, self.is_begun)? else {
             return Ok(String::new(alloc));
@@ -133,7 +138,8 @@ fn connected<A: Allocator + Copy, D: Dial>(
     lines: &[&[u8]],
 ) -> Transcript<A>
     requires { session.old.is_begun ≡ false }
-    ensures { (begin : BeginValue) → begun_by (map (λ l. l.now) lines.now) ≡ Begins begin → view_of session.old.link.joint.client ≡ view_at (start_of begin) []
+    ensures { (begin : BeginValue) → begun_by (map (λ l. l.now) lines.now) ≡ Begins begin
+        → view_of session.old.link.joint.client ≡ view_at (start_of begin) []
         → IsTranscript (map (λ l. l.now) lines.now) (string_bytes result.text) result.end }
 {
     match session.act(alloc, LiveLine::Open) {

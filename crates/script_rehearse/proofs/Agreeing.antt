@@ -22,7 +22,8 @@ use Rattle.theory_serving.proofs.Views.{good_session}
 use Rattle.zk_bench.specs.Stepping.{shown_of}
 use Rattle.script_rehearse.specs.BenchLines.{GoodLine}
 use Rattle.script_rehearse.specs.RehearseLines.{RehearseValue, BenchValueLine, says_at}
-use Rattle.script_rehearse.specs.Good.{agrees, AreSame, same_content, sight, if_good, verdict_line, kept_verdict, agreeing, agreeing_path, agreeing_paths, TellsNamesLine, TellsKeptNames, TellsPath, TellsPaths}
+use Rattle.script_rehearse.specs.Good.{agrees, AreSame, same_content, sight, if_good, verdict_line, kept_verdict, agreeing, agreeing_path}
+use Rattle.script_rehearse.specs.Good.{agreeing_paths, TellsNamesLine, TellsKeptNames, TellsPath, TellsPaths}
 use Rattle.script_rehearse.specs.Scenes.{Scene, TellsGood, TellsAgreeing}
 use Rattle.script_rehearse.specs.Coherent.{IsServed}
 use Rattle.script_rehearse.specs.Rehearsed.{Position, Told, Staged, Does, TakesLine, Agrees, IsServedAt}
@@ -56,21 +57,26 @@ fits_names names (Contents content stat) fits = absurd fits
 fits_names names (Children is_name pzxid) fits = (fits.1, fits.0)
 
 -- the line of data
-data_agrees : (kept : Option (Kept Answer)) (path : Text) (told : Sight) → ((one : Kept Answer) → kept ≡ Some one → one.mark ≡ Good → Fits one.answer told) → kept_verdict kept path told ≡ agreeing Data kept path
+data_agrees : (kept : Option (Kept Answer)) (path : Text) (told : Sight)
+    → ((one : Kept Answer) → kept ≡ Some one → one.mark ≡ Good → Fits one.answer told)
+    → kept_verdict kept path told ≡ agreeing Data kept path
 data_agrees None path told fits = refl
 data_agrees (Some one) path told fits = by one.mark (λ good. fits one refl good)
   where
-    by : (mark : Mark) → (mark ≡ Good → Fits one.answer told) → if_good mark (verdict_line Data path (agrees one.answer told)) ≡ if_good mark (verdict_line Data path true)
+    by : (mark : Mark) → (mark ≡ Good → Fits one.answer told)
+        → if_good mark (verdict_line Data path (agrees one.answer told)) ≡ if_good mark (verdict_line Data path true)
     by Good fit = ap (verdict_line Data path) (fits_agrees one.answer told (fit refl))
     by Stale fit = refl
 
 -- the line of names
-names_agree : (kept : Option (Kept Names)) (path : Text) (told : Sight) (text : List ℕ) → ((one : Kept Names) → kept ≡ Some one → one.mark ≡ Good → FitsNames one.answer told)
+names_agree : (kept : Option (Kept Names)) (path : Text) (told : Sight) (text : List ℕ)
+    → ((one : Kept Names) → kept ≡ Some one → one.mark ≡ Good → FitsNames one.answer told)
     → TellsKeptNames kept path told text → text ≡ agreeing Child kept path
 names_agree None path told text fits tells = tells
 names_agree (Some one) path told text fits tells = by one.mark (λ good. fits one refl good) tells
   where
-    by : (mark : Mark) → (mark ≡ Good → FitsNames one.answer told) → TellsNamesLine mark one.answer path told text → text ≡ if_good mark (verdict_line Child path true)
+    by : (mark : Mark) → (mark ≡ Good → FitsNames one.answer told)
+        → TellsNamesLine mark one.answer path told text → text ≡ if_good mark (verdict_line Child path true)
     by Good fit line = line.2 ∙ ap (verdict_line Child path) (line.1.1 (fits_names one.answer told (fit refl)))
     by Stale fit line = line
 
@@ -87,7 +93,8 @@ module _ (client : View) (history : History) (coherent : IsCoherentWith (history
   path_agrees : (path : Text) (text : List ℕ) → TellsPath client history path text → text ≡ agreeing_path client path
   path_agrees path text tells =
       let data_line = data_agrees (client.cache.nodes path) path (sight Data client history path) (true_here.nodes path) in
-      let names_line = names_agree (client.cache.children path) path (sight Child client history path) tells.0 (true_here.children path) tells.1 in
+      let names_line =
+      names_agree (client.cache.children path) path (sight Child client history path) tells.0 (true_here.children path) tells.1 in
       tells.2 ∙ ap₂ ◌++◌ data_line names_line
 
   paths_agree : (paths : List Text) (text : List ℕ) → TellsPaths client history paths text → text ≡ agreeing_paths client paths
@@ -111,9 +118,12 @@ line_agrees line (Staged scene) new text t served = λ says. by t.what new t.doe
     here (Staged after) does = good_agrees scene text served does.1
     here (Told told) does = absurd does
 
-    by : (what : Option RehearseValue) (to : Position) → DoesSome (Does line) what (Staged scene) to text → says_at (words_of line) true ≡ Ok what → says_at (words_of line) true ≡ Ok (Some (BenchValueLine GoodLine))
+    by : (what : Option RehearseValue) (to : Position) → DoesSome (Does line) what (Staged scene) to text
+        → says_at (words_of line) true ≡ Ok what → says_at (words_of line) true ≡ Ok (Some (BenchValueLine GoodLine))
         → TellsAgreeing scene text
-    by what to does first second = here to (subst (λ (said : Option RehearseValue). DoesSome (Does line) said (Staged scene) to text) (same_said what first second) does)
+    by what to does first second = here to
+        (subst (λ (said : Option RehearseValue). DoesSome (Does line) said (Staged scene) to text) (same_said what first second) does)
       where
-        same_said : (said : Option RehearseValue) → says_at (words_of line) true ≡ Ok said → says_at (words_of line) true ≡ Ok (Some (BenchValueLine GoodLine)) → said ≡ Some (BenchValueLine GoodLine)
+        same_said : (said : Option RehearseValue) → says_at (words_of line) true ≡ Ok said
+            → says_at (words_of line) true ≡ Ok (Some (BenchValueLine GoodLine)) → said ≡ Some (BenchValueLine GoodLine)
         same_said said a b = cc

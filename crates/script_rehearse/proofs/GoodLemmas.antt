@@ -1,5 +1,6 @@
 -- Names that are kept, and those that a history tells; and what is printed of a path.
-use Rattle.std.proofs.Common.{◌≡◌, ◌≢◌, ℕ, Bool, true, false, ◌||◌, cond, not, List, [], ◌∷◌, ◌++◌, Bor, OnOk, refl, sym, ap, subst, ◌∙◌, append_assoc}
+use Rattle.std.proofs.Common.{◌≡◌, ◌≢◌, ℕ, Bool, true, false, ◌||◌, cond, not, List, [], ◌∷◌, ◌++◌, Bor, OnOk, refl, sym, ap, subst, ◌∙◌}
+use Rattle.std.proofs.Common.{append_assoc}
 use Rattle.std.proofs.lemmas.Bool.{true≢false}
 use Rattle.std.proofs.lemmas.Slice.Eq.{bytes_eq-Decides}
 use Rattle.std.proofs.lemmas.Map.Text.{is_eq-slice_cmp}
@@ -30,7 +31,8 @@ has_text texts name = list_any (λ k. is_eq (slice_cmp nat_cmp name (string_byte
 found : {A : Type 0} (texts : List (String A)) (name : List ℕ) → has_text texts name ≡ true → (text : String A) × (string_bytes text ≡ name)
 found {A = A} [] name has = absurd (true≢false (sym has))
 found {A = A} (text ∷ texts) name has =
-    elim (is_eq (slice_cmp nat_cmp name (string_bytes text))) as (λ b. is_eq (slice_cmp nat_cmp name (string_bytes text)) ≡ b → (b || has_text texts name) ≡ true → (text : String A) × (string_bytes text ≡ name)) [
+    elim (is_eq (slice_cmp nat_cmp name (string_bytes text))) as (λ b. is_eq (slice_cmp nat_cmp name (string_bytes text)) ≡ b
+    → (b || has_text texts name) ≡ true → (text : String A) × (string_bytes text ≡ name)) [
       | true ↦ λ same _. (text, sym ((bytes_eq-Decides name (string_bytes text)).0 (sym (is_eq-slice_cmp name (string_bytes text)) ∙ same)))
       | false ↦ λ _ rest. found texts name rest
     ] refl has
@@ -68,7 +70,8 @@ module _ {A : Type 0} (kept told : BTreeSet (String A)) where
 
   one_left : (text : String A) (rest : List (String A)) → Differ (text ∷ rest) → Same → ⊥
   one_left text rest differ same =
-      unlike _ _ (same (string_bytes text)) (sym (ap (λ b. b || list_any (eq_by_cmp string_cmp text) rest) (ap is_eq (tied_itself string_cmp_total text))) ∙ differ text)
+      unlike _ _ (same (string_bytes text))
+      (sym (ap (λ b. b || list_any (eq_by_cmp string_cmp text) rest) (ap is_eq (tied_itself string_cmp_total text))) ∙ differ text)
 
   are_same : (rest after : List (String A)) (next : Option (Bor (String A))) (is_none : Bool) → Differ rest
       → MatchOption next ((rest ≡ []) × (after ≡ [])) (λ text. rest ≡ text.now ∷ after) → is_some next ≡ not is_none → IsTrue is_none ↔ Same
@@ -87,7 +90,8 @@ module _ {A : Type 0} (kept told : BTreeSet (String A)) where
       ((λ yes name. contains-names_of kept name ∙ same.0 yes name), (λ has. same.1 (λ name. sym (contains-names_of kept name) ∙ has name)))
 
 -- where the zxid is the same, the names decide
-pub both_same : {A : Type 0} (kept told : Names A) (same : Bool) → kept.pzxid ≡ told.pzxid → IsTrue same ↔ HasNames (names_of kept.names) (contains_text told.names)
+pub both_same : {A : Type 0} (kept told : Names A) (same : Bool)
+    → kept.pzxid ≡ told.pzxid → IsTrue same ↔ HasNames (names_of kept.names) (contains_text told.names)
     → AgreesNames (names_in kept) (names_told (Some told)) same
 both_same kept told same zxid names = ((λ yes. (names.0 yes, zxid)), (λ are. names.1 are.0))
 

@@ -13,7 +13,8 @@ use Rattle.script_rehearse.specs.Heard.{heard, heard_all}
 
 -- where bytes are sent, the connected server has them after those that wait
 sent_shown : (bench : Served) (bytes : List ℕ) (phase : Phase)
-    → shown_of (if is_open phase then with_requests bench bytes else bench) ≡ record (shown_of bench) { requests = more_requests (phase_of phase) bench.connection.requests bytes }
+    → shown_of (if is_open phase then with_requests bench bytes else bench)
+    ≡ record (shown_of bench) { requests = more_requests (phase_of phase) bench.connection.requests bytes }
 sent_shown bench bytes Apart = refl
 sent_shown bench bytes Opening = refl
 sent_shown bench bytes Accepted = refl
@@ -25,17 +26,26 @@ hears_all [] bench = hears_nothing (shown_of bench)
 hears_all (Send bytes ∷ outputs) bench =
     let later = hears_all outputs (heard (Send bytes) bench) in
     let new : Shown = shown_of (heard_all outputs (heard (Send bytes) bench)) in
-    hears_bytes bytes outputs (shown_of bench) new (subst (λ (old : Shown). Hears outputs old new) (sent_shown bench bytes bench.connection.phase) later)
-hears_all (Answer ticket transcript ∷ outputs) bench = hears_other (Answer ticket transcript) outputs (shown_of bench) (shown_of (heard_all outputs bench)) (λ bytes e. absurd cc) (hears_all outputs bench)
-hears_all (Report path side event ∷ outputs) bench = hears_other (Report path side event) outputs (shown_of bench) (shown_of (heard_all outputs bench)) (λ bytes e. absurd cc) (hears_all outputs bench)
-hears_all (Enters Idle ∷ outputs) bench = hears_other (Enters Idle) outputs (shown_of bench) (shown_of (heard_all outputs bench)) (λ bytes e. absurd cc) (hears_all outputs bench)
-hears_all (Enters Connecting ∷ outputs) bench = hears_other (Enters Connecting) outputs (shown_of bench) (shown_of (heard_all outputs bench)) (λ bytes e. absurd cc) (hears_all outputs bench)
-hears_all (Enters Connected ∷ outputs) bench = hears_other (Enters Connected) outputs (shown_of bench) (shown_of (heard_all outputs bench)) (λ bytes e. absurd cc) (hears_all outputs bench)
+    hears_bytes bytes outputs (shown_of bench) new
+    (subst (λ (old : Shown). Hears outputs old new) (sent_shown bench bytes bench.connection.phase) later)
+hears_all (Answer ticket transcript ∷ outputs) bench = hears_other (Answer ticket transcript) outputs (shown_of bench)
+    (shown_of (heard_all outputs bench)) (λ bytes e. absurd cc) (hears_all outputs bench)
+hears_all (Report path side event ∷ outputs) bench = hears_other (Report path side event) outputs (shown_of bench)
+    (shown_of (heard_all outputs bench)) (λ bytes e. absurd cc) (hears_all outputs bench)
+hears_all (Enters Idle ∷ outputs) bench =
+    hears_other (Enters Idle) outputs (shown_of bench) (shown_of (heard_all outputs bench)) (λ bytes e. absurd cc) (hears_all outputs bench)
+hears_all (Enters Connecting ∷ outputs) bench = hears_other (Enters Connecting) outputs (shown_of bench)
+    (shown_of (heard_all outputs bench)) (λ bytes e. absurd cc) (hears_all outputs bench)
+hears_all (Enters Connected ∷ outputs) bench = hears_other (Enters Connected) outputs (shown_of bench) (shown_of (heard_all outputs bench))
+    (λ bytes e. absurd cc) (hears_all outputs bench)
 hears_all (Enters Expired ∷ outputs) bench =
-    hears_end (Enters Expired) outputs (shown_of bench) (shown_of (heard_all outputs (disconnected bench))) refl (hears_all outputs (disconnected bench)).history
+    hears_end (Enters Expired) outputs (shown_of bench) (shown_of (heard_all outputs (disconnected bench))) refl
+    (hears_all outputs (disconnected bench)).history
 hears_all (Enters Closed ∷ outputs) bench =
-    hears_end (Enters Closed) outputs (shown_of bench) (shown_of (heard_all outputs (disconnected bench))) refl (hears_all outputs (disconnected bench)).history
-hears_all (Drop fault ∷ outputs) bench = hears_end (Drop fault) outputs (shown_of bench) (shown_of (heard_all outputs (disconnected bench))) refl (hears_all outputs (disconnected bench)).history
+    hears_end (Enters Closed) outputs (shown_of bench) (shown_of (heard_all outputs (disconnected bench))) refl
+    (hears_all outputs (disconnected bench)).history
+hears_all (Drop fault ∷ outputs) bench = hears_end (Drop fault) outputs (shown_of bench)
+    (shown_of (heard_all outputs (disconnected bench))) refl (hears_all outputs (disconnected bench)).history
 
 ready_sent : (bench : Served) (bytes : List ℕ) (up : Bool) → IsReady bench → IsReady (if up then with_requests bench bytes else bench)
 ready_sent bench bytes true ready = record { taken = ready.taken; there = ready.there; unwatched = ready.unwatched }

@@ -14,11 +14,13 @@ use Rattle.script_rehearse.specs.Rehearsed.{Staged, Begins, is_begun, position_b
 use Rattle.script_rehearse.specs.Scenes.{Scene, first_scene, rejoined, taken_up}
 
 -- the scene that is made, in other words for the timeout and the history
-pub made_so : (scene : Scene) (first timeout : ℤ) (told history : HistoryView) → scene ≡ first_scene first told → first ≡ timeout → told ≡ history → scene ≡ first_scene timeout history
+pub made_so : (scene : Scene) (first timeout : ℤ) (told history : HistoryView)
+    → scene ≡ first_scene first told → first ≡ timeout → told ≡ history → scene ≡ first_scene timeout history
 made_so scene first timeout told history made asked same = made ∙ (ap (λ n. first_scene n told) asked ∙ ap (first_scene timeout) same)
 
 -- where no client was made, one is made over the history so far
-pub begins : (timeout : ℤ) (told : story.Position) (old : Option Scene) (new : Scene) → is_begun (position_by told old) ≡ false → pos 0 <ℤ timeout → IsResumable (new_start (unsigned_abs timeout))
+pub begins : (timeout : ℤ) (told : story.Position) (old : Option Scene) (new : Scene)
+    → is_begun (position_by told old) ≡ false → pos 0 <ℤ timeout → IsResumable (new_start (unsigned_abs timeout))
     → new ≡ first_scene timeout told.history → Begins timeout (position_by told old) (Staged new)
 begins timeout told None new first above resumable made = (ap Staged made, above, resumable)
 begins timeout told (Some scene) new first above resumable made = absurd (true≢false first)
@@ -28,11 +30,14 @@ begins_so : (timeout : ℤ) (view : View) (saved : Saved) → Tells view.saved s
 begins_so timeout view saved tells = rw (tells.session, tells.password, tells.last) refl
 
 -- another client with that session, and no server connected
-pub rejoins : (old : Scene) (view : View) (bench : Served) (saved : Saved) → Tells old.view.saved saved → view ≡ view_at (saved_start old.timeout saved) [] → bench ≡ disconnected old.bench
+pub rejoins : (old : Scene) (view : View) (bench : Served) (saved : Saved)
+    → Tells old.view.saved saved → view ≡ view_at (saved_start old.timeout saved) [] → bench ≡ disconnected old.bench
     → record old { view = view; bench = bench } ≡ rejoined old
 rejoins old view bench saved tells made gone =
-    ap₂ (λ (v : View) (b : Served). record old { view = v; bench = b }) (made ∙ ap (λ start. view_at start []) (begins_so old.timeout old.view saved tells)) gone
+    ap₂ (λ (v : View) (b : Served). record old { view = v; bench = b })
+    (made ∙ ap (λ start. view_at start []) (begins_so old.timeout old.view saved tells)) gone
 
 -- it is in range
-pub resumes : (timeout : ℤ) (view : View) (saved : Saved) → Tells view.saved saved → IsResumable (saved_start timeout saved) → IsResumable (taken_up timeout view)
+pub resumes : (timeout : ℤ) (view : View) (saved : Saved) → Tells view.saved saved → IsResumable (saved_start timeout saved)
+    → IsResumable (taken_up timeout view)
 resumes timeout view saved tells resumable = subst IsResumable (begins_so timeout view saved tells) resumable

@@ -11,13 +11,18 @@ use Rattle.script_rehearse.proofs.Agreeing.{line_agrees}
 use Rattle.script_rehearse.proofs.Serving.{line_served}
 
 -- where servers of the laws have served the client, a line says so of it, and they have served it after the line too
-pub moved : {A Y : Type 0} (line : Text) (old before : Position) (after : Rehearsal A) (r : Result (String Y) LineStop) → IfOk r (λ text. TakesLine line before (position_of after) (string_bytes text))
+pub moved : {A Y : Type 0} (line : Text) (old before : Position) (after : Rehearsal A) (r : Result (String Y) LineStop)
+    → IfOk r (λ text. TakesLine line before (position_of after) (string_bytes text))
     → before ≡ old → IsServedAt old → IfOk r (λ text. (new : Position) × rules.Takes line old new (string_bytes text) × IsAt after new)
 moved line old before after (Ok text) takes is served =
-    let here : TakesLine line old (position_of after) (string_bytes text) = rw (← is) takes in
-    (position_of after, (here, line_agrees line old (position_of after) (string_bytes text) here served), (refl, line_served line old (position_of after) (string_bytes text) here served))
+    let here : TakesLine line old (position_of after) (string_bytes text) = rw (← is) takes in (
+      position_of after,
+      (here, line_agrees line old (position_of after) (string_bytes text) here served),
+      (refl, line_served line old (position_of after) (string_bytes text) here served),
+    )
 moved line old before after (Err stop) takes is served = tt
 
 -- and why a line is not done there
-pub due_at : {X : Type 0} (line : Text) (old before : Position) (r : Result X LineStop) → IfErr r (IsDue rules line before) → before ≡ old → IfErr r (IsDue rules line old)
+pub due_at : {X : Type 0} (line : Text) (old before : Position) (r : Result X LineStop) → IfErr r (IsDue rules line before)
+    → before ≡ old → IfErr r (IsDue rules line old)
 due_at line old before r due is = subst (λ (position : Position). IfErr r (IsDue rules line position)) is due

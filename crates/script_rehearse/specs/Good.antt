@@ -87,7 +87,8 @@ TellsVerdict Child client history path text = TellsNamesVerdict client history p
 
 -- What is printed of a path: data before names.
 abbrev pub TellsPath : View → History → Text → List ℕ → Type 0
-TellsPath client history path text = (names : List ℕ) × TellsNamesVerdict client history path names × (text ≡ data_verdict client history path ++ names)
+TellsPath client history path text =
+    (names : List ℕ) × TellsNamesVerdict client history path names × (text ≡ data_verdict client history path ++ names)
 
 abbrev pub TellsPaths : View → History → List Text → List ℕ → Type 0
 TellsPaths client history paths text = TellsInOrder (TellsPath client history) paths text

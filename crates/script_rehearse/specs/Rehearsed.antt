@@ -34,7 +34,8 @@ is_begun (Staged scene) = true
 
 -- The client is made, with a timeout in range and above 0, and the servers over the history so far.
 abbrev pub Begins : ℤ → Position → Position → Type 0
-Begins timeout (Told told) new = (new ≡ Staged (first_scene timeout told.history)) × (pos 0 <ℤ timeout) × IsResumable (new_start (unsigned_abs timeout))
+Begins timeout (Told told) new =
+    (new ≡ Staged (first_scene timeout told.history)) × (pos 0 <ℤ timeout) × IsResumable (new_start (unsigned_abs timeout))
 Begins timeout (Staged scene) new = ⊥
 
 abbrev pub DoesBenchLine : BenchValue → Position → Position → List ℕ → Type 0

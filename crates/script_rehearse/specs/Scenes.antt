@@ -23,7 +23,8 @@ use Rattle.script_replay.specs.ClientLines.{ClientValue, CutLine, NowLine, CallL
 use Rattle.script_replay.specs.Played.{DoesClient, HaltsAt, HaltsClient}
 use Rattle.script_replay.specs.Shown.{TellsAll}
 use Rattle.script_rehearse.specs.declared.rig.Rig.{Rig}
-use Rattle.script_rehearse.specs.BenchLines.{BenchValue, OpenLine, TakeLine, ProcessLine, DeliverLine, ExpireLine, GoodLine, RejoinLine, ClientValueLine}
+use Rattle.script_rehearse.specs.BenchLines.{BenchValue, OpenLine, TakeLine, ProcessLine, DeliverLine, ExpireLine, GoodLine, RejoinLine}
+use Rattle.script_rehearse.specs.BenchLines.{ClientValueLine}
 use Rattle.script_rehearse.specs.Good.{TellsPaths, agreeing_paths}
 use Rattle.script_rehearse.specs.Heard.{heard_all}
 
@@ -39,7 +40,8 @@ scene_of rig = record { timeout = rig.timeout; view = view_of rig.client; bench 
 
 -- a new client, and servers over a history
 abbrev pub first_scene : ℤ → HistoryView → Scene
-first_scene timeout history = record { timeout = timeout; view = view_at (new_start (unsigned_abs timeout)) []; bench = started history; called = set.empty }
+first_scene timeout history =
+    record { timeout = timeout; view = view_at (new_start (unsigned_abs timeout)) []; bench = started history; called = set.empty }
 
 abbrev pub with_bench : Scene → Served → Scene
 with_bench scene bench = record scene { bench = bench }
@@ -69,10 +71,12 @@ pub record Processes (old new : Served) : Type 0 where
   pub idle : is_open old.connection.phase ≡ false → new ≡ old
   pub waits : IsShort old.connection.requests → new ≡ old
   pub ends : is_open old.connection.phase ≡ true → IsNegative old.connection.requests → new ≡ ended old
-  pub processed : (count : ℕ) → is_open old.connection.phase ≡ true → IsWhole old.connection.requests count → new.connection.requests ≡ drop (4 + count) old.connection.requests
+  pub processed : (count : ℕ) → is_open old.connection.phase ≡ true → IsWhole old.connection.requests count
+      → new.connection.requests ≡ drop (4 + count) old.connection.requests
   pub ready : IsReady old → IsReady new
   pub whole : IsHistory (history_of old.history)
-  pub serves : (request : Request) (xid : ℤ) (payload rest : List ℕ) → IsReady old → is_open old.connection.phase ≡ true → StandsFirst request xid payload rest old.connection.requests
+  pub serves : (request : Request) (xid : ℤ) (payload rest : List ℕ)
+      → IsReady old → is_open old.connection.phase ≡ true → StandsFirst request xid payload rest old.connection.requests
       → IsFor request (shown_of old).server.stage → ProcessesFirst request xid payload (shown_of old) (shown_of new)
   pub history : Continues old.history new.history
   pub rest : new ≡ record old { history = new.history; taken = new.taken; connection = new.connection }
@@ -102,11 +106,17 @@ with_path (Some path) called = set.insert called path
 
 -- The client is asked, and the text that the call names, if it names one, is a path, and is one of those that calls named.
 abbrev pub Calls : Asked → Scene → Scene → List ℕ → Type 0
-Calls asked old new text = Plays (Call asked.ticket asked.call) (record old { called = with_path (named_path asked.call) old.called }) new text × IsPathCall asked.call
+Calls asked old new text = Plays (Call asked.ticket asked.call)
+    (record old { called = with_path (named_path asked.call) old.called }) new text × IsPathCall asked.call
 
 -- what a client begins with that takes up the session of another
 abbrev pub taken_up : ℤ → View → Start
-taken_up timeout view = record { timeout = unsigned_abs timeout; session = view.saved.session.session; password = view.saved.session.password; last = view.saved.last }
+taken_up timeout view = record {
+  timeout = unsigned_abs timeout;
+  session = view.saved.session.session;
+  password = view.saved.session.password;
+  last = view.saved.last;
+}
 
 -- another client, and no server connected
 abbrev pub rejoined : Scene → Scene

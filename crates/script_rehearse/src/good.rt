@@ -44,7 +44,8 @@ fn push_answer<A: Allocator + Copy>(
     side: Side,
     path: &Path<A>,
 ) -> Result<(), AllocError>
-    ensures { OnOk result ((told : List ℕ) × TellsVerdict side (view_of client.now) history.now path.now told × (string_bytes text.new ≡ string_bytes text.old ++ told)) }
+    ensures { OnOk result ((told : List ℕ) × TellsVerdict side (view_of client.now) history.now path.now told
+        × (string_bytes text.new ≡ string_bytes text.old ++ told)) }
 {
     match side {
         Side::Data => {
@@ -72,7 +73,8 @@ fn push_verdicts<A: Allocator + Copy>(
     history: &History<A>,
     path: &Path<A>,
 ) -> Result<(), AllocError>
-    ensures { OnOk result ((told : List ℕ) × TellsPath (view_of client.now) history.now path.now told × (string_bytes text.new ≡ string_bytes text.old ++ told)) }
+    ensures { OnOk result ((told : List ℕ) × TellsPath (view_of client.now) history.now path.now told
+        × (string_bytes text.new ≡ string_bytes text.old ++ told)) }
 {
     push_answer(text, alloc, client, history, Side::Data, path)?;
     push_answer(text, alloc, client, history, Side::Child, path)
@@ -86,7 +88,8 @@ fn push_path<A: Allocator + Copy>(
     history: &History<A>,
     path: &str,
 ) -> Result<(), AllocError>
-    ensures { OnOk result ((told : List ℕ) × TellsPath (view_of client.now) history.now path.now told × (string_bytes text.new ≡ string_bytes text.old ++ told)) }
+    ensures { OnOk result ((told : List ℕ) × TellsPath (view_of client.now) history.now path.now told
+        × (string_bytes text.new ≡ string_bytes text.old ++ told)) }
 {
     let Ok(path) = Path::new(alloc, path) else {
         return Err(AllocError);
@@ -102,7 +105,8 @@ pub fn push_paths<A: Allocator + Copy>(
     history: &History<A>,
     paths: &BTreeSet<String<A>, A>,
 ) -> Result<(), AllocError>
-    ensures told { OnOk result ((told : List ℕ) × TellsPaths (view_of client.now) history.now (map string_bytes paths.now.keys) told × (string_bytes text.new ≡ string_bytes text.old ++ told)) }
+    ensures told { OnOk result ((told : List ℕ) × TellsPaths (view_of client.now) history.now (map string_bytes paths.now.keys) told
+        × (string_bytes text.new ≡ string_bytes text.old ++ told)) }
     ensures ordered { OnOk result (IsOrdered string_cmp paths.now) }
 {
     for path in paths {

@@ -7,7 +7,8 @@ ghost use Rattle.script_words.specs.Scripts.{IsDue};
 ghost use Rattle.script_words.specs.Stops.{IfHalted, IsDueBy, IsWant};
 ghost use Rattle.script_rehearse.specs.BenchLines.{bench_value_of};
 ghost use Rattle.script_rehearse.specs.RehearseLines.{said_value, says_at, BenchValueLine, HistoryLine, CanPlay};
-ghost use Rattle.script_rehearse.specs.Rehearsed.{Position, position_of, is_begun, Begins, Does, DoesBenchLine, DoesHistory, HaltsBenchLine, HaltsLine, HaltsSaid, IsDueOf, TakesLine};
+ghost use Rattle.script_rehearse.specs.Rehearsed.{Position, position_of, is_begun, Begins, Does, DoesBenchLine, DoesHistory};
+ghost use Rattle.script_rehearse.specs.Rehearsed.{HaltsBenchLine, HaltsLine, HaltsSaid, IsDueOf, TakesLine};
 ghost use Rattle.script_rehearse.specs.Scripts.{first_position, rules, IsAt};
 
 use crate::bench_line::BenchLine;
@@ -60,7 +61,8 @@ impl<A: Allocator + Copy> Rehearsal<A> {
     /// Does what a line after the one that makes the client says.
     fn perform(&mut self, alloc: A, line: BenchLine<A>) -> Result<String<A>, LineStop>
         requires { is_begun (position_of self.old) ≡ true }
-        ensures ok { IfOk result (λ text. DoesBenchLine (bench_value_of line) (position_of self.old) (position_of self.new) (string_bytes text)) }
+        ensures ok { IfOk result
+            (λ text. DoesBenchLine (bench_value_of line) (position_of self.old) (position_of self.new) (string_bytes text)) }
         ensures err { IfErr result IsWant }
         ensures halt { IfErr result (IfHalted (HaltsBenchLine (bench_value_of line) (position_of self.old) (position_of self.new))) }
     {
@@ -83,7 +85,8 @@ impl<A: Allocator + Copy> Rehearsal<A> {
     /// Does what a line says that is allowed here.
     fn perform_said(&mut self, alloc: A, line: &[u8], said: Said<A>) -> Result<String<A>, LineStop>
         requires { CanPlay (is_begun (position_of self.old)) (said_value said) }
-        ensures ok { IfOk result (λ text. Does line.now (said_value said) (position_of self.old) (position_of self.new) (string_bytes text)) }
+        ensures ok { IfOk result
+            (λ text. Does line.now (said_value said) (position_of self.old) (position_of self.new) (string_bytes text)) }
         ensures err { IfErr result (IsDueOf line.now (said_value said) (position_of self.old)) }
         ensures halt { IfErr result (IfHalted (HaltsSaid (said_value said) (position_of self.old) (position_of self.new))) }
     {
@@ -99,7 +102,8 @@ impl<A: Allocator + Copy> Rehearsal<A> {
 
     /// What a line says, if it says something.
     fn said(&self, alloc: A, line: &[u8]) -> Result<Option<Said<A>>, LineStop>
-        ensures says { IfOk result (λ said. says_at (words_of line.now) (is_begun (position_of self.now)) ≡ Ok (option_map said_value said)) }
+        ensures says { IfOk result
+            (λ said. says_at (words_of line.now) (is_begun (position_of self.now)) ≡ Ok (option_map said_value said)) }
         ensures can { IfOk result (λ said. IfSome said (λ one. CanPlay (is_begun (position_of self.now)) (said_value one))) }
         ensures err { IfErr result (IsDueBy (says_at (words_of line.now) (is_begun (position_of self.now)))) }
         ensures halt { IfErr result (IfHalted ⊥) }

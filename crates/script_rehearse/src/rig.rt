@@ -40,7 +40,8 @@ impl<A: Allocator + Copy> Rig<A> {
     ghost use Rattle.script_words.specs.Stops.{IfHalted, IsWant};
     ghost use Rattle.script_rehearse.specs.BenchLines.{TakeLine, ProcessLine, bench_value_of};
     ghost use Rattle.script_rehearse.specs.Good.{TellsPaths};
-    ghost use Rattle.script_rehearse.specs.Scenes.{scene_of, first_scene, Plays, Delivers, Processes, TakesNext, Calls, Rejoins, TellsGood, DoesBench, DoesClientLine, HaltsBench};
+    ghost use Rattle.script_rehearse.specs.Scenes.{scene_of, first_scene, Plays, Delivers, Processes, TakesNext, Calls, Rejoins, TellsGood};
+    ghost use Rattle.script_rehearse.specs.Scenes.{DoesBench, DoesClientLine, HaltsBench};
 
     /// A new client, and servers over a history. None is connected.
     pub fn new(alloc: A, timeout: i32, history: History<A>) -> Rig<A>
@@ -96,7 +97,8 @@ impl<A: Allocator + Copy> Rig<A> {
     fn deliver(&mut self, alloc: A, most: usize) -> Result<String<A>, LineStop>
         ensures ok { IfOk result (λ text. Delivers most (scene_of self.old) (scene_of self.new) (string_bytes text)) }
         ensures err { IfErr result IsWant }
-        ensures halt { IfErr result (IfHalted (HaltsAt (Bytes (take most (scene_of self.old).bench.connection.output)) (scene_of self.old).view (scene_of self.new).view)) }
+        ensures halt { IfErr result (IfHalted
+            (HaltsAt (Bytes (take most (scene_of self.old).bench.connection.output)) (scene_of self.old).view (scene_of self.new).view)) }
     {
         let bytes = self.bench.output(most)?;
         if bytes.is_empty() {
@@ -109,7 +111,8 @@ impl<A: Allocator + Copy> Rig<A> {
     fn call(&mut self, alloc: A, asked: Asked<A>) -> Result<String<A>, LineStop>
         ensures ok { IfOk result (λ text. Calls (asked_of asked) (scene_of self.old) (scene_of self.new) (string_bytes text)) }
         ensures err { IfErr result IsWant }
-        ensures halt { IfErr result (IfHalted (HaltsAt (Call (asked_of asked).ticket (asked_of asked).call) (scene_of self.old).view (scene_of self.new).view)) }
+        ensures halt { IfErr result
+            (IfHalted (HaltsAt (Call (asked_of asked).ticket (asked_of asked).call) (scene_of self.old).view (scene_of self.new).view)) }
     {
         add_path(alloc, &asked.call, &mut self.called)?;
         self.play(alloc, Input::Call(asked.ticket, asked.call))
@@ -141,7 +144,8 @@ impl<A: Allocator + Copy> Rig<A> {
 
     /// Does with the client what a line says.
     fn drive(&mut self, alloc: A, line: ClientLine<A>) -> Result<String<A>, LineStop>
-        ensures ok { IfOk result (λ text. DoesClientLine (client_value_of line) (scene_of self.old) (scene_of self.new) (string_bytes text)) }
+        ensures ok { IfOk result
+            (λ text. DoesClientLine (client_value_of line) (scene_of self.old) (scene_of self.new) (string_bytes text)) }
         ensures err { IfErr result IsWant }
         ensures halt { IfErr result (IfHalted (HaltsClient (client_value_of line) (scene_of self.old).view (scene_of self.new).view)) }
     {

@@ -46,7 +46,8 @@ forgets start items view s = record {
 }
 
 -- one turn
-turn : (input : Input) (course : Course) (old new : View) (text : List ℕ) → Stands course.start course.items old → TakesTurn input old new text
+turn : (input : Input) (course : Course) (old new : View) (text : List ℕ)
+    → Stands course.start course.items old → TakesTurn input old new text
     → (next : Course) × AddsTurn input course next text × Stands next.start next.items new
 turn input course old new text s takes =
     let stands : Stands course.start (Turned (record { input = input; outputs = takes.outputs }) ∷ course.items) new =
@@ -54,14 +55,16 @@ turn input course old new text s takes =
     let due : takes.outputs ≡ due_to course input = stands.said.0 in (
       and_then course (Turned (record { input = input; outputs = due_to course input })),
       record { next = refl; told = subst (λ (outputs : List Output). TellsAll outputs text) due takes.told },
-      subst (λ (outputs : List Output). Stands course.start (Turned (record { input = input; outputs = outputs }) ∷ course.items) new) due stands,
+      subst (λ (outputs : List Output). Stands course.start (Turned (record { input = input; outputs = outputs }) ∷ course.items) new) due
+          stands,
     )
 
 -- a look-up changes nothing
 still : (course : Course) (old new : View) → Stands course.start course.items old → new ≡ old → Stands course.start course.items new
 still course old new s same = subst (λ (view : View). Stands course.start course.items view) (sym same) s
 
-client : (value : ClientValue) (course : Course) (old new : View) (text : List ℕ) → Stands course.start course.items old → DoesClient value old new text
+client : (value : ClientValue) (course : Course) (old new : View) (text : List ℕ)
+    → Stands course.start course.items old → DoesClient value old new text
     → (next : Course) × AddsClient value course next text × Stands next.start next.items new
 client CutLine course old new text s does = turn Cut course old new text s does
 client (NowLine moment) course old new text s does = turn (Now moment) course old new text s does
@@ -70,16 +73,21 @@ client (PeekLine Data path) course old new text s does =
     (course, (refl, does.1 ∙ ap (λ (cache : Cache). kept_line (cache.nodes path)) s.cache), still course old new s does.0)
 client (PeekLine Child path) course old new text s does =
     (course, (refl, subst (λ (cache : Cache). TellsKept (cache.children path) text) s.cache does.1), still course old new s does.0)
-client LastLine course old new text s does = (course, (refl, does.1 ∙ ap (λ saved. last_line saved.last) s.saved), still course old new s does.0)
-client SavedLine course old new text s does =
-    (course, (refl, does.1 ∙ ap (λ saved. saved_line saved.session.session saved.session.password saved.last) s.saved), still course old new s does.0)
+client LastLine course old new text s does =
+    (course, (refl, does.1 ∙ ap (λ saved. last_line saved.last) s.saved), still course old new s does.0)
+client SavedLine course old new text s does = (
+  course,
+  (refl, does.1 ∙ ap (λ saved. saved_line saved.session.session saved.session.password saved.last) s.saved),
+  still course old new s does.0,
+)
 client ForgetLine course old new text s does = (
   and_then course Forgets,
   (refl, does.1),
   subst (λ (view : View). Stands course.start (Forgets ∷ course.items) view) (sym does.0) (forgets course.start course.items old s),
 )
 
-drive : (value : DriveValue) (course : Course) (old new : View) (text : List ℕ) → Stands course.start course.items old → DoesDrive value old new text
+drive : (value : DriveValue) (course : Course) (old new : View) (text : List ℕ)
+    → Stands course.start course.items old → DoesDrive value old new text
     → (next : Course) × AddsDrive value course next text × Stands next.start next.items new
 drive OpenedLine course old new text s does = turn Opened course old new text s does
 drive (BytesLine bytes) course old new text s does = turn (Bytes bytes) course old new text s does
@@ -106,11 +114,15 @@ one_there (Some course) (Some view) one s is =
     let same : view ≡ one = cc in
     (course, refl, subst (λ (v : View). Stands course.start course.items v) same s)
 
-does_value : (value : ReplayValue) (course : Option Course) (old new : Option View) (text : List ℕ) → StandsBy course old → Does value old new text
+does_value : (value : ReplayValue) (course : Option Course) (old new : Option View) (text : List ℕ)
+    → StandsBy course old → Does value old new text
     → (next : Option Course) × Adds value course next text × StandsBy next new
 does_value (Begins value) course old new text s does =
-    let begun : Course = record { start = start_of value; items = [] } in
-    (Some begun, (none_there course old s does.0, refl, does.2), subst (λ (view : Option View). StandsBy (Some begun) view) (sym does.1) (first (start_of value)))
+    let begun : Course = record { start = start_of value; items = [] } in (
+      Some begun,
+      (none_there course old s does.0, refl, does.2),
+      subst (λ (view : Option View). StandsBy (Some begun) view) (sym does.1) (first (start_of value)),
+    )
 does_value (Drives value) course old new text s goes =
     let there = one_there course old goes.before s goes.was in
     let driven = drive value there.0 goes.before goes.after text there.2 goes.does in (
@@ -119,13 +131,15 @@ does_value (Drives value) course old new text s goes =
       subst (λ (view : Option View). StandsBy (Some driven.0) view) (sym goes.is) driven.2,
     )
 
-does_some : (what : Option ReplayValue) (course : Option Course) (old new : Option View) (text : List ℕ) → StandsBy course old → DoesSome Does what old new text
+does_some : (what : Option ReplayValue) (course : Option Course) (old new : Option View) (text : List ℕ)
+    → StandsBy course old → DoesSome Does what old new text
     → (next : Option Course) × DoesSome Adds what course next text × StandsBy next new
 does_some None course old new text s does = (course, (refl, does.1), subst (λ (view : Option View). StandsBy course view) (sym does.0) s)
 does_some (Some value) course old new text s does = does_value value course old new text s does
 
 -- one line
-pub follows : (line : Text) (course : Option Course) (old new : Option View) (text : List ℕ) → StandsBy course old → TakesLine line old new text
+pub follows : (line : Text) (course : Option Course) (old new : Option View) (text : List ℕ)
+    → StandsBy course old → TakesLine line old new text
     → Follows line course new text
 follows line course old new text s takes =
     let does = does_some takes.what course old new text s takes.does in
@@ -144,14 +158,19 @@ followed line old new (Err stop) takes = tt
 
 -- from a position that a player has to the next
 pub moved : (line : Text) (old : Position) (before after : Option View) (text : List ℕ) → TakesLine line before after text
-    → ((course : Option Course) → StandsBy course before → Follows line course after text) → before ≡ old.view → StandsBy old.course old.view
+    → ((course : Option Course) → StandsBy course before → Follows line course after text) → before ≡ old.view
+    → StandsBy old.course old.view
     → (new : Position) × Moves line old new text × ((after ≡ new.view) × StandsBy new.course new.view)
 moved line old before after text takes goes is s =
-    let follows : Follows line old.course after text = goes old.course (rw is s) in
-    (record { view = after; course = follows.next }, record { takes = rw (← is) takes; adds = follows.adds; stands = follows.stands }, (refl, follows.stands))
+    let follows : Follows line old.course after text = goes old.course (rw is s) in (
+      record { view = after; course = follows.next },
+      record { takes = rw (← is) takes; adds = follows.adds; stands = follows.stands },
+      (refl, follows.stands),
+    )
 
 -- and why a line is not done there
-pub due : (line : Text) (old : Position) (before after : Option View) (stop : LineStop) → IsDueBy (says_at (words_of line) (is_some before)) stop
+pub due : (line : Text) (old : Position) (before after : Option View) (stop : LineStop)
+    → IsDueBy (says_at (words_of line) (is_some before)) stop
     → IfHalted (HaltsLine line before after) stop → before ≡ old.view → IsDue rules line old stop
 due line old before after (stops.Refused fault) refused halted is = rw (← is) refused
 due line old before after stops.Halted refused halted is = (after, rw (← is) halted)

@@ -12,7 +12,8 @@ use Rattle.script_replay.specs.ReplayLines.{BeginValue, ReplayValue, Begins, beg
 use Rattle.script_words.specs.Said.{something}
 use Rattle.script_replay.specs.Played.{DoesSaid, TakesWords, start_of}
 
-pub taken : {Y : Type 0} (words : List Text) (old new : Option View) (said : Result ReplayValue ScriptFault) (r : Result (String Y) LineStop)
+pub taken : {Y : Type 0} (words : List Text) (old new : Option View) (said : Result ReplayValue ScriptFault)
+    (r : Result (String Y) LineStop)
     → says_at words (is_some old) ≡ something said
     → IfOk r (λ text. DoesSaid said old new (string_bytes text)) → IfOk r (λ text. TakesWords words old new (string_bytes text))
 taken words old new said (Ok text) is does = record { what = Some does.value; says = is ∙ ap something does.says; does = does.does }

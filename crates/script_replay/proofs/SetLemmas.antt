@@ -11,10 +11,13 @@ use Rattle.std.proofs.lemmas.Cmp.{nat_list_cmp_total}
 use Rattle.std.proofs.lemmas.Map.Text.{is_eq-slice_cmp}
 use Rattle.zk_nodes.specs.Names.{names_of}
 
-same_test : (names : List (List ℕ)) (name : List ℕ) → list_any (bytes_eq name) names ≡ list_any (λ other. is_eq (slice_cmp nat_cmp name other)) names
+same_test : (names : List (List ℕ)) (name : List ℕ)
+    → list_any (bytes_eq name) names ≡ list_any (λ other. is_eq (slice_cmp nat_cmp name other)) names
 same_test [] name = refl
 same_test (other ∷ names) name = ap₂ (λ (a b : Bool). a || b) (sym (is_eq-slice_cmp name other)) (same_test names name)
 
 -- a name is among the texts of a set where the set of names has it
-pub same_members : {Y : Type 0} (names : BTreeSet (String Y)) (name : List ℕ) → list_any (bytes_eq name) (map string_bytes names.keys) ≡ set.contains (names_of names) name
-same_members names name = same_test (map string_bytes names.keys) name ∙ sym (set.contains-from_list nat_list_cmp_total (map string_bytes names.keys) name)
+pub same_members : {Y : Type 0} (names : BTreeSet (String Y)) (name : List ℕ)
+    → list_any (bytes_eq name) (map string_bytes names.keys) ≡ set.contains (names_of names) name
+same_members names name =
+    same_test (map string_bytes names.keys) name ∙ sym (set.contains-from_list nat_list_cmp_total (map string_bytes names.keys) name)

@@ -19,7 +19,8 @@ abbrev pub kind_read : Text → Result CallKind ScriptFault
 kind_read word =
     ok_or
     (named
-    ((codes "exists", kind.Exists) ∷ (codes "getdata", kind.GetData) ∷ (codes "getchildren", kind.GetChildren) ∷ (codes "setdata", kind.SetData)
+    ((codes "exists", kind.Exists) ∷ (codes "getdata", kind.GetData) ∷ (codes "getchildren", kind.GetChildren)
+    ∷ (codes "setdata", kind.SetData)
     ∷ (codes "create", kind.Create) ∷ (codes "delete", kind.Delete) ∷ (codes "close", kind.Close) ∷ [])
     word)
     Words

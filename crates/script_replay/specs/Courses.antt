@@ -36,7 +36,8 @@ pub record AddsTurn (input : Input) (old new : Course) (text : List ℕ) : Type 
 
 -- What a line adds to what has happened, and what it prints.
 abbrev pub AddsClient : ClientValue → Course → Course → List ℕ → Type 0
-AddsClient value old new text = DoesBy AddsTurn (λ course. view_at course.start (past_in course)) (λ course. and_then course Forgets) value old new text
+AddsClient value old new text =
+    DoesBy AddsTurn (λ course. view_at course.start (past_in course)) (λ course. and_then course Forgets) value old new text
 
 abbrev pub AddsDrive : DriveValue → Course → Course → List ℕ → Type 0
 AddsDrive value old new text = DrivesBy AddsTurn AddsClient value old new text

@@ -13,7 +13,8 @@ use Rattle.script_words.specs.Said.{TakesSaid}
 use Rattle.script_words.specs.declared.script_fault.ScriptFault.{ScriptFault}
 use Rattle.script_replay.specs.declared.player.Player.{Player}
 use Rattle.script_replay.specs.ClientLines.{ClientValue, CutLine, NowLine, CallLine, PeekLine, LastLine, ForgetLine, SavedLine}
-use Rattle.script_replay.specs.ReplayLines.{BeginValue, TimeoutLine, ResumeLine, DriveValue, OpenedLine, BytesLine, ClientValueLine, ReplayValue, Begins, Drives, says_at}
+use Rattle.script_replay.specs.ReplayLines.{BeginValue, TimeoutLine, ResumeLine, DriveValue, OpenedLine, BytesLine, ClientValueLine}
+use Rattle.script_replay.specs.ReplayLines.{ReplayValue, Begins, Drives, says_at}
 use Rattle.script_replay.specs.Shown.{TellsAll, TellsKept, kept_line, last_line, saved_line}
 
 -- the client that a player has, by its view
@@ -23,7 +24,8 @@ view_of_player player = option_map view_of player.client
 -- what a client begins with
 abbrev pub start_of : BeginValue → Start
 start_of (TimeoutLine timeout) = new_start (unsigned_abs timeout)
-start_of (ResumeLine timeout session password last) = record { timeout = unsigned_abs timeout; session = session; password = password; last = last }
+start_of (ResumeLine timeout session password last) =
+    record { timeout = unsigned_abs timeout; session = session; password = password; last = last }
 
 -- A client takes an input by the rule, and the text is its outputs.
 pub record TakesTurn (input : Input) (old new : View) (text : List ℕ) : Type 0 where
@@ -32,7 +34,8 @@ pub record TakesTurn (input : Input) (old new : View) (text : List ℕ) : Type 0
   pub told : TellsAll outputs text
 
 -- What a line does, and what it prints: an input is a turn, and a look-up prints what is seen, and changes nothing.
-abbrev pub DoesBy : {S : Type 0} → (Input → S → S → List ℕ → Type 0) → (seen : S → View) (forgets : S → S) → ClientValue → S → S → List ℕ → Type 0
+abbrev pub DoesBy : {S : Type 0} → (Input → S → S → List ℕ → Type 0) → (seen : S → View) (forgets : S → S)
+    → ClientValue → S → S → List ℕ → Type 0
 DoesBy Turns seen forgets CutLine old new text = Turns Cut old new text
 DoesBy Turns seen forgets (NowLine moment) old new text = Turns (Now moment) old new text
 DoesBy Turns seen forgets (CallLine asked) old new text = Turns (Call asked.ticket asked.call) old new text
@@ -48,7 +51,8 @@ abbrev pub DoesClient : ClientValue → View → View → List ℕ → Type 0
 DoesClient value old new text = DoesBy TakesTurn (λ view. view) (λ view. record view { cache = forgotten view.cache }) value old new text
 
 -- What a line after the first does: a connection begins or bytes come, which is a turn, or what lines do at any other end.
-abbrev pub DrivesBy : {S : Type 0} → (Input → S → S → List ℕ → Type 0) → (ClientValue → S → S → List ℕ → Type 0) → DriveValue → S → S → List ℕ → Type 0
+abbrev pub DrivesBy : {S : Type 0} → (Input → S → S → List ℕ → Type 0) → (ClientValue → S → S → List ℕ → Type 0)
+    → DriveValue → S → S → List ℕ → Type 0
 DrivesBy Turns Does OpenedLine old new text = Turns Opened old new text
 DrivesBy Turns Does (BytesLine bytes) old new text = Turns (Bytes bytes) old new text
 DrivesBy Turns Does (ClientValueLine value) old new text = Does value old new text

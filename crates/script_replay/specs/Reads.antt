@@ -1,5 +1,6 @@
 -- What the words of lines that drive a client mean.
-use Rattle.std.specs.Prelude.{ℕ, ℤ, pos, negsuc, ◌-◌, ◌==◌, Bool, true, false, nat_le, if◌then◌else◌, List, [], ◌∷◌, codes, length, Option, Some, None, Result, Ok, Err, bytes_eq, option_and_then}
+use Rattle.std.specs.Prelude.{ℕ, ℤ, pos, negsuc, ◌-◌, ◌==◌, Bool, true, false, nat_le, if◌then◌else◌, List, [], ◌∷◌, codes, length, Option}
+use Rattle.std.specs.Prelude.{Some, None, Result, Ok, Err, bytes_eq, option_and_then}
 use Rattle.std.specs.Option.{ok_or, option_map}
 use Rattle.script_words.specs.declared.script_fault.ScriptFault.{ScriptFault}
 use Rattle.script_words.specs.declared.script_fault.ScriptFault.TheVariants.{Words, Number, Hex}

@@ -1,5 +1,6 @@
 -- The lines of a replay.
-use Rattle.std.specs.Prelude.{◌≤◌, ◌<ℤ◌, ◌≤ℤ◌, ℕ, ℤ, pos, Bool, true, false, if◌then◌else◌, length, List, [], ◌∷◌, codes, Option, Some, None, Result, Ok, Err}
+use Rattle.std.specs.Prelude.{◌≤◌, ◌<ℤ◌, ◌≤ℤ◌, ℕ, ℤ, pos, Bool, true, false, if◌then◌else◌, length, List, [], ◌∷◌, codes, Option, Some}
+use Rattle.std.specs.Prelude.{None, Result, Ok, Err}
 use Rattle.std.specs.List.{list_all}
 use Rattle.std.specs.Option.{ok_or, option_map}
 use Rattle.zk_nodes.specs.Path.{Text}
@@ -58,7 +59,8 @@ CanBegin (ResumeLine timeout session password last) = (pos 0 <ℤ timeout) × (p
 -- A line after it
 
 abbrev pub drive_keyword_of : Text → Option DriveKeyword
-drive_keyword_of word = keyword_or_client ((codes "opened", drive_keyword.Opened) ∷ (codes "bytes", drive_keyword.Bytes) ∷ []) drive_keyword.Client word
+drive_keyword_of word =
+    keyword_or_client ((codes "opened", drive_keyword.Opened) ∷ (codes "bytes", drive_keyword.Bytes) ∷ []) drive_keyword.Client word
 
 -- A connection begins, bytes come, or what is not about the server's side.
 pub data DriveValue : Type 0 where

@@ -100,13 +100,15 @@ state_word Closed = codes "Closed"
 abbrev pub plain_line : Output → List ℕ
 plain_line (Send bytes) = line (codes "send") (bytes_word (Some bytes))
 plain_line (Answers ticket outcome) = []
-plain_line (Report path side event) = codes "report" ++ (spaced (side_word side) ++ (spaced (event_word event) ++ (spaced (text_word (Some path)) ++ 10 ∷ [])))
+plain_line (Report path side event) =
+    codes "report" ++ (spaced (side_word side) ++ (spaced (event_word event) ++ (spaced (text_word (Some path)) ++ 10 ∷ [])))
 plain_line (Enters state) = line (codes "state") (state_word state)
 plain_line (Drop fault) = codes "drop" ++ (drop_words fault ++ 10 ∷ [])
 
 -- What is printed of an output: one line.
 abbrev pub TellsOutput : Output → List ℕ → Type 0
-TellsOutput (Answers ticket outcome) text = (told : List ℕ) × TellsOutcome outcome told × (text ≡ codes "answer" ++ (spaced (decimal ticket) ++ (codes " " ++ (told ++ 10 ∷ []))))
+TellsOutput (Answers ticket outcome) text =
+    (told : List ℕ) × TellsOutcome outcome told × (text ≡ codes "answer" ++ (spaced (decimal ticket) ++ (codes " " ++ (told ++ 10 ∷ []))))
 TellsOutput output text = text ≡ plain_line output
 
 -- What is printed of outputs: a line each, in order.
@@ -133,7 +135,8 @@ kept_line (Some kept) = answer_text kept.answer ++ (spaced (mark_word kept.mark)
 abbrev pub TellsKept : Option (Kept Names) → List ℕ → Type 0
 TellsKept None text = text ≡ codes "names none\n"
 TellsKept (Some kept) text =
-    (told : List ℕ) × TellsSet kept.answer.names told × (text ≡ told ++ (spaced (signed_decimal kept.answer.pzxid) ++ (spaced (mark_word kept.mark) ++ 10 ∷ [])))
+    (told : List ℕ) × TellsSet kept.answer.names told
+    × (text ≡ told ++ (spaced (signed_decimal kept.answer.pzxid) ++ (spaced (mark_word kept.mark) ++ 10 ∷ [])))
 
 abbrev pub last_line : ℤ → List ℕ
 last_line zxid = codes "last" ++ (spaced (signed_decimal zxid) ++ 10 ∷ [])

@@ -56,7 +56,8 @@ pub fn push_listing<A: Allocator + Copy>(
     alloc: A,
     names: &[String<A>],
 ) -> Result<(), AllocError>
-    ensures { OnOk result ((told : List ℕ) × TellsSet (set.from_list (map string_bytes names.now)) told × (string_bytes text.new ≡ string_bytes text.old ++ told)) }
+    ensures { OnOk result ((told : List ℕ) × TellsSet (set.from_list (map string_bytes names.now)) told
+        × (string_bytes text.new ≡ string_bytes text.old ++ told)) }
 {
     let set = set_of(alloc, names)?;
     push_set(text, alloc, &set)

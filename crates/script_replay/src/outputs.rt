@@ -70,7 +70,8 @@ fn push_answer<A: Allocator + Copy>(
     ticket: &u64,
     outcome: &Outcome<A>,
 ) -> Result<(), AllocError>
-    ensures { OnOk result ((told : List ℕ) × TellsOutput (Answer ticket.now (outcome_view outcome.now)) told × (string_bytes text.new ≡ string_bytes text.old ++ told)) }
+    ensures { OnOk result ((told : List ℕ) × TellsOutput (Answer ticket.now (outcome_view outcome.now)) told
+        × (string_bytes text.new ≡ string_bytes text.old ++ told)) }
 {
     text.push_str("answer")?;
     push_word(text, alloc, ticket)?;
@@ -122,7 +123,8 @@ pub fn push_output<A: Allocator + Copy>(
     alloc: A,
     output: &Output<A>,
 ) -> Result<(), AllocError>
-    ensures { OnOk result ((told : List ℕ) × TellsOutput (output_view output.now) told × (string_bytes text.new ≡ string_bytes text.old ++ told)) }
+    ensures { OnOk result
+        ((told : List ℕ) × TellsOutput (output_view output.now) told × (string_bytes text.new ≡ string_bytes text.old ++ told)) }
 {
     match output {
         Output::Send(bytes) => push_send(text, alloc, bytes.as_slice()),

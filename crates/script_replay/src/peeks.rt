@@ -62,7 +62,8 @@ fn push_data_line<A: Allocator + Copy>(
     answer: &DataAnswer<A>,
     mark: Mark,
 ) -> Result<(), AllocError>
-    ensures { OnOk result (string_bytes text.new ≡ string_bytes text.old ++ kept_line (Some (record { answer = answer_of answer.now; mark = mark }))) }
+    ensures { OnOk result
+        (string_bytes text.new ≡ string_bytes text.old ++ kept_line (Some (record { answer = answer_of answer.now; mark = mark }))) }
 {
     push_data_answer(text, alloc, answer)?;
     push_mark(text, mark)
@@ -73,7 +74,8 @@ pub fn data_line<A: Allocator + Copy>(
     alloc: A,
     kept: Option<(&DataAnswer<A>, Mark)>,
 ) -> Result<String<A>, AllocError>
-    ensures { IfOk result (λ text. string_bytes text ≡ kept_line (option_map (λ k. record { answer = answer_of k.0.now; mark = k.1 }) kept.entry)) }
+    ensures { IfOk result
+        (λ text. string_bytes text ≡ kept_line (option_map (λ k. record { answer = answer_of k.0.now; mark = k.1 }) kept.entry)) }
 {
     let Some((answer, mark)) = kept else {
         return String::from_str(alloc, "data none\n");
@@ -90,7 +92,8 @@ fn push_found<A: Allocator + Copy>(
     found: &Names<A>,
     mark: Mark,
 ) -> Result<(), AllocError>
-    ensures { OnOk result ((told : List ℕ) × TellsKept (Some (record { answer = names_in found.now; mark = mark })) told × (string_bytes text.new ≡ string_bytes text.old ++ told)) }
+    ensures { OnOk result ((told : List ℕ) × TellsKept (Some (record { answer = names_in found.now; mark = mark })) told
+        × (string_bytes text.new ≡ string_bytes text.old ++ told)) }
 {
     push_set(text, alloc, &found.names)?;
     push_word(text, alloc, &found.pzxid)?;
@@ -115,7 +118,8 @@ pub fn names_line<A: Allocator + Copy>(
     alloc: A,
     kept: Option<(&Names<A>, Mark)>,
 ) -> Result<String<A>, AllocError>
-    ensures { IfOk result (λ text. TellsKept (option_map (λ k. record { answer = names_in k.0.now; mark = k.1 }) kept.entry) (string_bytes text)) }
+    ensures { IfOk result
+        (λ text. TellsKept (option_map (λ k. record { answer = names_in k.0.now; mark = k.1 }) kept.entry) (string_bytes text)) }
 {
     match kept {
         None => String::from_str(alloc, "names none\n"),
@@ -151,7 +155,8 @@ fn push_saved<A: Allocator + Copy>(
     alloc: A,
     saved: &Saved<'_>,
 ) -> Result<(), AllocError>
-    ensures { OnOk result (string_bytes text.new ≡ string_bytes text.old ++ saved_line saved.now.session saved.now.password.now saved.now.last_zxid) }
+    ensures { OnOk result
+        (string_bytes text.new ≡ string_bytes text.old ++ saved_line saved.now.session saved.now.password.now saved.now.last_zxid) }
 {
     text.push_str("saved")?;
     push_word(text, alloc, &saved.session)?;

@@ -63,9 +63,12 @@ impl<A: Allocator + Copy> Player<A> {
         word: BeginKeyword,
         words: &[&[u8]],
     ) -> Result<String<A>, LineStop>
-        ensures ok { IfOk result (λ text. DoesSaid (placed_at (made.Begin word) (is_some (view_of_player self.old)) (map (λ w. w.now) words.now)) (view_of_player self.old) (view_of_player self.new) (string_bytes text)) }
-        ensures err { IfErr result (IsDueBy (placed_at (made.Begin word) (is_some (view_of_player self.old)) (map (λ w. w.now) words.now))) }
-        ensures halt { IfErr result (IfHalted (HaltsSaid (placed_at (made.Begin word) (is_some (view_of_player self.old)) (map (λ w. w.now) words.now)) (view_of_player self.old) (view_of_player self.new))) }
+        ensures ok { IfOk result (λ text. DoesSaid (placed_at (made.Begin word) (is_some (view_of_player self.old))
+            (map (λ w. w.now) words.now)) (view_of_player self.old) (view_of_player self.new) (string_bytes text)) }
+        ensures err { IfErr result
+            (IsDueBy (placed_at (made.Begin word) (is_some (view_of_player self.old)) (map (λ w. w.now) words.now))) }
+        ensures halt { IfErr result (IfHalted (HaltsSaid (placed_at (made.Begin word) (is_some (view_of_player self.old))
+            (map (λ w. w.now) words.now)) (view_of_player self.old) (view_of_player self.new))) }
     {
         if self.client.is_some() {
             return Err(LineStop::Refused(ScriptFault::Place));
@@ -82,9 +85,12 @@ impl<A: Allocator + Copy> Player<A> {
         word: DriveKeyword,
         words: &[&[u8]],
     ) -> Result<String<A>, LineStop>
-        ensures ok { IfOk result (λ text. DoesSaid (placed_at (made.Drive word) (is_some (view_of_player self.old)) (map (λ w. w.now) words.now)) (view_of_player self.old) (view_of_player self.new) (string_bytes text)) }
-        ensures err { IfErr result (IsDueBy (placed_at (made.Drive word) (is_some (view_of_player self.old)) (map (λ w. w.now) words.now))) }
-        ensures halt { IfErr result (IfHalted (HaltsSaid (placed_at (made.Drive word) (is_some (view_of_player self.old)) (map (λ w. w.now) words.now)) (view_of_player self.old) (view_of_player self.new))) }
+        ensures ok { IfOk result (λ text. DoesSaid (placed_at (made.Drive word) (is_some (view_of_player self.old))
+            (map (λ w. w.now) words.now)) (view_of_player self.old) (view_of_player self.new) (string_bytes text)) }
+        ensures err { IfErr result
+            (IsDueBy (placed_at (made.Drive word) (is_some (view_of_player self.old)) (map (λ w. w.now) words.now))) }
+        ensures halt { IfErr result (IfHalted (HaltsSaid (placed_at (made.Drive word) (is_some (view_of_player self.old))
+            (map (λ w. w.now) words.now)) (view_of_player self.old) (view_of_player self.new))) }
     {
         let Some(client) = &mut self.client else {
             return Err(LineStop::Refused(ScriptFault::Place));
@@ -100,9 +106,11 @@ impl<A: Allocator + Copy> Player<A> {
         keyword: Keyword,
         words: &[&[u8]],
     ) -> Result<String<A>, LineStop>
-        ensures ok { IfOk result (λ text. DoesSaid (placed_at keyword (is_some (view_of_player self.old)) (map (λ w. w.now) words.now)) (view_of_player self.old) (view_of_player self.new) (string_bytes text)) }
+        ensures ok { IfOk result (λ text. DoesSaid (placed_at keyword (is_some (view_of_player self.old)) (map (λ w. w.now) words.now))
+            (view_of_player self.old) (view_of_player self.new) (string_bytes text)) }
         ensures err { IfErr result (IsDueBy (placed_at keyword (is_some (view_of_player self.old)) (map (λ w. w.now) words.now))) }
-        ensures halt { IfErr result (IfHalted (HaltsSaid (placed_at keyword (is_some (view_of_player self.old)) (map (λ w. w.now) words.now)) (view_of_player self.old) (view_of_player self.new))) }
+        ensures halt { IfErr result (IfHalted (HaltsSaid (placed_at keyword (is_some (view_of_player self.old))
+            (map (λ w. w.now) words.now)) (view_of_player self.old) (view_of_player self.new))) }
     {
         match keyword {
             Keyword::Begin(word) => self.begin(alloc, word, words),
@@ -112,9 +120,11 @@ impl<A: Allocator + Copy> Player<A> {
 
     /// Does what the words of a line say.
     fn take_words(&mut self, alloc: A, words: &[&[u8]]) -> Result<String<A>, LineStop>
-        ensures ok { IfOk result (λ text. TakesWords (map (λ w. w.now) words.now) (view_of_player self.old) (view_of_player self.new) (string_bytes text)) }
+        ensures ok { IfOk result
+            (λ text. TakesWords (map (λ w. w.now) words.now) (view_of_player self.old) (view_of_player self.new) (string_bytes text)) }
         ensures err { IfErr result (IsDueBy (says_at (map (λ w. w.now) words.now) (is_some (view_of_player self.old)))) }
-        ensures halt { IfErr result (IfHalted (HaltsWords (map (λ w. w.now) words.now) (view_of_player self.old) (view_of_player self.new))) }
+        ensures halt { IfErr result
+            (IfHalted (HaltsWords (map (λ w. w.now) words.now) (view_of_player self.old) (view_of_player self.new))) }
     {
         let Some((first, behind)) = split_keyword(words) else {
             return Ok(String::new(alloc));
@@ -128,7 +138,8 @@ impl<A: Allocator + Copy> Player<A> {
     /// the client, what is printed is what the definitions give for it, and the client stands where the line leads.
     pub fn read_line(&mut self, alloc: A, line: &[u8]) -> Result<String<A>, LineStop>
         ensures ok { IfOk result (λ text. TakesLine line.now (view_of_player self.old) (view_of_player self.new) (string_bytes text)) }
-        ensures stands { IfOk result (λ text. (course : Option Course) → StandsBy course (view_of_player self.old) → Follows line.now course (view_of_player self.new) (string_bytes text)) }
+        ensures stands { IfOk result (λ text. (course : Option Course) → StandsBy course (view_of_player self.old)
+            → Follows line.now course (view_of_player self.new) (string_bytes text)) }
         ensures err { IfErr result (IsDueBy (says_at (words_of line.now) (is_some (view_of_player self.old)))) }
         ensures halt { IfErr result (IfHalted (HaltsLine line.now (view_of_player self.old) (view_of_player self.new))) }
     {

@@ -4,7 +4,8 @@ ghost use Rattle.std.specs.Prelude.{◌≡◌, ◌≤◌, ◌<ℤ◌, ◌≤ℤ�
 ghost use Rattle.std.specs.Option.{option_map};
 ghost use Rattle.zk_conversation.specs.Views.{mode_number};
 ghost use Rattle.script_words.specs.Reads.{Reads, time_at};
-ghost use Rattle.script_replay.specs.Reads.{natural_at, timeout_at, integer_of, below_zero, version_at, session_at, boolean_at, mode_at, bytes_at, password_at};
+ghost use Rattle.script_replay.specs.Reads.{natural_at, timeout_at, integer_of, below_zero, version_at, session_at, boolean_at, mode_at};
+ghost use Rattle.script_replay.specs.Reads.{bytes_at, password_at};
 
 use script_words::numbers::natural_of;
 use script_words::reads::parse_data;

@@ -58,7 +58,8 @@ fn push_names_result<A: Allocator + Copy>(
     names: &[String<A>],
     stat: &Stat,
 ) -> Result<(), AllocError>
-    ensures { OnOk result ((told : List ℕ) × TellsResult (Listing (map string_bytes names.now) stat.now) told × (string_bytes text.new ≡ string_bytes text.old ++ told)) }
+    ensures { OnOk result ((told : List ℕ) × TellsResult (Listing (map string_bytes names.now) stat.now) told
+        × (string_bytes text.new ≡ string_bytes text.old ++ told)) }
 {
     push_listing(text, alloc, names)?;
     push_full(text, alloc, stat)
@@ -70,7 +71,8 @@ pub fn push_result<A: Allocator + Copy>(
     alloc: A,
     found: &CallResult<A>,
 ) -> Result<(), AllocError>
-    ensures { OnOk result ((told : List ℕ) × TellsResult (call_result_view found.now) told × (string_bytes text.new ≡ string_bytes text.old ++ told)) }
+    ensures { OnOk result
+        ((told : List ℕ) × TellsResult (call_result_view found.now) told × (string_bytes text.new ≡ string_bytes text.old ++ told)) }
 {
     match found {
         CallResult::Code(code) => {
@@ -104,7 +106,8 @@ fn push_reply<A: Allocator + Copy>(
     zxid: &i64,
     found: &CallResult<A>,
 ) -> Result<(), AllocError>
-    ensures { OnOk result ((told : List ℕ) × TellsOutcome (Replied zxid.now (call_result_view found.now)) told × (string_bytes text.new ≡ string_bytes text.old ++ told)) }
+    ensures { OnOk result ((told : List ℕ) × TellsOutcome (Replied zxid.now (call_result_view found.now)) told
+        × (string_bytes text.new ≡ string_bytes text.old ++ told)) }
 {
     push_value(text, alloc, zxid)?;
     text.push_str(" ")?;
@@ -130,7 +133,8 @@ pub fn push_outcome<A: Allocator + Copy>(
     alloc: A,
     outcome: &Outcome<A>,
 ) -> Result<(), AllocError>
-    ensures { OnOk result ((told : List ℕ) × TellsOutcome (outcome_view outcome.now) told × (string_bytes text.new ≡ string_bytes text.old ++ told)) }
+    ensures { OnOk result
+        ((told : List ℕ) × TellsOutcome (outcome_view outcome.now) told × (string_bytes text.new ≡ string_bytes text.old ++ told)) }
 {
     match outcome {
         Outcome::Replied {

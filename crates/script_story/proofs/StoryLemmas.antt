@@ -26,7 +26,8 @@ refused line old value (Ok answer) says why = tt
 refused line old value (Err fault) says why = λ _. by_history value says why
 
 -- why a line of a script is not done
-pub due : (line : Text) (old : Position) (fault : ScriptFault) → (fault ≢ Memory → RefusesLine line old fault) → IsDue rules line old (stop_of fault)
+pub due : (line : Text) (old : Position) (fault : ScriptFault) → (fault ≢ Memory → RefusesLine line old fault)
+    → IsDue rules line old (stop_of fault)
 due line old faults.Unknown refuses = refuses (λ e. cc)
 due line old faults.Place refuses = refuses (λ e. cc)
 due line old faults.Words refuses = refuses (λ e. cc)

@@ -14,7 +14,8 @@ data_text (Children names pzxid) = []
 
 -- how many names there are, each of them, and the pzxid
 abbrev pub names_line : List Text → ℤ → List ℕ
-names_line names pzxid = codes "names" ++ (spaced (decimal (length names)) ++ (names_text names ++ (spaced (signed_decimal pzxid) ++ 10 ∷ [])))
+names_line names pzxid =
+    codes "names" ++ (spaced (decimal (length names)) ++ (names_text names ++ (spaced (signed_decimal pzxid) ++ 10 ∷ [])))
 
 -- What is printed of the names that there are to see.
 abbrev pub TellsNames : View → List ℕ → Type 0

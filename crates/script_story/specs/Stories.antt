@@ -1,8 +1,10 @@
 -- What a line of a script makes of a history, and what it prints.
-use Rattle.std.specs.Prelude.{◌≡◌, ◌≢◌, ◌<ℤ◌, ⊤, ℕ, Bool, true, false, not, ◌&&◌, if◌then◌else◌, pos, List, [], Option, Some, None, Result, Ok, Err}
+use Rattle.std.specs.Prelude.{◌≡◌, ◌≢◌, ◌<ℤ◌, ⊤, ℕ, Bool, true, false, not, ◌&&◌, if◌then◌else◌, pos, List, [], Option, Some, None, Result}
+use Rattle.std.specs.Prelude.{Ok, Err}
 use Rattle.zk_nodes.specs.Path.{Text, path_of}
 use Rattle.zk_nodes.specs.History.{Creates, newest, view, tree_at}
-use Rattle.zk_history.specs.HistoryView.{HistoryView, IsAccepted, empty_kept, history_of, natural, newest_tree, with_node, with_transaction, with_change}
+use Rattle.zk_history.specs.HistoryView.{HistoryView, IsAccepted, empty_kept, history_of, natural, newest_tree, with_node, with_transaction}
+use Rattle.zk_history.specs.HistoryView.{with_change}
 use Rattle.zk_history.specs.Refused.{NodeRefused, BeginRefused, ChangeRefused}
 use Rattle.zk_history.specs.declared.history_fault.HistoryFault.{HistoryFault}
 use Rattle.zk_history.specs.declared.history_fault.HistoryFault.TheVariants as refused
@@ -82,7 +84,8 @@ Allows (AskLine side zxid path) old = ⊤
 
 -- Why a line is refused by the history that is kept.
 abbrev pub IsRefused : LineValue → HistoryView → ScriptFault → Type 0
-IsRefused (NodeLine path content time) old fault = (why : HistoryFault) × (fault ≡ reason_of why) × NodeRefused old (path_of path) content why
+IsRefused (NodeLine path content time) old fault =
+    (why : HistoryFault) × (fault ≡ reason_of why) × NodeRefused old (path_of path) content why
 IsRefused (BeginLine zxid time) old fault = (why : HistoryFault) × (fault ≡ reason_of why) × BeginRefused old zxid why
 IsRefused (ChangeLine change) old fault = (why : HistoryFault) × (fault ≡ reason_of why) × ChangeRefused old change why
 IsRefused (AskLine side zxid path) old fault = fault ≡ Memory
@@ -111,7 +114,8 @@ TakesLine line old new answer = TakesSaid (said (words_of line) old.begun old.as
 -- A line is refused by its words, or by the history.
 pub data RefusesLine (line : Text) (old : Position) (fault : ScriptFault) : Type 0 where
   by_words : said (words_of line) old.begun old.asked ≡ Err fault → RefusesLine line old fault
-  by_history : (value : LineValue) → said (words_of line) old.begun old.asked ≡ Ok (Some value) → IsRefused value old.history fault → RefusesLine line old fault
+  by_history : (value : LineValue) → said (words_of line) old.begun old.asked ≡ Ok (Some value)
+      → IsRefused value old.history fault → RefusesLine line old fault
 
 -- the rules of a history's lines, at which nothing halts
 abbrev pub rules : Rules Position

@@ -37,7 +37,8 @@ fn push_found<A: Allocator + Copy>(
     alloc: A,
     found: &Names<A>,
 ) -> Result<(), AllocError>
-    ensures line { OnOk result (string_bytes text.new ≡ string_bytes text.old ++ names_line (map string_bytes found.now.names.keys) found.now.pzxid) }
+    ensures line { OnOk result
+        (string_bytes text.new ≡ string_bytes text.old ++ names_line (map string_bytes found.now.names.keys) found.now.pzxid) }
     ensures ordered { OnOk result (IsOrdered string_cmp found.now.names) }
 {
     text.push_str("names")?;
@@ -53,7 +54,8 @@ pub fn push_names<A: Allocator + Copy>(
     alloc: A,
     told: &Option<Names<A>>,
 ) -> Result<(), AllocError>
-    ensures { OnOk result ((line : List ℕ) × TellsNames (names_told told.now) line × (string_bytes text.new ≡ string_bytes text.old ++ line)) }
+    ensures { OnOk result
+        ((line : List ℕ) × TellsNames (names_told told.now) line × (string_bytes text.new ≡ string_bytes text.old ++ line)) }
 {
     match told {
         None => text.push_str("names absent\n"),

@@ -17,14 +17,16 @@ pub record SoFar (way : Way) (bytes : List ℕ) (old : Telling) (held : List ℕ
 pub none_yet : (way : Way) (bytes : List ℕ) (old : Telling) → SoFar way bytes old bytes old
 none_yet way bytes old = record { payloads = []; are = refl; tells = refl }
 
-one_joined : (payloads : List (List ℕ)) (payload rest : List ℕ) → joined payloads ++ (frame payload ++ rest) ≡ joined (payloads ++ payload ∷ []) ++ rest
+one_joined : (payloads : List (List ℕ)) (payload rest : List ℕ)
+    → joined payloads ++ (frame payload ++ rest) ≡ joined (payloads ++ payload ∷ []) ++ rest
 one_joined payloads payload rest =
     sym (append_assoc (joined payloads) (frame payload) rest)
     ∙ ap (λ (x : List ℕ). (joined payloads ++ x) ++ rest) (sym (append-nil (frame payload)))
     ∙ ap (λ (x : List ℕ). x ++ rest) (sym (flat_map-append frame payloads (payload ∷ [])))
 
 -- one more
-pub one_more : (way : Way) (bytes : List ℕ) (old here new : Telling) (held payload rest : List ℕ) → SoFar way bytes old held here → held ≡ frame payload ++ rest
+pub one_more : (way : Way) (bytes : List ℕ) (old here new : Telling) (held payload rest : List ℕ)
+    → SoFar way bytes old held here → held ≡ frame payload ++ rest
     → new ≡ told_after way here payload → SoFar way bytes old rest new
 one_more way bytes old here new held payload rest so_far was is = record {
   payloads = so_far.payloads ++ payload ∷ [];

@@ -1,5 +1,6 @@
 -- The line of a frame: a function of its payload, its direction, its place there, and the requests before it.
-use Rattle.std.specs.Prelude.{ℕ, ℤ, pos, negsuc, zero, suc, ◌==◌, Bool, true, false, if◌then◌else◌, List, [], ◌∷◌, ◌++◌, length, codes, Option, Some, None, Result, Ok, Err}
+use Rattle.std.specs.Prelude.{ℕ, ℤ, pos, negsuc, zero, suc, ◌==◌, Bool, true, false, if◌then◌else◌, List, [], ◌∷◌, ◌++◌, length, codes}
+use Rattle.std.specs.Prelude.{Option, Some, None, Result, Ok, Err}
 use Rattle.std.specs.Fmt.{decimal, signed_decimal}
 use Rattle.zk_jute.specs.declared.fault.TakeError.{TakeError}
 use Rattle.zk_jute.specs.FaultText.{take_error_words}
@@ -7,10 +8,13 @@ use Rattle.zk_jute.specs.Layout.{Value}
 use Rattle.zk_jute.specs.Reading.{reading}
 use Rattle.zk_nodes.specs.StatLayout.{stat}
 use Rattle.zk_records.specs.declared.operation.Operation.{Operation}
-use Rattle.zk_records.specs.declared.operation.Operation.TheVariants.{Create, Delete, Exists, GetData, SetData, GetChildren, Ping, GetChildren2, SetWatches, CloseSession}
+use Rattle.zk_records.specs.declared.operation.Operation.TheVariants.{Create, Delete, Exists, GetData, SetData, GetChildren, Ping}
+use Rattle.zk_records.specs.declared.operation.Operation.TheVariants.{GetChildren2, SetWatches, CloseSession}
 use Rattle.zk_records.specs.declared.reply_header.ReplyHeader.{ReplyHeader}
 use Rattle.zk_records.specs.declared.request_header.RequestHeader.{RequestHeader}
-use Rattle.zk_records.specs.Layouts.{connect_request, create_request, set_watches, read_request, set_data_request, delete_request, get_data_response, get_children_response, get_children2_response, create_response, watcher_event, request_header, reply_header}
+use Rattle.zk_records.specs.Layouts.{connect_request, create_request, set_watches, read_request, set_data_request, delete_request}
+use Rattle.zk_records.specs.Layouts.{get_data_response, get_children_response, get_children2_response, create_response, watcher_event}
+use Rattle.zk_records.specs.Layouts.{request_header, reply_header}
 use Rattle.zk_records.specs.Operations.{operation_numbered}
 use Rattle.zk_records.specs.Response.{Response, response_at}
 use Rattle.script_words.specs.Words.{optional_boolean_word}
@@ -20,7 +24,9 @@ use Rattle.script_stream.specs.declared.way.Way.{Way}
 use Rattle.script_stream.specs.declared.way.Way.TheVariants.{Client, Server}
 use Rattle.script_stream.specs.Asked.{topic_of}
 use Rattle.script_stream.specs.Names.{code_name, type_name}
-use Rattle.script_stream.specs.Records.{connect_labels, create_labels, created_labels, delete_labels, event_labels, get_children2_labels, get_children_labels, get_data_labels, read_labels, set_data_labels, set_watches_labels, stat_labels, words_of}
+use Rattle.script_stream.specs.Records.{connect_labels, create_labels, created_labels, delete_labels, event_labels, get_children2_labels}
+use Rattle.script_stream.specs.Records.{get_children_labels, get_data_labels, read_labels, set_data_labels, set_watches_labels, stat_labels}
+use Rattle.script_stream.specs.Records.{words_of}
 use Rattle.script_stream.specs.Ways.{way_mark}
 use Rattle.script_stream.specs.Words.{named, numbered}
 
@@ -79,9 +85,11 @@ result_by (Some Delete) end bytes = []
 result_by (Some Exists) end bytes = read_told (words_of stat stat_labels) (reading stat end bytes)
 result_by (Some GetData) end bytes = read_told (words_of get_data_response get_data_labels) (reading get_data_response end bytes)
 result_by (Some SetData) end bytes = read_told (words_of stat stat_labels) (reading stat end bytes)
-result_by (Some GetChildren) end bytes = read_told (words_of get_children_response get_children_labels) (reading get_children_response end bytes)
+result_by (Some GetChildren) end bytes =
+    read_told (words_of get_children_response get_children_labels) (reading get_children_response end bytes)
 result_by (Some Ping) end bytes = []
-result_by (Some GetChildren2) end bytes = read_told (words_of get_children2_response get_children2_labels) (reading get_children2_response end bytes)
+result_by (Some GetChildren2) end bytes =
+    read_told (words_of get_children2_response get_children2_labels) (reading get_children2_response end bytes)
 result_by (Some SetWatches) end bytes = []
 result_by (Some CloseSession) end bytes = []
 
@@ -97,7 +105,8 @@ abbrev pub code_words : ℤ → List ℕ
 code_words err = numbered (codes "err") err ++ 32 ∷ code_name err
 
 abbrev pub header_words : ReplyHeader → Topic → List ℕ
-header_words header topic = numbered (codes "xid") header.xid ++ (topic_words topic ++ (numbered (codes "zxid") header.zxid ++ code_words header.err))
+header_words header topic =
+    numbered (codes "xid") header.xid ++ (topic_words topic ++ (numbered (codes "zxid") header.zxid ++ code_words header.err))
 
 -- A notice has an event after its header, and a reply a result where its err is 0.
 abbrev pub behind_told : Topic → ℤ → ℕ → List ℕ → List ℕ
@@ -108,7 +117,8 @@ behind_told (Reply operation) (negsuc n) end bytes = []
 behind_told Unasked err end bytes = []
 
 abbrev pub answer_words : List RequestHeader → ReplyHeader → ℕ → List ℕ → List ℕ
-answer_words asked header end bytes = header_words header (topic_of asked header.xid) ++ behind_told (topic_of asked header.xid) header.err end bytes
+answer_words asked header end bytes =
+    header_words header (topic_of asked header.xid) ++ behind_told (topic_of asked header.xid) header.err end bytes
 
 abbrev pub reply_by : List RequestHeader → ℕ → Result (Value reply_header × List ℕ) TakeError → List ℕ
 reply_by asked end (Ok found) = answer_words asked (record { xid = found.0.0; zxid = found.0.1.0; err = found.0.1.1 }) end found.1
@@ -122,7 +132,8 @@ place_words way place = way_mark way ++ 32 ∷ decimal place
 
 -- What a payload says. The first in each direction has no header.
 abbrev pub frame_told : Way → (is_first : Bool) → List RequestHeader → List ℕ → List ℕ
-frame_told Client true asked payload = codes " connect" ++ read_told (words_of connect_request connect_labels) (reading connect_request (length payload) payload)
+frame_told Client true asked payload =
+    codes " connect" ++ read_told (words_of connect_request connect_labels) (reading connect_request (length payload) payload)
 frame_told Client false asked payload = asked_told payload
 frame_told Server true asked payload = codes " connected" ++ accepted_told payload
 frame_told Server false asked payload = reply_told asked payload

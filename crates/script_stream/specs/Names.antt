@@ -1,7 +1,8 @@
 -- The names that ZooKeeper gives to numbers.
 use Rattle.std.specs.Prelude.{ℕ, ℤ, pos, negsuc, zero, suc, List, codes, Option, Some, None, ◌==◌, if◌then◌else◌}
 use Rattle.zk_records.specs.declared.operation.Operation.{Operation}
-use Rattle.zk_records.specs.declared.operation.Operation.TheVariants.{Create, Delete, Exists, GetData, SetData, GetChildren, Ping, GetChildren2, SetWatches, CloseSession}
+use Rattle.zk_records.specs.declared.operation.Operation.TheVariants.{Create, Delete, Exists, GetData, SetData, GetChildren, Ping}
+use Rattle.zk_records.specs.declared.operation.Operation.TheVariants.{GetChildren2, SetWatches, CloseSession}
 use Rattle.zk_records.specs.declared.event.Event.{Event}
 use Rattle.zk_records.specs.declared.event.Event.TheVariants.{Created, Deleted, DataChanged, ChildrenChanged}
 use Rattle.zk_records.specs.declared.code.Code.{Code}

@@ -29,7 +29,8 @@ words_of layout labels value = []
 
 -- without the password
 abbrev pub connect_labels : Labels
-connect_labels = one (codes "protocolVersion") & (one (codes "lastZxidSeen") & (one (codes "timeOut") & (one (codes "sessionId") & (untold & one (codes "readOnly")))))
+connect_labels = one (codes "protocolVersion")
+    & (one (codes "lastZxidSeen") & (one (codes "timeOut") & (one (codes "sessionId") & (untold & one (codes "readOnly")))))
 
 abbrev pub read_labels : Labels
 read_labels = one (codes "path") & one (codes "watch")
@@ -51,10 +52,12 @@ abbrev pub event_labels : Labels
 event_labels = event (codes "type") & (one (codes "state") & one (codes "path"))
 
 abbrev pub stat_end_labels : Labels
-stat_end_labels = one (codes "aversion") & (one (codes "ephemeralOwner") & (one (codes "dataLength") & (one (codes "numChildren") & one (codes "pzxid"))))
+stat_end_labels = one (codes "aversion")
+    & (one (codes "ephemeralOwner") & (one (codes "dataLength") & (one (codes "numChildren") & one (codes "pzxid"))))
 
 abbrev pub stat_labels : Labels
-stat_labels = one (codes "czxid") & (one (codes "mzxid") & (one (codes "ctime") & (one (codes "mtime") & (one (codes "version") & (one (codes "cversion") & stat_end_labels)))))
+stat_labels = one (codes "czxid") & (one (codes "mzxid")
+    & (one (codes "ctime") & (one (codes "mtime") & (one (codes "version") & (one (codes "cversion") & stat_end_labels)))))
 
 abbrev pub get_data_labels : Labels
 get_data_labels = one (codes "data") & stat_labels

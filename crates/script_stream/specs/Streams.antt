@@ -32,7 +32,8 @@ asked_after Server place asked payload = asked
 
 abbrev pub told_after : Way → Telling → List ℕ → Telling
 told_after way old payload =
-    telling (old.place + (4 + length payload)) (asked_after way old.place old.asked payload) (old.told ++ frame_line way old.place old.asked payload)
+    telling (old.place + (4 + length payload)) (asked_after way old.place old.asked payload)
+    (old.told ++ frame_line way old.place old.asked payload)
 
 -- a frame is told
 abbrev pub Tells : Way → Telling → List ℕ → Telling → Type 0
@@ -68,11 +69,14 @@ abbrev pub course_of : {A : Type 0} → Flow A → Course
 course_of flow = record { held = flow.reader.bytes; fault = flow.reader.fault; came = flow.came; place = flow.place }
 
 -- Bytes come in a direction: after a length that is none nothing is told of it.
-abbrev pub HearsBy : Option FrameFault → Way → (piece : List ℕ) → (old : Course) → List RequestHeader → (new : Course) → List RequestHeader → List ℕ → Type 0
-HearsBy None way piece old asked new later text = TellsAll way (old.held ++ piece) (telling old.place asked []) new.held new.fault (telling new.place later text)
+abbrev pub HearsBy : Option FrameFault → Way → (piece : List ℕ) → (old : Course) → List RequestHeader → (new : Course)
+    → List RequestHeader → List ℕ → Type 0
+HearsBy None way piece old asked new later text =
+    TellsAll way (old.held ++ piece) (telling old.place asked []) new.held new.fault (telling new.place later text)
 HearsBy (Some fault) way piece old asked new later text = (new.fault ≡ Some fault) × (new.place ≡ old.place) × (later ≡ asked) × (text ≡ [])
 
-pub record Hears (way : Way) (piece : List ℕ) (old : Course) (asked : List RequestHeader) (new : Course) (later : List RequestHeader) (text : List ℕ) : Type 0 where
+pub record Hears (way : Way) (piece : List ℕ) (old : Course) (asked : List RequestHeader) (new : Course) (later : List RequestHeader)
+    (text : List ℕ) : Type 0 where
   pub came : new.came ≡ old.came + length piece
   pub tells : HearsBy old.fault way piece old asked new later text
 

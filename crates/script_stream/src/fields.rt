@@ -124,7 +124,8 @@ pub fn push_count<A: Allocator + Copy, R: Record<A>>(
     name: &str,
     values: &List<R, A>,
 ) -> Result<(), AllocError>
-    ensures { OnOk result (string_bytes text.new ≡ string_bytes text.old ++ named name.now (count_word (⟦<List<R, A> as Record<A>>⟧.view values.now))) }
+    ensures { OnOk result
+        (string_bytes text.new ≡ string_bytes text.old ++ named name.now (count_word (⟦<List<R, A> as Record<A>>⟧.view values.now))) }
 {
     match &values.elements {
         None => push_named(text, name, NULL),

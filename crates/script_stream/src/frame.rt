@@ -4,7 +4,9 @@ ghost use Rattle.std.specs.Prelude.{◌≡◌, ◌++◌, OnOk, string_bytes, len
 ghost use Rattle.std.specs.Fmt.{decimal};
 ghost use Rattle.zk_jute.specs.Cursor.{bytes_left, payload_len};
 ghost use Rattle.zk_records.specs.Views.{lent_response_of};
-ghost use Rattle.script_stream.specs.Frames.{accepted_told, answer_words, asked_told, behind_told, body_told, code_words, frame_line, frame_told, header_words, place_words, reply_told, request_words, response_words, result_told, topic_words, type_words};
+ghost use Rattle.script_stream.specs.Frames.{accepted_told, answer_words, asked_told, behind_told, body_told, code_words, frame_line};
+ghost use Rattle.script_stream.specs.Frames.{frame_told, header_words, place_words, reply_told, request_words, response_words, result_told};
+ghost use Rattle.script_stream.specs.Frames.{topic_words, type_words};
 
 use crate::asked::{Topic, topic_of};
 use crate::fields::{push_named, push_value};
@@ -46,7 +48,8 @@ fn push_request<'a, A: Allocator + Copy>(
     header: &RequestHeader,
     at: &mut Cursor<'a>,
 ) -> Result<(), AllocError>
-    ensures { OnOk result (string_bytes text.new ≡ string_bytes text.old ++ request_words header.now (payload_len at.old) (bytes_left at.old)) }
+    ensures { OnOk result
+        (string_bytes text.new ≡ string_bytes text.old ++ request_words header.now (payload_len at.old) (bytes_left at.old)) }
 {
     push_value(text, alloc, "xid", &header.xid)?;
     push_type(text, alloc, header.operation)?;
@@ -120,7 +123,8 @@ fn push_result<'a, A: Allocator + Copy>(
     operation: i32,
     at: &mut Cursor<'a>,
 ) -> Result<(), AllocError>
-    ensures { OnOk result (string_bytes text.new ≡ string_bytes text.old ++ result_told operation (payload_len at.old) (bytes_left at.old)) }
+    ensures { OnOk result
+        (string_bytes text.new ≡ string_bytes text.old ++ result_told operation (payload_len at.old) (bytes_left at.old)) }
 {
     match Operation::new(operation) {
         Some(Operation::Create) => push_record::<A, CreateResponse<A>>(text, alloc, at),
@@ -183,7 +187,8 @@ fn push_behind<'a, A: Allocator + Copy>(
     err: i32,
     at: &mut Cursor<'a>,
 ) -> Result<(), AllocError>
-    ensures { OnOk result (string_bytes text.new ≡ string_bytes text.old ++ behind_told topic err (payload_len at.old) (bytes_left at.old)) }
+    ensures { OnOk result
+        (string_bytes text.new ≡ string_bytes text.old ++ behind_told topic err (payload_len at.old) (bytes_left at.old)) }
 {
     match topic {
         Topic::Notice => push_record::<A, WatcherEvent<A>>(text, alloc, at),
@@ -200,7 +205,8 @@ fn push_answer<'a, A: Allocator + Copy>(
     header: &ReplyHeader,
     at: &mut Cursor<'a>,
 ) -> Result<(), AllocError>
-    ensures { OnOk result (string_bytes text.new ≡ string_bytes text.old ++ answer_words asked.now header.now (payload_len at.old) (bytes_left at.old)) }
+    ensures { OnOk result
+        (string_bytes text.new ≡ string_bytes text.old ++ answer_words asked.now header.now (payload_len at.old) (bytes_left at.old)) }
 {
     let topic = topic_of(asked, header.xid);
     push_header(text, alloc, header, topic)?;

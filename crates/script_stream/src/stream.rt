@@ -4,7 +4,8 @@ ghost use Rattle.std.specs.Prelude.{◌≡◌, ◌≢◌, ◌+◌, ◌++◌, Non
 ghost use Rattle.script_words.specs.Pieces.{words_of};
 ghost use Rattle.script_stream.specs.Frames.{frame_line};
 ghost use Rattle.script_stream.specs.Lines.{Does, TakesLine, rules, said, says_of};
-ghost use Rattle.script_stream.specs.Streams.{Hears, Position, TellsAll, asked_after, course_of, fault_line, first_course, first_position, left_line, position_of, telling};
+ghost use Rattle.script_stream.specs.Streams.{Hears, Position, TellsAll, asked_after, course_of, fault_line, first_course, first_position};
+ghost use Rattle.script_stream.specs.Streams.{left_line, position_of, telling};
 
 use crate::asked::note;
 use crate::fields::{push_named, push_value};
@@ -101,7 +102,8 @@ fn tell_frames<A: Allocator + Copy>(
     asked: &mut Vec<RequestHeader, A>,
 ) -> Result<usize, AllocError>
     requires { reader.old.fault ≡ None }
-    ensures { IfOk result (λ next. TellsAll way reader.old.bytes (telling from asked.old.items (string_bytes text.old)) reader.new.bytes reader.new.fault (telling next asked.new.items (string_bytes text.new))) }
+    ensures { IfOk result (λ next. TellsAll way reader.old.bytes (telling from asked.old.items (string_bytes text.old)) reader.new.bytes
+        reader.new.fault (telling next asked.new.items (string_bytes text.new))) }
 {
     let mut place = from;
     'frames: loop {
@@ -124,7 +126,8 @@ fn read_bytes<A: Allocator + Copy>(
     asked: &mut Vec<RequestHeader, A>,
     piece: &[u8],
 ) -> Result<String<A>, AllocError>
-    ensures { IfOk result (λ text. Hears way piece.now (course_of flow.old) asked.old.items (course_of flow.new) asked.new.items (string_bytes text)) }
+    ensures { IfOk result
+        (λ text. Hears way piece.now (course_of flow.old) asked.old.items (course_of flow.new) asked.new.items (string_bytes text)) }
 {
     let mut text = String::new(alloc);
     flow.came = further(flow.came, piece.len())?;
@@ -184,7 +187,8 @@ impl<A: Allocator + Copy> Stream<A> {
 
     /// What is told where nothing comes any more.
     fn left(&self, alloc: A) -> Result<String<A>, AllocError>
-        ensures { IfOk result (λ text. string_bytes text ≡ left_line Way.Client self.now.client.place self.now.client.came ++ left_line Way.Server self.now.server.place self.now.server.came) }
+        ensures { IfOk result (λ text. string_bytes text ≡ left_line Way.Client self.now.client.place self.now.client.came
+            ++ left_line Way.Server self.now.server.place self.now.server.came) }
     {
         let mut text = String::new(alloc);
         push_left(

@@ -4,7 +4,9 @@ ghost use Rattle.std.specs.Prelude.{◌≡◌, ◌++◌, OnOk, string_bytes};
 ghost use Rattle.zk_jute.specs.Cursor.{bytes_left, payload_len};
 ghost use Rattle.zk_jute.specs.Reading.{reading};
 ghost use Rattle.script_stream.specs.Frames.{fault_told, read_told};
-ghost use Rattle.script_stream.specs.Records.{Labels, connect_labels, create_labels, created_labels, delete_labels, event_labels, get_children2_labels, get_children_labels, get_data_labels, read_labels, set_data_labels, set_watches_labels, stat_labels, words_of};
+ghost use Rattle.script_stream.specs.Records.{Labels, connect_labels, create_labels, created_labels, delete_labels, event_labels};
+ghost use Rattle.script_stream.specs.Records.{get_children2_labels, get_children_labels, get_data_labels, read_labels, set_data_labels};
+ghost use Rattle.script_stream.specs.Records.{set_watches_labels, stat_labels, words_of};
 
 use crate::fields::{Field, push_count, push_fields, push_size, push_text, push_value};
 use crate::names::event_name;
@@ -43,7 +45,8 @@ pub fn push_record<'a, A: Allocator + Copy, R: Readable<'a, A> + Told<A> + Drop>
     alloc: A,
     at: &mut Cursor<'a>,
 ) -> Result<(), AllocError>
-    ensures { OnOk result (string_bytes text.new ≡ string_bytes text.old ++ read_told (words_of R.layout R.labels) (reading R.layout (payload_len at.old) (bytes_left at.old))) }
+    ensures { OnOk result (string_bytes text.new
+        ≡ string_bytes text.old ++ read_told (words_of R.layout R.labels) (reading R.layout (payload_len at.old) (bytes_left at.old))) }
 {
     let read: Result<R, TakeError> = take(alloc, at);
     match read {

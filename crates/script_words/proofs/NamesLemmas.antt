@@ -19,12 +19,14 @@ all_map f P [] h = tt
 all_map f P (x ∷ xs) h = (h.0, all_map f P xs h.1)
 
 -- what ascends by the order of its values has values that ascend
-pub sorted_map : {X Y : Type 0} (f : X → Y) (cmp : Y → Y → Ordering) (xs : List X) → IsStrictlySortedBy (λ x y. cmp (f x) (f y)) xs → IsStrictlySortedBy cmp (map f xs)
+pub sorted_map : {X Y : Type 0} (f : X → Y) (cmp : Y → Y → Ordering) (xs : List X)
+    → IsStrictlySortedBy (λ x y. cmp (f x) (f y)) xs → IsStrictlySortedBy cmp (map f xs)
 unfolding IsStrictlySortedBy
 sorted_map f cmp [] h = tt
 sorted_map f cmp (x ∷ xs) h = (all_map f (λ y. cmp (f x) y ≡ Less) xs h.0, sorted_map f cmp xs h.1)
 
 -- a name is among the texts where the set has it
-pub same_names : {Y : Type 0} (keys : List (String Y)) (name : List ℕ) → list_any (bytes_eq name) (map string_bytes keys) ≡ list_any (λ k. is_eq (slice_cmp nat_cmp name (string_bytes k))) keys
+pub same_names : {Y : Type 0} (keys : List (String Y)) (name : List ℕ)
+    → list_any (bytes_eq name) (map string_bytes keys) ≡ list_any (λ k. is_eq (slice_cmp nat_cmp name (string_bytes k))) keys
 same_names [] name = refl
 same_names (k ∷ keys) name = ap₂ (λ (a b : Bool). a || b) (sym (is_eq-slice_cmp name (string_bytes k))) (same_names keys name)

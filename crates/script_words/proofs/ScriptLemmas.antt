@@ -15,7 +15,8 @@ abbrev texts : List (Bor Text) → List Text
 texts lines = map (λ p. p.now) lines
 
 -- one line further
-pub further : {S : Type 0} (rules : Rules S) (here : Progress S) (lines : List (Bor Text)) (at : ℕ) (none : Bor Text) (old new : Progress S) → at < length lines
+pub further : {S : Type 0} (rules : Rules S) (here : Progress S) (lines : List (Bor Text)) (at : ℕ) (none : Bor Text)
+    (old new : Progress S) → at < length lines
     → FoldsTo (Goes rules) here (texts (take at lines)) old → Goes rules old (get_or lines at none).now new
     → FoldsTo (Goes rules) here (texts (take (at + 1) lines)) new
 further rules here lines at none old new within taken goes =
@@ -23,7 +24,8 @@ further rules here lines at none old new within taken goes =
     (FoldsTo-push (Goes rules) here (texts (take at lines)) old (get_or lines at none).now new taken goes)
 
 -- all lines
-pub all_taken : {S : Type 0} (rules : Rules S) (here : Progress S) (lines : List (Bor Text)) (at : ℕ) (end : S) (text : List ℕ) → length lines ≤ at
+pub all_taken : {S : Type 0} (rules : Rules S) (here : Progress S) (lines : List (Bor Text)) (at : ℕ) (end : S)
+    (text : List ℕ) → length lines ≤ at
     → FoldsTo (Goes rules) here (texts (take at lines)) (progress end text) → Prints rules here (texts lines) text
 all_taken rules here lines at end text past taken = record { end = end; taken = rw take_all at taken }
 
@@ -34,11 +36,14 @@ parted lines at none within =
     let one : at + 1 ≡ suc at = omega arith in
     let left : drop at lines ≡ get_or lines at none ∷ drop (at + 1) lines = rw one (drop-cons lines at none within) in
     ap (map (λ p. p.now)) (sym (take-append-drop at lines))
-    ∙ (map-append (λ p. p.now) (take at lines) (drop at lines) ∙ ap (λ rest. map (λ p. p.now) (take at lines) ++ map (λ p. p.now) rest) left)
+    ∙ (map-append (λ p. p.now) (take at lines) (drop at lines)
+    ∙ ap (λ rest. map (λ p. p.now) (take at lines) ++ map (λ p. p.now) rest) left)
 
 -- what stands when the line after those is not done
-pub stopped : {S : Type 0} (rules : Rules S) (here : Progress S) (lines : List (Bor Text)) (at : ℕ) (none : Bor Text) (end : S) (text : List ℕ) (stop : LineStop)
-    → at < length lines → FoldsTo (Goes rules) here (texts (take at lines)) (progress end text) → IsDue rules (get_or lines at none).now end stop
+pub stopped : {S : Type 0} (rules : Rules S) (here : Progress S) (lines : List (Bor Text)) (at : ℕ) (none : Bor Text) (end : S)
+    (text : List ℕ) (stop : LineStop)
+    → at < length lines → FoldsTo (Goes rules) here (texts (take at lines)) (progress end text)
+    → IsDue rules (get_or lines at none).now end stop
     → IsTranscript rules here (texts lines) text (end_at (at + 1) stop)
 stopped {S} rules here lines at none end text stop within taken due = go stop due
   where

@@ -1,5 +1,6 @@
 -- What the words of a script mean.
-use Rattle.std.specs.Prelude.{◌≡◌, ◌≢◌, ℕ, ℤ, pos, ◌&&◌, ◌==◌, Bool, nat_le, if◌then◌else◌, List, [], ◌∷◌, codes, Option, Some, None, Result, Ok, Err, bytes_eq}
+use Rattle.std.specs.Prelude.{◌≡◌, ◌≢◌, ℕ, ℤ, pos, ◌&&◌, ◌==◌, Bool, nat_le, if◌then◌else◌, List, [], ◌∷◌, codes, Option, Some, None}
+use Rattle.std.specs.Prelude.{Result, Ok, Err, bytes_eq}
 use Rattle.std.specs.List.{list_all}
 use Rattle.std.specs.Str.{is_utf8}
 use Rattle.hex.specs.Hex.{decode_of}
@@ -57,7 +58,8 @@ hex_read (Err e) = Err Hex
 
 -- null, no bytes, or hex
 abbrev pub data_at : List ℕ → Result (Option (List ℕ)) ScriptFault
-data_at word = if bytes_eq word (codes "\\0") then Ok None else (if bytes_eq word (codes "\\e") then Ok (Some []) else hex_read (decode_of word))
+data_at word = if bytes_eq word (codes "\\0") then Ok None
+    else (if bytes_eq word (codes "\\e") then Ok (Some []) else hex_read (decode_of word))
 
 abbrev pub text_read : Option (List ℕ) → Result (List ℕ) ScriptFault
 text_read (Some text) = if is_utf8 text then Ok text else Err Words

@@ -31,7 +31,8 @@ DoesSome Does None old new text = (new ≡ old) × (text ≡ [])
 DoesSome Does (Some value) old new text = Does value old new text
 
 -- A line is taken: what it says is done, where it says something.
-pub record TakesSaid {X S : Type 0} (said : Result (Option X) ScriptFault) (Does : X → S → S → List ℕ → Type 0) (old new : S) (text : List ℕ) : Type 0 where
+pub record TakesSaid {X S : Type 0} (said : Result (Option X) ScriptFault) (Does : X → S → S → List ℕ → Type 0) (old new : S)
+    (text : List ℕ) : Type 0 where
   pub what : Option X
   pub says : said ≡ Ok what
   pub does : DoesSome Does what old new text

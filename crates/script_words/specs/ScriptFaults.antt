@@ -2,7 +2,8 @@
 use Rattle.std.specs.Prelude.{ℕ, List, ◌++◌, codes}
 use Rattle.zk_nodes.specs.FaultText.{path_fault_code}
 use Rattle.script_words.specs.declared.script_fault.ScriptFault.{ScriptFault}
-use Rattle.script_words.specs.declared.script_fault.ScriptFault.TheVariants.{Unknown, Place, Words, Number, Hex, Path, Order, Illegal, Memory}
+use Rattle.script_words.specs.declared.script_fault.ScriptFault.TheVariants.{Unknown, Place, Words, Number, Hex, Path, Order, Illegal}
+use Rattle.script_words.specs.declared.script_fault.ScriptFault.TheVariants.{Memory}
 
 abbrev pub script_fault_text : ScriptFault → List ℕ
 script_fault_text Unknown = codes "unknown"

@@ -43,7 +43,8 @@ pub record PrintsFirst {S : Type 0} (rules : Rules S) (here : Progress S) (lines
   pub prints : Prints rules here before text
 
 -- Those before the line of this number, counted from 1, are taken, and that line is refused for this reason.
-pub record StopsAt {S : Type 0} (rules : Rules S) (here : Progress S) (lines : List Text) (number : ℕ) (fault : ScriptFault) (text : List ℕ) : Type 0 where
+pub record StopsAt {S : Type 0} (rules : Rules S) (here : Progress S) (lines : List Text) (number : ℕ) (fault : ScriptFault)
+    (text : List ℕ) : Type 0 where
   pub before : List Text
   pub line : Text
   pub behind : List Text

@@ -20,7 +20,8 @@ numbers_text numbers = flat_map (λ n. spaced (signed_decimal n)) numbers
 -- the five with which a Stat begins: czxid, mzxid, ctime, mtime and version
 unfoldable pub front_words : DataStat → List ℕ
 front_words s =
-    spaced (signed_decimal s.czxid) ++ (spaced (signed_decimal s.mzxid) ++ (spaced (signed_decimal s.ctime) ++ (spaced (signed_decimal s.mtime)
+    spaced (signed_decimal s.czxid)
+    ++ (spaced (signed_decimal s.mzxid) ++ (spaced (signed_decimal s.ctime) ++ (spaced (signed_decimal s.mtime)
     ++ spaced (signed_decimal s.version))))
 
 -- these, owner and length

@@ -5,7 +5,8 @@ ghost use Rattle.std.specs.Str.{is_utf8};
 ghost use Rattle.std.specs.List.{list_all};
 ghost use Rattle.std.specs.Option.{option_map};
 ghost use Rattle.script_words.specs.Said.{is_remark, split_keyword};
-ghost use Rattle.script_words.specs.Reads.{Reads, time_at, zxid_at, data_at, text_at, text_read, path_at, side_read, is_printed, alone, only};
+ghost use Rattle.script_words.specs.Reads.{Reads, time_at, zxid_at, data_at, text_at, text_read, path_at, side_read, is_printed, alone};
+ghost use Rattle.script_words.specs.Reads.{only};
 
 use crate::numbers::natural_of;
 use crate::script_fault::ScriptFault;

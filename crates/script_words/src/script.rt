@@ -42,7 +42,8 @@ pub trait LineReader<A: Allocator + Copy> {
     /// Does what a line says, and gives what is to be printed. The first reason that applies refuses a line. A halt is the answer
     /// only where the client has halted at what the line says.
     fn read(&mut self, alloc: A, line: &[u8]) -> Result<String<A>, LineStop>
-        ensures ok { (old : Position) → stands self.old old → IfOk result (λ text. (new : Position) × rules.Takes line.now old new (string_bytes text) × stands self.new new) }
+        ensures ok { (old : Position) → stands self.old old
+            → IfOk result (λ text. (new : Position) × rules.Takes line.now old new (string_bytes text) × stands self.new new) }
         ensures err { (old : Position) → stands self.old old → IfErr result (IsDue rules line.now old) };
 }
 
@@ -53,7 +54,8 @@ fn read_line<A: Allocator + Copy, R: LineReader<A>>(
     line: &[u8],
     text: &mut String<A>,
 ) -> Result<(), LineStop>
-    ensures ok { (old : R.Position) → R.stands reader.old old → OnOk result ((new : R.Position) × Goes R.rules (progress old (string_bytes text.old)) line.now (progress new (string_bytes text.new)) × R.stands reader.new new) }
+    ensures ok { (old : R.Position) → R.stands reader.old old → OnOk result ((new : R.Position)
+        × Goes R.rules (progress old (string_bytes text.old)) line.now (progress new (string_bytes text.new)) × R.stands reader.new new) }
     ensures err { (old : R.Position) → R.stands reader.old old → IfErr result (IsDue R.rules line.now old) }
     ensures same { OnErr result (string_bytes text.new ≡ string_bytes text.old) }
 {
@@ -82,7 +84,8 @@ pub fn read_lines<A: Allocator + Copy, R: LineReader<A>>(
     lines: &[&[u8]],
     told: String<A>,
 ) -> Transcript<A>
-    ensures { (first : R.Position) → R.stands reader.old first → IsTranscript R.rules (progress first (string_bytes told)) (map (λ l. l.now) lines.now) (string_bytes result.text) result.end }
+    ensures { (first : R.Position) → R.stands reader.old first
+        → IsTranscript R.rules (progress first (string_bytes told)) (map (λ l. l.now) lines.now) (string_bytes result.text) result.end }
 {
     let mut text = told;
     for (index, line) in lines.iter().enumerate() {
@@ -110,7 +113,8 @@ pub fn read_script<A: Allocator + Copy, R: LineReader<A>>(
     reader: &mut R,
     script: &[u8],
 ) -> Transcript<A>
-    ensures { (first : R.Position) → R.stands reader.old first → IsTranscript R.rules (progress first []) (lines_of script.now) (string_bytes result.text) result.end }
+    ensures { (first : R.Position) → R.stands reader.old first
+        → IsTranscript R.rules (progress first []) (lines_of script.now) (string_bytes result.text) result.end }
 {
     match lines_of(alloc, script) {
         Ok(lines) => read_lines(alloc, reader, lines.as_slice(), String::new(alloc)),

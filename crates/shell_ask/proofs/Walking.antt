@@ -1,9 +1,11 @@
 -- A walk through a tree: the nodes that wait, and how it ends.
-use Rattle.std.proofs.Common.{◌≡◌, ◌≢◌, ◌<◌, ◌⊎◌, ◌++◌, ◌∙◌, List, [], ◌∷◌, map, reverse, inl, inr, Contains, IfNone, IfOk, IfSome, Option, None, Some, Result, length, true, false, append_assoc, refl, sym, ap, subst}
+use Rattle.std.proofs.Common.{◌≡◌, ◌≢◌, ◌<◌, ◌⊎◌, ◌++◌, ◌∙◌, List, [], ◌∷◌, map, reverse, inl, inr, Contains, IfNone, IfOk, IfSome, Option}
+use Rattle.std.proofs.Common.{None, Some, Result, length, true, false, append_assoc, refl, sym, ap, subst}
 use Rattle.std.proofs.lemmas.List.{map-append, reverse-append, reverse-reverse}
 use Rattle.zk_nodes.specs.Path.{Text}
 use Rattle.zk_driver.specs.Driving.{Course}
-use Rattle.zk_turns.specs.Turns.{Replied, ConnectionLoss, SessionExpired, SessionClosed, NotConnected, TooManyWatches, TooLarge, TooManyPending}
+use Rattle.zk_turns.specs.Turns.{Replied, ConnectionLoss, SessionExpired, SessionClosed, NotConnected, TooManyWatches, TooLarge}
+use Rattle.zk_turns.specs.Turns.{TooManyPending}
 use Rattle.zk_conversation.specs.Results.{NoNode, Refused, Found, Read, Listing, Made, Done}
 use Rattle.shell_ask.specs.declared.end.End.{End}
 use Rattle.shell_ask.specs.declared.end.End.TheVariants as ends
@@ -12,7 +14,9 @@ use Rattle.shell_ask.specs.declared.walk.Bounds.{Bounds}
 use Rattle.shell_ask.specs.declared.walk.Ending.{Ending as Reached}
 use Rattle.shell_ask.specs.Asking.{Coming, Answered, Heard, Late}
 use Rattle.shell_ask.specs.Printing.{end_of, IsToldEnd}
-use Rattle.shell_ask.specs.Trees.{child_of, ending_end, ending_view, listing_of, names_within, spot_view, waiting_view, with_next, AreInOrder, EndsAt, Ending, Full, HasNoPath, IsGone, IsHeard, IsListed, IsUndone, Misnamed, Reaches, Spot, Stage, Steps, Stopped, Whole}
+use Rattle.shell_ask.specs.Trees.{child_of, ending_end, ending_view, listing_of, names_within, spot_view, waiting_view, with_next}
+use Rattle.shell_ask.specs.Trees.{AreInOrder, EndsAt, Ending, Full, HasNoPath, IsGone, IsHeard, IsListed, IsUndone, Misnamed, Reaches, Spot}
+use Rattle.shell_ask.specs.Trees.{Stage, Steps, Stopped, Whole}
 
 -- ---- the nodes that wait
 
@@ -23,14 +27,18 @@ map_reverse f (x ∷ xs) =
     ∙ sym (reverse-append (f x ∷ []) (map f xs))
 
 -- the last place holds the next node
-pub waiting_pop : {A : Type 0} (places : List (Place A)) (place : Place A) → waiting_view (places ++ place ∷ []) ≡ spot_view place ∷ waiting_view places
-waiting_pop places place = ap reverse (map-append spot_view places (place ∷ [])) ∙ reverse-append (map spot_view places) (spot_view place ∷ [])
+pub waiting_pop : {A : Type 0} (places : List (Place A)) (place : Place A)
+    → waiting_view (places ++ place ∷ []) ≡ spot_view place ∷ waiting_view places
+waiting_pop places place =
+    ap reverse (map-append spot_view places (place ∷ [])) ∙ reverse-append (map spot_view places) (spot_view place ∷ [])
 
 -- what is put after all, the last first, is next
-pub waiting_first : {A : Type 0} (places more : List (Place A)) → waiting_view (places ++ reverse more) ≡ map spot_view more ++ waiting_view places
+pub waiting_first : {A : Type 0} (places more : List (Place A))
+    → waiting_view (places ++ reverse more) ≡ map spot_view more ++ waiting_view places
 waiting_first places more =
     ap reverse (map-append spot_view places (reverse more)) ∙ reverse-append (map spot_view places) (map spot_view (reverse more))
-    ∙ ap (λ l. reverse l ++ waiting_view places) (map_reverse spot_view more) ∙ ap (λ l. l ++ waiting_view places) (reverse-reverse (map spot_view more))
+    ∙ ap (λ l. reverse l ++ waiting_view places) (map_reverse spot_view more)
+    ∙ ap (λ l. l ++ waiting_view places) (reverse-reverse (map spot_view more))
 
 -- ---- how it ends
 
@@ -92,12 +100,16 @@ is_full (Misnamed name) more = absurd cc
 abbrev pub stage : {A : Type 0} → Course A → (waiting : List Spot) (printed : List Text) → Stage A
 stage course waiting printed = record { course = course; waiting = waiting; printed = printed }
 
-pub heard_of : {A : Type 0} (bounds : Bounds) (old : Stage A) (spot : Spot) (coming : Coming) (last : Course A) → length old.printed < bounds.most → IsListed bounds.deepest spot
+pub heard_of : {A : Type 0} (bounds : Bounds) (old : Stage A) (spot : Spot) (coming : Coming) (last : Course A)
+    → length old.printed < bounds.most → IsListed bounds.deepest spot
     → Heard (listing_of spot) bounds.until old.course coming last → IsHeard bounds (with_next spot old) spot old.waiting coming last
-heard_of bounds old spot coming last room listed heard = record { next = record { next = refl; room = room }; listed = listed; heard = heard }
+heard_of bounds old spot coming last room listed heard =
+    record { next = record { next = refl; room = room }; listed = listed; heard = heard }
 
-pub misnamed : {A : Type 0} (bounds : Bounds) (old : Stage A) (spot : Spot) (coming : Coming) (last : Course A) (each : List Text) (child : Text) (ending : Ending)
-    → IsHeard bounds (with_next spot old) spot old.waiting coming last → end_of coming ≡ ends.Done → AreInOrder each (names_within bounds.deepest spot coming)
+pub misnamed : {A : Type 0} (bounds : Bounds) (old : Stage A) (spot : Spot) (coming : Coming) (last : Course A) (each : List Text)
+    (child : Text) (ending : Ending)
+    → IsHeard bounds (with_next spot old) spot old.waiting coming last → end_of coming ≡ ends.Done
+    → AreInOrder each (names_within bounds.deepest spot coming)
     → Contains each child → HasNoPath spot child → ending ≡ Misnamed spot.name → EndsAt bounds (with_next spot old) ending
 misnamed bounds old spot coming last each child ending heard done order has pathless is =
     subst (λ (e : Ending). EndsAt bounds (with_next spot old) e) (sym is) (record {
@@ -115,7 +127,8 @@ misnamed bounds old spot coming last each child ending heard done order has path
       named = refl;
     })
 
-pub stopped : {A : Type 0} (bounds : Bounds) (old : Stage A) (spot : Spot) (coming : Coming) (last : Course A) → IsHeard bounds (with_next spot old) spot old.waiting coming last
+pub stopped : {A : Type 0} (bounds : Bounds) (old : Stage A) (spot : Spot) (coming : Coming) (last : Course A)
+    → IsHeard bounds (with_next spot old) spot old.waiting coming last
     → end_of coming ≢ ends.Done → (IsGone spot coming → ⊥) → EndsAt bounds (with_next spot old) (Stopped spot.name coming)
 stopped bounds old spot coming last heard undone_so stays = record {
   spot = spot;
@@ -132,13 +145,16 @@ if_none None p f = f p
 if_none (Some x) p f = tt
 
 -- where the nodes that wait are the same
-pub ends_at : {A E : Type 0} (bounds : Bounds) (course : Course A) (waiting next : List Spot) (printed now : List Text) (r : Result (Option (Reached A)) E) → waiting ≡ next
+pub ends_at : {A E : Type 0} (bounds : Bounds) (course : Course A) (waiting next : List Spot) (printed now : List Text)
+    (r : Result (Option (Reached A)) E) → waiting ≡ next
     → IfOk r (λ ending. IfSome ending (λ e. EndsAt bounds (stage course next printed) (ending_view e) × (now ≡ printed)))
     → IfOk r (λ ending. IfSome ending (λ e. EndsAt bounds (stage course waiting printed) (ending_view e) × (now ≡ printed)))
 ends_at bounds course waiting next printed now r same =
-    subst (λ (w : List Spot). IfOk r (λ ending. IfSome ending (λ e. EndsAt bounds (stage course w printed) (ending_view e) × (now ≡ printed)))) (sym same)
+    subst (λ (w : List Spot).
+    IfOk r (λ ending. IfSome ending (λ e. EndsAt bounds (stage course w printed) (ending_view e) × (now ≡ printed)))) (sym same)
 
-pub steps_from : {A E : Type 0} (bounds : Bounds) (course : Course A) (waiting next : List Spot) (printed : List Text) (new : Stage A) (r : Result (Option (Reached A)) E)
+pub steps_from : {A E : Type 0} (bounds : Bounds) (course : Course A) (waiting next : List Spot) (printed : List Text) (new : Stage A)
+    (r : Result (Option (Reached A)) E)
     → waiting ≡ next → IfOk r (λ ending. IfNone ending (Steps bounds (stage course next printed) new))
     → IfOk r (λ ending. IfNone ending (Steps bounds (stage course waiting printed) new))
 steps_from bounds course waiting next printed new r same =
@@ -157,8 +173,10 @@ from_there {A} bounds course waiting begun printed none last waits prints reache
 -- ---- the nodes below a node
 
 -- another node is made of a name
-pub spots_on : {A : Type 0} (spots : List (Place A)) (child : Place A) (spot : Spot) (name : Text) (rest : List Text) → spot_view child ≡ child_of spot name
+pub spots_on : {A : Type 0} (spots : List (Place A)) (child : Place A) (spot : Spot) (name : Text) (rest : List Text)
+    → spot_view child ≡ child_of spot name
     → map spot_view (spots ++ child ∷ []) ++ map (child_of spot) rest ≡ map spot_view spots ++ map (child_of spot) (name ∷ rest)
 spots_on spots child spot name rest is =
-    ap (λ l. l ++ map (child_of spot) rest) (map-append spot_view spots (child ∷ [])) ∙ append_assoc (map spot_view spots) (spot_view child ∷ []) (map (child_of spot) rest)
+    ap (λ l. l ++ map (child_of spot) rest) (map-append spot_view spots (child ∷ []))
+    ∙ append_assoc (map spot_view spots) (spot_view child ∷ []) (map (child_of spot) rest)
     ∙ ap (λ s. map spot_view spots ++ s ∷ map (child_of spot) rest) is

@@ -26,15 +26,19 @@ came_view (came.Late was_sent was_heard) = Late was_sent was_heard
 
 -- The program hears this next: the driver goes on, and this is the first that is told.
 abbrev pub Tells : {A : Type 0} → (old : Course A) → Told → (new : Course A) → Type 0
-Tells {A} old told new = (between : Course A) × Goes old between × (between.told ≡ told ∷ new.told) × (new ≡ record between { told = new.told })
+Tells {A} old told new =
+    (between : Course A) × Goes old between × (between.told ≡ told ∷ new.told) × (new ≡ record between { told = new.told })
 
--- What a program hears of a call that waits to a moment, after whatever else it is told: its answer, that its limit has come, or nothing by this
--- moment.
+-- What a program hears of a call that waits to a moment, after whatever else it is told: its answer, that its limit has come, or nothing by
+-- this moment.
 pub data Hears {A : Type 0} (ticket until : ℕ) (new : Course A) : Course A → Coming → Type 0 where
-  answers : (old : Course A) (outcome : Outcome) → Tells old (Says (Answer ticket outcome)) new → Hears ticket until new old (Answered outcome)
-  ends : (old : Course A) (was_sent : Bool) → Tells old (TimesOut ticket was_sent) new → Hears ticket until new old (Late was_sent (is_some new.agent.heard_at))
+  answers : (old : Course A) (outcome : Outcome)
+      → Tells old (Says (Answer ticket outcome)) new → Hears ticket until new old (Answered outcome)
+  ends : (old : Course A) (was_sent : Bool)
+      → Tells old (TimesOut ticket was_sent) new → Hears ticket until new old (Late was_sent (is_some new.agent.heard_at))
   passes : (old : Course A) → Goes old new → until ≤ new.agent.latest → Hears ticket until new old (Late true (is_some new.agent.heard_at))
-  goes_on : (old between : Course A) (told : Told) (coming : Coming) → Tells old told between → Hears ticket until new between coming → Hears ticket until new old coming
+  goes_on : (old between : Course A) (told : Told) (coming : Coming)
+      → Tells old told between → Hears ticket until new between coming → Hears ticket until new old coming
 
 -- A driver is handed a call that waits to a moment, and this comes of it.
 pub record Heard {A : Type 0} (call : Call) (until : ℕ) (start : Course A) (coming : Coming) (last : Course A) : Type 0 where

@@ -1,5 +1,6 @@
 -- What is printed and told of what came of a call.
-use Rattle.std.specs.Prelude.{◌≡◌, ◌≢◌, ◌⊎◌, ⊤, ◌||◌, ◌&&◌, not, nat_le, ℕ, ℤ, Bool, true, false, if◌then◌else◌, List, [], ◌∷◌, ◌++◌, chars, codes, Option, Some, None}
+use Rattle.std.specs.Prelude.{◌≡◌, ◌≢◌, ◌⊎◌, ⊤, ◌||◌, ◌&&◌, not, nat_le, ℕ, ℤ, Bool, true, false, if◌then◌else◌, List, [], ◌∷◌, ◌++◌, chars}
+use Rattle.std.specs.Prelude.{codes, Option, Some, None}
 use Rattle.std.specs.Fmt.{signed_decimal}
 use Rattle.std.specs.FinSet as set
 use Rattle.std.specs.List.{flat_map, list_any}
@@ -59,8 +60,10 @@ name_line name = name_text name ++ 10 ∷ []
 -- the fields of a Stat by their names
 abbrev pub fields : Stat → List (List ℕ × ℤ)
 fields s =
-    (codes "czxid", s.czxid) ∷ ((codes "mzxid", s.mzxid) ∷ ((codes "ctime", s.ctime) ∷ ((codes "mtime", s.mtime) ∷ ((codes "version", s.version)
-    ∷ ((codes "cversion", s.cversion) ∷ ((codes "aversion", s.aversion) ∷ ((codes "ephemeralOwner", s.ephemeral_owner) ∷ ((codes "dataLength", s.data_length)
+    (codes "czxid", s.czxid)
+    ∷ ((codes "mzxid", s.mzxid) ∷ ((codes "ctime", s.ctime) ∷ ((codes "mtime", s.mtime) ∷ ((codes "version", s.version)
+    ∷ ((codes "cversion", s.cversion)
+    ∷ ((codes "aversion", s.aversion) ∷ ((codes "ephemeralOwner", s.ephemeral_owner) ∷ ((codes "dataLength", s.data_length)
     ∷ ((codes "numChildren", s.num_children) ∷ ((codes "pzxid", s.pzxid) ∷ []))))))))))
 
 abbrev pub field_lines : List (List ℕ × ℤ) → List ℕ
@@ -101,7 +104,8 @@ text_members name text = json.key name ∷ (json.string text ∷ [])
 -- a text in UTF-8, else hex under another key, or null
 abbrev pub data_members : Option (List ℕ) → List json.Token
 data_members None = json.key (codes "data") ∷ (json.null ∷ [])
-data_members (Some bytes) = if is_utf8 bytes then text_members (codes "data") bytes else text_members (codes "hex") (bytes_word (Some bytes))
+data_members (Some bytes) =
+    if is_utf8 bytes then text_members (codes "data") bytes else text_members (codes "hex") (bytes_word (Some bytes))
 
 abbrev pub field_members : List (List ℕ × ℤ) → List json.Token
 field_members fields = flat_map (λ field. json.key field.0 ∷ (json.number (signed_decimal field.1) ∷ [])) fields

@@ -1,5 +1,6 @@
 -- What is printed of a tree: which answers, in which order, make which lines.
-use Rattle.std.specs.Prelude.{◌≡◌, ◌≢◌, ◌≤◌, ◌<◌, ◌⊎◌, ◌+◌, ◌-◌, ◌^◌, ⊤, ℕ, suc, false, if◌then◌else◌, nat_lt, List, [], ◌∷◌, ◌++◌, length, map, min, reverse, Contains, None, codes}
+use Rattle.std.specs.Prelude.{◌≡◌, ◌≢◌, ◌≤◌, ◌<◌, ◌⊎◌, ◌+◌, ◌-◌, ◌^◌, ⊤, ℕ, suc, false, if◌then◌else◌, nat_lt, List, [], ◌∷◌, ◌++◌, length}
+use Rattle.std.specs.Prelude.{map, min, reverse, Contains, None, codes}
 use Rattle.std.specs.Fmt.{decimal}
 use Rattle.std.specs.FinSet as set
 use Rattle.std.specs.List.{flat_map}
@@ -28,8 +29,8 @@ use Rattle.shell_ask.specs.Printing.{end_of, fault_line, name_line, text_line, t
 
 -- ---- what is asked for
 
--- The root by its path and by its path below the chroot, how many levels below it are gone through, how many nodes are printed at most, and how
--- long the walk may wait.
+-- The root by its path and by its path below the chroot, how many levels below it are gone through, how many nodes are printed at most, and
+-- how long the walk may wait.
 pub record Scope : Type 0 where
   pub path : Text
   pub name : Text
@@ -127,20 +128,23 @@ pub record IsNext {A : Type 0} (bounds : Bounds) (old : Stage A) (spot : Spot) (
   pub room : length old.printed < bounds.most
 
 -- It is listed by a call that waits to the walk's limit, and this comes of it.
-pub record IsHeard {A : Type 0} (bounds : Bounds) (old : Stage A) (spot : Spot) (rest : List Spot) (coming : Coming) (last : Course A) : Type 0 where
+pub record IsHeard {A : Type 0} (bounds : Bounds) (old : Stage A) (spot : Spot) (rest : List Spot) (coming : Coming)
+    (last : Course A) : Type 0 where
   pub next : IsNext bounds old spot rest
   pub listed : IsListed bounds.deepest spot
   pub heard : Heard (listing_of spot) bounds.until old.course coming last
 
--- A node at the greatest depth is printed. Any other is listed first, and printed: those below it are next, in the order of their names. One that
--- is gone by then is left out, unless it is the root.
+-- A node at the greatest depth is printed. Any other is listed first, and printed: those below it are next, in the order of their names.
+-- One that is gone by then is left out, unless it is the root.
 pub data Steps {A : Type 0} (bounds : Bounds) (old new : Stage A) : Type 0 where
   prints_leaf : (spot : Spot) (rest : List Spot) → IsNext bounds old spot rest → (IsListed bounds.deepest spot → ⊥)
       → Becomes new old.course rest (old.printed ++ spot.name ∷ []) → Steps bounds old new
-  prints_node : (spot : Spot) (rest : List Spot) (coming : Coming) (last : Course A) (each : List Text) → IsHeard bounds old spot rest coming last
+  prints_node : (spot : Spot) (rest : List Spot) (coming : Coming) (last : Course A) (each : List Text)
+      → IsHeard bounds old spot rest coming last
       → end_of coming ≡ ends.Done → AreInOrder each (names_within bounds.deepest spot coming)
       → Becomes new last (map (child_of spot) each ++ rest) (old.printed ++ spot.name ∷ []) → Steps bounds old new
-  leaves_out : (spot : Spot) (rest : List Spot) (coming : Coming) (last : Course A) → IsHeard bounds old spot rest coming last → IsGone spot coming
+  leaves_out : (spot : Spot) (rest : List Spot) (coming : Coming) (last : Course A)
+      → IsHeard bounds old spot rest coming last → IsGone spot coming
       → Becomes new last rest old.printed → Steps bounds old new
 
 -- It takes steps, one after the other.
@@ -148,8 +152,8 @@ pub data Reaches {A : Type 0} (bounds : Bounds) (start : Stage A) : Stage A → 
   begins : Reaches bounds start start
   steps : (old new : Stage A) → Reaches bounds start old → Steps bounds old new → Reaches bounds start new
 
--- How a walk ends: all is printed; as many nodes as may be are printed, and there are more; a node could not be listed; or one below it has a name
--- that no path has.
+-- How a walk ends: all is printed; as many nodes as may be are printed, and there are more; a node could not be listed; or one below it has
+-- a name that no path has.
 pub data Ending : Type 0 where
   Whole : Ending
   Full : Ending
@@ -202,8 +206,8 @@ pub record WalksFrom {A : Type 0} (start : Course A) (until : ℕ) (scope : Scop
   pub ends : EndsAt bounds last ending
   pub prints : printed ≡ last.printed
 
--- So does a driver with a new session, which has no connection yet. All its calls wait to one moment, which comes as long after another one, `from`,
--- as the whole walk may wait.
+-- So does a driver with a new session, which has no connection yet. All its calls wait to one moment, which comes as long after another
+-- one, `from`, as the whole walk may wait.
 pub record Tours (A : Type 0) (scope : Scope) (ending : Ending) (printed : List Text) : Type 0 where
   pub timeout : ℕ
   pub start : Course A

@@ -37,15 +37,18 @@ pub(crate) fn close<A: Allocator + Copy, D: Dial + Drop, C: Clock + Drop>(
     }
 }
 
-/// Hands a driver a call, with a ticket that no other call has or had, and goes on with it to this moment at most, until the call is answered.
+/// Hands a driver a call, with a ticket that no other call has or had, and goes on with it to this moment at most, until the call is
+/// answered.
 pub(crate) fn answered<A: Allocator + Copy, D: Dial + Drop, C: Clock + Drop>(
     driver: &mut Driver<'_, A, D, C>,
     ticket: u64,
     call: Call<A>,
     until: u64,
 ) -> Result<Came<A>, Stop>
-    ensures heard { IfOk result (λ came. Heard (call_view call) until (course_of driver.old.engine None) (came_view came) (course_of driver.new.engine None)) }
-    ensures runs { OnOk result (Runs (flow_of D.Stream.remaining D.Stream.contents driver.old.engine None) (flow_of D.Stream.remaining D.Stream.contents driver.new.engine None)) }
+    ensures heard { IfOk result
+        (λ came. Heard (call_view call) until (course_of driver.old.engine None) (came_view came) (course_of driver.new.engine None)) }
+    ensures runs { OnOk result (Runs (flow_of D.Stream.remaining D.Stream.contents driver.old.engine None)
+        (flow_of D.Stream.remaining D.Stream.contents driver.new.engine None)) }
 {
     driver.ask(ticket, call, Some(until))?;
     wait_for_answer(driver, ticket, until)

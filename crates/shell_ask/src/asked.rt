@@ -35,7 +35,8 @@ fn print<A: Allocator + Copy, O: Write>(
     came: &Came<A>,
     out: &mut O,
 ) -> End
-    ensures done { result ≡ End.Done → (text : List ℕ) × Prints form chroot.now (came_view came.now) text × Appends (O.contents out.old) (O.contents out.new) text }
+    ensures done { result ≡ End.Done
+        → (text : List ℕ) × Prints form chroot.now (came_view came.now) text × Appends (O.contents out.old) (O.contents out.new) text }
     ensures memory { result ≡ End.Memory → out.new ≡ out.old }
     ensures only { (result ≡ End.Done) ⊎ (result ≡ End.Memory) ⊎ (result ≡ End.Stream) }
 {
@@ -53,7 +54,8 @@ fn print_end<A: Allocator + Copy, E: Write>(
     end: End,
     errors: &mut E,
 ) -> End
-    ensures told { IsToldEnd result → (result ≡ end) × Appends (E.contents errors.old) (E.contents errors.new) (told name.now (came_view came.now)) }
+    ensures told { IsToldEnd result
+        → (result ≡ end) × Appends (E.contents errors.old) (E.contents errors.new) (told name.now (came_view came.now)) }
     ensures memory { result ≡ End.Memory → IsToldEnd end → errors.new ≡ errors.old }
     ensures only { (result ≡ end) ⊎ (result ≡ End.Memory) ⊎ (result ≡ End.Stream) }
 {
@@ -73,9 +75,11 @@ fn finish<A: Allocator + Copy, O: Write, E: Write>(
     out: &mut O,
     errors: &mut E,
 ) -> End
-    ensures done { result ≡ End.Done → (text : List ℕ) × (end_of (came_view came.now) ≡ End.Done) × Prints form chroot.now (came_view came.now) text
+    ensures done { result ≡ End.Done
+        → (text : List ℕ) × (end_of (came_view came.now) ≡ End.Done) × Prints form chroot.now (came_view came.now) text
         × Appends (O.contents out.old) (O.contents out.new) text × (errors.new ≡ errors.old) }
-    ensures told { IsToldEnd result → (result ≡ end_of (came_view came.now)) × Appends (E.contents errors.old) (E.contents errors.new) (told name.now (came_view came.now)) × (out.new ≡ out.old) }
+    ensures told { IsToldEnd result → (result ≡ end_of (came_view came.now))
+        × Appends (E.contents errors.old) (E.contents errors.new) (told name.now (came_view came.now)) × (out.new ≡ out.old) }
     ensures memory { result ≡ End.Memory → (out.new ≡ out.old) × (errors.new ≡ errors.old) }
 {
     match end_of(came) {
@@ -84,8 +88,8 @@ fn finish<A: Allocator + Copy, O: Write, E: Write>(
     }
 }
 
-/// Asks the call of a plan in a session of its own, prints to `out` what its answer brings, or tells `errors` why it is not done, and ends the
-/// session. It waits for the answer as long as the plan says; and for the end of the session a second at most.
+/// Asks the call of a plan in a session of its own, prints to `out` what its answer brings, or tells `errors` why it is not done, and ends
+/// the session. It waits for the answer as long as the plan says; and for the end of the session a second at most.
 ///
 /// The call is asked once. Where there is no answer to it, it may or may not be done.
 pub fn ask<A: Allocator + Copy, D: Dial + Drop, C: Clock + Drop, O: Write, E: Write>(
@@ -97,8 +101,10 @@ pub fn ask<A: Allocator + Copy, D: Dial + Drop, C: Clock + Drop, O: Write, E: Wr
     errors: &mut E,
 ) -> End
     // It is done, and this is printed.
-    ensures done { result ≡ End.Done → (coming : Coming) × (text : List ℕ) × ComesOf A (call_view plan.entry.call) coming × (end_of coming ≡ End.Done)
-        × Prints plan.entry.form plan.entry.chroot.now coming text × Appends (O.contents out.old) (O.contents out.new) text × (errors.new ≡ errors.old) }
+    ensures done { result ≡ End.Done
+        → (coming : Coming) × (text : List ℕ) × ComesOf A (call_view plan.entry.call) coming × (end_of coming ≡ End.Done)
+        × Prints plan.entry.form plan.entry.chroot.now coming text × Appends (O.contents out.old) (O.contents out.new) text
+        × (errors.new ≡ errors.old) }
     // It is not done, or may not be, and this is told.
     ensures told { IsToldEnd result → (coming : Coming) × ComesOf A (call_view plan.entry.call) coming × (result ≡ end_of coming)
         × Appends (E.contents errors.old) (E.contents errors.new) (told plan.entry.name.now coming) × (out.new ≡ out.old) }

@@ -33,7 +33,8 @@ fn push_lines<A: Allocator + Copy>(
     alloc: A,
     fields: &[(&'static str, i64)],
 ) -> Result<(), AllocError>
-    ensures { OnOk result (string_bytes text.new ≡ string_bytes text.old ++ field_lines (map (λ field. (field.0.now, field.1)) fields.now)) }
+    ensures { OnOk result
+        (string_bytes text.new ≡ string_bytes text.old ++ field_lines (map (λ field. (field.0.now, field.1)) fields.now)) }
 {
     for (name, number) in fields {
         push_shown(text, alloc, name, number)?;

@@ -8,7 +8,8 @@ ghost use Rattle.std.specs.Option.{option_map};
 ghost use Rattle.std.specs.String.{string_cmp};
 ghost use Rattle.json.specs.Print.{print};
 ghost use Rattle.zk_client.specs.Views.{call_result_view};
-ghost use Rattle.shell_ask.specs.Printing.{data_members, field_members, fields_line, read_line, text_line, text_members, PrintsEach, PrintsObjects};
+ghost use Rattle.shell_ask.specs.Printing.{data_members, field_members, fields_line, read_line, text_line, text_members, PrintsEach};
+ghost use Rattle.shell_ask.specs.Printing.{PrintsObjects};
 
 use crate::data::as_utf8;
 use crate::fields::fields_of;
@@ -34,7 +35,8 @@ fn put_text<A: Allocator + Copy>(
     key: &str,
     text: &str,
 ) -> Result<(), AllocError>
-    ensures { OnOk result ((writer.new.before ≡ writer.old.before) × (writer.new.tokens ≡ writer.old.tokens ++ text_members key.now text.now)) }
+    ensures { OnOk result
+        ((writer.new.before ≡ writer.old.before) × (writer.new.tokens ≡ writer.old.tokens ++ text_members key.now text.now)) }
 {
     writer.key(key)?;
     writer.string(text)
@@ -46,7 +48,8 @@ fn put_data<A: Allocator + Copy>(
     alloc: A,
     bytes: &Option<Vec<u8, A>>,
 ) -> Result<(), AllocError>
-    ensures { OnOk result ((writer.new.before ≡ writer.old.before) × (writer.new.tokens ≡ writer.old.tokens ++ data_members (option_map (λ v. v.items) bytes.now))) }
+    ensures { OnOk result ((writer.new.before ≡ writer.old.before)
+        × (writer.new.tokens ≡ writer.old.tokens ++ data_members (option_map (λ v. v.items) bytes.now))) }
 {
     let Some(bytes) = bytes else {
         writer.key("data")?;
@@ -66,7 +69,8 @@ fn put_fields<A: Allocator + Copy>(
     writer: &mut Writer<A>,
     fields: &[(&'static str, i64)],
 ) -> Result<(), AllocError>
-    ensures { OnOk result ((writer.new.before ≡ writer.old.before) × (writer.new.tokens ≡ writer.old.tokens ++ field_members (map (λ field. (field.0.now, field.1)) fields.now))) }
+    ensures { OnOk result ((writer.new.before ≡ writer.old.before)
+        × (writer.new.tokens ≡ writer.old.tokens ++ field_members (map (λ field. (field.0.now, field.1)) fields.now))) }
 {
     for (name, number) in fields {
         writer.key(name)?;

@@ -78,7 +78,8 @@ pub(crate) fn push_names<A: Allocator + Copy>(
     alloc: A,
     names: &[String<A>],
 ) -> Result<(), AllocError>
-    ensures { OnOk result ((told : List ℕ) × PrintsNames (set.from_list (map string_bytes names.now)) told × (string_bytes text.new ≡ string_bytes text.old ++ told)) }
+    ensures { OnOk result ((told : List ℕ) × PrintsNames (set.from_list (map string_bytes names.now)) told
+        × (string_bytes text.new ≡ string_bytes text.old ++ told)) }
 {
     let set = set_of(alloc, names)?;
     push_set(text, alloc, &set)
@@ -101,7 +102,8 @@ pub(crate) fn push_path<A: Allocator + Copy>(
     chroot: &str,
     path: &str,
 ) -> Result<(), AllocError>
-    ensures { OnOk result ((below : Text) × IsBelow chroot.now path.now below × (string_bytes text.new ≡ string_bytes text.old ++ name_line below)) }
+    ensures { OnOk result
+        ((below : Text) × IsBelow chroot.now path.now below × (string_bytes text.new ≡ string_bytes text.old ++ name_line below)) }
 {
     push_name(text, alloc, below(chroot, path))
 }

@@ -63,7 +63,8 @@ fn spots_of<A: Allocator + Copy>(
 ) -> Result<Vec<Spot<A>, A>, PathFault>
     requires { spot.now.depth < 2 ^ 64 - 1 }
     ensures ok { IfOk result (λ spots. map spot_view spots.items ≡ map (child_of (spot_view spot.now)) (map string_bytes names.now.keys)) }
-    ensures err { IfErr result (λ fault. fault_told fault ≢ None → (name : Text) × Contains (map string_bytes names.now.keys) name × HasNoPath (spot_view spot.now) name) }
+    ensures err { IfErr result (λ fault. fault_told fault ≢ None
+        → (name : Text) × Contains (map string_bytes names.now.keys) name × HasNoPath (spot_view spot.now) name) }
     ensures ordered { IsOrdered string_cmp names.now }
 {
     let mut spots = Vec::new(alloc);
@@ -85,7 +86,8 @@ pub(crate) fn spots_below<A: Allocator + Copy>(
     requires { spot.now.depth < 2 ^ 64 - 1 }
     ensures ok { IfOk result (λ spots. (each : List Text) × AreInOrder each (map string_bytes names.now)
         × (map spot_view spots.items ≡ map (child_of (spot_view spot.now)) each)) }
-    ensures err { IfErr result (λ fault. fault_told fault ≢ None → (each : List Text) × (child : Text) × AreInOrder each (map string_bytes names.now)
+    ensures err { IfErr result
+        (λ fault. fault_told fault ≢ None → (each : List Text) × (child : Text) × AreInOrder each (map string_bytes names.now)
         × Contains each child × HasNoPath (spot_view spot.now) child) }
 {
     let set = set_of(alloc, names)?;

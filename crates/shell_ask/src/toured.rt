@@ -5,7 +5,8 @@ ghost use Rattle.std.specs.Io.KnownBytes.{Appends};
 ghost use Rattle.zk_nodes.specs.Path.{Text};
 ghost use Rattle.zk_driver.specs.Driving.{course_of};
 ghost use Rattle.shell_ask.specs.Printing.{IsToldEnd};
-ghost use Rattle.shell_ask.specs.Trees.{ending_end, ending_told, ending_view, root_of, scope_of, tree_text, waiting_view, Ending as Ends, Full, IsUndone, Tours, WalksFrom, Whole};
+ghost use Rattle.shell_ask.specs.Trees.{ending_end, ending_told, ending_view, root_of, scope_of, tree_text, waiting_view, Ending as Ends};
+ghost use Rattle.shell_ask.specs.Trees.{Full, IsUndone, Tours, WalksFrom, Whole};
 
 use crate::answered::{TIMEOUT_MS, close};
 use crate::asked::write;
@@ -53,7 +54,8 @@ fn walked<A: Allocator + Copy, D: Dial + Drop, C: Clock + Drop>(
     plan: &TreePlan<'_, A>,
     until: u64,
 ) -> Result<Tour<A>, Stop>
-    ensures { IfOk result (λ tour. WalksFrom (course_of driver.old.engine None) until (scope_of plan.now) (ending_view tour.ending) tour.printed.items) }
+    ensures { IfOk result
+        (λ tour. WalksFrom (course_of driver.old.engine None) until (scope_of plan.now) (ending_view tour.ending) tour.printed.items) }
 {
     let bounds = Bounds {
         deepest: plan.deepest,
@@ -116,7 +118,8 @@ fn finish<A: Allocator + Copy, O: Write, E: Write>(
         × Appends (O.contents out.old) (O.contents out.new) (tree_text plan.now.form tour.now.printed.items)
         × Appends (E.contents errors.old) (E.contents errors.new) (ending_told plan.now.name plan.now.most Full) }
     ensures told { IsToldEnd result → result ≢ End.More → (result ≡ ending_end (ending_view tour.now.ending))
-        × Appends (E.contents errors.old) (E.contents errors.new) (ending_told plan.now.name plan.now.most (ending_view tour.now.ending)) × (out.new ≡ out.old) }
+        × Appends (E.contents errors.old) (E.contents errors.new) (ending_told plan.now.name plan.now.most (ending_view tour.now.ending))
+        × (out.new ≡ out.old) }
     ensures memory { result ≡ End.Memory → (out.new ≡ out.old) × (errors.new ≡ errors.old) }
 {
     let Ok(text) = tree_text(alloc, plan.form, tour.printed.as_slice()) else {
@@ -132,12 +135,13 @@ fn finish<A: Allocator + Copy, O: Write, E: Write>(
     }
 }
 
-/// Prints to `out` the path of a node and of all nodes below it, each before those below it, those below one node in the order of their names'
-/// bytes, a line each; in [`Form::Json`] an object each. It lists one node after the other, in a session of its own, and ends the session.
+/// Prints to `out` the path of a node and of all nodes below it, each before those below it, those below one node in the order of their
+/// names' bytes, a line each; in [`Form::Json`] an object each. It lists one node after the other, in a session of its own, and ends the
+/// session.
 ///
-/// The text is written after the walk is whole, or where as many nodes are listed as may be printed: then `errors` is told that there are more.
-/// Where the walk stops, nothing is printed, and `errors` is told why, with the path at which it stopped. A node that is gone when it is listed
-/// is left out, unless it is the root. What changes while the walk goes on is seen or not: it is no picture of one moment.
+/// The text is written after the walk is whole, or where as many nodes are listed as may be printed: then `errors` is told that there are
+/// more. Where the walk stops, nothing is printed, and `errors` is told why, with the path at which it stopped. A node that is gone when it
+/// is listed is left out, unless it is the root. What changes while the walk goes on is seen or not: it is no picture of one moment.
 ///
 /// It waits for all answers together as long as the plan says, and for the end of the session a second at most.
 pub fn tree<A: Allocator + Copy, D: Dial + Drop, C: Clock + Drop, O: Write, E: Write>(
@@ -156,8 +160,10 @@ pub fn tree<A: Allocator + Copy, D: Dial + Drop, C: Clock + Drop, O: Write, E: W
         × Appends (O.contents out.old) (O.contents out.new) (tree_text plan.entry.form printed)
         × Appends (E.contents errors.old) (E.contents errors.new) (ending_told plan.entry.name plan.entry.most Full) }
     // It stopped, and this is told.
-    ensures told { IsToldEnd result → result ≢ End.More → (ending : Ends) × (printed : List Text) × Tours A (scope_of plan.entry) ending printed
-        × (result ≡ ending_end ending) × Appends (E.contents errors.old) (E.contents errors.new) (ending_told plan.entry.name plan.entry.most ending) × (out.new ≡ out.old) }
+    ensures told { IsToldEnd result → result ≢ End.More
+        → (ending : Ends) × (printed : List Text) × Tours A (scope_of plan.entry) ending printed
+        × (result ≡ ending_end ending) × Appends (E.contents errors.old) (E.contents errors.new)
+        (ending_told plan.entry.name plan.entry.most ending) × (out.new ≡ out.old) }
     ensures memory { result ≡ End.Memory → (out.new ≡ out.old) × (errors.new ≡ errors.old) }
 {
     let Some(tour) = make_tour(alloc, dial, clock, &plan) else {

@@ -1,12 +1,14 @@
 //! A walk through a tree, one node after the other.
 
-ghost use Rattle.std.specs.Prelude.{◌≡◌, ◌≢◌, ◌++◌, ◌∷◌, [], ◌<◌, ◌-◌, ◌^◌, true, false, List, Contains, None, IfOk, IfSome, IfNone, length, map, string_bytes};
+ghost use Rattle.std.specs.Prelude.{◌≡◌, ◌≢◌, ◌++◌, ◌∷◌, [], ◌<◌, ◌-◌, ◌^◌, true, false, List, Contains, None, IfOk, IfSome, IfNone};
+ghost use Rattle.std.specs.Prelude.{length, map, string_bytes};
 ghost use Rattle.zk_nodes.specs.Path.{Text};
 ghost use Rattle.zk_driver.specs.Driving.{course_of};
 ghost use Rattle.shell_ask.specs.Asking.{came_view, Heard};
 ghost use Rattle.shell_ask.specs.Printing.{end_of};
 ghost use Rattle.shell_ask.specs.declared.end.End.TheVariants as ends;
-ghost use Rattle.shell_ask.specs.Trees.{child_of, ending_view, listing_of, names_within, spot_view, stage_of, waiting_view, with_next, AreInOrder, EndsAt, HasNoPath, IsGone, IsListed, Misnamed, Reaches, Stage, Steps};
+ghost use Rattle.shell_ask.specs.Trees.{child_of, ending_view, listing_of, names_within, spot_view, stage_of, waiting_view, with_next};
+ghost use Rattle.shell_ask.specs.Trees.{AreInOrder, EndsAt, HasNoPath, IsGone, IsListed, Misnamed, Reaches, Stage, Steps};
 
 use crate::answered::{CALL, answered};
 use crate::came::Came;
@@ -103,7 +105,8 @@ fn listed<A: Allocator + Copy, D: Dial + Drop, C: Clock + Drop>(
     ticket: u64,
     until: u64,
 ) -> Result<Came<A>, Stop>
-    ensures { IfOk result (λ came. Heard (listing_of (spot_view spot.now)) until (course_of driver.old.engine None) (came_view came) (course_of driver.new.engine None)) }
+    ensures { IfOk result (λ came. Heard (listing_of (spot_view spot.now)) until (course_of driver.old.engine None) (came_view came)
+        (course_of driver.new.engine None)) }
 {
     let path = copied(alloc, &spot.path)?;
     answered(
@@ -125,9 +128,11 @@ impl<A: Allocator + Copy> Walk<A> {
     ) -> Result<Option<Ending<A>>, Stop>
         requires { spot.depth < 2 ^ 64 - 1 }
         ensures some { IfOk result (λ ending. IfSome ending (λ e. (each : List Text) × (child : Text)
-            × AreInOrder each (names_within bounds.deepest (spot_view spot) (came_view came.now)) × Contains each child × HasNoPath (spot_view spot) child
+            × AreInOrder each (names_within bounds.deepest (spot_view spot) (came_view came.now)) × Contains each child
+            × HasNoPath (spot_view spot) child
             × (ending_view e ≡ Misnamed spot.name) × (self.new.printed.items ≡ self.old.printed.items))) }
-        ensures none { IfOk result (λ ending. IfNone ending ((each : List Text) × AreInOrder each (names_within bounds.deepest (spot_view spot) (came_view came.now))
+        ensures none { IfOk result (λ ending.
+            IfNone ending ((each : List Text) × AreInOrder each (names_within bounds.deepest (spot_view spot) (came_view came.now))
             × (waiting_view self.new.waiting.items ≡ map (child_of (spot_view spot)) each ++ waiting_view self.old.waiting.items)
             × (self.new.printed.items ≡ self.old.printed.items ++ spot.name ∷ []))) }
     {

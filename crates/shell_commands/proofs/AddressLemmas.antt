@@ -27,7 +27,8 @@ each_is admits (word ∷ words) none = go (admits word.now) (each_is admits word
     go false rest e = cc
 
 -- where there is one, they are not
-pub one_is_not : (admits : Text → Bool) (words : List (Bor Text)) (other : Bor Text) → stranger admits words ≡ Some other → are_all admits words ≢ true
+pub one_is_not : (admits : Text → Bool) (words : List (Bor Text)) (other : Bor Text)
+    → stranger admits words ≡ Some other → are_all admits words ≢ true
 one_is_not admits [] other some = λ _. cc
 one_is_not admits (word ∷ words) other some = go (admits word.now) (one_is_not admits words other) some
   where
@@ -49,13 +50,15 @@ tells_more why other (Refused text) so told = so told
 tells_more why other Memory so told = tt
 
 -- a refusal that is handed on may be told where something holds that this follows from
-pub tells_on : {T : Type 0} (why other : Type 0) (r : Result T LineFault) (fault : LineFault) → IsErrAnd r (λ e. e ≡ fault) → TellsIf why fault
+pub tells_on : {T : Type 0} (why other : Type 0) (r : Result T LineFault) (fault : LineFault)
+    → IsErrAnd r (λ e. e ≡ fault) → TellsIf why fault
     → (why → other) → IfErr r (TellsIf other)
 tells_on why other (Ok x) fault is told so = tt
 tells_on why other (Err e) fault is told so = subst (λ (f : LineFault). TellsIf other f) (sym is) (tells_more why other fault so told)
 
 -- what was given has one chroot
-pub one_chroot : (rows : List Row) (addresses others : List Text) (chroot other : Text) → AreServers addresses chroot rows → AreServers others other rows → chroot ≡ other
+pub one_chroot : (rows : List Row) (addresses others : List Text) (chroot other : Text)
+    → AreServers addresses chroot rows → AreServers others other rows → chroot ≡ other
 one_chroot rows addresses others chroot other one two =
     let same : one.word ≡ two.word = ap (λ o. unwrap_or o []) (sym one.given ∙ two.given) in
     one.are.2 ∙ ap (λ (w : Text). chroot_text (cut_at_slash w).1) same ∙ sym two.are.2

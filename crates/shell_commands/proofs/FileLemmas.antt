@@ -10,13 +10,15 @@ all_of_them n all bytes first short =
     let below : length all ≤ n = omega (arith, long, short) in
     first ∙ take_all n all below
 
-pub are_whole : (n : ℕ) (given : Option (List ℕ)) (bytes : List ℕ) → IfSome (option_map (take n) given) (λ all. bytes ≡ all) → length bytes < n
+pub are_whole : (n : ℕ) (given : Option (List ℕ)) (bytes : List ℕ)
+    → IfSome (option_map (take n) given) (λ all. bytes ≡ all) → length bytes < n
     → IfSome given (λ all. bytes ≡ all)
 are_whole n None bytes first short = tt
 are_whole n (Some all) bytes first short = all_of_them n all bytes first short
 
 -- where the first bytes are more than this, so are all
-pub are_more : (n m : ℕ) (given : Option (List ℕ)) (bytes : List ℕ) → IfSome (option_map (take n) given) (λ all. bytes ≡ all) → m < length bytes
+pub are_more : (n m : ℕ) (given : Option (List ℕ)) (bytes : List ℕ)
+    → IfSome (option_map (take n) given) (λ all. bytes ≡ all) → m < length bytes
     → IfSome given (λ all. m < length all)
 are_more n m None bytes first long = tt
 are_more n m (Some all) bytes first long =

@@ -8,4 +8,5 @@ use Rattle.clap.proofs.SimpleLemmas.{plain_fields}
 pub added : (old sub new : Command) (a : App) → app_of sub ≡ a → a.top.is_plain ≡ true → AddsSubcommand old sub new
     → app_of new ≡ with_subcommand (app_of old) a.top
 added old sub new a is plain adds =
-    adds.shape (plain_fields sub (ap (λ (b : App). b.top.is_plain) is ∙ plain)).globals ∙ ap (λ (b : App). with_subcommand (app_of old) b.top) is
+    adds.shape (plain_fields sub (ap (λ (b : App). b.top.is_plain) is ∙ plain)).globals
+    ∙ ap (λ (b : App). with_subcommand (app_of old) b.top) is

@@ -1,5 +1,6 @@
 -- What the words of the commands that ask for one node mean.
-use Rattle.std.specs.Prelude.{⊤, ◌≡◌, ◌==◌, ◌&&◌, not, ℕ, ℤ, pos, negsuc, Bool, true, false, if◌then◌else◌, List, [], ◌∷◌, ◌++◌, codes, bytes_eq, Option, Some, None, is_some, Result, Ok, Err, option_and_then, option_map}
+use Rattle.std.specs.Prelude.{⊤, ◌≡◌, ◌==◌, ◌&&◌, not, ℕ, ℤ, pos, negsuc, Bool, true, false, if◌then◌else◌, List, [], ◌∷◌, ◌++◌, codes}
+use Rattle.std.specs.Prelude.{bytes_eq, Option, Some, None, is_some, Result, Ok, Err, option_and_then, option_map}
 use Rattle.std.specs.List.{list_all, slice_split}
 use Rattle.clap.specs.Words.{App, Row, Rule, Text, first_of, new_app, new_rule, with_rule, with_subcommand}
 use Rattle.clap.specs.declared.builder.action.ArgAction.TheVariants as action
@@ -67,7 +68,8 @@ abbrev pub from_rule : Rule
 from_rule = record (new_rule (codes "from")) { long = Some (codes "from"); value_names = 1 }
 
 abbrev pub data_app : Text → App
-data_app name = with_rule (with_rule (with_rule (with_rule (read_app name) data_rule) (flag_rule (codes "hex"))) (flag_rule (codes "null"))) from_rule
+data_app name =
+    with_rule (with_rule (with_rule (with_rule (read_app name) data_rule) (flag_rule (codes "hex"))) (flag_rule (codes "null"))) from_rule
 
 abbrev pub set_app : App
 set_app = with_rule (data_app (codes "set")) version_rule
@@ -94,7 +96,8 @@ tree_app = with_rule (with_rule (json_app (codes "tree")) depth_rule) most_rule
 
 abbrev pub with_reads : App → App
 with_reads app =
-    with_subcommand (with_subcommand (with_subcommand (with_subcommand app get_app.top) (json_app (codes "ls")).top) (json_app (codes "stat")).top) tree_app.top
+    with_subcommand (with_subcommand (with_subcommand (with_subcommand app get_app.top) (json_app (codes "ls")).top)
+    (json_app (codes "stat")).top) tree_app.top
 
 -- what stands before the first slash, and what stands after it
 abbrev pub cut : (word : Text) → Option (Text × Text) → Text × Text

@@ -1,9 +1,11 @@
 -- What a command line asks for, by the definition that `clap` gives of a simple command's matches.
-use Rattle.std.specs.Prelude.{◌≡◌, ◌≢◌, ◌⊎◌, ◌*◌, ◌==◌, ◌&&◌, bytes_eq, ℕ, ℤ, pos, Bool, true, false, not, is_some, if◌then◌else◌, List, [], ◌∷◌, ◌++◌, map, codes, Option, Some, None}
+use Rattle.std.specs.Prelude.{◌≡◌, ◌≢◌, ◌⊎◌, ◌*◌, ◌==◌, ◌&&◌, bytes_eq, ℕ, ℤ, pos, Bool, true, false, not, is_some, if◌then◌else◌, List, []}
+use Rattle.std.specs.Prelude.{◌∷◌, ◌++◌, map, codes, Option, Some, None}
 use Rattle.std.specs.Prelude.{option_and_then, option_map, unwrap_or, string_bytes}
 use Rattle.std.specs.Borrow.{Bor}
 use Rattle.std.specs.List.{list_all}
-use Rattle.clap.specs.Words.{App, IsAmong, Row, Rule, Text, all_of, fault_of, first_of, new_app, new_rule, subcommand_of, with_rule, with_subcommand}
+use Rattle.clap.specs.Words.{App, IsAmong, Row, Rule, Text, all_of, fault_of, first_of, new_app, new_rule, subcommand_of, with_rule}
+use Rattle.clap.specs.Words.{with_subcommand}
 use Rattle.clap.specs.Simple.{on_top}
 use Rattle.clap.specs.declared.builder.action.ArgAction.TheVariants as action
 use Rattle.clap.specs.declared.builder.value_parser.ValueParser.TheVariants as parser
@@ -31,7 +33,8 @@ use Rattle.shell_commands.specs.declared.line_fault.LineFault.TheVariants.{Help,
 use Rattle.shell_commands.specs.declared.kind.Kind.TheVariants as kind
 use Rattle.shell_commands.specs.Kinds.{kind_word}
 use Rattle.shell_commands.specs.declared.verb.Verb.{Verb}
-use Rattle.shell_commands.specs.Asks.{AreServers, absolute, call_for, depth_read, form_for, form_or_json, verb_word, with_reads, with_writes, flag, flag_rule, servers_rule}
+use Rattle.shell_commands.specs.Asks.{AreServers, absolute, call_for, depth_read, form_for, form_or_json, verb_word, with_reads}
+use Rattle.shell_commands.specs.Asks.{with_writes, flag, flag_rule, servers_rule}
 
 -- the kinds that `show` knows, in the order in which help lists them
 abbrev pub kind_words : List Text
@@ -91,11 +94,13 @@ bound_rule = record (option_rule (codes "most")) { defaults = codes "1000" ∷ [
 -- what is watched
 abbrev pub scope_app : App
 scope_app =
-    with_rule (with_rule (with_rule (with_rule (with_rule (new_app (codes "watch")) servers_rule) (path_rule (codes "data"))) (path_rule (codes "children")))
+    with_rule (with_rule
+    (with_rule (with_rule (with_rule (new_app (codes "watch")) servers_rule) (path_rule (codes "data"))) (path_rule (codes "children")))
     (path_rule (codes "tree"))) bound_rule
 
 abbrev pub watch_app : App
-watch_app = with_rule (with_rule (with_rule (with_rule scope_app timeout_rule) duration_rule) (flag_rule (codes "text"))) (flag_rule (codes "json"))
+watch_app =
+    with_rule (with_rule (with_rule (with_rule scope_app timeout_rule) duration_rule) (flag_rule (codes "text"))) (flag_rule (codes "json"))
 
 -- the program without its subcommands: one must be given
 abbrev pub shell_top : App
@@ -138,7 +143,8 @@ AreAims chroot aims rows = (aims ≡ aims_at chroot Data (given (codes "data") r
 
 -- Below a chroot, the roots of the trees that were given; each is a path.
 abbrev pub AreRoots : (chroot : Text) → List Text → List Row → Type 0
-AreRoots chroot roots rows = (roots ≡ map (λ p. absolute chroot p) (given (codes "tree") rows)) × (list_all (is_below chroot) (given (codes "tree") rows) ≡ true)
+AreRoots chroot roots rows =
+    (roots ≡ map (λ p. absolute chroot p) (given (codes "tree") rows)) × (list_all (is_below chroot) (given (codes "tree") rows) ≡ true)
 
 -- the number, if it is not 0
 abbrev pub above_zero : Option ℕ → Option ℕ
@@ -194,7 +200,8 @@ AreSights chroot sights rows = AreAims chroot sights.aims rows × AreRoots chroo
 -- what `watch` was given: servers with their chroot, what to watch, a timeout, how long, and how to print
 abbrev pub IsWatch : (addresses : List Text) → (chroot : Text) → Sights → ℤ → Option ℕ → Style → List Row → Type 0
 IsWatch addresses chroot sights timeout_ms for_ms how rows =
-    AreServers addresses chroot rows × AreSights chroot sights rows × IsTimeout timeout_ms rows × IsDuration for_ms rows × (how ≡ style_in rows)
+    AreServers addresses chroot rows × AreSights chroot sights rows × IsTimeout timeout_ms rows
+    × IsDuration for_ms rows × (how ≡ style_in rows)
 
 -- how long to wait, in milliseconds: the words say it in seconds
 abbrev pub wait_at : Text → Option ℕ
@@ -205,12 +212,14 @@ pub record IsNode (chroot name : Text) (rows : List Row) : Type 0 where
   pub given : first_of (codes "PATH") rows ≡ Some name
   pub is : is_below chroot name ≡ true
 
--- What a command that asks for a node was given: servers with their chroot, the node, the call by its verb, the file whose bytes are its data
--- where one is named, how to print, and how long to wait.
-abbrev pub IsAsked : Verb → (addresses : List Text) → (chroot name : Text) → Call → (from : Option Text) → Form → (wait_ms : ℕ) → List Row → Type 0
+-- What a command that asks for a node was given: servers with their chroot, the node, the call by its verb, the file whose bytes are its
+-- data where one is named, how to print, and how long to wait.
+abbrev pub IsAsked : Verb → (addresses : List Text) → (chroot name : Text) → Call → (from : Option Text)
+    → Form → (wait_ms : ℕ) → List Row → Type 0
 IsAsked verb addresses chroot name call from form wait_ms rows =
     AreServers addresses chroot rows × IsNode chroot name rows × (call_for verb (absolute chroot name) rows ≡ Some call)
-    × (from ≡ first_of (codes "from") rows) × (form ≡ form_for verb rows) × (option_and_then wait_at (first_of (codes "wait") rows) ≡ Some wait_ms)
+    × (from ≡ first_of (codes "from") rows) × (form ≡ form_for verb rows)
+    × (option_and_then wait_at (first_of (codes "wait") rows) ≡ Some wait_ms)
 
 -- that is this question
 abbrev pub AsksQuestion : Verb → Question → List Row → Type 0
@@ -218,17 +227,19 @@ AsksQuestion verb question rows =
     IsAsked verb (map (λ a. a.now) question.addresses.items) (string_bytes question.chroot) question.name.now (call_view question.call)
     (option_map (λ f. f.now) question.from) question.form question.wait_ms rows
 
--- What `tree` was given: servers with their chroot, the root by its path and by its name below the chroot, how many levels and how many nodes, how to
--- print, and how long to wait.
+-- What `tree` was given: servers with their chroot, the root by its path and by its name below the chroot, how many levels and how many
+-- nodes, how to print, and how long to wait.
 abbrev pub IsTree : (addresses : List Text) → (chroot path name : Text) → (deepest most : ℕ) → Form → (wait_ms : ℕ) → List Row → Type 0
 IsTree addresses chroot path name deepest most form wait_ms rows =
-    AreServers addresses chroot rows × IsNode chroot name rows × (path ≡ absolute chroot name) × (depth_read (first_of (codes "depth") rows) ≡ Some deepest)
+    AreServers addresses chroot rows × IsNode chroot name rows × (path ≡ absolute chroot name)
+    × (depth_read (first_of (codes "depth") rows) ≡ Some deepest)
     × (option_and_then most_at (first_of (codes "most") rows) ≡ Some most) × (form ≡ form_or_json Plain rows)
     × (option_and_then wait_at (first_of (codes "wait") rows) ≡ Some wait_ms)
 
 -- that is this tree
 abbrev pub AsksTour : Tour → List Row → Type 0
-AsksTour tour rows = (chroot : Text) × IsTree (map (λ a. a.now) tour.addresses.items) chroot tour.path tour.name tour.deepest tour.most tour.form tour.wait_ms rows
+AsksTour tour rows = (chroot : Text)
+    × IsTree (map (λ a. a.now) tour.addresses.items) chroot tour.path tour.name tour.deepest tour.most tour.form tour.wait_ms rows
 
 -- the subcommand that was found, with its values, is this command
 abbrev pub IsFound : Command → Option (Text × List Row) → Type 0
@@ -237,7 +248,8 @@ IsFound (Show kind hex) found = (rows : List Row) × (found ≡ Some (codes "sho
 IsFound History found = (rows : List Row) × (found ≡ Some (codes "history", rows))
 IsFound Replay found = (rows : List Row) × (found ≡ Some (codes "replay", rows))
 IsFound Rehearse found = (rows : List Row) × (found ≡ Some (codes "rehearse", rows))
-IsFound (Live addresses) found = (rows : List Row) × (found ≡ Some (codes "live", rows)) × AreAddresses (map (λ a. a.now) addresses.items) rows
+IsFound (Live addresses) found =
+    (rows : List Row) × (found ≡ Some (codes "live", rows)) × AreAddresses (map (λ a. a.now) addresses.items) rows
 IsFound (Watch addresses scope timeout_ms for_ms how) found = (rows : List Row) × (found ≡ Some (codes "watch", rows))
     × (chroot : Text) × IsWatch (map (λ a. a.now) addresses.items) chroot (sights_of scope) timeout_ms for_ms how rows
 IsFound (Tree tour) found = (rows : List Row) × (found ≡ Some (codes "tree", rows)) × AsksTour tour rows

@@ -40,7 +40,8 @@ with_data bytes call = call
 -- The call that is asked: that of the words, and where they name a file, with all bytes that it gives as the data.
 abbrev pub IsAskedBy : (files : Text → Option (List ℕ)) → (input : Option (List ℕ)) → (from : Option Text) → (call asked : Call) → Type 0
 IsAskedBy files input None call asked = asked ≡ call
-IsAskedBy files input (Some name) call asked = (bytes : List ℕ) × AreWhole (given_by files input name) bytes × (asked ≡ with_data bytes call)
+IsAskedBy files input (Some name) call asked =
+    (bytes : List ℕ) × AreWhole (given_by files input name) bytes × (asked ≡ with_data bytes call)
 
 abbrev pub why_words : FileFault → List ℕ
 why_words fault.Missing = codes "there is no such file"
@@ -57,6 +58,9 @@ pub record TellsUnread (given : Option (List ℕ)) (name : Text) (text : List �
   pub tells : text ≡ fault_line (codes "unread: ") name (why_words why)
 
 -- A call is not done, or may not be, and ends so; or it is not asked, since the file with its data is not read. This is told.
-pub data TellsUndone (A : Type 0) (files : Text → Option (List ℕ)) (input : Option (List ℕ)) (from : Option Text) (call : Call) (name : Text) (status : Status) (text : List ℕ) : Type 0 where
-  unanswered : (asked : Call) → IsAskedBy files input from call asked → TellsWhy A asked name status text → TellsUndone A files input from call name status text
-  unread : (file : Text) → from ≡ Some file → status ≡ Unread → TellsUnread (given_by files input file) file text → TellsUndone A files input from call name status text
+pub data TellsUndone (A : Type 0) (files : Text → Option (List ℕ)) (input : Option (List ℕ)) (from : Option Text) (call : Call)
+    (name : Text) (status : Status) (text : List ℕ) : Type 0 where
+  unanswered : (asked : Call)
+      → IsAskedBy files input from call asked → TellsWhy A asked name status text → TellsUndone A files input from call name status text
+  unread : (file : Text) → from ≡ Some file → status ≡ Unread → TellsUnread (given_by files input file) file text
+      → TellsUndone A files input from call name status text

@@ -1,7 +1,8 @@
 -- The words that name the kinds of payload.
 use Rattle.std.specs.Prelude.{ℕ, List, codes}
 use Rattle.shell_commands.specs.declared.kind.Kind.{Kind}
-use Rattle.shell_commands.specs.declared.kind.Kind.TheVariants.{Connect, Accepted, Request, Notice, ReplyExists, ReplySetData, ReplyGetData, ReplyGetChildren, ReplyGetChildren2, ReplyCreate, ReplyHeader}
+use Rattle.shell_commands.specs.declared.kind.Kind.TheVariants.{Connect, Accepted, Request, Notice, ReplyExists, ReplySetData, ReplyGetData}
+use Rattle.shell_commands.specs.declared.kind.Kind.TheVariants.{ReplyGetChildren, ReplyGetChildren2, ReplyCreate, ReplyHeader}
 
 abbrev pub kind_word : Kind → List ℕ
 kind_word Connect = codes "connect"

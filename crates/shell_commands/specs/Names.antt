@@ -1,20 +1,24 @@
 -- The names of the fields of each record, as zookeeper.jute has them.
 use Rattle.std.specs.Prelude.{codes}
 use Rattle.zk_records.specs.declared.operation.Operation.{Operation}
-use Rattle.zk_records.specs.declared.operation.Operation.TheVariants.{Create, Delete, Exists, GetData, SetData, GetChildren, Ping, GetChildren2, SetWatches, CloseSession}
+use Rattle.zk_records.specs.declared.operation.Operation.TheVariants.{Create, Delete, Exists, GetData, SetData, GetChildren, Ping}
+use Rattle.zk_records.specs.declared.operation.Operation.TheVariants.{GetChildren2, SetWatches, CloseSession}
 use Rattle.shell_commands.specs.Print.{Names, none, one, each, ◌&◌}
 
 abbrev pub connect_names : Names
-connect_names = one (codes "protocolVersion") & (one (codes "lastZxidSeen") & (one (codes "timeOut") & (one (codes "sessionId") & (one (codes "passwd") & one (codes "readOnly")))))
+connect_names = one (codes "protocolVersion")
+    & (one (codes "lastZxidSeen") & (one (codes "timeOut") & (one (codes "sessionId") & (one (codes "passwd") & one (codes "readOnly")))))
 
 abbrev pub reply_header_names : Names
 reply_header_names = one (codes "xid") & (one (codes "zxid") & one (codes "err"))
 
 abbrev pub stat_end_names : Names
-stat_end_names = one (codes "aversion") & (one (codes "ephemeralOwner") & (one (codes "dataLength") & (one (codes "numChildren") & one (codes "pzxid"))))
+stat_end_names = one (codes "aversion")
+    & (one (codes "ephemeralOwner") & (one (codes "dataLength") & (one (codes "numChildren") & one (codes "pzxid"))))
 
 abbrev pub stat_names : Names
-stat_names = one (codes "czxid") & (one (codes "mzxid") & (one (codes "ctime") & (one (codes "mtime") & (one (codes "version") & (one (codes "cversion") & stat_end_names)))))
+stat_names = one (codes "czxid") & (one (codes "mzxid")
+    & (one (codes "ctime") & (one (codes "mtime") & (one (codes "version") & (one (codes "cversion") & stat_end_names)))))
 
 abbrev pub get_data_names : Names
 get_data_names = one (codes "data") & stat_names

@@ -52,4 +52,5 @@ frame_of payload = int_bytes (pos (length payload)) ++ payload
 
 -- the lines of a record, how many bytes stood after it, and the frame of the record alone
 abbrev pub print_of : List ℕ → List ℕ → List ℕ → List ℕ
-print_of lines spelled ignored = lines ++ (line (codes "ignored") (decimal (length ignored)) ++ line (codes "frame") (encode_lower (frame_of spelled)))
+print_of lines spelled ignored =
+    lines ++ (line (codes "ignored") (decimal (length ignored)) ++ line (codes "frame") (encode_lower (frame_of spelled)))

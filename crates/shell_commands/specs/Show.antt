@@ -11,7 +11,8 @@ use Rattle.zk_jute.specs.Layout.{Layout, Value, ◌⨾◌}
 use Rattle.zk_jute.specs.Spelling.{spelling, Fits}
 use Rattle.zk_jute.specs.Reading.{reading}
 use Rattle.zk_nodes.specs.StatLayout.{stat}
-use Rattle.zk_records.specs.Layouts.{connect_request, reply_header, watcher_event, get_data_response, get_children_response, get_children2_response, create_response}
+use Rattle.zk_records.specs.Layouts.{connect_request, reply_header, watcher_event, get_data_response, get_children_response}
+use Rattle.zk_records.specs.Layouts.{get_children2_response, create_response}
 use Rattle.zk_records.specs.Response.{Response, response_spelling, IsPayload, response_at}
 use Rattle.zk_records.specs.Reply.{ReplyValue, ReplyFits, reply_spelling, reply_at}
 use Rattle.zk_records.specs.declared.request_fault.RequestFault.{RequestFault}
@@ -22,11 +23,14 @@ use Rattle.script_words.specs.Words.{bytes_word, optional_boolean_word}
 use Rattle.script_words.specs.Lines.{line}
 use Rattle.script_replay.specs.FaultTexts.{take_error_text}
 use Rattle.shell_commands.specs.declared.fault.ShowFault.{ShowFault}
-use Rattle.shell_commands.specs.declared.fault.ShowFault.TheVariants.{Hex, Incomplete, Negative, TooLong, BytesAfter, Unknown, Reading, Memory}
+use Rattle.shell_commands.specs.declared.fault.ShowFault.TheVariants.{Hex, Incomplete, Negative, TooLong, BytesAfter, Unknown, Reading}
+use Rattle.shell_commands.specs.declared.fault.ShowFault.TheVariants.{Memory}
 use Rattle.shell_commands.specs.declared.kind.Kind.{Kind}
-use Rattle.shell_commands.specs.declared.kind.Kind.TheVariants.{Connect, Accepted, Request, Notice, ReplyExists, ReplySetData, ReplyGetData, ReplyGetChildren, ReplyGetChildren2, ReplyCreate, ReplyHeader}
+use Rattle.shell_commands.specs.declared.kind.Kind.TheVariants.{Connect, Accepted, Request, Notice, ReplyExists, ReplySetData, ReplyGetData}
+use Rattle.shell_commands.specs.declared.kind.Kind.TheVariants.{ReplyGetChildren, ReplyGetChildren2, ReplyCreate, ReplyHeader}
 use Rattle.shell_commands.specs.Frame.{payload_of}
-use Rattle.shell_commands.specs.Names.{connect_names, reply_header_names, stat_names, get_data_names, get_children_names, get_children2_names, create_names, notice_names, request_names}
+use Rattle.shell_commands.specs.Names.{connect_names, reply_header_names, stat_names, get_data_names, get_children_names}
+use Rattle.shell_commands.specs.Names.{get_children2_names, create_names, notice_names, request_names}
 use Rattle.shell_commands.specs.Print.{Names, lines_of, frame_of, print_of}
 
 -- The text is the print of a value whose spelling begins the payload: IsValue says which lines and which spelling a value of
@@ -52,12 +56,14 @@ IsRecord layout names lines spelled ignored = IsShown (Fits layout) (spelling la
 
 abbrev pub response_lines : Response → List ℕ
 response_lines r =
-    line (codes "protocolVersion") (signed_decimal r.front.0) ++ (line (codes "timeOut") (signed_decimal r.front.1.0) ++ (line (codes "sessionId") (signed_decimal r.front.1.1.0)
+    line (codes "protocolVersion") (signed_decimal r.front.0)
+    ++ (line (codes "timeOut") (signed_decimal r.front.1.0) ++ (line (codes "sessionId") (signed_decimal r.front.1.1.0)
     ++ (line (codes "passwd") (bytes_word r.front.1.1.1) ++ line (codes "readOnly") (optional_boolean_word r.read_only))))
 
 -- a response that the whole payload spells: where readOnly is missing, nothing stands after it
 abbrev pub IsResponse : (payload lines spelled ignored : List ℕ) → Type 0
-IsResponse payload lines spelled ignored = IsShown (λ response. IsPayload payload response ignored) response_spelling response_lines lines spelled
+IsResponse payload lines spelled ignored =
+    IsShown (λ response. IsPayload payload response ignored) response_spelling response_lines lines spelled
 
 abbrev pub result_lines : (layout : Layout) → Names → Option (Value layout) → List ℕ
 result_lines layout names None = []
@@ -76,7 +82,8 @@ request_lines asked = lines_of (request_layout asked.operation) (request_names a
 -- a request: its header, and the record of its type
 abbrev pub IsRequest : (lines spelled ignored : List ℕ) → Type 0
 IsRequest lines spelled ignored =
-    IsShown (λ asked. Fits (request_layout asked.operation) (asked_value asked)) (λ asked. spelling (request_layout asked.operation) (asked_value asked)) request_lines lines spelled
+    IsShown (λ asked. Fits (request_layout asked.operation) (asked_value asked))
+    (λ asked. spelling (request_layout asked.operation) (asked_value asked)) request_lines lines spelled
 
 -- the values of a kind of payload
 abbrev pub IsOf : Kind → List ℕ → List ℕ → List ℕ → List ℕ → Type 0
@@ -148,7 +155,8 @@ pub record ShowsFrame (kind : Kind) (hex text : List ℕ) : Type 0 where
 pub data IsFault (kind : Kind) (hex : List ℕ) (fault : ShowFault) : Type 0 where
   no_hex : fault ≡ Hex → IsNotHex hex → IsFault kind hex fault
   no_frame : (frame : List ℕ) → IsHexOf frame hex → payload_of frame ≡ Err fault → IsFault kind hex fault
-  no_payload : (frame payload : List ℕ) → IsHexOf frame hex → payload_of frame ≡ Ok payload → IsPayloadFault kind payload fault → IsFault kind hex fault
+  no_payload : (frame payload : List ℕ)
+      → IsHexOf frame hex → payload_of frame ≡ Ok payload → IsPayloadFault kind payload fault → IsFault kind hex fault
 
 abbrev pub fault_text : ShowFault → List ℕ
 fault_text Hex = codes "fault: hex"

@@ -27,7 +27,8 @@ pub fn ask_over<A: Allocator + Copy, D: Dial + Drop, C: Clock + Drop, O: Write, 
     out: &mut O,
     errors: &mut E,
 ) -> Status
-    ensures done { result ≡ Status.Done → (text : List ℕ) × PrintsAnswer A (call_view plan.entry.call) plan.entry.form plan.entry.chroot.now text
+    ensures done { result ≡ Status.Done
+        → (text : List ℕ) × PrintsAnswer A (call_view plan.entry.call) plan.entry.form plan.entry.chroot.now text
         × Appends (O.contents out.old) (O.contents out.new) text × (errors.new ≡ errors.old) }
     ensures undone { IsUndone result → (text : List ℕ) × TellsWhy A (call_view plan.entry.call) plan.entry.name.now result text
         × Appends (E.contents errors.old) (E.contents errors.new) text × (out.new ≡ out.old) }
@@ -102,10 +103,13 @@ pub fn ask_with<F: Files, D: Dial + Drop, C: Clock + Drop, I: Read, O: Write, E:
     errors: &mut E,
 ) -> Status
     ensures done { result ≡ Status.Done → (asked : Calls) × (text : List ℕ)
-        × IsAskedBy (F.holds files.now) (I.remaining input.old) (option_map (λ f. f.now) question.entry.from) (call_view question.entry.call) asked
-        × PrintsAnswer Global asked question.entry.form (string_bytes question.entry.chroot) text × Appends (O.contents out.old) (O.contents out.new) text × (errors.new ≡ errors.old) }
+        × IsAskedBy (F.holds files.now) (I.remaining input.old) (option_map (λ f. f.now) question.entry.from)
+        (call_view question.entry.call) asked
+        × PrintsAnswer Global asked question.entry.form (string_bytes question.entry.chroot) text
+        × Appends (O.contents out.old) (O.contents out.new) text × (errors.new ≡ errors.old) }
     ensures undone { IsUndone result → (text : List ℕ)
-        × TellsUndone Global (F.holds files.now) (I.remaining input.old) (option_map (λ f. f.now) question.entry.from) (call_view question.entry.call) question.entry.name.now result text
+        × TellsUndone Global (F.holds files.now) (I.remaining input.old) (option_map (λ f. f.now) question.entry.from)
+        (call_view question.entry.call) question.entry.name.now result text
         × Appends (E.contents errors.old) (E.contents errors.new) text × (out.new ≡ out.old) }
     ensures memory { result ≡ Status.Memory → (out.new ≡ out.old) × (errors.new ≡ errors.old) }
     ensures fault { result ≢ Status.Fault }

@@ -2,7 +2,8 @@
 
 ghost use Rattle.std.specs.Prelude.{◌≡◌, codes, false, IfOk};
 ghost use Rattle.clap.specs.Words.{app_of, rule_of, with_subcommand};
-ghost use Rattle.shell_commands.specs.Asks.{create_app, data_app, delete_app, flag_rule, from_rule, get_app, json_app, node_rule, read_app, servers_rule, set_app, tree_app, version_rule, wait_rule, with_reads, with_writes};
+ghost use Rattle.shell_commands.specs.Asks.{create_app, data_app, delete_app, flag_rule, from_rule, get_app, json_app, node_rule, read_app};
+ghost use Rattle.shell_commands.specs.Asks.{servers_rule, set_app, tree_app, version_rule, wait_rule, with_reads, with_writes};
 
 use crate::help;
 use crate::tree_words::tree_form;
@@ -104,7 +105,8 @@ fn with_stat_and_tree<'a>(
     alloc: Global,
     form: clap::Command<'a>,
 ) -> Result<clap::Command<'a>, AllocError>
-    ensures { IfOk result (λ r. app_of r ≡ with_subcommand (with_subcommand (app_of form.entry) (json_app (codes "stat")).top) tree_app.top) }
+    ensures { IfOk result
+        (λ r. app_of r ≡ with_subcommand (with_subcommand (app_of form.entry) (json_app (codes "stat")).top) tree_app.top) }
 {
     let about = "Prints what is known of a node, a line for each field";
     let stat = json_form(alloc, "stat", about)?;

@@ -5,7 +5,8 @@ ghost use Rattle.std.specs.List.{list_all, slice_split};
 ghost use Rattle.std.specs.Option.{option_and_then};
 ghost use Rattle.clap.specs.Words.{Text, first_of, found_of, rows_of};
 ghost use Rattle.script_live.specs.Addresses.{is_server};
-ghost use Rattle.shell_commands.specs.Asks.{AreServers, absolute, chroot_text, cut_at_slash, data_form, flag, form_for, form_or_json, is_root};
+ghost use Rattle.shell_commands.specs.Asks.{AreServers, absolute, chroot_text, cut_at_slash, data_form, flag, form_for, form_or_json};
+ghost use Rattle.shell_commands.specs.Asks.{is_root};
 ghost use Rattle.shell_commands.specs.CommandLine.{TellsIf, is_below, wait_at};
 
 use crate::line_fault::{LineFault, no_command, no_server, no_wait};
@@ -88,8 +89,10 @@ pub(crate) fn servers_of<'a>(
     alloc: Global,
     matches: &ArgMatches<'a>,
 ) -> Result<(Vec<&'a str>, String), LineFault>
-    ensures ok { IfOk result (λ servers. AreServers (map (λ a. a.now) servers.0.items) (string_bytes servers.1) (rows_of (found_of matches.now))) }
-    ensures err { IfErr result (TellsIf ((addresses : List Text) (chroot : Text) → AreServers addresses chroot (rows_of (found_of matches.now)) → ⊥)) }
+    ensures ok { IfOk result
+        (λ servers. AreServers (map (λ a. a.now) servers.0.items) (string_bytes servers.1) (rows_of (found_of matches.now))) }
+    ensures err { IfErr result
+        (TellsIf ((addresses : List Text) (chroot : Text) → AreServers addresses chroot (rows_of (found_of matches.now)) → ⊥)) }
 {
     let Some(word) = matches.get_str("SERVERS") else {
         return Err(no_command(alloc));

@@ -24,7 +24,8 @@ fn push_body<A: Allocator + Copy>(
     alloc: A,
     request: &Request<A>,
 ) -> Result<(), AllocError>
-    ensures { OnOk result (string_bytes text.new ≡ string_bytes text.old ++ lines_of (body_layout (operation_of request.now)) (body_names (operation_of request.now)) (body_of request.now)) }
+    ensures { OnOk result (string_bytes text.new ≡ string_bytes text.old
+        ++ lines_of (body_layout (operation_of request.now)) (body_names (operation_of request.now)) (body_of request.now)) }
 {
     match request {
         Request::Exists(record) => record.push_lines(text, alloc),
@@ -61,7 +62,8 @@ fn request_spelling_of<A: Allocator + Copy>(
     request: &Request<A>,
 ) -> Result<Vec<u8, A>, AllocError>
     requires { Fits (request_layout (operation_of request.now)) (asked_value (asked_of xid.now request.now)) }
-    ensures { IfOk result (λ bytes. bytes.items ≡ spelling (request_layout (operation_of request.now)) (asked_value (asked_of xid.now request.now))) }
+    ensures { IfOk result
+        (λ bytes. bytes.items ≡ spelling (request_layout (operation_of request.now)) (asked_value (asked_of xid.now request.now))) }
 {
     let mut bytes = Vec::new(alloc);
     match request.put(*xid, &mut bytes) {
@@ -81,7 +83,8 @@ fn print_asked<A: Allocator + Copy>(
     requires fits { Fits (request_layout (operation_of request.now)) (asked_value (asked_of xid.now request.now)) }
     requires short { length (spelling (request_layout (operation_of request.now)) (asked_value (asked_of xid.now request.now))) < 2 ^ 31 }
     ensures { IfOk result (λ text. (rest : List ℕ) → length rest ≡ ignored → string_bytes text
-        ≡ print_of (request_lines (asked_of xid.now request.now)) (spelling (request_layout (operation_of request.now)) (asked_value (asked_of xid.now request.now))) rest) }
+        ≡ print_of (request_lines (asked_of xid.now request.now))
+        (spelling (request_layout (operation_of request.now)) (asked_value (asked_of xid.now request.now))) rest) }
 {
     let spelled = request_spelling_of(alloc, xid, request)?;
     let mut text = String::new(alloc);

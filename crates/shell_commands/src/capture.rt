@@ -27,7 +27,8 @@ pub struct ToldCapture;
 impl<A: Allocator + Copy> Plays<A> for ToldCapture {
     ghost prints = { IsShown };
 
-    ghost unread = { λ lines. record { before = []; behind = lines ++ codes "end" ∷ []; are = refl; prints = record { end = first_position; taken = refl } } };
+    ghost unread = { λ lines.
+        record { before = []; behind = lines ++ codes "end" ∷ []; are = refl; prints = record { end = first_position; taken = refl } } };
 
     fn transcript(self, alloc: A, script: &[u8]) -> Transcript<A> {
         shown_stream(alloc, script)

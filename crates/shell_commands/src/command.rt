@@ -6,7 +6,9 @@ ghost use Rattle.std.specs.Global.{Global, Vec};
 ghost use Rattle.clap.specs.Words.{Text, app_of, found_of, first_value, kind_of, new_app, rows_of, subcommand_rows_of, with_subcommand};
 ghost use Rattle.script_live.specs.Addresses.{is_address};
 ghost use Rattle.shell_commands.specs.Kinds.{kind_word};
-ghost use Rattle.shell_commands.specs.CommandLine.{AreAddresses, AreKinds, AsksFor, AsksForNone, AsksQuestion, IsAsked, IsDue, IsFound, IsWatch, Tells, TellsIf, Sights, sights_of, history_app, live_app, rehearse_app, replay_app, show_app, shell_app, shell_top, watch_app};
+ghost use Rattle.shell_commands.specs.CommandLine.{AreAddresses, AreKinds, AsksFor, AsksForNone, AsksQuestion, IsAsked, IsDue, IsFound};
+ghost use Rattle.shell_commands.specs.CommandLine.{IsWatch, Tells, TellsIf, Sights, sights_of, history_app, live_app, rehearse_app};
+ghost use Rattle.shell_commands.specs.CommandLine.{replay_app, show_app, shell_app, shell_top, watch_app};
 ghost use Rattle.shell_ask.specs.declared.plan.Form.{Form};
 ghost use Rattle.zk_conversation.specs.Calls.{Call as Calls};
 ghost use Rattle.zk_nodes.specs.declared.side.Side.{Side};
@@ -77,7 +79,8 @@ pub enum Command<'a> {
     Tree(Tour<'a>),
 }
 
-/// What is watched: sides of nodes, and trees by their roots. Of a tree that is known to have more nodes than the most, no more are taken on.
+/// What is watched: sides of nodes, and trees by their roots. Of a tree that is known to have more nodes than the most, no more are taken
+/// on.
 #[derive(Drop)]
 pub struct Scope {
     pub subjects: Vec<Subject<Global>>,
@@ -150,7 +153,8 @@ fn with_script<'a>(
 
 /// A form with the three commands that take a script and no words.
 fn with_scripts<'a>(alloc: Global, form: clap::Command<'a>) -> Result<clap::Command<'a>, AllocError>
-    ensures { IfOk result (λ r. app_of r ≡ with_subcommand (with_subcommand (with_subcommand (app_of form.entry) history_app.top) replay_app.top) rehearse_app.top) }
+    ensures { IfOk result (λ r. app_of r
+        ≡ with_subcommand (with_subcommand (with_subcommand (app_of form.entry) history_app.top) replay_app.top) rehearse_app.top) }
 {
     let form = with_script(
         alloc,
@@ -200,7 +204,8 @@ fn with_sessions<'a>(
 
 /// The command line's form with one command, and all that its help says except about the others.
 fn form_with<'a>(alloc: Global, command: clap::Command<'a>) -> Result<clap::Command<'a>, AllocError>
-    ensures { IfOk result (λ r. (app_of command.entry).top.is_plain ≡ true → app_of r ≡ with_subcommand shell_top (app_of command.entry).top) }
+    ensures { IfOk result
+        (λ r. (app_of command.entry).top.is_plain ≡ true → app_of r ≡ with_subcommand shell_top (app_of command.entry).top) }
 {
     clap::Command::new(alloc, "zk_shell")
         .about("Reads, changes and watches nodes, shows frames, and drives a client by scripts")
@@ -284,10 +289,13 @@ fn live_of<'a>(alloc: Global, matches: &ArgMatches<'a>) -> Result<Command<'a>, L
 
 /// The command that the matches of `watch` give.
 fn watch_of<'a>(alloc: Global, matches: &ArgMatches<'a>) -> Result<Command<'a>, LineFault>
-    ensures ok { IfOk result (λ command. (addresses : Vec (Bor Text)) × (scope : Scope) × (timeout_ms : ℤ) × (for_ms : Option ℕ) × (style : Style)
+    ensures ok { IfOk result
+        (λ command. (addresses : Vec (Bor Text)) × (scope : Scope) × (timeout_ms : ℤ) × (for_ms : Option ℕ) × (style : Style)
         × (command ≡ Command.Watch addresses scope timeout_ms for_ms style)
-        × (chroot : Text) × IsWatch (map (λ a. a.now) addresses.items) chroot (sights_of scope) timeout_ms for_ms style (rows_of (found_of matches.now))) }
-    ensures err { IfErr result (TellsIf ((addresses : List Text) (chroot : Text) (sights : Sights) (timeout_ms : ℤ) (for_ms : Option ℕ) (style : Style)
+        × (chroot : Text) × IsWatch (map (λ a. a.now) addresses.items) chroot (sights_of scope) timeout_ms for_ms style
+        (rows_of (found_of matches.now))) }
+    ensures err { IfErr result
+        (TellsIf ((addresses : List Text) (chroot : Text) (sights : Sights) (timeout_ms : ℤ) (for_ms : Option ℕ) (style : Style)
         → IsWatch addresses chroot sights timeout_ms for_ms style (rows_of (found_of matches.now)) → ⊥)) }
 {
     let timeout_ms = timeout_of(alloc, matches)?;
@@ -305,8 +313,10 @@ fn watch_of<'a>(alloc: Global, matches: &ArgMatches<'a>) -> Result<Command<'a>, 
 
 /// The command that the matches of a command with this verb give.
 fn ask_of<'a>(alloc: Global, verb: Verb, matches: &ArgMatches<'a>) -> Result<Command<'a>, LineFault>
-    ensures ok { IfOk result (λ command. (question : Question) × (command ≡ Command.Ask question) × AsksQuestion verb question (rows_of (found_of matches.now))) }
-    ensures err { IfErr result (TellsIf ((addresses : List Text) (chroot name : Text) (call : Calls) (from : Option Text) (form : Form) (wait_ms : ℕ)
+    ensures ok { IfOk result (λ command. (question : Question) × (command ≡ Command.Ask question)
+        × AsksQuestion verb question (rows_of (found_of matches.now))) }
+    ensures err { IfErr result
+        (TellsIf ((addresses : List Text) (chroot name : Text) (call : Calls) (from : Option Text) (form : Form) (wait_ms : ℕ)
         → IsAsked verb addresses chroot name call from form wait_ms (rows_of (found_of matches.now)) → ⊥)) }
 {
     let Some(name) = matches.get_str("PATH") else {

@@ -43,7 +43,8 @@ fn data_from(
     is_null: bool,
     is_hex: bool,
 ) -> Result<Option<Vec<u8>>, LineFault>
-    ensures ok { IfOk result (λ bytes. data_given (option_map (λ w. w.now) word.entry) is_null is_hex ≡ Some (option_map (λ v. v.items) bytes)) }
+    ensures ok { IfOk result
+        (λ bytes. data_given (option_map (λ w. w.now) word.entry) is_null is_hex ≡ Some (option_map (λ v. v.items) bytes)) }
     ensures err { IfErr result (TellsIf (data_given (option_map (λ w. w.now) word.entry) is_null is_hex ≡ None)) }
 {
     match (word, is_null) {
@@ -62,8 +63,10 @@ fn data_with(
     is_null: bool,
     is_hex: bool,
 ) -> Result<Option<Vec<u8>>, LineFault>
-    ensures ok { IfOk result (λ bytes. data_with (option_map (λ f. f.now) file.entry) (option_map (λ w. w.now) word.entry) is_null is_hex ≡ Some (option_map (λ v. v.items) bytes)) }
-    ensures err { IfErr result (TellsIf (data_with (option_map (λ f. f.now) file.entry) (option_map (λ w. w.now) word.entry) is_null is_hex ≡ None)) }
+    ensures ok { IfOk result (λ bytes. data_with (option_map (λ f. f.now) file.entry) (option_map (λ w. w.now) word.entry) is_null is_hex
+        ≡ Some (option_map (λ v. v.items) bytes)) }
+    ensures err { IfErr result
+        (TellsIf (data_with (option_map (λ f. f.now) file.entry) (option_map (λ w. w.now) word.entry) is_null is_hex ≡ None)) }
 {
     let Some(file) = file else {
         return data_from(alloc, word, is_null, is_hex);

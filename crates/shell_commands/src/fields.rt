@@ -154,7 +154,8 @@ pub fn push_texts<A: Allocator + Copy>(
     name: &str,
     values: &List<Text<A>, A>,
 ) -> Result<(), AllocError>
-    ensures { OnOk result (string_bytes text.new ≡ string_bytes text.old ++ lines_of (vector ustring) (one name.now) (⟦<List<Text<A>, A> as zk_jute::Record<A>>⟧.view values.now)) }
+    ensures { OnOk result (string_bytes text.new
+        ≡ string_bytes text.old ++ lines_of (vector ustring) (one name.now) (⟦<List<Text<A>, A> as zk_jute::Record<A>>⟧.view values.now)) }
 {
     match &values.elements {
         None => push_line(text, name, NULL),

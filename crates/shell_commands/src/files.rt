@@ -83,7 +83,8 @@ fn bytes_of<F: Files, I: Read>(
     name: &str,
 ) -> Result<Vec<u8>, FileFault>
     ensures whole { IfOk result (λ bytes. AreWhole (given_by (F.holds files.now) (I.remaining input.old) name.now) bytes.items) }
-    ensures long { IfErr result (λ fault. fault ≡ FileFault.TooLong → IsTooLong (given_by (F.holds files.now) (I.remaining input.old) name.now)) }
+    ensures long { IfErr result
+        (λ fault. fault ≡ FileFault.TooLong → IsTooLong (given_by (F.holds files.now) (I.remaining input.old) name.now)) }
 {
     if name == "-" {
         return whole_of(alloc, input);
@@ -121,7 +122,8 @@ pub(crate) fn asked_by<F: Files, I: Read>(
     from: Option<&str>,
     call: Call,
 ) -> Result<Call, FileFault>
-    ensures ok { IfOk result (λ asked. IsAskedBy (F.holds files.now) (I.remaining input.old) (option_map (λ f. f.now) from.entry) (call_view call) (call_view asked)) }
+    ensures ok { IfOk result (λ asked.
+        IsAskedBy (F.holds files.now) (I.remaining input.old) (option_map (λ f. f.now) from.entry) (call_view call) (call_view asked)) }
     ensures err { IfErr result (λ fault. (name : List ℕ) × (option_map (λ f. f.now) from.entry ≡ Some name)
         × (fault ≡ FileFault.TooLong → IsTooLong (given_by (F.holds files.now) (I.remaining input.old) name))) }
 {

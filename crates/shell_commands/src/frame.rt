@@ -12,7 +12,8 @@ use zk_limits::LONGEST_INCOMING;
 
 /// The bytes after a length, which are to be as many as it says.
 fn checked(len: i32, bytes: &[u8]) -> Result<&[u8], ShowFault>
-    ensures gives { MatchResult result (λ payload. payload_behind len bytes.now ≡ Ok payload.now) (λ fault. payload_behind len bytes.now ≡ Err fault) }
+    ensures gives { MatchResult result (λ payload. payload_behind len bytes.now ≡ Ok payload.now)
+        (λ fault. payload_behind len bytes.now ≡ Err fault) }
     ensures longest { IfOk result (λ payload. length payload.now ≤ LONGEST_INCOMING) }
     ensures len { IfOk result (λ payload. (payload.now ≡ bytes.now) × (len ≡ pos (length payload.now))) }
 {
@@ -35,7 +36,8 @@ fn checked(len: i32, bytes: &[u8]) -> Result<&[u8], ShowFault>
 /// The payload of one whole frame.
 #[tactic(auto, unfolding(crate::specs::Frame::payload_of))]
 pub fn payload_of<A: Allocator + Copy>(alloc: A, frame: &[u8]) -> Result<&[u8], ShowFault>
-    ensures gives { MatchResult result (λ payload. spec.payload_of frame.now ≡ Ok payload.now) (λ fault. spec.payload_of frame.now ≡ Err fault) }
+    ensures gives { MatchResult result (λ payload. spec.payload_of frame.now ≡ Ok payload.now)
+        (λ fault. spec.payload_of frame.now ≡ Err fault) }
     ensures longest { IfOk result (λ payload. length payload.now ≤ LONGEST_INCOMING) }
     ensures whole { IfOk result (λ payload. frame.now ≡ frame_of payload.now) }
 {

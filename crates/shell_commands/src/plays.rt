@@ -25,7 +25,8 @@ pub struct ToldHistory;
 impl<A: Allocator + Copy> Plays<A> for ToldHistory {
     ghost prints = { IsTranscriptOf commands.History };
 
-    ghost unread = { λ lines. record { before = []; behind = lines; are = refl; prints = record { end = stories.first_position; taken = refl } } };
+    ghost unread = { λ lines.
+        record { before = []; behind = lines; are = refl; prints = record { end = stories.first_position; taken = refl } } };
 
     fn transcript(self, alloc: A, script: &[u8]) -> Transcript<A> {
         let mut story = Story::new(alloc);
@@ -42,7 +43,8 @@ pub struct ReplayedClient;
 impl<A: Allocator + Copy> Plays<A> for ReplayedClient {
     ghost prints = { IsTranscriptOf commands.Replay };
 
-    ghost unread = { λ lines. record { before = []; behind = lines; are = refl; prints = record { end = replays.first_position; taken = refl } } };
+    ghost unread = { λ lines.
+        record { before = []; behind = lines; are = refl; prints = record { end = replays.first_position; taken = refl } } };
 
     fn transcript(self, alloc: A, script: &[u8]) -> Transcript<A> {
         replayed_script(alloc, script)
@@ -56,7 +58,8 @@ pub struct RehearsedClient;
 impl<A: Allocator + Copy> Plays<A> for RehearsedClient {
     ghost prints = { IsTranscriptOf commands.Rehearse };
 
-    ghost unread = { λ lines. record { before = []; behind = lines; are = refl; prints = record { end = rehearsals.first_position; taken = refl } } };
+    ghost unread = { λ lines.
+        record { before = []; behind = lines; are = refl; prints = record { end = rehearsals.first_position; taken = refl } } };
 
     fn transcript(self, alloc: A, script: &[u8]) -> Transcript<A> {
         rehearsed_script(alloc, script)

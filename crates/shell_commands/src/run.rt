@@ -5,7 +5,8 @@ ghost use Rattle.std.specs.Io.KnownBytes.{Appends};
 ghost use Rattle.clap.specs.Words.{Text};
 ghost use Rattle.shell_commands.specs.Asks.{IsUndone};
 ghost use Rattle.shell_commands.specs.CommandLine.{AsksFor};
-ghost use Rattle.shell_commands.specs.Run.{IsCutOff, IsDone, IsFaulty, IsHelpText, IsNeverConnected, IsRefusal, IsRefusalText, IsUndoneBy, IsWhole};
+ghost use Rattle.shell_commands.specs.Run.{IsCutOff, IsDone, IsFaulty, IsHelpText, IsNeverConnected, IsRefusal, IsRefusalText, IsUndoneBy};
+ghost use Rattle.shell_commands.specs.Run.{IsWhole};
 
 use crate::ask::ask_with;
 use crate::capture::{ToldCapture, asks_stream};
@@ -65,13 +66,22 @@ fn perform<F: Files, D: Dial + Drop, C: Clock + Drop, I: Read, O: Write, E: Writ
     errors: &mut E,
     command: Command<'_>,
 ) -> Status
-    ensures done { result ≡ Status.Done → (words : List Text) → AsksFor words command.entry → (text : List ℕ) × IsDone words (F.holds files.now) (I.remaining input.old) text × Appends (O.contents out.old) (O.contents out.new) text × (errors.new ≡ errors.old) }
-    ensures fault { result ≡ Status.Fault → (words : List Text) → AsksFor words command.entry → (text told : List ℕ) × IsFaulty words (I.remaining input.old) text told × Appends (O.contents out.old) (O.contents out.new) text × Appends (E.contents errors.old) (E.contents errors.new) told }
+    ensures done { result ≡ Status.Done → (words : List Text) → AsksFor words command.entry
+        → (text : List ℕ) × IsDone words (F.holds files.now) (I.remaining input.old) text
+        × Appends (O.contents out.old) (O.contents out.new) text × (errors.new ≡ errors.old) }
+    ensures fault { result ≡ Status.Fault → (words : List Text) → AsksFor words command.entry
+        → (text told : List ℕ) × IsFaulty words (I.remaining input.old) text told × Appends (O.contents out.old) (O.contents out.new) text
+        × Appends (E.contents errors.old) (E.contents errors.new) told }
     ensures usage { result ≢ Status.Usage }
-    ensures undone { IsUndone result → (words : List Text) → AsksFor words command.entry → (told : List ℕ) × IsUndoneBy words (F.holds files.now) (I.remaining input.old) result told × Appends (E.contents errors.old) (E.contents errors.new) told × (out.new ≡ out.old) }
-    ensures never { result ≡ Status.NeverConnected → (words : List Text) → AsksFor words command.entry → (text : List ℕ) × IsNeverConnected words text × Appends (O.contents out.old) (O.contents out.new) text × (errors.new ≡ errors.old) }
-    ensures more { result ≡ Status.More → (words : List Text) → AsksFor words command.entry → (text told : List ℕ) × IsCutOff words text told × Appends (O.contents out.old) (O.contents out.new) text × Appends (E.contents errors.old) (E.contents errors.new) told }
-    ensures memory { result ≡ Status.Memory → (words : List Text) → AsksFor words command.entry → (text : List ℕ) × IsWhole words (I.remaining input.old) text × Appends (O.contents out.old) (O.contents out.new) text × (errors.new ≡ errors.old) }
+    ensures undone { IsUndone result → (words : List Text) → AsksFor words command.entry
+        → (told : List ℕ) × IsUndoneBy words (F.holds files.now) (I.remaining input.old) result told
+        × Appends (E.contents errors.old) (E.contents errors.new) told × (out.new ≡ out.old) }
+    ensures never { result ≡ Status.NeverConnected → (words : List Text) → AsksFor words command.entry → (text : List ℕ)
+        × IsNeverConnected words text × Appends (O.contents out.old) (O.contents out.new) text × (errors.new ≡ errors.old) }
+    ensures more { result ≡ Status.More → (words : List Text) → AsksFor words command.entry → (text told : List ℕ) × IsCutOff words text
+        told × Appends (O.contents out.old) (O.contents out.new) text × Appends (E.contents errors.old) (E.contents errors.new) told }
+    ensures memory { result ≡ Status.Memory → (words : List Text) → AsksFor words command.entry → (text : List ℕ)
+        × IsWhole words (I.remaining input.old) text × Appends (O.contents out.old) (O.contents out.new) text × (errors.new ≡ errors.old) }
 {
     match command {
         Command::Show { kind, hex } => show(alloc, out, errors, kind, hex),
@@ -103,9 +113,11 @@ fn perform<F: Files, D: Dial + Drop, C: Clock + Drop, I: Read, O: Write, E: Writ
 
 /// Tells why a command line asks for nothing.
 fn tell_line<O: Write, E: Write>(out: &mut O, errors: &mut E, fault: LineFault) -> Status
-    ensures done { result ≡ Status.Done → (text : List ℕ) × IsHelpText fault text × Appends (O.contents out.old) (O.contents out.new) text × (errors.new ≡ errors.old) }
+    ensures done { result ≡ Status.Done
+        → (text : List ℕ) × IsHelpText fault text × Appends (O.contents out.old) (O.contents out.new) text × (errors.new ≡ errors.old) }
     ensures fault { result ≢ Status.Fault }
-    ensures usage { result ≡ Status.Usage → (told : List ℕ) × IsRefusalText fault told × Appends (E.contents errors.old) (E.contents errors.new) told × (out.new ≡ out.old) }
+    ensures usage { result ≡ Status.Usage
+        → (told : List ℕ) × IsRefusalText fault told × Appends (E.contents errors.old) (E.contents errors.new) told × (out.new ≡ out.old) }
     ensures asks { IsUndone result → ⊥ }
     ensures never { result ≢ Status.NeverConnected }
     ensures more { result ≢ Status.More }
@@ -130,17 +142,21 @@ pub fn run<F: Files, D: Dial + Drop, C: Clock + Drop, I: Read, O: Write, E: Writ
     errors: &mut E,
     words: &[&str],
 ) -> Status
-    // A frame is shown, the frames of a capture are told, a history is answered, a replay, a rehearsal, a session, a watch or the answer to a call is printed, or help is told.
-    ensures done { result ≡ Status.Done → (text : List ℕ) × IsDone (map (λ w. w.now) words.entry.now) (F.holds files.now) (I.remaining input.old) text
+    // A frame is shown, the frames of a capture are told, a history is answered, a replay, a rehearsal, a session, a watch or the answer to
+    // a call is printed, or help is told.
+    ensures done { result ≡ Status.Done
+        → (text : List ℕ) × IsDone (map (λ w. w.now) words.entry.now) (F.holds files.now) (I.remaining input.old) text
         × Appends (O.contents out.old) (O.contents out.new) text × (errors.new ≡ errors.old) }
     // The frame or a line of the script is refused, and this is told.
-    ensures fault { result ≡ Status.Fault → (text told : List ℕ) × IsFaulty (map (λ w. w.now) words.entry.now) (I.remaining input.old) text told
+    ensures fault { result ≡ Status.Fault
+        → (text told : List ℕ) × IsFaulty (map (λ w. w.now) words.entry.now) (I.remaining input.old) text told
         × Appends (O.contents out.old) (O.contents out.new) text × Appends (E.contents errors.old) (E.contents errors.new) told }
     // The words are refused, and this is told.
     ensures usage { result ≡ Status.Usage → (told : List ℕ) × IsRefusal (map (λ w. w.now) words.entry.now) told
         × Appends (E.contents errors.old) (E.contents errors.new) told × (out.new ≡ out.old) }
     // A call is not done, or may not be, or the file with its data is not read, and this is told.
-    ensures undone { IsUndone result → (told : List ℕ) × IsUndoneBy (map (λ w. w.now) words.entry.now) (F.holds files.now) (I.remaining input.old) result told
+    ensures undone { IsUndone result
+        → (told : List ℕ) × IsUndoneBy (map (λ w. w.now) words.entry.now) (F.holds files.now) (I.remaining input.old) result told
         × Appends (E.contents errors.old) (E.contents errors.new) told × (out.new ≡ out.old) }
     // The time of a watch is over, and no server has ever accepted its session.
     ensures never { result ≡ Status.NeverConnected → (text : List ℕ) × IsNeverConnected (map (λ w. w.now) words.entry.now) text

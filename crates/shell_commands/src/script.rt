@@ -43,7 +43,8 @@ pub fn script_over<P: Plays<A>, A: Allocator + Copy, I: Read, O: Write, E: Write
     errors: &mut E,
 ) -> Status
     // Each line of the input is taken, and what is written is what they print.
-    ensures done { result ≡ Status.Done → (script text : List ℕ) × IsInput (I.remaining input.old) script × P.prints (lines_of script) text ends.Taken
+    ensures done { result ≡ Status.Done
+        → (script text : List ℕ) × IsInput (I.remaining input.old) script × P.prints (lines_of script) text ends.Taken
         × Appends (O.contents out.old) (O.contents out.new) text }
     // A line is refused: its number and the reason are told, and what is written is what stands before it.
     ensures fault { result ≡ Status.Fault → (script text : List ℕ) × (number : ℕ) × (why : Why) × IsInput (I.remaining input.old) script

@@ -80,10 +80,12 @@ pub fn show<A: Allocator + Copy, O: Write, E: Write>(
     hex: &str,
 ) -> Status
     // What is written is the print of what the payload spells.
-    ensures done { result ≡ Status.Done → (text : List ℕ) × ShowsFrame kind hex.now text × Appends (O.contents out.old) (O.contents out.new) text }
+    ensures done { result ≡ Status.Done
+        → (text : List ℕ) × ShowsFrame kind hex.now text × Appends (O.contents out.old) (O.contents out.new) text }
     ensures silent { result ≡ Status.Done → errors.new ≡ errors.old }
     // What is told is the first fault.
-    ensures fault { result ≡ Status.Fault → (f : ShowFault) × IsFault kind hex.now f × Appends (E.contents errors.old) (E.contents errors.new) (fault_text f ++ 10 ∷ []) }
+    ensures fault { result ≡ Status.Fault
+        → (f : ShowFault) × IsFault kind hex.now f × Appends (E.contents errors.old) (E.contents errors.new) (fault_text f ++ 10 ∷ []) }
     ensures quiet { result ≡ Status.Fault → out.new ≡ out.old }
     ensures memory { result ≡ Status.Memory → (out.new ≡ out.old) × (errors.new ≡ errors.old) }
     ensures usage { result ≢ Status.Usage }

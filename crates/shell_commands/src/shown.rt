@@ -6,7 +6,9 @@ ghost use Rattle.zk_jute.specs.Layout.{vector, ◌⨾◌};
 ghost use Rattle.zk_records.specs.Layouts.{acl, reply_header, watcher_event};
 ghost use Rattle.zk_records.specs.declared.operation.Operation.TheVariants.{SetData, Create, Delete, SetWatches as SetsWatches};
 ghost use Rattle.shell_commands.specs.Print.{Names, lines_of, each};
-ghost use Rattle.shell_commands.specs.Names.{connect_names, reply_header_names, stat_names, get_data_names, get_children_names, get_children2_names, create_names, event_names, notice_names, read_request_names, acl_names, body_names};
+ghost use Rattle.shell_commands.specs.Names.{connect_names, reply_header_names, stat_names, get_data_names, get_children_names};
+ghost use Rattle.shell_commands.specs.Names.{get_children2_names, create_names, event_names, notice_names, read_request_names, acl_names};
+ghost use Rattle.shell_commands.specs.Names.{body_names};
 
 use crate::fields::{Field, push_boolean, push_buffer, push_fields, push_text, push_texts};
 use script_words::lines::{push_line, push_shown};
@@ -219,7 +221,8 @@ fn push_acl<A: Allocator + Copy>(
     alloc: A,
     values: &List<Acl<A>, A>,
 ) -> Result<(), AllocError>
-    ensures { OnOk result (string_bytes text.new ≡ string_bytes text.old ++ lines_of (vector acl) (each (codes "acl") acl_names) (⟦<List<Acl<A>, A> as Record<A>>⟧.view values.now)) }
+    ensures { OnOk result (string_bytes text.new ≡ string_bytes text.old
+        ++ lines_of (vector acl) (each (codes "acl") acl_names) (⟦<List<Acl<A>, A> as Record<A>>⟧.view values.now)) }
 {
     match &values.elements {
         None => push_line(text, "acl", NULL),

@@ -13,8 +13,8 @@ use std::alloc::Global;
 use std::io::Write;
 use zk_link::{Clock, Dial};
 
-/// Goes through a tree over a connection, and prints the path of each node; or tells why that is not done: `More` where as many nodes as are
-/// to be are printed, and there are more.
+/// Goes through a tree over a connection, and prints the path of each node; or tells why that is not done: `More` where as many nodes as
+/// are to be are printed, and there are more.
 pub fn tour_over<D: Dial + Drop, C: Clock + Drop, O: Write, E: Write>(
     alloc: Global,
     dial: D,
@@ -23,11 +23,14 @@ pub fn tour_over<D: Dial + Drop, C: Clock + Drop, O: Write, E: Write>(
     out: &mut O,
     errors: &mut E,
 ) -> Status
-    ensures done { result ≡ Status.Done → (text : List ℕ) × PrintsTree tour.entry Whole text × Appends (O.contents out.old) (O.contents out.new) text
+    ensures done { result ≡ Status.Done
+        → (text : List ℕ) × PrintsTree tour.entry Whole text × Appends (O.contents out.old) (O.contents out.new) text
         × (errors.new ≡ errors.old) }
-    ensures more { result ≡ Status.More → (text : List ℕ) × PrintsTree tour.entry Full text × Appends (O.contents out.old) (O.contents out.new) text
+    ensures more { result ≡ Status.More
+        → (text : List ℕ) × PrintsTree tour.entry Full text × Appends (O.contents out.old) (O.contents out.new) text
         × Appends (E.contents errors.old) (E.contents errors.new) (ending_told tour.entry.name tour.entry.most Full) }
-    ensures undone { IsUndone result → (told : List ℕ) × TellsTree tour.entry result told × Appends (E.contents errors.old) (E.contents errors.new) told
+    ensures undone { IsUndone result
+        → (told : List ℕ) × TellsTree tour.entry result told × Appends (E.contents errors.old) (E.contents errors.new) told
         × (out.new ≡ out.old) }
     ensures memory { result ≡ Status.Memory → (out.new ≡ out.old) × (errors.new ≡ errors.old) }
     ensures fault { result ≢ Status.Fault }

@@ -7,7 +7,10 @@ ghost use Rattle.clap.specs.Words.{Text, app_of, new_app, first_of, found_of, ro
 ghost use Rattle.zk_nodes.specs.declared.side.Side.{Side as Sides};
 ghost use Rattle.shell_watch.specs.Watching.{aims_of};
 ghost use Rattle.shell_commands.specs.Asks.{absolute};
-ghost use Rattle.shell_commands.specs.CommandLine.{AreAims, IsDuration, IsTimeout, TellsIf, AreRoots, AreSights, Sights, address_rule, aims_at, bound_rule, scope_app, sights_of, count_at, duration_rule, duration_read, given, is_below, is_path, option_rule, path_rule, style_in, timeout_at, timeout_rule, watch_app};
+ghost use Rattle.shell_commands.specs.CommandLine.{AreAims, IsDuration, IsTimeout, TellsIf, AreRoots, AreSights, Sights, address_rule};
+ghost use Rattle.shell_commands.specs.CommandLine.{aims_at, bound_rule, scope_app, sights_of, count_at, duration_rule, duration_read};
+ghost use Rattle.shell_commands.specs.CommandLine.{given, is_below, is_path, option_rule, path_rule, style_in, timeout_at, timeout_rule};
+ghost use Rattle.shell_commands.specs.CommandLine.{watch_app};
 
 use crate::ask_forms::{flag_arg, servers_arg};
 use crate::ask_words::{flag, node_of};
@@ -195,7 +198,8 @@ fn add_subjects(
     side: Side,
     words: &[&str],
 ) -> Result<(), LineFault>
-    ensures ok { OnOk result (aims_of subjects.new.items ≡ aims_of subjects.old.items ++ aims_at chroot.now side (map (λ w. w.now) words.now)) }
+    ensures ok { OnOk result
+        (aims_of subjects.new.items ≡ aims_of subjects.old.items ++ aims_at chroot.now side (map (λ w. w.now) words.now)) }
     ensures accepted { OnOk result (list_all (is_below chroot.now) (map (λ w. w.now) words.now) ≡ true) }
     ensures err { IfErr result (TellsIf (list_all (is_below chroot.now) (map (λ w. w.now) words.now) ≡ false)) }
 {
@@ -217,7 +221,8 @@ fn add_given(
     matches: &ArgMatches<'_>,
     id: &str,
 ) -> Result<(), LineFault>
-    ensures ok { OnOk result (aims_of subjects.new.items ≡ aims_of subjects.old.items ++ aims_at chroot.now side (given id.now (rows_of (found_of matches.now)))) }
+    ensures ok { OnOk result (aims_of subjects.new.items
+        ≡ aims_of subjects.old.items ++ aims_at chroot.now side (given id.now (rows_of (found_of matches.now)))) }
     ensures accepted { OnOk result (list_all (is_below chroot.now) (given id.now (rows_of (found_of matches.now))) ≡ true) }
     ensures err { IfErr result (TellsIf (list_all (is_below chroot.now) (given id.now (rows_of (found_of matches.now))) ≡ false)) }
 {

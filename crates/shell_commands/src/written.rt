@@ -65,7 +65,8 @@ pub(crate) fn write_transcript<A: Allocator, O: Write, E: Write>(
     errors: &mut E,
     transcript: &Transcript<A>,
 ) -> Status
-    ensures done { result ≡ Status.Done → (transcript.now.end ≡ End.Taken) × Appends (O.contents out.old) (O.contents out.new) (string_bytes transcript.now.text) }
+    ensures done { result ≡ Status.Done
+        → (transcript.now.end ≡ End.Taken) × Appends (O.contents out.old) (O.contents out.new) (string_bytes transcript.now.text) }
     ensures fault { result ≡ Status.Fault → (number : ℕ) × (why : Why) × (transcript.now.end ≡ End.Refused number why)
         × Appends (O.contents out.old) (O.contents out.new) (string_bytes transcript.now.text)
         × Appends (E.contents errors.old) (E.contents errors.new) (refusal_text number why) }

@@ -51,7 +51,8 @@ line_is ms (k ∷ ks) members tokens before line some none are is =
 
 pub two_puts : {X E : Type 0} (result : Result X E) (b0 b1 b2 : List ℕ) (t0 t1 t2 a b : List json.Token) → b1 ≡ b0 → t1 ≡ t0 ++ a
     → OnOk result ((b2 ≡ b1) × (t2 ≡ t1 ++ b)) → OnOk result ((b2 ≡ b0) × (t2 ≡ t0 ++ (a ++ b)))
-two_puts (Ok x) b0 b1 b2 t0 t1 t2 a b same first rest = (rest.0 ∙ same, rest.1 ∙ ap (λ (t : List json.Token). t ++ b) first ∙ append_assoc t0 a b)
+two_puts (Ok x) b0 b1 b2 t0 t1 t2 a b same first rest =
+    (rest.0 ∙ same, rest.1 ∙ ap (λ (t : List json.Token). t ++ b) first ∙ append_assoc t0 a b)
 two_puts (Err e) b0 b1 b2 t0 t1 t2 a b same first rest = tt
 
 -- what is kept, and a piece after it
@@ -63,7 +64,8 @@ kept_then P (Ok x) b0 b1 b2 t0 t1 t2 b put rest =
 kept_then P (Err e) b0 b1 b2 t0 t1 t2 b put rest = tt
 
 -- a piece, and what is kept after it
-pub then_kept : {X E : Type 0} (P : List json.Token → Type 0) (result : Result X E) (b0 b1 b2 : List ℕ) (t0 t1 t2 a b : List json.Token) → b1 ≡ b0 → t1 ≡ t0 ++ a
+pub then_kept : {X E : Type 0} (P : List json.Token → Type 0) (result : Result X E) (b0 b1 b2 : List ℕ) (t0 t1 t2 a b : List json.Token)
+    → b1 ≡ b0 → t1 ≡ t0 ++ a
     → OnOk result ((kept : List json.Token) × P kept × (b2 ≡ b1) × (t2 ≡ t1 ++ (kept ++ b)))
     → OnOk result ((kept : List json.Token) × P kept × (b2 ≡ b0) × (t2 ≡ t0 ++ (a ++ (kept ++ b))))
 then_kept P (Ok x) b0 b1 b2 t0 t1 t2 a b same first put =

@@ -9,7 +9,8 @@ use Rattle.zk_driver.specs.Flowing.{Runs}
 use Rattle.zk_driver.specs.Noting.{is_come}
 use Rattle.zk_driver.proofs.Running.{runs_join, runs_same}
 use Rattle.shell_watch.specs.Trees.{is_settled, stays, tickets_gone}
-use Rattle.shell_watch.specs.Watching.{flow_in, view_in, Closes, Does, FollowsAll, FollowsRun, FollowsSo, Grows, LetsGo, Move, Prints, Stand, Takes, TakesOn, TakesOnWhere, Tends, TendsSo, WatchesRun}
+use Rattle.shell_watch.specs.Watching.{flow_in, view_in, Closes, Does, FollowsAll, FollowsRun, FollowsSo, Grows, LetsGo, Move, Prints}
+use Rattle.shell_watch.specs.Watching.{Stand, Takes, TakesOn, TakesOnWhere, Tends, TendsSo, WatchesRun}
 
 abbrev RunsOn : {A : Type 0} → (old new : Stand A) → Type 0
 RunsOn old new = Runs (flow_in old) (flow_in new)
@@ -22,7 +23,8 @@ still {A} old new is = runs_same (flow_in old) (flow_in new) (ap (λ (s : Stand 
 
 -- ---- what becomes of trees
 
-lets_run : {A : Type 0} (tickets : List ℕ) (old new : Stand A) → FoldsTo (λ at ticket after. LetsGo ticket at after) old tickets new → RunsOn old new
+lets_run : {A : Type 0} (tickets : List ℕ) (old new : Stand A)
+    → FoldsTo (λ at ticket after. LetsGo ticket at after) old tickets new → RunsOn old new
 lets_run [] old new same = still old new same
 lets_run (ticket ∷ tickets) old new lets = on old lets.0 new lets.1.runs (lets_run tickets lets.0 new lets.2)
 
@@ -30,7 +32,8 @@ taken_run : {A : Type 0} (is : Bool) (aim : Side × Text) (old new : Stand A) �
 taken_run true aim old new same = still old new (sym same)
 taken_run false aim old new follows = follows.runs
 
-takes_run : {A : Type 0} (aims : List (Side × Text)) (old new : Stand A) → FoldsTo (λ at aim after. TakesOn aim at after) old aims new → RunsOn old new
+takes_run : {A : Type 0} (aims : List (Side × Text)) (old new : Stand A)
+    → FoldsTo (λ at aim after. TakesOn aim at after) old aims new → RunsOn old new
 takes_run [] old new same = still old new same
 takes_run (aim ∷ aims) old new takes =
     on old takes.0 new (taken_run (is_settled (view_in old) aim old.watched) aim old takes.0 takes.1) (takes_run aims takes.0 new takes.2)
@@ -44,11 +47,13 @@ grown_run old new grows =
 tends_run : {A : Type 0} (old : Stand A) (text : List ℕ) (new : Stand A) → Tends old text new → RunsOn old new
 tends_run old text new tends =
     on old tends.left new
-    (lets_run (tickets_gone (view_in old) old.watched) (record old { watched = filter (stays (view_in old)) old.watched }) tends.left tends.lets)
+    (lets_run (tickets_gone (view_in old) old.watched)
+    (record old { watched = filter (stays (view_in old)) old.watched }) tends.left tends.lets)
     (grown_run tends.left new tends.grows)
 
 -- where nothing waits
-quiet_run : {A : Type 0} (old : Stand A) (text : List ℕ) (new : Stand A) (told : List Told) → old.course.told ≡ told → TendsSo false old text new → RunsOn old new
+quiet_run : {A : Type 0} (old : Stand A) (text : List ℕ) (new : Stand A) (told : List Told)
+    → old.course.told ≡ told → TendsSo false old text new → RunsOn old new
 quiet_run old text new [] none tends = tends_run old text new (tends.tends refl none)
 quiet_run {A} old text new (one ∷ rest) some tends = still old new (sym (tends.waits (λ none. absurd (some_is_none none))).0)
   where
@@ -62,7 +67,8 @@ tended_run false old text new tends = quiet_run old text new old.course.told ref
 -- ---- the whole
 
 does_run : {A : Type 0} (move : Move A) (old new : Stand A) → Does old move new → RunsOn old new
-does_run (Takes turn text) old new rounds = on old rounds.between new rounds.turns.runs (tended_run (is_come turn) rounds.between rounds.more new rounds.tends)
+does_run (Takes turn text) old new rounds =
+    on old rounds.between new rounds.turns.runs (tended_run (is_come turn) rounds.between rounds.more new rounds.tends)
 does_run (Closes until) old new does = does.1
 
 moves_run : {A : Type 0} (moves : List (Move A)) (old new : Stand A) → FoldsTo Does old moves new → RunsOn old new

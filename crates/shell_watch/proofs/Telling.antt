@@ -17,7 +17,8 @@ none_told [] none = refl
 none_told (action ∷ actions) none = absurd cc
 
 -- something waits, and nothing is shown
-pub shows_nothing : {A : Type 0} (style : Style) (ms : ℕ) (view : View) (waits : List (Action A)) (watched : List (Member A (String A))) (text : List ℕ) → waits ≢ []
+pub shows_nothing : {A : Type 0} (style : Style) (ms : ℕ) (view : View) (waits : List (Action A)) (watched : List (Member A (String A)))
+    (text : List ℕ) → waits ≢ []
     → ShowsThen style ms view (told_by waits) watched watched text text
 shows_nothing style ms view waits watched text some = record {
   shown = [];
@@ -27,8 +28,10 @@ shows_nothing style ms view waits watched text some = record {
 }
 
 -- nothing waits, and each is shown
-pub ok_shows : {A X E : Type 0} (result : Result X E) (style : Style) (ms : ℕ) (view : View) (waits : List (Action A)) (old new : List (Member A (String A))) (before after : List ℕ) → waits ≡ []
-    → OnOk result ((told : List ℕ) × ShowsAll style ms view old new told × (after ≡ before ++ told)) → OnOk result (ShowsThen style ms view (told_by waits) old new before after)
+pub ok_shows : {A X E : Type 0} (result : Result X E) (style : Style) (ms : ℕ) (view : View) (waits : List (Action A))
+    (old new : List (Member A (String A))) (before after : List ℕ) → waits ≡ []
+    → OnOk result ((told : List ℕ) × ShowsAll style ms view old new told × (after ≡ before ++ told))
+    → OnOk result (ShowsThen style ms view (told_by waits) old new before after)
 ok_shows (Ok x) style ms view waits old new before after none shows = record {
   shown = shows.0;
   shows = λ _. shows.1;
@@ -42,7 +45,8 @@ pub whole_written : {X : Type 0} (count : ℕ) (xs rest : List X) → count ≡ 
 whole_written count xs rest size = ap (λ n. take n (xs ++ rest)) size ∙ take-append_seam xs rest
 
 -- the line of a turn, and what is shown after it
-pub tells : {A : Type 0} (style : Style) (ms : ℕ) (turn : Turn A) (view : View) (waits : List Told) (old new : List (Member A (String A))) (line text : List ℕ)
+pub tells : {A : Type 0} (style : Style) (ms : ℕ) (turn : Turn A) (view : View) (waits : List Told)
+    (old new : List (Member A (String A))) (line text : List ℕ)
     → LinesOf style ms turn view old line → ShowsThen style ms view waits old new line text → TellsTurn style turn view waits old new text
 tells style ms turn view waits old new line text lines shows = record {
   ms = ms;

@@ -1,5 +1,5 @@
--- What becomes of trees after a turn: nothing where something waits to be told or the watch is over, and else what is gone is let go and each tree
--- is taken on.
+-- What becomes of trees after a turn: nothing where something waits to be told or the watch is over, and else what is gone is let go and
+-- each tree is taken on.
 use Rattle.std.proofs.Common.{◌≡◌, ◌≢◌, ◌∙◌, ℕ, Bool, true, false, List, [], Option, refl, sym, subst, ap}
 use Rattle.std.specs.Prelude.{Result, Ok, Err, IfOk, OnOk}
 use Rattle.zk_agent.specs.declared.action.Action.{Action}
@@ -17,7 +17,8 @@ use Rattle.shell_watch.specs.Watching.{stand_of, view_in, Grows, FollowsSo, Lets
 use Rattle.shell_watch.proofs.Telling.{none_told}
 
 -- the watch is over, and nothing is done
-pub over_rests : {A : Type 0} (is_over : Bool) (here : Stand A) (text : List ℕ) → is_over ≡ true → text ≡ [] → TendsSo is_over here text here
+pub over_rests : {A : Type 0} (is_over : Bool) (here : Stand A) (text : List ℕ)
+    → is_over ≡ true → text ≡ [] → TendsSo is_over here text here
 over_rests true here text is none = record {
   tends = λ no _. absurd cc;
   over = λ _. (refl, none);
@@ -26,7 +27,8 @@ over_rests true here text is none = record {
 over_rests false here text is none = absurd cc
 
 -- something waits to be told, and nothing is done
-pub told_rests : {A : Type 0} (is_over : Bool) (here : Stand A) (waits : List (Action A)) (text : List ℕ) → here.course.told ≡ told_by waits → waits ≢ [] → text ≡ []
+pub told_rests : {A : Type 0} (is_over : Bool) (here : Stand A) (waits : List (Action A)) (text : List ℕ)
+    → here.course.told ≡ told_by waits → waits ≢ [] → text ≡ []
     → TendsSo is_over here text here
 told_rests is_over here waits text are some none = record {
   tends = λ _ quiet. absurd (some (none_told waits (sym are ∙ quiet)));
@@ -46,7 +48,8 @@ tends_all {A} old left grown new ms text lets grows same is = record {
 }
 
 -- nothing waits, and the watch is not over
-pub ok_tends : {A T E : Type 0} (result : Result T E) (bytes : T → List ℕ) (is_over : Bool) (old new : Stand A) (waits : List (Action A)) → old.course.told ≡ told_by waits → is_over ≡ false
+pub ok_tends : {A T E : Type 0} (result : Result T E) (bytes : T → List ℕ) (is_over : Bool) (old new : Stand A) (waits : List (Action A))
+    → old.course.told ≡ told_by waits → is_over ≡ false
     → waits ≡ [] → IfOk result (λ text. Tends old (bytes text) new) → IfOk result (λ text. TendsSo is_over old (bytes text) new)
 ok_tends (Ok text) bytes is_over old new waits are on none tends = record {
   tends = λ _ _. tends;
@@ -56,11 +59,15 @@ ok_tends (Ok text) bytes is_over old new waits are on none tends = record {
 ok_tends (Err e) bytes is_over old new waits are on none tends = tt
 
 -- a watch that is as it was
-pub same_stand : {A S : Type 0} (remaining contents : S → Option (List ℕ)) (engine other : Engine A S) (watched others : List (Member A (String A))) (is was : Bool) (style once : Style) (trees before : Trees A) → engine ≡ other → watched ≡ others
-    → is ≡ was → style ≡ once → trees ≡ before → stand_of remaining contents engine watched is style trees ≡ stand_of remaining contents other others was once before
+pub same_stand : {A S : Type 0} (remaining contents : S → Option (List ℕ)) (engine other : Engine A S)
+    (watched others : List (Member A (String A))) (is was : Bool) (style once : Style) (trees before : Trees A)
+    → engine ≡ other → watched ≡ others
+    → is ≡ was → style ≡ once → trees ≡ before
+    → stand_of remaining contents engine watched is style trees ≡ stand_of remaining contents other others was once before
 same_stand remaining contents engine other watched others is was style once trees before e w a s t = cc
 
-pub ok_grows : {A X E : Type 0} (result : Result X E) (wants : Wants) (old new : Stand A) → AreWanted (view_in old) old.growth.most old.growth.roots wants
+pub ok_grows : {A X E : Type 0} (result : Result X E) (wants : Wants) (old new : Stand A)
+    → AreWanted (view_in old) old.growth.most old.growth.roots wants
     → OnOk result (TakesAllOn wants old new) → OnOk result (Grows old new)
 ok_grows (Ok x) wants old new wanted takes = record { wants = wants; wanted = wanted; takes = takes }
 ok_grows (Err e) wants old new wanted takes = tt
@@ -70,7 +77,8 @@ pub settled : {A : Type 0} (is : Bool) (aim : Side × Text) (here : Stand A) →
 settled true aim here so = refl
 settled false aim here so = absurd cc
 
-pub ok_taken : {A X E : Type 0} (result : Result X E) (is : Bool) (aim : Side × Text) (old new : Stand A) → is ≡ false → OnOk result (FollowsSo true aim old new)
+pub ok_taken : {A X E : Type 0} (result : Result X E) (is : Bool) (aim : Side × Text) (old new : Stand A)
+    → is ≡ false → OnOk result (FollowsSo true aim old new)
     → OnOk result (TakesOnWhere is aim old new)
 ok_taken result true aim old new so follows = absurd cc
 ok_taken result false aim old new so follows = follows

@@ -1,5 +1,6 @@
 -- What a watch prints, word by word.
-use Rattle.std.specs.Prelude.{◌≡◌, ◌==◌, ◌/◌, ◌%◌, ◌&&◌, ◌||◌, not, nat_le, nat_lt, chars, map, ℕ, ℤ, pos, negsuc, Bool, true, false, if◌then◌else◌, List, [], ◌∷◌, ◌++◌, codes, Option, Some, None}
+use Rattle.std.specs.Prelude.{◌≡◌, ◌==◌, ◌/◌, ◌%◌, ◌&&◌, ◌||◌, not, nat_le, nat_lt, chars, map, ℕ, ℤ, pos, negsuc, Bool, true, false}
+use Rattle.std.specs.Prelude.{if◌then◌else◌, List, [], ◌∷◌, ◌++◌, codes, Option, Some, None}
 use Rattle.std.specs.Fmt.{decimal, signed_decimal}
 use Rattle.std.specs.FinSet as set
 use Rattle.std.specs.List.{find, flat_map, list_any}
@@ -104,7 +105,8 @@ subject_words path words zxid = text_word (Some path) ++ (spaced words ++ (codes
 
 -- the line of words of a subject of which a look-up has these words
 abbrev pub subject_line : Style → (ms : ℕ) → Side → Text → View → (words : List ℕ) → List ℕ
-subject_line style ms side path view words = line_of (stamp_of ms) (subject_words path (words_in style side (view.cache.nodes path) words) view.saved.last)
+subject_line style ms side path view words =
+    line_of (stamp_of ms) (subject_words path (words_in style side (view.cache.nodes path) words) view.saved.last)
 
 -- ---- a line of JSON
 
@@ -121,7 +123,8 @@ object_tokens members = json.begin_object ∷ (members ++ json.end_object ∷ []
 -- an object of this kind, of a moment in milliseconds, with these members too; and nothing where there is no kind
 abbrev pub object_line : (ms : ℕ) → (kind : List ℕ) → List json.Token → List ℕ
 object_line ms [] members = []
-object_line ms kind members = print (object_tokens (text_members (codes "kind") kind ++ (number_members (codes "ms") (pos ms) ++ members))) ++ 10 ∷ []
+object_line ms kind members =
+    print (object_tokens (text_members (codes "kind") kind ++ (number_members (codes "ms") (pos ms) ++ members))) ++ 10 ∷ []
 
 -- ---- what is kept of a subject, as JSON
 
@@ -133,12 +136,14 @@ side_name Child = codes "names"
 -- data as a text where they are UTF-8, else in hex under another key, or null
 abbrev pub data_members : Option (List ℕ) → List json.Token
 data_members None = json.key (codes "data") ∷ (json.null ∷ [])
-data_members (Some bytes) = if is_utf8 bytes then text_members (codes "data") bytes else text_members (codes "hex") (bytes_word (Some bytes))
+data_members (Some bytes) =
+    if is_utf8 bytes then text_members (codes "data") bytes else text_members (codes "hex") (bytes_word (Some bytes))
 
 -- the seven fields by ZooKeeper's names
 abbrev pub fields : DataStat → List (List ℕ × ℤ)
 fields s =
-    (codes "czxid", s.czxid) ∷ ((codes "mzxid", s.mzxid) ∷ ((codes "ctime", s.ctime) ∷ ((codes "mtime", s.mtime) ∷ ((codes "version", s.version)
+    (codes "czxid", s.czxid)
+    ∷ ((codes "mzxid", s.mzxid) ∷ ((codes "ctime", s.ctime) ∷ ((codes "mtime", s.mtime) ∷ ((codes "version", s.version)
     ∷ ((codes "ephemeralOwner", s.ephemeral_owner) ∷ ((codes "dataLength", s.data_length) ∷ []))))))
 
 abbrev pub field_members : List (List ℕ × ℤ) → List json.Token
@@ -208,7 +213,8 @@ subject_members side path kept zxid =
 -- The object of a subject.
 abbrev pub IsSubjectObject : (ms : ℕ) → Side → Text → View → List ℕ → Type 0
 IsSubjectObject ms side path view text =
-    (kept : List json.Token) × AreMembers side path view kept × (text ≡ object_line ms (kind_of side path view) (subject_members side path kept view.saved.last))
+    (kept : List json.Token) × AreMembers side path view kept
+    × (text ≡ object_line ms (kind_of side path view) (subject_members side path kept view.saved.last))
 
 -- ---- the line of a subject, in each style
 
@@ -280,7 +286,8 @@ action_words watched at view Begins = codes "session new"
 action_words watched at view (Tells ticket (news.Refused why)) = refusal_words (path_of watched ticket) why
 action_words watched at view told = []
 
--- Of a turn: what the agent tells; each address that is dialled, each that could not be, and each connection that has ended, with the reason.
+-- Of a turn: what the agent tells; each address that is dialled, each that could not be, and each connection that has ended, with the
+-- reason.
 abbrev pub turn_words : {A : Type 0} → List (Member A (String A)) → (at : Text) → View → Turn A → List ℕ
 turn_words watched at view (turn.Told action) = action_words watched at view (action_view action)
 turn_words watched at view turn.Dials = codes "dial" ++ spaced at
@@ -327,7 +334,8 @@ why_members SessionClosed = fault_members (codes "K3") (codes "the session is be
 
 -- the session's number, and the timeout that was granted
 abbrev pub session_members : View → List json.Token
-session_members view = number_members (codes "session") view.saved.session.session ++ number_members (codes "timeout") (pos view.saved.session.timeout)
+session_members view = number_members (codes "session") view.saved.session.session
+    ++ number_members (codes "timeout") (pos view.saved.session.timeout)
 
 abbrev pub state_members : (at : Text) → View → State → List json.Token
 state_members at view Connected = text_members (codes "state") (state_word Connected) ++ (address_members at ++ session_members view)

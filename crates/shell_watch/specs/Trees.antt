@@ -23,7 +23,8 @@ growth_of trees = record { roots = trees.roots.items; most = trees.most; is_boun
 
 abbrev pub bound_line : Style → (ms most : ℕ) → List ℕ
 bound_line style_is.Json ms most = object_line ms (codes "bound") (number_members (codes "nodes") (pos most))
-bound_line style ms most = line_of (stamp_of ms) (codes "bound " ++ (decimal most ++ codes " a tree has more nodes: no more of it are watched"))
+bound_line style ms most =
+    line_of (stamp_of ms) (codes "bound " ++ (decimal most ++ codes " a tree has more nodes: no more of it are watched"))
 
 -- it is printed where it was not reached before
 abbrev pub bound_text : (was is : Bool) → Style → (ms most : ℕ) → List ℕ

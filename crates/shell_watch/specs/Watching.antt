@@ -1,5 +1,6 @@
 -- What a watch does, and what it prints.
-use Rattle.std.specs.Prelude.{◌≡◌, ◌≢◌, ◌≤◌, ◌+◌, ◌||◌, min, ◌^◌, ◌-◌, ◌⊎◌, ⊤, ℕ, Bool, true, false, bytes_eq, List, [], ◌∷◌, ◌++◌, length, map, Option, Some, None, string_bytes}
+use Rattle.std.specs.Prelude.{◌≡◌, ◌≢◌, ◌≤◌, ◌+◌, ◌||◌, min, ◌^◌, ◌-◌, ◌⊎◌, ⊤, ℕ, Bool, true, false, bytes_eq, List, [], ◌∷◌, ◌++◌, length}
+use Rattle.std.specs.Prelude.{map, Option, Some, None, string_bytes}
 use Rattle.std.specs.List.{filter, flat_map, FoldsTo}
 use Rattle.std.specs.Io.KnownBytes.{Appends}
 use Rattle.zk_nodes.specs.Path.{Text}
@@ -42,18 +43,20 @@ pub record ShowsSo {A : Type 0} (style : Style) (ms : ℕ) (view : View) (old ne
   pub ticket : new.ticket ≡ old.ticket
   pub found : new.is_found ≡ old.is_found
   pub looks : Looks new.subject.side new.subject.path view (string_bytes new.note)
-  pub line : PrintsChange (bytes_eq (string_bytes new.note) (string_bytes old.note)) style ms new.subject.side new.subject.path view (string_bytes new.note) text
+  pub line : PrintsChange (bytes_eq (string_bytes new.note) (string_bytes old.note)) style ms new.subject.side new.subject.path view
+      (string_bytes new.note) text
 
 -- Each is, in order.
 abbrev pub ShowsAll : {A : Type 0} → Style → (ms : ℕ) → View → (old new : List (Member A (String A))) → (text : List ℕ) → Type 0
 ShowsAll style ms view [] [] text = text ≡ []
-ShowsAll style ms view (old ∷ olds) (new ∷ news) text = (first rest : List ℕ) × ShowsSo style ms view old new first × ShowsAll style ms view olds news rest × (text ≡ first ++ rest)
+ShowsAll style ms view (old ∷ olds) (new ∷ news) text =
+    (first rest : List ℕ) × ShowsSo style ms view old new first × ShowsAll style ms view olds news rest × (text ≡ first ++ rest)
 ShowsAll style ms view olds news text = ⊥
 
 -- ---- how far a watch has come
 
--- The agent and its connection, with what it has told that was not taken yet; what the stream of the connection knows; the subjects with what was printed of each last; whether a
--- server has accepted a session; how it is printed; and how far its trees are known.
+-- The agent and its connection, with what it has told that was not taken yet; what the stream of the connection knows; the subjects with
+-- what was printed of each last; whether a server has accepted a session; how it is printed; and how far its trees are known.
 pub record Stand (A : Type 0) : Type 0 where
   pub course : Course A
   pub known : Known
@@ -62,7 +65,8 @@ pub record Stand (A : Type 0) : Type 0 where
   pub style : Style
   pub growth : Growth
 
-abbrev pub stand_of : {A S : Type 0} → (remaining contents : S → Option (List ℕ)) → Engine A S → List (Member A (String A)) → (is_accepted : Bool) → Style → Trees A → Stand A
+abbrev pub stand_of : {A S : Type 0} → (remaining contents : S → Option (List ℕ)) → Engine A S → List (Member A (String A))
+    → (is_accepted : Bool) → Style → Trees A → Stand A
 stand_of remaining contents engine watched is_accepted style trees = record {
   course = course_of engine None;
   known = known_of remaining contents engine.channel.stream;
@@ -93,15 +97,17 @@ abbrev pub LinesOf : {A : Type 0} → Style → (ms : ℕ) → Turn A → View �
 LinesOf style ms turn view watched text = (at : Text) × (text ≡ turn_line style ms watched at view turn)
 
 -- Subjects are shown where nothing waits to be told, and this is added to a text.
-pub record ShowsThen {A : Type 0} (style : Style) (ms : ℕ) (view : View) (waits : List Told) (old new : List (Member A (String A))) (before after : List ℕ) : Type 0 where
+pub record ShowsThen {A : Type 0} (style : Style) (ms : ℕ) (view : View) (waits : List Told) (old new : List (Member A (String A)))
+    (before after : List ℕ) : Type 0 where
   pub shown : List ℕ
   pub shows : waits ≡ [] → ShowsAll style ms view old new shown
   pub rests : waits ≢ [] → (new ≡ old) × (shown ≡ [])
   pub added : after ≡ before ++ shown
 
--- What is printed of a turn: its words, after some time. Where nothing waits to be told then, each subject is printed after them of which what
--- the client keeps is not what was printed last: so what was printed last of each subject is the look-up then.
-pub record TellsTurn {A : Type 0} (style : Style) (turn : Turn A) (view : View) (waits : List Told) (old new : List (Member A (String A))) (text : List ℕ) : Type 0 where
+-- What is printed of a turn: its words, after some time. Where nothing waits to be told then, each subject is printed after them of which
+-- what the client keeps is not what was printed last: so what was printed last of each subject is the look-up then.
+pub record TellsTurn {A : Type 0} (style : Style) (turn : Turn A) (view : View) (waits : List Told) (old new : List (Member A (String A)))
+    (text : List ℕ) : Type 0 where
   pub ms : ℕ
   pub at : Text
   pub shown : List ℕ
@@ -144,15 +150,15 @@ pub record LetsGo {A : Type 0} (ticket : ℕ) (old new : Stand A) : Type 0 where
   pub runs : Runs (flow_in old) (flow_in new)
   pub same : new ≡ record old { course = new.course; known = new.known }
 
--- What is gone is watched no more: each node that was found below a root and of which it is kept and good that there is none. All others stay, in
--- their order.
+-- What is gone is watched no more: each node that was found below a root and of which it is kept and good that there is none. All others
+-- stay, in their order.
 abbrev pub LetsAllGo : {A : Type 0} → (old new : Stand A) → Type 0
 LetsAllGo old new =
     FoldsTo (λ at ticket after. LetsGo ticket at after) (record old { watched = filter (stays (view_in old)) old.watched })
     (tickets_gone (view_in old) old.watched) new
 
--- A side of a path that is watched already stays so, and is not followed twice; that of a node of which it is kept and good that there is none is
--- left; else it is followed, as one that was found.
+-- A side of a path that is watched already stays so, and is not followed twice; that of a node of which it is kept and good that there is
+-- none is left; else it is followed, as one that was found.
 abbrev pub TakesOnWhere : {A : Type 0} → (is_settled : Bool) → Side × Text → (old new : Stand A) → Type 0
 TakesOnWhere true aim old new = new ≡ old
 TakesOnWhere false aim old new = FollowsSo true aim old new
@@ -216,7 +222,8 @@ text_of (Closes until) = []
 abbrev pub Does : {A : Type 0} → Stand A → Move A → Stand A → Type 0
 Does old (Takes turn text) new = Rounds turn old text new
 Does old (Closes until) new =
-    Hands (happens.Call 0 call.Close (Some until)) old.course new.course × Runs (flow_in old) (flow_in new) × (new.watched ≡ old.watched) × (new.is_accepted ≡ old.is_accepted)
+    Hands (happens.Call 0 call.Close (Some until)) old.course new.course × Runs (flow_in old) (flow_in new) × (new.watched ≡ old.watched)
+    × (new.is_accepted ≡ old.is_accepted)
     × (new.style ≡ old.style) × (new.growth ≡ record old.growth { roots = [] })
 
 -- Some moves print this.
@@ -291,7 +298,8 @@ pub record PrintsFrom {A : Type 0} (aims : List (Side × Text)) (first : Stand A
   pub prints : Prints ready text last
 
 -- What it has printed whose time is over, and whether a server has accepted a session.
-pub record EndsFrom {A : Type 0} (aims : List (Side × Text)) (for_ms : Option ℕ) (first : Stand A) (text : List ℕ) (is_accepted : Bool) : Type 0 where
+pub record EndsFrom {A : Type 0} (aims : List (Side × Text)) (for_ms : Option ℕ) (first : Stand A) (text : List ℕ)
+    (is_accepted : Bool) : Type 0 where
   pub ready : Stand A
   pub last : Stand A
   pub follows : FollowsAll aims first ready
@@ -316,7 +324,8 @@ IsPrinted A style aims roots most text =
     (text ≡ []) ⊎ ((first : Stand A) × IsBegun style roots most first × (from : PrintsFrom (aims ++ roots_aims roots) first text)
     × IsStood from.ready text from.last from.prints)
 
-abbrev pub IsWatched : (A : Type 0) → Style → List (Side × Text) → (roots : List Text) → (most : ℕ) → Option ℕ → List ℕ → (is_accepted : Bool) → Type 0
+abbrev pub IsWatched : (A : Type 0) → Style → List (Side × Text) → (roots : List Text) → (most : ℕ)
+    → Option ℕ → List ℕ → (is_accepted : Bool) → Type 0
 IsWatched A style aims roots most for_ms text is_accepted =
     (first : Stand A) × IsBegun style roots most first × (from : EndsFrom (aims ++ roots_aims roots) for_ms first text is_accepted)
     × IsStood from.ready from.over.told from.over.over from.over.prints × IsStood from.over.over from.over.rest from.last from.over.closes

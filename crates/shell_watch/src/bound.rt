@@ -22,7 +22,8 @@ fn bound_object<A: Allocator + Copy>(alloc: A, ms: u64, most: u64) -> Result<Str
 
 /// The same in words.
 fn bound_words<A: Allocator + Copy>(alloc: A, most: u64) -> Result<String<A>, AllocError>
-    ensures { IfOk result (λ text. string_bytes text ≡ codes "bound " ++ (decimal most ++ codes " a tree has more nodes: no more of it are watched")) }
+    ensures { IfOk result
+        (λ text. string_bytes text ≡ codes "bound " ++ (decimal most ++ codes " a tree has more nodes: no more of it are watched")) }
 {
     let mut text = String::from_str(alloc, "bound ")?;
     push_value(&mut text, alloc, &most)?;

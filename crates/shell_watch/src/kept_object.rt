@@ -8,7 +8,9 @@ ghost use Rattle.json.specs.Token as json;
 ghost use Rattle.zk_cache.specs.Contents.{answer_of, names_in};
 ghost use Rattle.zk_client.specs.Clients.{view_of};
 ghost use Rattle.zk_follow.specs.Following.{is_kept, says_none};
-ghost use Rattle.shell_watch.specs.Lines.{answer_kind, answer_members, array_members, data_members, field_members, fields, kind_of, mark_members, names_kind, node_kind, node_members, number_members, side_name, stat_members, subject_members, text_members, AreMembers, AreNamesMembers, IsSubjectObject};
+ghost use Rattle.shell_watch.specs.Lines.{answer_kind, answer_members, array_members, data_members, field_members, fields, kind_of};
+ghost use Rattle.shell_watch.specs.Lines.{mark_members, names_kind, node_kind, node_members, number_members, side_name, stat_members};
+ghost use Rattle.shell_watch.specs.Lines.{subject_members, text_members, AreMembers, AreNamesMembers, IsSubjectObject};
 
 use crate::looks::mark_word;
 use crate::object::{begun, ended, put_number, put_text};
@@ -36,7 +38,8 @@ fn put_data<A: Allocator + Copy>(
     alloc: A,
     bytes: &Option<Vec<u8, A>>,
 ) -> Result<(), AllocError>
-    ensures { OnOk result ((writer.new.before ≡ writer.old.before) × (writer.new.tokens ≡ writer.old.tokens ++ data_members (option_map (λ v. v.items) bytes.now))) }
+    ensures { OnOk result ((writer.new.before ≡ writer.old.before)
+        × (writer.new.tokens ≡ writer.old.tokens ++ data_members (option_map (λ v. v.items) bytes.now))) }
 {
     let Some(bytes) = bytes else {
         writer.key("data")?;
@@ -71,7 +74,8 @@ fn put_fields<A: Allocator + Copy>(
     writer: &mut Writer<A>,
     fields: &[(&'static str, i64)],
 ) -> Result<(), AllocError>
-    ensures { OnOk result ((writer.new.before ≡ writer.old.before) × (writer.new.tokens ≡ writer.old.tokens ++ field_members (map (λ field. (field.0.now, field.1)) fields.now))) }
+    ensures { OnOk result ((writer.new.before ≡ writer.old.before)
+        × (writer.new.tokens ≡ writer.old.tokens ++ field_members (map (λ field. (field.0.now, field.1)) fields.now))) }
 {
     for (name, number) in fields {
         writer.key(name)?;
@@ -118,7 +122,8 @@ fn put_answer<A: Allocator + Copy>(
     alloc: A,
     answer: &DataAnswer<A>,
 ) -> Result<(), AllocError>
-    ensures { OnOk result ((writer.new.before ≡ writer.old.before) × (writer.new.tokens ≡ writer.old.tokens ++ answer_members (answer_of answer.now))) }
+    ensures { OnOk result
+        ((writer.new.before ≡ writer.old.before) × (writer.new.tokens ≡ writer.old.tokens ++ answer_members (answer_of answer.now))) }
 {
     match answer {
         DataAnswer::Absent => Ok(()),
@@ -144,7 +149,8 @@ fn put_node<A: Allocator + Copy>(
     kept: Option<(&DataAnswer<A>, Mark)>,
 ) -> Result<(), AllocError>
     ensures { OnOk result ((writer.new.before ≡ writer.old.before)
-        × (writer.new.tokens ≡ writer.old.tokens ++ node_members (option_map (λ k. record { answer = answer_of k.0.now; mark = k.1 }) kept.entry))) }
+        × (writer.new.tokens ≡ writer.old.tokens
+        ++ node_members (option_map (λ k. record { answer = answer_of k.0.now; mark = k.1 }) kept.entry))) }
 {
     let Some((answer, mark)) = kept else {
         return Ok(());
@@ -158,7 +164,8 @@ fn put_each<A: Allocator + Copy>(
     writer: &mut Writer<A>,
     texts: &BTreeSet<String<A>, A>,
 ) -> Result<(), AllocError>
-    ensures written { OnOk result ((writer.new.before ≡ writer.old.before) × (writer.new.tokens ≡ writer.old.tokens ++ map json.string (map string_bytes texts.now.keys))) }
+    ensures written { OnOk result ((writer.new.before ≡ writer.old.before)
+        × (writer.new.tokens ≡ writer.old.tokens ++ map json.string (map string_bytes texts.now.keys))) }
     ensures ordered { OnOk result (IsOrdered string_cmp texts.now) }
 {
     for text in texts {
@@ -173,7 +180,8 @@ fn put_array<A: Allocator + Copy>(
     key: &str,
     texts: &BTreeSet<String<A>, A>,
 ) -> Result<(), AllocError>
-    ensures written { OnOk result ((writer.new.before ≡ writer.old.before) × (writer.new.tokens ≡ writer.old.tokens ++ array_members key.now (map string_bytes texts.now.keys))) }
+    ensures written { OnOk result ((writer.new.before ≡ writer.old.before)
+        × (writer.new.tokens ≡ writer.old.tokens ++ array_members key.now (map string_bytes texts.now.keys))) }
     ensures ordered { OnOk result (IsOrdered string_cmp texts.now) }
 {
     writer.key(key)?;
@@ -204,7 +212,8 @@ fn put_listing<A: Allocator + Copy>(
     found: &Names<A>,
     mark: Mark,
 ) -> Result<(), AllocError>
-    ensures { OnOk result ((members : List json.Token) × AreNamesMembers (Some (record { answer = names_in found.now; mark = mark })) members
+    ensures { OnOk result
+        ((members : List json.Token) × AreNamesMembers (Some (record { answer = names_in found.now; mark = mark })) members
         × (writer.new.before ≡ writer.old.before) × (writer.new.tokens ≡ writer.old.tokens ++ members)) }
 {
     put_found(writer, found, mark)
@@ -225,7 +234,8 @@ fn put_names<A: Allocator + Copy>(
     writer: &mut Writer<A>,
     kept: Option<(&Names<A>, Mark)>,
 ) -> Result<(), AllocError>
-    ensures { OnOk result ((members : List json.Token) × AreNamesMembers (option_map (λ k. record { answer = names_in k.0.now; mark = k.1 }) kept.entry) members
+    ensures { OnOk result ((members : List json.Token)
+        × AreNamesMembers (option_map (λ k. record { answer = names_in k.0.now; mark = k.1 }) kept.entry) members
         × (writer.new.before ≡ writer.old.before) × (writer.new.tokens ≡ writer.old.tokens ++ members)) }
 {
     match kept {
@@ -270,7 +280,8 @@ fn put_aim<A: Allocator + Copy>(
     subject: &Subject<A>,
 ) -> Result<(), AllocError>
     ensures { OnOk result ((writer.new.before ≡ writer.old.before)
-        × (writer.new.tokens ≡ writer.old.tokens ++ (text_members (codes "path") subject.now.path ++ text_members (codes "side") (side_name subject.now.side)))) }
+        × (writer.new.tokens ≡ writer.old.tokens
+        ++ (text_members (codes "path") subject.now.path ++ text_members (codes "side") (side_name subject.now.side)))) }
 {
     put_text(writer, "path", subject.path.as_str())?;
     put_text(writer, "side", side_name(subject.side))
@@ -300,7 +311,8 @@ fn put_subject<A: Allocator + Copy>(
 ) -> Result<(), AllocError>
     ensures { OnOk result ((kept : List json.Token) × AreMembers subject.now.side subject.now.path (view_of client.now) kept
         × (writer.new.before ≡ writer.old.before)
-        × (writer.new.tokens ≡ writer.old.tokens ++ subject_members subject.now.side subject.now.path kept (view_of client.now).saved.last)) }
+        × (writer.new.tokens ≡ writer.old.tokens
+        ++ subject_members subject.now.side subject.now.path kept (view_of client.now).saved.last)) }
 {
     put_aim(writer, subject)?;
     put_known(writer, alloc, client, subject)

@@ -41,7 +41,8 @@ fn line_of<A: Allocator + Copy>(
     client: &Client<A>,
     subject: &Subject<A>,
 ) -> Result<String<A>, AllocError>
-    ensures { IfOk result (λ text. DoesClient (PeekLine subject.now.side subject.now.path) (view_of client.now) (view_of client.now) (string_bytes text)) }
+    ensures { IfOk result
+        (λ text. DoesClient (PeekLine subject.now.side subject.now.path) (view_of client.now) (view_of client.now) (string_bytes text)) }
 {
     match subject.side {
         Side::Data => data_line(alloc, client.peek_data(&subject.path)),
@@ -85,7 +86,8 @@ fn full_words<A: Allocator + Copy>(
     stat: &DataStat,
     mark: Mark,
 ) -> Result<String<A>, AllocError>
-    ensures { IfOk result (λ text. string_bytes text ≡ codes "data full " ++ (data_word (option_map (λ v. v.items) bytes.now) ++ (stat_words stat.now ++ spaced (mark_word mark)))) }
+    ensures { IfOk result (λ text. string_bytes text
+        ≡ codes "data full " ++ (data_word (option_map (λ v. v.items) bytes.now) ++ (stat_words stat.now ++ spaced (mark_word mark)))) }
 {
     let mut text = String::from_str(alloc, "data full ")?;
     text.push_str(data_word(alloc, bytes)?.as_str())?;
@@ -117,7 +119,8 @@ pub(crate) fn words_in<A: Allocator + Copy>(
     subject: &Subject<A>,
     words: &str,
 ) -> Result<String<A>, AllocError>
-    ensures { IfOk result (λ text. string_bytes text ≡ words_in style subject.now.side ((view_of client.now).cache.nodes subject.now.path) words.now) }
+    ensures { IfOk result
+        (λ text. string_bytes text ≡ words_in style subject.now.side ((view_of client.now).cache.nodes subject.now.path) words.now) }
 {
     match (style, subject.side) {
         (Style::Text, Side::Data) => text_words(alloc, client, &subject.path, words),

@@ -14,7 +14,8 @@ pub(crate) fn put_text<A: Allocator + Copy>(
     key: &str,
     text: &str,
 ) -> Result<(), AllocError>
-    ensures { OnOk result ((writer.new.before ≡ writer.old.before) × (writer.new.tokens ≡ writer.old.tokens ++ text_members key.now text.now)) }
+    ensures { OnOk result
+        ((writer.new.before ≡ writer.old.before) × (writer.new.tokens ≡ writer.old.tokens ++ text_members key.now text.now)) }
 {
     writer.key(key)?;
     writer.string(text)
@@ -26,7 +27,8 @@ pub(crate) fn put_number<A: Allocator + Copy>(
     key: &str,
     number: i64,
 ) -> Result<(), AllocError>
-    ensures { OnOk result ((writer.new.before ≡ writer.old.before) × (writer.new.tokens ≡ writer.old.tokens ++ number_members key.now number)) }
+    ensures { OnOk result
+        ((writer.new.before ≡ writer.old.before) × (writer.new.tokens ≡ writer.old.tokens ++ number_members key.now number)) }
 {
     writer.key(key)?;
     writer.i64(number)
@@ -38,7 +40,8 @@ pub(crate) fn put_count<A: Allocator + Copy>(
     key: &str,
     number: u64,
 ) -> Result<(), AllocError>
-    ensures { OnOk result ((writer.new.before ≡ writer.old.before) × (writer.new.tokens ≡ writer.old.tokens ++ number_members key.now (pos number))) }
+    ensures { OnOk result
+        ((writer.new.before ≡ writer.old.before) × (writer.new.tokens ≡ writer.old.tokens ++ number_members key.now (pos number))) }
 {
     writer.key(key)?;
     writer.u64(number)
@@ -51,7 +54,8 @@ pub(crate) fn begun<A: Allocator + Copy>(
     ms: u64,
 ) -> Result<Writer<A>, AllocError>
     ensures before { IfOk result (λ writer. writer.before ≡ []) }
-    ensures tokens { IfOk result (λ writer. writer.tokens ≡ json.begin_object ∷ (text_members (codes "kind") kind.now ++ number_members (codes "ms") (pos ms))) }
+    ensures tokens { IfOk result
+        (λ writer. writer.tokens ≡ json.begin_object ∷ (text_members (codes "kind") kind.now ++ number_members (codes "ms") (pos ms))) }
 {
     let mut writer = Writer::new(Vec::new(alloc));
     writer.begin_object()?;

@@ -22,9 +22,10 @@ use zk_trees::add_roots;
 /// and the last seen zxid, where that is not what was printed of it last. At first it is as if nothing that is kept had been printed. Each
 /// line begins with the time since the watch began.
 ///
-/// Of each tree the root is followed from the first, also where it is not there yet. Where nothing waits to be told, each node is followed that
-/// good names lead to from there on, its data and the names below it, if it is not watched already; and a node that was found so is let go after
-/// it was printed that it does not exist. Where a tree has more nodes than the most, no more of it are taken on, and a line tells that.
+/// Of each tree the root is followed from the first, also where it is not there yet. Where nothing waits to be told, each node is followed
+/// that good names lead to from there on, its data and the names below it, if it is not watched already; and a node that was found so is
+/// let go after it was printed that it does not exist. Where a tree has more nodes than the most, no more of it are taken on, and a line
+/// tells that.
 ///
 /// Lines are written whole, those of one turn in one write, and flushed. Where memory runs out, those of the last turn are not written.
 pub fn watch<A: Allocator + Copy, D: Dial + Drop, C: Clock + Drop, O: Write>(
@@ -34,15 +35,18 @@ pub fn watch<A: Allocator + Copy, D: Dial + Drop, C: Clock + Drop, O: Write>(
     plan: Plan<'_, A>,
     out: &mut O,
 ) -> End
-    // Its time is over. Each subject was followed; each turn of the driver was printed; after each, what was printed last of each subject was what
-    // the client kept of it; and a server had accepted a session.
-    ensures over { result ≡ End.Over → (text : List ℕ) × IsWatched A plan.entry.style (aims_of plan.entry.subjects.items) plan.entry.trees.items plan.entry.most plan.entry.for_ms text true
+    // Its time is over. Each subject was followed; each turn of the driver was printed; after each, what was printed last of each subject
+    // was what the client kept of it; and a server had accepted a session.
+    ensures over { result ≡ End.Over → (text : List ℕ) × IsWatched A plan.entry.style
+        (aims_of plan.entry.subjects.items) plan.entry.trees.items plan.entry.most plan.entry.for_ms text true
         × Appends (O.contents out.old) (O.contents out.new) text }
     // The same, where none had.
-    ensures never { result ≡ End.NeverConnected → (text : List ℕ) × IsWatched A plan.entry.style (aims_of plan.entry.subjects.items) plan.entry.trees.items plan.entry.most plan.entry.for_ms text false
+    ensures never { result ≡ End.NeverConnected → (text : List ℕ) × IsWatched A plan.entry.style
+        (aims_of plan.entry.subjects.items) plan.entry.trees.items plan.entry.most plan.entry.for_ms text false
         × Appends (O.contents out.old) (O.contents out.new) text }
     // Turns are printed so, wherever it stopped.
-    ensures printed { result ≢ End.Stream → (text : List ℕ) × IsPrinted A plan.entry.style (aims_of plan.entry.subjects.items) plan.entry.trees.items plan.entry.most text
+    ensures printed { result ≢ End.Stream
+        → (text : List ℕ) × IsPrinted A plan.entry.style (aims_of plan.entry.subjects.items) plan.entry.trees.items plan.entry.most text
         × Appends (O.contents out.old) (O.contents out.new) text }
 {
     let Plan {

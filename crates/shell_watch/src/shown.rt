@@ -44,7 +44,8 @@ fn line_of_words<A: Allocator + Copy>(
     subject: &Subject<A>,
     words: &str,
 ) -> Result<String<A>, AllocError>
-    ensures { IfOk result (λ text. string_bytes text ≡ subject_line style ms subject.now.side subject.now.path (view_of client.now) words.now) }
+    ensures { IfOk result
+        (λ text. string_bytes text ≡ subject_line style ms subject.now.side subject.now.path (view_of client.now) words.now) }
 {
     let shown = words_in(alloc, style, client, subject, words)?;
     let path = subject.path.as_str();
@@ -61,7 +62,8 @@ fn subject_line<A: Allocator + Copy>(
     subject: &Subject<A>,
     words: &str,
 ) -> Result<String<A>, AllocError>
-    ensures { IfOk result (λ text. IsSubjectLine style ms subject.now.side subject.now.path (view_of client.now) words.now (string_bytes text)) }
+    ensures { IfOk result
+        (λ text. IsSubjectLine style ms subject.now.side subject.now.path (view_of client.now) words.now (string_bytes text)) }
 {
     match style {
         Style::Json => subject_object(alloc, ms, client, subject),
@@ -100,7 +102,8 @@ fn show<A: Allocator + Copy>(
     one: &mut Watched<A>,
     text: &mut String<A>,
 ) -> Result<(), AllocError>
-    ensures { OnOk result ((told : List ℕ) × ShowsSo style ms (view_of client.now) one.old one.new told × (string_bytes text.new ≡ string_bytes text.old ++ told)) }
+    ensures { OnOk result ((told : List ℕ) × ShowsSo style ms (view_of client.now) one.old one.new told
+        × (string_bytes text.new ≡ string_bytes text.old ++ told)) }
 {
     let words = look(alloc, client, &one.subject)?;
     if words.as_str() == one.note.as_str() {
@@ -121,7 +124,8 @@ pub(crate) fn show_all<A: Allocator + Copy>(
     watched: &mut [Watched<A>],
     text: &mut String<A>,
 ) -> Result<(), AllocError>
-    ensures { OnOk result ((told : List ℕ) × ShowsAll style ms (view_of client.now) watched.old watched.new told × (string_bytes text.new ≡ string_bytes text.old ++ told)) }
+    ensures { OnOk result ((told : List ℕ) × ShowsAll style ms (view_of client.now) watched.old watched.new told
+        × (string_bytes text.new ≡ string_bytes text.old ++ told)) }
 {
     for one in watched.iter_mut() {
         show(alloc, style, ms, client, one, text)?;

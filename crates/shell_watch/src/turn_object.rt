@@ -5,7 +5,9 @@ ghost use Rattle.zk_client.specs.Clients.{view_of};
 ghost use Rattle.zk_client.specs.FaultText.{fault_code, fault_words};
 ghost use Rattle.zk_client.specs.Views.{fault_view};
 ghost use Rattle.zk_agent.specs.Telling.{action_view};
-ghost use Rattle.shell_watch.specs.Lines.{action_kind, action_members, address_members, code_members, fault_members, object_line, path_of, reason_members, reason_words, session_members, state_members, turn_kind, turn_members, why_members};
+ghost use Rattle.shell_watch.specs.Lines.{action_kind, action_members, address_members, code_members, fault_members, object_line, path_of};
+ghost use Rattle.shell_watch.specs.Lines.{reason_members, reason_words, session_members, state_members, turn_kind, turn_members};
+ghost use Rattle.shell_watch.specs.Lines.{why_members};
 
 use crate::object::{begun, ended, put_count, put_number, put_text};
 use crate::shown::Watched;
@@ -49,7 +51,8 @@ fn put_coded<A: Allocator + Copy>(
     code: &str,
     why: &str,
 ) -> Result<(), AllocError>
-    ensures { OnOk result ((writer.new.before ≡ writer.old.before) × (writer.new.tokens ≡ writer.old.tokens ++ fault_members code.now why.now)) }
+    ensures { OnOk result
+        ((writer.new.before ≡ writer.old.before) × (writer.new.tokens ≡ writer.old.tokens ++ fault_members code.now why.now)) }
 {
     put_text(writer, "fault", code)?;
     put_text(writer, "reason", why)
@@ -80,7 +83,8 @@ fn put_session<A: Allocator + Copy>(
     writer: &mut Writer<A>,
     client: &Client<A>,
 ) -> Result<(), AllocError>
-    ensures { OnOk result ((writer.new.before ≡ writer.old.before) × (writer.new.tokens ≡ writer.old.tokens ++ session_members (view_of client.now))) }
+    ensures { OnOk result
+        ((writer.new.before ≡ writer.old.before) × (writer.new.tokens ≡ writer.old.tokens ++ session_members (view_of client.now))) }
 {
     put_number(writer, "session", client.saved().session)?;
     put_count(writer, "timeout", u64::from(client.timeout_ms()))
@@ -106,7 +110,8 @@ fn put_state<A: Allocator + Copy>(
     at: &str,
     state: State,
 ) -> Result<(), AllocError>
-    ensures { OnOk result ((writer.new.before ≡ writer.old.before) × (writer.new.tokens ≡ writer.old.tokens ++ state_members at.now (view_of client.now) state)) }
+    ensures { OnOk result ((writer.new.before ≡ writer.old.before)
+        × (writer.new.tokens ≡ writer.old.tokens ++ state_members at.now (view_of client.now) state)) }
 {
     put_text(writer, "state", state_to_word(state))?;
     match state {
@@ -132,7 +137,8 @@ fn put_drop<A: Allocator + Copy>(
     fault: &Fault,
 ) -> Result<(), AllocError>
     ensures { OnOk result ((writer.new.before ≡ writer.old.before)
-        × (writer.new.tokens ≡ writer.old.tokens ++ (address_members at.now ++ fault_members (fault_code (fault_view fault.now)) (fault_words (fault_view fault.now))))) }
+        × (writer.new.tokens ≡ writer.old.tokens
+        ++ (address_members at.now ++ fault_members (fault_code (fault_view fault.now)) (fault_words (fault_view fault.now))))) }
 {
     let why = fault_words(alloc, fault)?;
     put_text(writer, "address", at)?;
@@ -205,7 +211,8 @@ pub(crate) fn turn_object<A: Allocator + Copy>(
     at: &str,
     turn: &Turn<A>,
 ) -> Result<String<A>, AllocError>
-    ensures { IfOk result (λ text. string_bytes text ≡ object_line ms (turn_kind turn.now) (turn_members watched.now at.now (view_of client.now) turn.now)) }
+    ensures { IfOk result
+        (λ text. string_bytes text ≡ object_line ms (turn_kind turn.now) (turn_members watched.now at.now (view_of client.now) turn.now)) }
 {
     let kind = turn_kind(turn);
     if kind.is_empty() {

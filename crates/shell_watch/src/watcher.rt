@@ -6,7 +6,9 @@ ghost use Rattle.zk_agent.specs.Telling.{told_by};
 ghost use Rattle.zk_client.specs.Clients.{view_of};
 ghost use Rattle.zk_driver.specs.Noting.{is_come};
 ghost use Rattle.zk_trees.specs.Trees.{wants_of};
-ghost use Rattle.shell_watch.specs.Watching.{accepts, aim_of, aims_of, end_of, stand_of, EndsFrom, FollowsAll, FollowsSo, HasCome, Closes, Does, Grows, Heard, IsOver, LetsAllGo, LinesOf, PrintsFrom, ShowsThen, TakesAllOn, TakesOn, TellsTurn, Tends, TendsSo, Writes, WritesEnd, WritesOn};
+ghost use Rattle.shell_watch.specs.Watching.{accepts, aim_of, aims_of, end_of, stand_of, EndsFrom, FollowsAll, FollowsSo, HasCome, Closes};
+ghost use Rattle.shell_watch.specs.Watching.{Does, Grows, Heard, IsOver, LetsAllGo, LinesOf, PrintsFrom, ShowsThen, TakesAllOn, TakesOn};
+ghost use Rattle.shell_watch.specs.Watching.{TellsTurn, Tends, TendsSo, Writes, WritesEnd, WritesOn};
 
 use crate::bound::bound_text;
 use crate::end::{End, Failure};
@@ -24,7 +26,8 @@ use zk_trees::{Subject, Wanted, copy_of, drop_gone, is_settled, tickets_gone, wa
 /// The ticket of the call that ends the session. Those of subjects begin at 1.
 const CLOSE: u64 = 0;
 
-/// A driver, what was printed of the subjects, whether a server has accepted a session, when the watch began, how it is printed, and its trees.
+/// A driver, what was printed of the subjects, whether a server has accepted a session, when the watch began, how it is printed, and its
+/// trees.
 #[derive(Drop)]
 pub(crate) struct Watcher<'a, A: Allocator + Copy, D: Dial + Drop, C: Clock + Drop> {
     pub(crate) alloc: A,
@@ -100,7 +103,9 @@ impl<'a, A: Allocator + Copy, D: Dial + Drop, C: Clock + Drop> Watcher<'a, A, D,
         ensures accepted { self.new.is_accepted ≡ self.old.is_accepted }
         ensures style { self.new.style ≡ self.old.style }
         ensures trees { self.new.trees ≡ self.old.trees }
-        ensures shows { OnOk result (ShowsThen self.old.style ms (view_of self.old.driver.engine.agent.asker.follower.client) (told_by self.old.driver.engine.waiting.items) self.old.watched.items self.new.watched.items (string_bytes text.old) (string_bytes text.new)) }
+        ensures shows { OnOk result (ShowsThen self.old.style ms (view_of self.old.driver.engine.agent.asker.follower.client)
+            (told_by self.old.driver.engine.waiting.items) self.old.watched.items self.new.watched.items (string_bytes text.old)
+            (string_bytes text.new)) }
     {
         if self.driver.has_told() {
             return Ok(());
@@ -112,7 +117,8 @@ impl<'a, A: Allocator + Copy, D: Dial + Drop, C: Clock + Drop> Watcher<'a, A, D,
 
     /// The line of a turn, and none where it is not printed.
     fn line(&self, turn: &Turn<A>, ms: u64) -> Result<String<A>, AllocError>
-        ensures { IfOk result (λ text. LinesOf self.now.style ms turn.now (view_of self.now.driver.engine.agent.asker.follower.client) self.now.watched.items (string_bytes text)) }
+        ensures { IfOk result (λ text. LinesOf self.now.style ms turn.now
+            (view_of self.now.driver.engine.agent.asker.follower.client) self.now.watched.items (string_bytes text)) }
     {
         let client = self.driver.client();
         let at = self.driver.address().unwrap_or("");
@@ -126,7 +132,8 @@ impl<'a, A: Allocator + Copy, D: Dial + Drop, C: Clock + Drop> Watcher<'a, A, D,
         ensures accepted { self.new.is_accepted ≡ self.old.is_accepted }
         ensures style { self.new.style ≡ self.old.style }
         ensures trees { self.new.trees ≡ self.old.trees }
-        ensures tells { IfOk result (λ text. TellsTurn self.old.style turn.now (view_of self.old.driver.engine.agent.asker.follower.client) (told_by self.old.driver.engine.waiting.items) self.old.watched.items self.new.watched.items (string_bytes text)) }
+        ensures tells { IfOk result (λ text. TellsTurn self.old.style turn.now (view_of self.old.driver.engine.agent.asker.follower.client)
+            (told_by self.old.driver.engine.waiting.items) self.old.watched.items self.new.watched.items (string_bytes text)) }
     {
         let mut text = self.line(turn, ms)?;
         self.show(ms, &mut text)?;
@@ -148,7 +155,9 @@ impl<'a, A: Allocator + Copy, D: Dial + Drop, C: Clock + Drop> Watcher<'a, A, D,
 
     /// One turn, and what is printed of it. Whether the moment has come, and nothing waits to be told.
     fn run_turn(&mut self, until: u64) -> Result<(bool, String<A>), Failure>
-        ensures ok { IfOk result (λ heard. Heard until heard.0 (stand_of D.Stream.remaining D.Stream.contents self.old.driver.engine self.old.watched.items self.old.is_accepted self.old.style self.old.trees) (string_bytes heard.1) (stand_of D.Stream.remaining D.Stream.contents self.new.driver.engine self.new.watched.items self.new.is_accepted self.new.style self.new.trees)) }
+        ensures ok { IfOk result (λ heard. Heard until heard.0 (stand_of D.Stream.remaining D.Stream.contents self.old.driver.engine
+            self.old.watched.items self.old.is_accepted self.old.style self.old.trees) (string_bytes heard.1) (stand_of D.Stream.remaining
+            D.Stream.contents self.new.driver.engine self.new.watched.items self.new.is_accepted self.new.style self.new.trees)) }
         ensures err { IfErr result (λ why. why ≢ Failure.Stream) }
     {
         let turn = self.driver.turn(until)?;
@@ -160,7 +169,9 @@ impl<'a, A: Allocator + Copy, D: Dial + Drop, C: Clock + Drop> Watcher<'a, A, D,
 
     /// Follows no more what is gone.
     fn let_go(&mut self) -> Result<(), Stop>
-        ensures { OnOk result (LetsAllGo (stand_of D.Stream.remaining D.Stream.contents self.old.driver.engine self.old.watched.items self.old.is_accepted self.old.style self.old.trees) (stand_of D.Stream.remaining D.Stream.contents self.new.driver.engine self.new.watched.items self.new.is_accepted self.new.style self.new.trees)) }
+        ensures { OnOk result (LetsAllGo (stand_of D.Stream.remaining D.Stream.contents self.old.driver.engine self.old.watched.items
+            self.old.is_accepted self.old.style self.old.trees) (stand_of D.Stream.remaining D.Stream.contents self.new.driver.engine
+            self.new.watched.items self.new.is_accepted self.new.style self.new.trees)) }
     {
         let client = self.driver.client();
         let Ok(tickets) = tickets_gone(self.alloc, client, self.watched.as_slice()) else {
@@ -175,7 +186,9 @@ impl<'a, A: Allocator + Copy, D: Dial + Drop, C: Clock + Drop> Watcher<'a, A, D,
 
     /// Follows a subject that was found, where it is not settled.
     fn take_on(&mut self, subject: &Subject<A>) -> Result<(), Stop>
-        ensures { OnOk result (TakesOn (aim_of subject.now) (stand_of D.Stream.remaining D.Stream.contents self.old.driver.engine self.old.watched.items self.old.is_accepted self.old.style self.old.trees) (stand_of D.Stream.remaining D.Stream.contents self.new.driver.engine self.new.watched.items self.new.is_accepted self.new.style self.new.trees)) }
+        ensures { OnOk result (TakesOn (aim_of subject.now) (stand_of D.Stream.remaining D.Stream.contents self.old.driver.engine
+            self.old.watched.items self.old.is_accepted self.old.style self.old.trees) (stand_of D.Stream.remaining D.Stream.contents
+            self.new.driver.engine self.new.watched.items self.new.is_accepted self.new.style self.new.trees)) }
     {
         let client = self.driver.client();
         if is_settled(client, subject, self.watched.as_slice()) {
@@ -186,7 +199,9 @@ impl<'a, A: Allocator + Copy, D: Dial + Drop, C: Clock + Drop> Watcher<'a, A, D,
 
     /// Takes on each of these, and notes whether a tree has more nodes than the most.
     fn take_all_on(&mut self, wanted: &Wanted<A>) -> Result<(), Stop>
-        ensures { OnOk result (TakesAllOn (wants_of wanted.now) (stand_of D.Stream.remaining D.Stream.contents self.old.driver.engine self.old.watched.items self.old.is_accepted self.old.style self.old.trees) (stand_of D.Stream.remaining D.Stream.contents self.new.driver.engine self.new.watched.items self.new.is_accepted self.new.style self.new.trees)) }
+        ensures { OnOk result (TakesAllOn (wants_of wanted.now) (stand_of D.Stream.remaining D.Stream.contents self.old.driver.engine
+            self.old.watched.items self.old.is_accepted self.old.style self.old.trees) (stand_of D.Stream.remaining D.Stream.contents
+            self.new.driver.engine self.new.watched.items self.new.is_accepted self.new.style self.new.trees)) }
     {
         for subject in wanted.subjects.as_slice() {
             self.take_on(subject)?;
@@ -197,7 +212,9 @@ impl<'a, A: Allocator + Copy, D: Dial + Drop, C: Clock + Drop> Watcher<'a, A, D,
 
     /// Takes on each tree, as far as good names lead.
     fn grow(&mut self) -> Result<(), Stop>
-        ensures { OnOk result (Grows (stand_of D.Stream.remaining D.Stream.contents self.old.driver.engine self.old.watched.items self.old.is_accepted self.old.style self.old.trees) (stand_of D.Stream.remaining D.Stream.contents self.new.driver.engine self.new.watched.items self.new.is_accepted self.new.style self.new.trees)) }
+        ensures { OnOk result (Grows (stand_of D.Stream.remaining D.Stream.contents self.old.driver.engine self.old.watched.items
+            self.old.is_accepted self.old.style self.old.trees) (stand_of D.Stream.remaining D.Stream.contents self.new.driver.engine
+            self.new.watched.items self.new.is_accepted self.new.style self.new.trees)) }
     {
         let client = self.driver.client();
         let (most, roots) = (self.trees.most, self.trees.roots.as_slice());
@@ -209,7 +226,9 @@ impl<'a, A: Allocator + Copy, D: Dial + Drop, C: Clock + Drop> Watcher<'a, A, D,
 
     /// Lets go what is gone, and takes on each tree. What is printed of it.
     fn tend_all(&mut self) -> Result<String<A>, Failure>
-        ensures ok { IfOk result (λ text. Tends (stand_of D.Stream.remaining D.Stream.contents self.old.driver.engine self.old.watched.items self.old.is_accepted self.old.style self.old.trees) (string_bytes text) (stand_of D.Stream.remaining D.Stream.contents self.new.driver.engine self.new.watched.items self.new.is_accepted self.new.style self.new.trees)) }
+        ensures ok { IfOk result (λ text. Tends (stand_of D.Stream.remaining D.Stream.contents self.old.driver.engine self.old.watched.items
+            self.old.is_accepted self.old.style self.old.trees) (string_bytes text) (stand_of D.Stream.remaining D.Stream.contents
+            self.new.driver.engine self.new.watched.items self.new.is_accepted self.new.style self.new.trees)) }
         ensures err { IfErr result (λ why. why ≢ Failure.Stream) }
     {
         let was = self.trees.is_bounded;
@@ -223,7 +242,9 @@ impl<'a, A: Allocator + Copy, D: Dial + Drop, C: Clock + Drop> Watcher<'a, A, D,
 
     /// The same where nothing waits to be told, and the watch is not over.
     fn tend(&mut self, is_over: bool) -> Result<String<A>, Failure>
-        ensures ok { IfOk result (λ text. TendsSo is_over (stand_of D.Stream.remaining D.Stream.contents self.old.driver.engine self.old.watched.items self.old.is_accepted self.old.style self.old.trees) (string_bytes text) (stand_of D.Stream.remaining D.Stream.contents self.new.driver.engine self.new.watched.items self.new.is_accepted self.new.style self.new.trees)) }
+        ensures ok { IfOk result (λ text. TendsSo is_over (stand_of D.Stream.remaining D.Stream.contents self.old.driver.engine
+            self.old.watched.items self.old.is_accepted self.old.style self.old.trees) (string_bytes text) (stand_of D.Stream.remaining
+            D.Stream.contents self.new.driver.engine self.new.watched.items self.new.is_accepted self.new.style self.new.trees)) }
         ensures err { IfErr result (λ why. why ≢ Failure.Stream) }
     {
         if is_over {
@@ -237,8 +258,11 @@ impl<'a, A: Allocator + Copy, D: Dial + Drop, C: Clock + Drop> Watcher<'a, A, D,
 
     /// One turn, which is printed, and what becomes of the trees. Whether the moment has come, and nothing waits to be told.
     fn round<O: Write>(&mut self, until: u64, out: &mut O) -> Result<bool, Failure>
-        ensures ok { OnOk result (Writes (stand_of D.Stream.remaining D.Stream.contents self.old.driver.engine self.old.watched.items self.old.is_accepted self.old.style self.old.trees) (stand_of D.Stream.remaining D.Stream.contents self.new.driver.engine self.new.watched.items self.new.is_accepted self.new.style self.new.trees) (O.contents out.old) (O.contents out.new)) }
-        ensures come { IfOk result (λ is_over. is_over ≡ true → HasCome until (stand_of D.Stream.remaining D.Stream.contents self.new.driver.engine self.new.watched.items self.new.is_accepted self.new.style self.new.trees)) }
+        ensures ok { OnOk result (Writes (stand_of D.Stream.remaining D.Stream.contents self.old.driver.engine self.old.watched.items
+            self.old.is_accepted self.old.style self.old.trees) (stand_of D.Stream.remaining D.Stream.contents self.new.driver.engine
+            self.new.watched.items self.new.is_accepted self.new.style self.new.trees) (O.contents out.old) (O.contents out.new)) }
+        ensures come { IfOk result (λ is_over. is_over ≡ true → HasCome until (stand_of D.Stream.remaining D.Stream.contents
+            self.new.driver.engine self.new.watched.items self.new.is_accepted self.new.style self.new.trees)) }
         ensures err { IfErr result (λ why. why ≢ Failure.Stream → out.new ≡ out.old) }
     {
         let (is_over, mut text) = self.run_turn(until)?;
@@ -250,9 +274,14 @@ impl<'a, A: Allocator + Copy, D: Dial + Drop, C: Clock + Drop> Watcher<'a, A, D,
 
     /// Goes on until this moment.
     fn run<O: Write>(&mut self, end: u64, out: &mut O) -> Result<(), Failure>
-        ensures ok { OnOk result (Writes (stand_of D.Stream.remaining D.Stream.contents self.old.driver.engine self.old.watched.items self.old.is_accepted self.old.style self.old.trees) (stand_of D.Stream.remaining D.Stream.contents self.new.driver.engine self.new.watched.items self.new.is_accepted self.new.style self.new.trees) (O.contents out.old) (O.contents out.new)) }
-        ensures come { OnOk result (HasCome end (stand_of D.Stream.remaining D.Stream.contents self.new.driver.engine self.new.watched.items self.new.is_accepted self.new.style self.new.trees)) }
-        ensures err { IfErr result (λ why. why ≢ Failure.Stream → WritesOn (stand_of D.Stream.remaining D.Stream.contents self.old.driver.engine self.old.watched.items self.old.is_accepted self.old.style self.old.trees) (O.contents out.old) (O.contents out.new)) }
+        ensures ok { OnOk result (Writes (stand_of D.Stream.remaining D.Stream.contents self.old.driver.engine self.old.watched.items
+            self.old.is_accepted self.old.style self.old.trees) (stand_of D.Stream.remaining D.Stream.contents self.new.driver.engine
+            self.new.watched.items self.new.is_accepted self.new.style self.new.trees) (O.contents out.old) (O.contents out.new)) }
+        ensures come { OnOk result (HasCome end (stand_of D.Stream.remaining D.Stream.contents self.new.driver.engine self.new.watched.items
+            self.new.is_accepted self.new.style self.new.trees)) }
+        ensures err { IfErr result
+            (λ why. why ≢ Failure.Stream → WritesOn (stand_of D.Stream.remaining D.Stream.contents self.old.driver.engine
+            self.old.watched.items self.old.is_accepted self.old.style self.old.trees) (O.contents out.old) (O.contents out.new)) }
     {
         for _ in 0..u64::MAX {
             match self.round(end, out) {
@@ -266,8 +295,12 @@ impl<'a, A: Allocator + Copy, D: Dial + Drop, C: Clock + Drop> Watcher<'a, A, D,
 
     /// Goes on until the client is not connected any more, and nothing waits to be told, but not past this moment.
     fn await_close<O: Write>(&mut self, until: u64, out: &mut O) -> Result<(), Failure>
-        ensures ok { OnOk result (Writes (stand_of D.Stream.remaining D.Stream.contents self.old.driver.engine self.old.watched.items self.old.is_accepted self.old.style self.old.trees) (stand_of D.Stream.remaining D.Stream.contents self.new.driver.engine self.new.watched.items self.new.is_accepted self.new.style self.new.trees) (O.contents out.old) (O.contents out.new)) }
-        ensures err { IfErr result (λ why. why ≢ Failure.Stream → WritesOn (stand_of D.Stream.remaining D.Stream.contents self.old.driver.engine self.old.watched.items self.old.is_accepted self.old.style self.old.trees) (O.contents out.old) (O.contents out.new)) }
+        ensures ok { OnOk result (Writes (stand_of D.Stream.remaining D.Stream.contents self.old.driver.engine self.old.watched.items
+            self.old.is_accepted self.old.style self.old.trees) (stand_of D.Stream.remaining D.Stream.contents self.new.driver.engine
+            self.new.watched.items self.new.is_accepted self.new.style self.new.trees) (O.contents out.old) (O.contents out.new)) }
+        ensures err { IfErr result
+            (λ why. why ≢ Failure.Stream → WritesOn (stand_of D.Stream.remaining D.Stream.contents self.old.driver.engine
+            self.old.watched.items self.old.is_accepted self.old.style self.old.trees) (O.contents out.old) (O.contents out.new)) }
     {
         for _ in 0..u64::MAX {
             if !self.is_connected() && !self.driver.has_told() {
@@ -282,9 +315,12 @@ impl<'a, A: Allocator + Copy, D: Dial + Drop, C: Clock + Drop> Watcher<'a, A, D,
         Ok(())
     }
 
-    /// Asks for the end of the session, and tends no tree from then on. The answer is the moment until which it is waited for: a third of the timeout.
+    /// Asks for the end of the session, and tends no tree from then on. The answer is the moment until which it is waited for: a third of
+    /// the timeout.
     fn ask_close(&mut self) -> Result<u64, Stop>
-        ensures { IfOk result (λ until. Does (stand_of D.Stream.remaining D.Stream.contents self.old.driver.engine self.old.watched.items self.old.is_accepted self.old.style self.old.trees) (Closes until) (stand_of D.Stream.remaining D.Stream.contents self.new.driver.engine self.new.watched.items self.new.is_accepted self.new.style self.new.trees)) }
+        ensures { IfOk result (λ until. Does (stand_of D.Stream.remaining D.Stream.contents self.old.driver.engine self.old.watched.items
+            self.old.is_accepted self.old.style self.old.trees) (Closes until) (stand_of D.Stream.remaining D.Stream.contents
+            self.new.driver.engine self.new.watched.items self.new.is_accepted self.new.style self.new.trees)) }
     {
         let wait = u64::from(self.driver.client().timeout_ms() / 3);
         let until = self.driver.now().saturating_add(wait);
@@ -295,8 +331,12 @@ impl<'a, A: Allocator + Copy, D: Dial + Drop, C: Clock + Drop> Watcher<'a, A, D,
 
     /// Ends the session where the client is connected, and waits for that a third of the timeout at most.
     fn close<O: Write>(&mut self, out: &mut O) -> Result<(), Failure>
-        ensures ok { OnOk result (WritesEnd (stand_of D.Stream.remaining D.Stream.contents self.old.driver.engine self.old.watched.items self.old.is_accepted self.old.style self.old.trees) (stand_of D.Stream.remaining D.Stream.contents self.new.driver.engine self.new.watched.items self.new.is_accepted self.new.style self.new.trees) (O.contents out.old) (O.contents out.new)) }
-        ensures err { IfErr result (λ why. why ≢ Failure.Stream → WritesOn (stand_of D.Stream.remaining D.Stream.contents self.old.driver.engine self.old.watched.items self.old.is_accepted self.old.style self.old.trees) (O.contents out.old) (O.contents out.new)) }
+        ensures ok { OnOk result (WritesEnd (stand_of D.Stream.remaining D.Stream.contents self.old.driver.engine self.old.watched.items
+            self.old.is_accepted self.old.style self.old.trees) (stand_of D.Stream.remaining D.Stream.contents self.new.driver.engine
+            self.new.watched.items self.new.is_accepted self.new.style self.new.trees) (O.contents out.old) (O.contents out.new)) }
+        ensures err { IfErr result
+            (λ why. why ≢ Failure.Stream → WritesOn (stand_of D.Stream.remaining D.Stream.contents self.old.driver.engine
+            self.old.watched.items self.old.is_accepted self.old.style self.old.trees) (O.contents out.old) (O.contents out.new)) }
     {
         if !self.is_connected() {
             return Ok(());
@@ -319,7 +359,9 @@ impl<'a, A: Allocator + Copy, D: Dial + Drop, C: Clock + Drop> Watcher<'a, A, D,
 
     /// Follows a subject, by the next ticket.
     fn follow(&mut self, subject: &Subject<A>, is_found: bool) -> Result<(), Stop>
-        ensures { OnOk result (FollowsSo is_found (aim_of subject.now) (stand_of D.Stream.remaining D.Stream.contents self.old.driver.engine self.old.watched.items self.old.is_accepted self.old.style self.old.trees) (stand_of D.Stream.remaining D.Stream.contents self.new.driver.engine self.new.watched.items self.new.is_accepted self.new.style self.new.trees)) }
+        ensures { OnOk result (FollowsSo is_found (aim_of subject.now) (stand_of D.Stream.remaining D.Stream.contents self.old.driver.engine
+            self.old.watched.items self.old.is_accepted self.old.style self.old.trees) (stand_of D.Stream.remaining D.Stream.contents
+            self.new.driver.engine self.new.watched.items self.new.is_accepted self.new.style self.new.trees)) }
     {
         let Ok(path) = copy_of(self.alloc, &subject.path) else {
             return Err(Stop::Memory);
@@ -340,7 +382,9 @@ impl<'a, A: Allocator + Copy, D: Dial + Drop, C: Clock + Drop> Watcher<'a, A, D,
 
     /// Follows each subject.
     fn follow_all(&mut self, subjects: &[Subject<A>]) -> Result<(), Stop>
-        ensures { OnOk result (FollowsAll (aims_of subjects.now) (stand_of D.Stream.remaining D.Stream.contents self.old.driver.engine self.old.watched.items self.old.is_accepted self.old.style self.old.trees) (stand_of D.Stream.remaining D.Stream.contents self.new.driver.engine self.new.watched.items self.new.is_accepted self.new.style self.new.trees)) }
+        ensures { OnOk result (FollowsAll (aims_of subjects.now) (stand_of D.Stream.remaining D.Stream.contents self.old.driver.engine
+            self.old.watched.items self.old.is_accepted self.old.style self.old.trees) (stand_of D.Stream.remaining D.Stream.contents
+            self.new.driver.engine self.new.watched.items self.new.is_accepted self.new.style self.new.trees)) }
     {
         for subject in subjects {
             self.follow(subject, false)?;
@@ -350,8 +394,13 @@ impl<'a, A: Allocator + Copy, D: Dial + Drop, C: Clock + Drop> Watcher<'a, A, D,
 
     /// Goes on for this many milliseconds, and then ends the session.
     fn go_on<O: Write>(&mut self, for_ms: Option<u64>, out: &mut O) -> Result<(), Failure>
-        ensures ok { OnOk result ((text : List ℕ) × IsOver for_ms (stand_of D.Stream.remaining D.Stream.contents self.old.driver.engine self.old.watched.items self.old.is_accepted self.old.style self.old.trees) (stand_of D.Stream.remaining D.Stream.contents self.new.driver.engine self.new.watched.items self.new.is_accepted self.new.style self.new.trees) text × Appends (O.contents out.old) (O.contents out.new) text) }
-        ensures err { IfErr result (λ why. why ≢ Failure.Stream → WritesOn (stand_of D.Stream.remaining D.Stream.contents self.old.driver.engine self.old.watched.items self.old.is_accepted self.old.style self.old.trees) (O.contents out.old) (O.contents out.new)) }
+        ensures ok { OnOk result ((text : List ℕ) × IsOver for_ms (stand_of D.Stream.remaining D.Stream.contents self.old.driver.engine
+            self.old.watched.items self.old.is_accepted self.old.style self.old.trees) (stand_of D.Stream.remaining D.Stream.contents
+            self.new.driver.engine self.new.watched.items self.new.is_accepted self.new.style self.new.trees) text
+            × Appends (O.contents out.old) (O.contents out.new) text) }
+        ensures err { IfErr result
+            (λ why. why ≢ Failure.Stream → WritesOn (stand_of D.Stream.remaining D.Stream.contents self.old.driver.engine
+            self.old.watched.items self.old.is_accepted self.old.style self.old.trees) (O.contents out.old) (O.contents out.new)) }
     {
         self.begins = self.driver.now();
         let end = end_of(self.begins, for_ms);
@@ -380,9 +429,15 @@ impl<'a, A: Allocator + Copy, D: Dial + Drop, C: Clock + Drop> Watcher<'a, A, D,
         for_ms: Option<u64>,
         out: &mut O,
     ) -> End
-        ensures over { result ≡ End.Over → (text : List ℕ) × EndsFrom (aims_of subjects.now) for_ms (stand_of D.Stream.remaining D.Stream.contents self.old.driver.engine self.old.watched.items self.old.is_accepted self.old.style self.old.trees) text true × Appends (O.contents out.old) (O.contents out.new) text }
-        ensures never { result ≡ End.NeverConnected → (text : List ℕ) × EndsFrom (aims_of subjects.now) for_ms (stand_of D.Stream.remaining D.Stream.contents self.old.driver.engine self.old.watched.items self.old.is_accepted self.old.style self.old.trees) text false × Appends (O.contents out.old) (O.contents out.new) text }
-        ensures printed { result ≢ End.Stream → (text : List ℕ) × ((text ≡ []) ⊎ PrintsFrom (aims_of subjects.now) (stand_of D.Stream.remaining D.Stream.contents self.old.driver.engine self.old.watched.items self.old.is_accepted self.old.style self.old.trees) text) × Appends (O.contents out.old) (O.contents out.new) text }
+        ensures over { result ≡ End.Over → (text : List ℕ) × EndsFrom (aims_of subjects.now) for_ms (stand_of D.Stream.remaining
+            D.Stream.contents self.old.driver.engine self.old.watched.items self.old.is_accepted self.old.style self.old.trees) text true
+            × Appends (O.contents out.old) (O.contents out.new) text }
+        ensures never { result ≡ End.NeverConnected → (text : List ℕ) × EndsFrom (aims_of subjects.now) for_ms (stand_of D.Stream.remaining
+            D.Stream.contents self.old.driver.engine self.old.watched.items self.old.is_accepted self.old.style self.old.trees) text false
+            × Appends (O.contents out.old) (O.contents out.new) text }
+        ensures printed { result ≢ End.Stream → (text : List ℕ) × ((text ≡ [])
+            ⊎ PrintsFrom (aims_of subjects.now) (stand_of D.Stream.remaining D.Stream.contents self.old.driver.engine self.old.watched.items
+            self.old.is_accepted self.old.style self.old.trees) text) × Appends (O.contents out.old) (O.contents out.new) text }
     {
         if let Err(stop) = self.follow_all(subjects) {
             return Failure::from(stop).end();

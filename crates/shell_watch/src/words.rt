@@ -6,7 +6,8 @@ ghost use Rattle.std.specs.Option.{option_map};
 ghost use Rattle.zk_client.specs.Clients.{view_of};
 ghost use Rattle.zk_client.specs.Views.{fault_view};
 ghost use Rattle.zk_agent.specs.Telling.{action_view};
-ghost use Rattle.shell_watch.specs.Lines.{action_words, code_words, connected_words, drop_text, path_of, reason_words, refusal_words, state_words, turn_line, turn_words, why_text};
+ghost use Rattle.shell_watch.specs.Lines.{action_words, code_words, connected_words, drop_text, path_of, reason_words, refusal_words};
+ghost use Rattle.shell_watch.specs.Lines.{state_words, turn_line, turn_words, why_text};
 ghost use Rattle.script_words.specs.Values.{spaced};
 
 use crate::plan::Style;

@@ -29,8 +29,8 @@ enum Event {
     Closes,
 }
 
-/// A node is followed before it is there; a call times out; the session expires, and another one reads the node again. It is closed: after that
-/// no connection is asked for, one that comes is hung up, and a call is answered at once.
+/// A node is followed before it is there; a call times out; the session expires, and another one reads the node again. It is closed: after
+/// that no connection is asked for, one that comes is hung up, and a call is answered at once.
 static EVENTS: [(u64, Event); 17] = [
     (100, Event::Moment),
     (200, Event::Follows("/a")),
@@ -51,8 +51,8 @@ static EVENTS: [(u64, Event); 17] = [
     (1_700, Event::Opens),
 ];
 
-/// A call is answered a millisecond before it has waited for two thirds of the timeout of 9 seconds, and the server is kept. The next one is
-/// not, and the server is left when it has, though it has sent a notice.
+/// A call is answered a millisecond before it has waited for two thirds of the timeout of 9 seconds, and the server is kept. The next one
+/// is not, and the server is left when it has, though it has sent a notice.
 static WAITS: [(u64, Event); 9] = [
     (100, Event::Moment),
     (200, Event::Opens),

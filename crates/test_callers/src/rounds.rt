@@ -2,12 +2,12 @@
 //! that the server sends or takes is the last of its connection in a round of its own, and bytes come in pieces of each size. The table is
 //! the standard input.
 //!
-//! As many rounds end well as a round has bytes if it is not cut, and 64 of pieces. What `stdout` says of them was added up by hand from the
-//! records of zookeeper.jute. The server sends, after a lost connection: the answer to the ConnectRequest, 40 bytes; the notices of `/t/a` and
-//! `/t`, 36 and 34; the reply to setWatches, 20; the data, whose number has three digits, 95; two names, 102; and after the delete a notice, 34,
-//! and one name, 97. That is 458. It takes a ConnectRequest, 49; setWatches, 46; getData, 21; and getChildren2 twice, 19 each. That is 154.
-//! After an expiry it sends two answers to ConnectRequests, 80, and no notice and no reply to setWatches before the reads: 408. It takes two
-//! ConnectRequests, 98, and no setWatches: 157.
+//! As many rounds end well as a round has bytes if it is not cut, and 64 of pieces. What `stdout` says of them was added up by hand from
+//! the records of zookeeper.jute. The server sends, after a lost connection: the answer to the ConnectRequest, 40 bytes; the notices of
+//! `/t/a` and `/t`, 36 and 34; the reply to setWatches, 20; the data, whose number has three digits, 95; two names, 102; and after the
+//! delete a notice, 34, and one name, 97. That is 458. It takes a ConnectRequest, 49; setWatches, 46; getData, 21; and getChildren2 twice,
+//! 19 each. That is 154. After an expiry it sends two answers to ConnectRequests, 80, and no notice and no reply to setWatches before the
+//! reads: 408. It takes two ConnectRequests, 98, and no setWatches: 157.
 
 mod kept;
 mod world;

@@ -18,8 +18,8 @@ static PIECES: [usize; 2] = [usize::MAX, 7];
 const WATCHES: usize = 65_536;
 
 /// How many paths of 4,096 bytes are watched, by numbers of five digits. Each weighs 4 more; of 131,072, which are the most of a part, 31
-/// take 127,100, and one more would be 131,200. So they are set again in 500 parts, and no fewer bytes could be: a part that is not the last
-/// has at least 126,973.
+/// take 127,100, and one more would be 131,200. So they are set again in 500 parts, and no fewer bytes could be: a part that is not the
+/// last has at least 126,973.
 const LONG_WATCHES: usize = 15_500;
 
 const FIRST_LONG: usize = 10_000;

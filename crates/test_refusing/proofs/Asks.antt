@@ -8,7 +8,8 @@ use prog.Memory.{Memory}
 use prog.Routine.{Routine}
 use types.Logic.{Logic, sem}
 use contract.Monad.{Fun}
-use types.Kit.{‵, given, ◌⊛◌, some, later, ◌$◌, ◌∵◌, !, qed, move, keep, use1, split, join, pick, fjoin, feq_i, feq_l, check, await, updating, now as at_once, done}
+use types.Kit.{‵, given, ◌⊛◌, some, later, ◌$◌, ◌∵◌, !, qed, move, keep, use1, split, join, pick, fjoin, feq_i, feq_l, check, await}
+use types.Kit.{updating, now as at_once, done}
 use denote.RattleType.{RattleType}
 use denote.Memory.{hidden_shr}
 use denote.Builtin.{u64, bool}
@@ -31,13 +32,18 @@ module _ {M : Type 1} {𝓤 : Ura M} (𝓛 : Logic 𝓤) (at_mem : Memory → SP
 module _ {M : Type 1} {𝓤 : Ura M} (𝓛 : Logic 𝓤) (at_mem : Memory → SProp 𝓤) (run : Routine → Fun 𝓤) (κ : Lft) (q : Share) (c : ℕ × ℕ) where
   open 𝓛 use {H, A}
 
-  pub Ask-goes : ent 𝓤 (sep 𝓤 (sem 𝓛 (hidden_shr Calls κ (record { value = tt }) c.0 c.1)) (A.lft κ q)) ((Ask 𝓛 at_mem run).pre (at_ask 𝓛 at_mem run κ q c))
+  pub Ask-goes : ent 𝓤 (sep 𝓤 (sem 𝓛 (hidden_shr Calls κ (record { value = tt }) c.0 c.1)) (A.lft κ q))
+      ((Ask 𝓛 at_mem run).pre (at_ask 𝓛 at_mem run κ q c))
   Ask-goes =
-      qed 𝓛 (‵ (hidden_shr Calls κ (record { value = tt }) c.0 c.1) ∷ ‵ (flft κ q) ∷ []) ∵ feq_i ! (List Val) (vptr c.0 c.1 ∷ []) (vptr c.0 c.1 ∷ []) refl $ fjoin ! $
+      qed 𝓛 (‵ (hidden_shr Calls κ (record { value = tt }) c.0 c.1) ∷ ‵ (flft κ q) ∷ []) ∵ feq_i
+      ! (List Val) (vptr c.0 c.1 ∷ []) (vptr c.0 c.1 ∷ []) refl $ fjoin ! $
       nothing ! $ move ! (1 ∷ []) $ fjoin ! $ nothing ! $ move ! (2 ∷ []) $ join ! $ join ! $ nothing ! $ move ! (1 ∷ []) $ done !
 
-  pub Ask-gives : (v : Val) → ent 𝓤 ((Ask 𝓛 at_mem run).post (at_ask 𝓛 at_mem run κ q c) v) (H.⇛ (types.Kit.mean 𝓛 (some (λ (t : Bool). given (v ≡ vbool t) (‵ (flft κ q))))))
+  pub Ask-gives : (v : Val) → ent 𝓤 ((Ask 𝓛 at_mem run).post (at_ask 𝓛 at_mem run κ q c) v)
+      (H.⇛ (types.Kit.mean 𝓛 (some (λ (t : Bool). given (v ≡ vbool t) (‵ (flft κ q))))))
   Ask-gives v =
       qed 𝓛 (types.Kit.raw ((Ask 𝓛 at_mem run).post (at_ask 𝓛 at_mem run κ q c) v) ∷ []) ∵ updating ! $
-      use1 𝓛 (later (some (λ (t : Bool). ((‵ (flft κ q) ⊛ ‵ ftrue) ⊛ ‵ (bool.own_val t (v ∷ []))) ⊛ some (λ (ws : Unit {0} × Unit {0}). ‵ (fsep ftrue ftrue) ⊛ ‵ ftrue)))) (id⊢ 𝓤 _) $ await ! tt $ pick ! (λ t.
-      split ! $ split ! $ move ! (1 ∷ []) $ feq_l ! (λ e. split ! $ at_once ! $ types.Kit.show ! (λ (b : Bool). guard 𝓤 (v ≡ vbool b) (A.lft κ q)) t $ check ! (ap only e) $ keep ! (0 ∷ []) $ done !))
+      use1 𝓛 (later (some (λ (t : Bool). ((‵ (flft κ q) ⊛ ‵ ftrue) ⊛ ‵ (bool.own_val t (v ∷ [])))
+      ⊛ some (λ (ws : Unit {0} × Unit {0}). ‵ (fsep ftrue ftrue) ⊛ ‵ ftrue)))) (id⊢ 𝓤 _) $ await ! tt $ pick ! (λ t.
+      split ! $ split ! $ move ! (1 ∷ []) $ feq_l ! (λ e. split ! $ at_once ! $ types.Kit.show
+      ! (λ (b : Bool). guard 𝓤 (v ≡ vbool b) (A.lft κ q)) t $ check ! (ap only e) $ keep ! (0 ∷ []) $ done !))

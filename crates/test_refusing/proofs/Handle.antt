@@ -42,7 +42,8 @@ module _ (Z : Al) where
 abbrev pub machine : {M : Type 1} {𝓤 : Ura M} (𝓛 : Logic 𝓤) (𝓜 : Model 𝓤 𝓛.H) → Running 𝓤 𝓛.H 𝓜 → Tables 𝓤 𝓛.H
 machine {𝓤 = 𝓤} 𝓛 𝓜 𝓡 = tables_of 𝓤 𝓛.H 𝓜 (tables 𝓤 𝓛.H 𝓜 𝓡 𝓡.env)
 
-module _ {M : Type 1} {𝓤 : Ura M} (𝓛 : Logic 𝓤) (𝓣 : Tables 𝓤 𝓛.H) (k : Callee) (e : Fn) (E : Ended) (hs : Stays E.signature.params E.kept) (c : Clauses 𝓤 E) where
+module _ {M : Type 1} {𝓤 : Ura M} (𝓛 : Logic 𝓤) (𝓣 : Tables 𝓤 𝓛.H) (k : Callee) (e : Fn) (E : Ended)
+    (hs : Stays E.signature.params E.kept) (c : Clauses 𝓤 E) where
   abbrev run : Fun 𝓤
   run = WpFn 𝓤 𝓛.H 𝓣.C 𝓣.Λ e
 
@@ -51,11 +52,14 @@ module _ {M : Type 1} {𝓤 : Ura M} (𝓛 : Logic 𝓤) (𝓣 : Tables 𝓤 �
 
   -- a call meets its contract where a walk of its code does, at each choice of what the contract binds
   pub by_walk : Closed 𝓤 𝓛.H 𝓣.C 𝓣.Λ k e → AllGo 𝓛 E.signature.lifetimes E.signature.params E.kept hs
-      → (sp : (κs : Lfts E.signature.lifetimes) → Spells (rows κs)) → ((κs : Lfts E.signature.lifetimes) → Tellss (rows κs) (Ises (rows κs)) (sp κs))
-      → ((κs : Lfts E.signature.lifetimes) (qs : Shares E.signature.lifetimes) (bounds : AllOutlive E.signature.lifetimes E.signature.outlives κs) (a : Arguments E.signature κs) (g : (c κs a).ghost)
+      → (sp : (κs : Lfts E.signature.lifetimes) → Spells (rows κs))
+      → ((κs : Lfts E.signature.lifetimes) → Tellss (rows κs) (Ises (rows κs)) (sp κs))
+      → ((κs : Lfts E.signature.lifetimes) (qs : Shares E.signature.lifetimes)
+      (bounds : AllOutlive E.signature.lifetimes E.signature.outlives κs) (a : Arguments E.signature κs) (g : (c κs a).ghost)
       → Are (rows κs) (Ises (rows κs)) a (valss (rows κs) (sp κs) a)
       → ent 𝓤 (sep 𝓤 (on_entry 𝓛 E.signature κs qs a (valss (rows κs) (sp κs) a)) ((c κs a).requires g))
       (run (flat (rows κs) (valss (rows κs) (sp κs) a)) ((walk_of 𝓛 E hs c).post ((κs, qs, bounds, a, valss (rows κs) (sp κs) a), g))))
       → Triple 𝓤 (𝓣.C k) (triple_of 𝓛 E.signature (closing 𝓛 E c))
   by_walk closed goes sp tells walk =
-      entered 𝓤 𝓛.H (triple_of 𝓛 E.signature (closing 𝓛 E c)) 𝓣.C 𝓣.Λ k e closed (walk_Meets 𝓛 E hs goes c run (WpFn-mono 𝓤 𝓛.H 𝓛.laws 𝓣 e) (walked 𝓛 E hs c run sp tells walk))
+      entered 𝓤 𝓛.H (triple_of 𝓛 E.signature (closing 𝓛 E c)) 𝓣.C 𝓣.Λ k e closed
+      (walk_Meets 𝓛 E hs goes c run (WpFn-mono 𝓤 𝓛.H 𝓛.laws 𝓣 e) (walked 𝓛 E hs c run sp tells walk))

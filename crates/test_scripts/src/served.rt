@@ -25,7 +25,8 @@ fn play<D: Dial, O: Write>(
     out: &mut O,
 ) -> io::Result<()>
     // What is written is the transcript of the script's lines.
-    ensures { OnOk result ((text : List ℕ) × (end : End) × IsTranscript (lines_of script.now) text end × Appends (O.contents out.old) (O.contents out.new) text) }
+    ensures { OnOk result ((text : List ℕ) × (end : End) × IsTranscript (lines_of script.now) text end
+        × Appends (O.contents out.old) (O.contents out.new) text) }
 {
     let transcript = live(alloc, server, &[ADDRESS], script);
     out.write_all(transcript.text.as_bytes())

@@ -1,6 +1,7 @@
 -- What is between a client and servers that keep to the model at some paths: letters in flight, and after them, where a part of setWatches
 -- was answered with an error, bytes that nobody reads.
-use Rattle.std.proofs.Common.{◌≡◌, ℕ, ◌^◌, ◌≤◌, ◌<◌, ℤ, pos, negsuc, Bool, true, false, cond, List, [], ◌∷◌, ◌++◌, map, length, refl, ap, ◌∙◌, inl, ◌⊎◌, Ok, Err}
+use Rattle.std.proofs.Common.{◌≡◌, ℕ, ◌^◌, ◌≤◌, ◌<◌, ℤ, pos, negsuc, Bool, true, false, cond, List, [], ◌∷◌, ◌++◌, map, length, refl, ap}
+use Rattle.std.proofs.Common.{◌∙◌, inl, ◌⊎◌, Ok, Err}
 use Rattle.std.specs.Prelude.{◌≢◌, ◌&&◌, int_lt, is_some, if◌then◌else◌}
 use Rattle.std.specs.List.{AllByRecursion}
 use Rattle.std.specs.Ordering.{int_eq}
@@ -21,7 +22,8 @@ use Rattle.zk_frames.specs.declared.fault.FrameFault.TheVariants.{TooLong}
 use Rattle.zk_limits.specs.declared.limits.TheConstants.{LONGEST_INCOMING}
 use Rattle.zk_session.specs.declared.states.State.TheVariants.{Connected}
 use Rattle.zk_turns.specs.Turns.{Framed, Talked, Silent, Behind, WatchesRefused, Fault, Start}
-use Rattle.zk_turns.specs.Past.{Asking, For_part, For_call, awaited, Past, Dropped, is_talking, state_of, held_of, answered, questions, Took as Takes_in, Replies as Answers_call, Watches_set as Sets_watches}
+use Rattle.zk_turns.specs.Past.{Asking, For_part, For_call, awaited, Past, Dropped, is_talking, state_of, held_of, answered, questions}
+use Rattle.zk_turns.specs.Past.{Took as Takes_in, Replies as Answers_call, Watches_set as Sets_watches}
 use Rattle.zk_turns.specs.Spelled.{IsHeaded}
 use Rattle.zk_turns.specs.Taken.{reading, taken_of}
 use Rattle.zk_laws.specs.Server.{zxid_held, IsOther}
@@ -56,7 +58,8 @@ pub record IsRefusal (payload : List ℕ) : Type 0 where
 -- The payload is the message's; that of a refusal may have the zxid 0 or one below.
 abbrev pub IsSpelt : ℤ → Message → List ℕ → Type 0
 IsSpelt xid (Replies question z (Refused code)) payload =
-    IsPayload xid (Replies question z (Refused code)) payload ⊎ ((z ≡ 0) × (zxid : ℤ) × (behind : List ℕ) × (from_zero zxid ≡ 0) × IsOther code × IsHeaded xid zxid code payload behind)
+    IsPayload xid (Replies question z (Refused code)) payload
+    ⊎ ((z ≡ 0) × (zxid : ℤ) × (behind : List ℕ) × (from_zero zxid ≡ 0) × IsOther code × IsHeaded xid zxid code payload behind)
 IsSpelt xid message payload = IsPayload xid message payload
 
 pub spelt_by : (xid : ℤ) (m : Message) (p : List ℕ) → IsPayload xid m p → IsSpelt xid m p
@@ -76,18 +79,23 @@ module _ (P : Text → Type 0) (h : History) where
 
   -- what was asked for the message, under the xid of its request
   abbrev pub IsForAt : ℤ → Message → List Asking → Type 0
-  IsForAt xid (Replies question zxid result) asked = (ticket : ℕ) × (n : ℕ) × (call : Call) × (xid ≡ pos n) × (question_of call ≡ question) × (asked ≡ For_call n ticket call ∷ []) × (IsGivenAt call zxid result ⊎ IsLow zxid result)
+  IsForAt xid (Replies question zxid result) asked = (ticket : ℕ) × (n : ℕ) × (call : Call) × (xid ≡ pos n) × (question_of call ≡ question)
+      × (asked ≡ For_call n ticket call ∷ []) × (IsGivenAt call zxid result ⊎ IsLow zxid result)
   IsForAt xid (Watches_set is_last zxid) asked = (xid ≡ part_xid) × (asked ≡ For_part is_last ∷ [])
   IsForAt xid _ asked = asked ≡ []
 
   module _ (start : Start) (Was : List ℕ → Type 0) where
-    -- a server gave it, with a zxid from 0 that is not below the one that the client began with; or it refuses, with the zxid 0 or one below
+    -- a server gave it, with a zxid from 0 that is not below the one that the client began with; or it refuses, with the zxid 0 or one
+    -- below
     abbrev pub IsAnsweredFor : Call → ℤ → Result → Type 0
-    IsAnsweredFor call zxid result = ((zxid ≡ pos (from_zero zxid)) × (from_zero start.last ≤ from_zero zxid) × IsGivenAt call (from_zero zxid) result) ⊎ IsDenial zxid result
+    IsAnsweredFor call zxid result =
+        ((zxid ≡ pos (from_zero zxid)) × (from_zero start.last ≤ from_zero zxid) × IsGivenAt call (from_zero zxid) result)
+        ⊎ IsDenial zxid result
 
     -- the reply is to the call that waits first
     abbrev pub AnswersFirstAt : ℕ → Question → ℤ → Result → List Asking → Type 0
-    AnswersFirstAt ticket question zxid result (For_call xid other call ∷ more) = (other ≡ ticket) × (question_of call ≡ question) × IsAnsweredFor call zxid result
+    AnswersFirstAt ticket question zxid result (For_call xid other call ∷ more) =
+        (other ≡ ticket) × (question_of call ≡ question) × IsAnsweredFor call zxid result
     AnswersFirstAt ticket question zxid result _ = ⊥
 
     -- the payload was sent and spells the message
@@ -100,7 +108,8 @@ module _ (P : Text → Type 0) (h : History) where
     -- where a part was refused, the server has ended, and the part waits first after the letters
     abbrev pub IsTail : Tail → Stage → List Asking → Type 0
     IsTail Nothing_more stage owed = Unit {0}
-    IsTail (Failure payload rest) stage owed = Was payload × (length payload < 2 ^ 31) × IsRefusal payload × (stage ≡ Ended) × (b : Bool) × (more : List Asking) × (owed ≡ For_part b ∷ more)
+    IsTail (Failure payload rest) stage owed = Was payload × (length payload < 2 ^ 31) × IsRefusal payload × (stage ≡ Ended) × (b : Bool)
+        × (more : List Asking) × (owed ≡ For_part b ∷ more)
 
     -- the invariant between messages, where the client and its server stand
     abbrev pub IsKeptFor : Past → ServerEnd → List Request → List Message → Type 0
@@ -144,21 +153,40 @@ other_than a b n = by (int_eq a b) refl
     by false e = refl
 
 -- a part that is refused ends the connection
-pub reads_refusal : (ps : List Pending) (last : ℤ) (b : Bool) (p : List ℕ) (r : IsRefusal p) → reading Connected (part_waits b ∷ ps) last p ≡ Dropped (WatchesRefused r.code)
+pub reads_refusal : (ps : List Pending) (last : ℤ) (b : Bool) (p : List ℕ) (r : IsRefusal p)
+    → reading Connected (part_waits b ∷ ps) last p ≡ Dropped (WatchesRefused r.code)
 unfolding arriving
 reads_refusal ps last b p r =
-    let found = ap (jute_reading reply_header (length p)) r.headed.whole ∙ (reads reply_header (length p)).again (part_xid, (r.zxid, r.code)) r.behind r.headed.fits in
-    ap (λ x. elim (later_arriving (part_waits b ∷ ps) (length p) x) [ Ok arrived ↦ taken_of last arrived | Err fault ↦ Dropped (Talked fault) ]) found
+    let found = ap (jute_reading reply_header (length p)) r.headed.whole
+    ∙ (reads reply_header (length p)).again (part_xid, (r.zxid, r.code)) r.behind r.headed.fits in
+    ap (λ x. elim (later_arriving (part_waits b ∷ ps) (length p) x) [
+      | Ok arrived ↦ taken_of last arrived
+      | Err fault ↦
+          Dropped (Talked fault)
+    ]) found
     ∙ ap (λ t. cond t (Takes_in (Sets_watches b r.zxid)) (Dropped (WatchesRefused r.code))) (other_than r.code (pos 0) r.other)
 
 -- a call that is refused is answered so, whatever the zxid
-pub reads_denial : (ps : List Pending) (last : ℤ) (n ticket : ℕ) (q : Question) (zxid code : ℤ) (p behind : List ℕ) → IsOther code → IsHeaded (pos n) zxid code p behind
-    → reading Connected (record { xid = pos n; waiting = Call_waits ticket q } ∷ ps) last p ≡ Takes_in (Answers_call ticket q zxid (Refused code))
+pub reads_denial : (ps : List Pending) (last : ℤ) (n ticket : ℕ) (q : Question) (zxid code : ℤ) (p behind : List ℕ)
+    → IsOther code → IsHeaded (pos n) zxid code p behind
+    → reading Connected (record { xid = pos n; waiting = Call_waits ticket q } ∷ ps) last p
+    ≡ Takes_in (Answers_call ticket q zxid (Refused code))
 unfolding arriving
 reads_denial ps last n ticket q zxid code p behind other headed =
-    let found = ap (jute_reading reply_header (length p)) headed.whole ∙ (reads reply_header (length p)).again (pos n, (zxid, code)) behind headed.fits in
-    ap (λ x. elim (later_arriving (record { xid = pos n; waiting = Call_waits ticket q } ∷ ps) (length p) x) [ Ok arrived ↦ taken_of last arrived | Err fault ↦ Dropped (Talked fault) ]) found
-    ∙ ap (λ b. elim (cond b (call_arriving ticket q zxid (result_of q code (length p) behind)) (Err (OtherXid (pos n) (pos n)))) [ Ok arrived ↦ taken_of last arrived | Err fault ↦ Dropped (Talked fault) ]) ((Decides-int_eq (pos n) (pos n)).1 refl)
+    let found = ap (jute_reading reply_header (length p)) headed.whole
+    ∙ (reads reply_header (length p)).again (pos n, (zxid, code)) behind headed.fits in
+    ap (λ x. elim (later_arriving (record { xid = pos n; waiting = Call_waits ticket q } ∷ ps) (length p) x) [
+      | Ok arrived ↦
+          taken_of last arrived
+      | Err fault ↦ Dropped (Talked fault)
+    ]) found
+    ∙ ap (λ b. elim (cond b (call_arriving ticket q zxid (result_of q code (length p) behind)) (Err (OtherXid (pos n) (pos n)))) [
+      | Ok
+          arrived ↦ taken_of last arrived
+      | Err fault ↦ Dropped (Talked fault)
+    ]) ((Decides-int_eq (pos n) (pos n)).1 refl)
     ∙ ap (λ x. elim (call_arriving ticket q zxid x) [ Ok arrived ↦ taken_of last arrived | Err fault ↦ Dropped (Talked fault) ])
-    (ap (λ b. if b then record_of q (length p) behind else (if int_eq code (negsuc 100) then Ok NoNode else Ok (Refused code))) (other_than code (pos 0) other.0) ∙ ap (λ b. if b then Ok NoNode else Ok (Refused code)) (other_than code (negsuc 100) other.1))
-    ∙ ap (λ b. cond (b && int_lt zxid last) (Dropped (Behind last zxid)) (Takes_in (Answers_call ticket q zxid (Refused code)))) (leaves_is q (Refused code) ∙ ap (λ o. is_some o) (left_refused q code))
+    (ap (λ b. if b then record_of q (length p) behind else (if int_eq code (negsuc 100) then Ok NoNode else Ok (Refused code)))
+    (other_than code (pos 0) other.0) ∙ ap (λ b. if b then Ok NoNode else Ok (Refused code)) (other_than code (negsuc 100) other.1))
+    ∙ ap (λ b. cond (b && int_lt zxid last) (Dropped (Behind last zxid)) (Takes_in (Answers_call ticket q zxid (Refused code))))
+    (leaves_is q (Refused code) ∙ ap (λ o. is_some o) (left_refused q code))

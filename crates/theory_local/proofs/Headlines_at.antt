@@ -1,5 +1,6 @@
 -- The laws of a client whose servers keep to the model at some paths.
-use Rattle.std.proofs.Common.{◌≤◌, drop, suc, zero, pos, ◌≡◌, ℕ, ℤ, Bool, true, false, cond, List, [], ◌∷◌, ◌++◌, map, length, refl, sym, ap, subst, ◌∙◌, arith, inl, inr, ◌⊎◌, Some}
+use Rattle.std.proofs.Common.{◌≤◌, drop, suc, zero, pos, ◌≡◌, ℕ, ℤ, Bool, true, false, cond, List, [], ◌∷◌, ◌++◌, map, length, refl, sym}
+use Rattle.std.proofs.Common.{ap, subst, ◌∙◌, arith, inl, inr, ◌⊎◌, Some}
 use Rattle.std.proofs.lemmas.List.{length-append}
 use Rattle.zk_nodes.specs.Path.{Text, path_of}
 use Rattle.zk_nodes.specs.History.{Tree, History, IsHistory, tree_at, View as SeenView, view as to_see}
@@ -21,7 +22,10 @@ use Rattle.zk_turns.specs.Turns.{Start, Item, Fault}
 use Rattle.zk_turns.specs.View.{View}
 use Rattle.zk_turns.specs.Taken.{past_of}
 use Rattle.zk_turns.specs.Meaning.{Among}
-use Rattle.zk_turns.specs.Past.{Asking, For_part, For_call, parts_asked, questions, awaited, answered, is_talking, state_of, xid_of, names_of, Asked, Began, lists_of, Happening, Dropped, Past, Skipped, Expiry, held_of, kept_data, kept_names, Took as Takes_in, Accepted as Accepts, Replies as Answers_call, Watches_set as Sets_watches, Notifies as Tells_of, Pong as Echo}
+use Rattle.zk_turns.specs.Past.{Asking, For_part, For_call, parts_asked, questions, awaited, answered, is_talking, state_of, xid_of}
+use Rattle.zk_turns.specs.Past.{names_of, Asked, Began, lists_of, Happening, Dropped, Past, Skipped, Expiry, held_of, kept_data, kept_names}
+use Rattle.zk_turns.specs.Past.{Took as Takes_in, Accepted as Accepts, Replies as Answers_call, Watches_set as Sets_watches}
+use Rattle.zk_turns.specs.Past.{Notifies as Tells_of, Pong as Echo}
 use Rattle.zk_turns.proofs.Pieces.{length-frame}
 use Rattle.zk_frames.specs.Frame.{frame}
 use Rattle.zk_laws.specs.Server.{Fits, FitsNames, Reads, tree_held, zxid_held, Gives}
@@ -54,12 +58,15 @@ suits_node (Kept_known fields) seen f = f
 suits_node (Kept_full bytes fields) seen f = f
 
 -- a tree that all good answers about these paths fit
-cache_at : (P : Text → Type 0) (start : Start) (past : Past) (tree : Tree) → ((path : Text) → P path → (a : Answer) → good Data path (seen start past) ≡ Some a → Suits a (to_see Data tree (path_of path)))
+cache_at : (P : Text → Type 0) (start : Start) (past : Past) (tree : Tree)
+    → ((path : Text) → P path → (a : Answer) → good Data path (seen start past) ≡ Some a → Suits a (to_see Data tree (path_of path)))
     → ((path : Text) → P path → (a : Answer) → good Child path (seen start past) ≡ Some a → Suits a (to_see Child tree (path_of path)))
     → IsTrueAt P tree (record { nodes = λ path. kept_data path past; children = λ path. kept_names path past })
 cache_at P start past tree f g = record {
-  nodes = λ path p kept e m. suits_node kept.answer (to_see Data tree (path_of path)) (f path p (node_answer kept.answer) (good_node start path past ∙ ap (if_good node_answer) e ∙ if_good_is node_answer kept m));
-  children = λ path p kept e m. g path p (names_answer kept.answer) (good_names start path past ∙ ap (if_good names_answer) e ∙ if_good_is names_answer kept m);
+  nodes = λ path p kept e m. suits_node kept.answer (to_see Data tree (path_of path))
+      (f path p (node_answer kept.answer) (good_node start path past ∙ ap (if_good node_answer) e ∙ if_good_is node_answer kept m));
+  children = λ path p kept e m.
+      g path p (names_answer kept.answer) (good_names start path past ∙ ap (if_good names_answer) e ∙ if_good_is names_answer kept m);
 }
 
 -- ---- the call of a reply
@@ -76,9 +83,11 @@ was_asked : (xid t : ℕ) (c : Call) (past : Past) → Among (For_call xid t c) 
 was_asked xid t c [] a = absurd a
 was_asked xid t c (Began ∷ past) a = absurd a
 was_asked xid t c (Takes_in (Accepts w) ∷ past) a = absurd (no_call xid t c (parts (lists_of past)) a)
-was_asked xid t c (Asked u d ∷ past) a = by (among_split (For_call xid t c) (questions past) (For_call (xid_of past) u d ∷ []) a) (λ b. was_asked xid t c past b)
+was_asked xid t c (Asked u d ∷ past) a =
+    by (among_split (For_call xid t c) (questions past) (For_call (xid_of past) u d ∷ []) a) (λ b. was_asked xid t c past b)
   where
-    by : Among (For_call xid t c) (questions past) ⊎ Among (For_call xid t c) (For_call (xid_of past) u d ∷ []) → (Among (For_call xid t c) (questions past) → Among (Asked t c) past) → Among (Asked t c) (Asked u d ∷ past)
+    by : Among (For_call xid t c) (questions past) ⊎ Among (For_call xid t c) (For_call (xid_of past) u d ∷ [])
+        → (Among (For_call xid t c) (questions past) → Among (Asked t c) past) → Among (Asked t c) (Asked u d ∷ past)
     by (inl b) ih = inr (ih b)
     by (inr (inl e)) ih = let p : t ≡ u = cc in let q : c ≡ d = cc in inl (λ i. Asked (p i) (q i))
     by (inr (inr b)) ih = absurd b
@@ -103,14 +112,18 @@ awaited_asked xid t c past a = by (is_talking (state_of past)) a
     by false a = absurd a
 
 -- a read is true at the zxid of where its server stood
-given_true : (h : History) (is : IsHistory h) (n : ℕ) (q : Call) (r : Result) → Gives h n q r → Reads (tree_at h (zxid_held h n)) (question_of q) r
+given_true : (h : History) (is : IsHistory h) (n : ℕ) (q : Call) (r : Result)
+    → Gives h n q r → Reads (tree_at h (zxid_held h n)) (question_of q) r
 given_true h is n (Exists p w) NoNode g = subst (λ t. Suits Absent (to_see Data t (path_of p))) (sym (tree_at_held h n is)) g
-given_true h is n (Exists p w) (Found f) g = subst (λ t. Suits (Known (data_stat_of f)) (to_see Data t (path_of p))) (sym (tree_at_held h n is)) g
+given_true h is n (Exists p w) (Found f) g =
+    subst (λ t. Suits (Known (data_stat_of f)) (to_see Data t (path_of p))) (sym (tree_at_held h n is)) g
 given_true h is n (GetData p w) NoNode g = subst (λ t. Suits Absent (to_see Data t (path_of p))) (sym (tree_at_held h n is)) g
-given_true h is n (GetData p w) (Read b f) g = subst (λ t. Suits (Full b (data_stat_of f)) (to_see Data t (path_of p))) (sym (tree_at_held h n is)) g
+given_true h is n (GetData p w) (Read b f) g =
+    subst (λ t. Suits (Full b (data_stat_of f)) (to_see Data t (path_of p))) (sym (tree_at_held h n is)) g
 given_true h is n (GetChildren p w) NoNode g = subst (λ t. Suits Absent (to_see Child t (path_of p))) (sym (tree_at_held h n is)) g
 given_true h is n (GetChildren p w) (Listing ns z) g =
-    subst (λ t. FitsNames (names_of ns z) (to_see Child t (path_of p)) × Suits (Known (data_stat_of z)) (to_see Data t (path_of p))) (sym (tree_at_held h n is)) g
+    subst (λ t. FitsNames (names_of ns z) (to_see Child t (path_of p)) × Suits (Known (data_stat_of z)) (to_see Data t (path_of p)))
+    (sym (tree_at_held h n is)) g
 given_true h is n _ _ g = tt
 
 -- a refusal says nothing
@@ -129,7 +142,8 @@ refused_write h call z code = by call
     by (Calls.Delete path version) = tt
     by _ = tt
 
-not_awaited : (side : Side) (path : Text) (a : Answer) (z : ℕ) (requests : List Request) → AreRestored requests → IsAwaited side path a z requests → ⊥
+not_awaited : (side : Side) (path : Text) (a : Answer) (z : ℕ) (requests : List Request)
+    → AreRestored requests → IsAwaited side path a z requests → ⊥
 not_awaited side path a z [] r w = w
 not_awaited side path a z (Restore b x p ∷ rest) r w = r
 not_awaited side path a z (Connect seen ∷ rest) r w = w
@@ -148,60 +162,79 @@ nothing_in_flight (l ∷ ls) tail e =
 -- ---- the laws
 
 module _ (P : Text → Type 0) (h : History) (is : IsHistory h) (start : Start) where
-  stands_here : (items : List Item) → AllAsked items → (served : ServedAt P h start items) → Stands_at P h start (WasSentAt served.entries) (past_of start items) (wire_at h served.entries)
+  stands_here : (items : List Item) → AllAsked items → (served : ServedAt P h start items)
+      → Stands_at P h start (WasSentAt served.entries) (past_of start items) (wire_at h served.entries)
   stands_here items asked served =
       subst (λ t. Stands_at P h start (WasSentAt served.entries) (past_of start t) (wire_at h served.entries)) served.whole
       (schedule_at P h is start (WasSentAt served.entries) served.entries (λ p w. w) (subst AllAsked (sym served.whole) asked) served.may)
 
-  coherent_by : (Was : List ℕ → Type 0) (items : List Item) (view : View) (wire : Wire) → Stands start items view → Stands_at P h start Was (past_of start items) wire → IsCoherentAt P h view
+  coherent_by : (Was : List ℕ → Type 0) (items : List Item) (view : View) (wire : Wire)
+      → Stands start items view → Stands_at P h start Was (past_of start items) wire → IsCoherentAt P h view
   coherent_by Was items view wire s stands =
       let past : Past = past_of start items in
       let z : last (seen start past) ≡ from_zero view.saved.last = last_is start past ∙ ap from_zero (sym (ap (λ t. t.last) s.saved)) in
       subst (λ c. IsTrueAt P (tree_at h (from_zero view.saved.last)) c) (sym s.cache)
       (subst (λ n. IsTrueAt P (tree_at h n) (record { nodes = λ path. kept_data path past; children = λ path. kept_names path past })) z
-      (cache_at P start past (tree_at h (last (seen start past))) (λ path p a e. (stands.right Data path p a e).0) (λ path p a e. (stands.right Child path p a e).0)))
+      (cache_at P start past (tree_at h (last (seen start past))) (λ path p a e. (stands.right Data path p a e).0)
+      (λ path p a e. (stands.right Child path p a e).0)))
 
   pub coherent_at : (items : List Item) (view : View) → Stands start items view → ServedAt P h start items → IsCoherentAt P h view
-  coherent_at items view s served = coherent_by (WasSentAt served.entries) items view (wire_at h served.entries) s (stands_here items s.asked served)
+  coherent_at items view s served =
+      coherent_by (WasSentAt served.entries) items view (wire_at h served.entries) s (stands_here items s.asked served)
 
   -- ---- quiet agreement
 
-  agrees_at : (past : Past) (wire : Wire) (Was : List ℕ → Type 0) (letters : List Letter) (tail : Tail) → IsFlow P h start Was past wire letters tail
-      → is_talking (state_of past) ≡ true → wire.coming ≡ [] → held_of past ≡ [] → AreRestored (map (λ s. s.request) (unread start past wire))
-      → (side : Side) (path : Text) → P path → (a : Answer) → good side path (seen start past) ≡ Some a → Suits a (to_see side (tree_held h wire.server.place) (path_of path))
+  agrees_at : (past : Past) (wire : Wire) (Was : List ℕ → Type 0) (letters : List Letter) (tail : Tail)
+      → IsFlow P h start Was past wire letters tail
+      → is_talking (state_of past) ≡ true → wire.coming ≡ [] → held_of past ≡ []
+      → AreRestored (map (λ s. s.request) (unread start past wire))
+      → (side : Side) (path : Text) → P path → (a : Answer) → good side path (seen start past) ≡ Some a
+      → Suits a (to_see side (tree_held h wire.server.place) (path_of path))
   agrees_at past wire Was letters tail g talks received taken restored side path p a e =
-      let none : letters ≡ [] = nothing_in_flight letters tail (sym g.bytes ∙ ap (λ l. held_of past ++ l) received ∙ ap (λ l. l ++ []) taken) in
+      let none : letters ≡ [] =
+      nothing_in_flight letters tail (sym g.bytes ∙ ap (λ l. held_of past ++ l) received ∙ ap (λ l. l ++ []) taken) in
       let rs : List Request = map (λ s. s.request) (unread start past wire) in
       let ahead = (talking_of P h start Was past wire letters tail talks g).ahead side path p in
       let settled : Ahead h side path [] (seen start past) (IsSettled h side path rs wire.server.place wire.server.watches) =
-      subst (λ ms. Ahead h side path ms (seen start past) (IsSettled h side path rs wire.server.place wire.server.watches)) (ap messages none) ahead in
+      subst (λ ms. Ahead h side path ms (seen start past) (IsSettled h side path rs wire.server.place wire.server.watches))
+      (ap messages none) ahead in
       sure rs (subst (λ k. IsSure h side path rs wire.server.place wire.server.watches (last (seen start past)) k) e settled.1.1) restored
     where
-      sure : (rs : List Request) → IsSure h side path rs wire.server.place wire.server.watches (last (seen start past)) (Some a) → AreRestored rs → Suits a (to_see side (tree_held h wire.server.place) (path_of path))
+      sure : (rs : List Request) → IsSure h side path rs wire.server.place wire.server.watches (last (seen start past)) (Some a)
+          → AreRestored rs → Suits a (to_see side (tree_held h wire.server.place) (path_of path))
       sure rs (inl c) r = c.fits
       sure rs (inr w) r = absurd (not_awaited side path a (last (seen start past)) rs r w)
 
-  pub quiet_at : (entries : List LocalEntry) (view : View) → IsServingAt P h start entries → Stands start (items_at entries) view → IsQuietAfter h start entries → IsTrueAt P (tree_after h entries) view.cache
+  pub quiet_at : (entries : List LocalEntry) (view : View) → IsServingAt P h start entries → Stands start (items_at entries) view
+      → IsQuietAfter h start entries → IsTrueAt P (tree_after h entries) view.cache
   quiet_at entries view may s quiet =
       let stands = schedule_at P h is start (WasSentAt entries) entries (λ p w. w) s.asked may in
       let past : Past = past_of start (items_at entries) in
       let wire : Wire = wire_at h entries in
       let g = stands.going quiet.going in
       let agrees = agrees_at past wire (WasSentAt entries) g.0 g.1 g.2 quiet.talking quiet.received quiet.taken quiet.restored in
-      subst (λ c. IsTrueAt P (tree_after h entries) c) (sym s.cache) (cache_at P start past (tree_after h entries) (λ path p a e. agrees Data path p a e) (λ path p a e. agrees Child path p a e))
+      subst (λ c. IsTrueAt P (tree_after h entries) c) (sym s.cache)
+      (cache_at P start past (tree_after h entries) (λ path p a e. agrees Data path p a e) (λ path p a e. agrees Child path p a e))
 
   -- ---- answers and drops
 
   -- the call of a reply, and where its server stood
   abbrev CallAt : Past → ℕ → Question → ℤ → Result → Type 0
-  CallAt past ticket q z r = (call : Call) × Among (Asked ticket call) past × (question_of call ≡ q) × IsAnsweredFor P h start (λ payload. ⊥) call z r
+  CallAt past ticket q z r =
+      (call : Call) × Among (Asked ticket call) past × (question_of call ≡ q) × IsAnsweredFor P h start (λ payload. ⊥) call z r
 
-  first_asked : (Was : List ℕ → Type 0) (past : Past) (ticket : ℕ) (q : Question) (z : ℤ) (r : Result) (asked : List Asking) → awaited past ≡ asked → AnswersFirstAt P h start Was ticket q z r asked
+  first_asked : (Was : List ℕ → Type 0) (past : Past) (ticket : ℕ) (q : Question) (z : ℤ) (r : Result) (asked : List Asking)
+      → awaited past ≡ asked → AnswersFirstAt P h start Was ticket q z r asked
       → CallAt past ticket q z r
   first_asked Was past ticket q z r [] e a = absurd a
   first_asked Was past ticket q z r (For_part b ∷ more) e a = absurd a
-  first_asked Was past ticket q z r (For_call xid other call ∷ more) e a =
-      (call, subst (λ t. Among (Asked t call) past) a.0 (awaited_asked xid other call past (subst (λ l. Among (For_call xid other call) l) (sym e) (inl refl))), a.1, a.2)
+  first_asked Was past ticket q z r (For_call xid other call ∷ more) e a = (
+    call,
+    subst (λ t. Among (Asked t call) past) a.0
+        (awaited_asked xid other call past (subst (λ l. Among (For_call xid other call) l) (sym e) (inl refl))),
+    a.1,
+    a.2,
+  )
 
   calm_rest : (Was : List ℕ → Type 0) (x : Happening) (past : Past) → IsCalmAt P h start Was (x ∷ past) → IsCalmAt P h start Was past
   calm_rest Was (Dropped fault) past c = c.1
@@ -214,9 +247,11 @@ module _ (P : Text → Type 0) (h : History) (is : IsHistory h) (start : Start) 
   calm_rest Was (Takes_in Skipped) past c = c
   calm_rest Was _ past c = c
 
-  call_at : (Was : List ℕ → Type 0) (past : Past) → IsCalmAt P h start Was past → (ticket : ℕ) (q : Question) (z : ℤ) (r : Result) → Among (Takes_in (Answers_call ticket q z r)) past → CallAt past ticket q z r
+  call_at : (Was : List ℕ → Type 0) (past : Past) → IsCalmAt P h start Was past → (ticket : ℕ) (q : Question) (z : ℤ) (r : Result)
+      → Among (Takes_in (Answers_call ticket q z r)) past → CallAt past ticket q z r
   call_at Was [] c ticket q z r a = absurd a
-  call_at Was (x ∷ past) c ticket q z r (inl e) = more (first_asked Was past ticket q z r (awaited past) refl (subst (λ y. IsCalmAt P h start Was (y ∷ past)) (sym e) c).0)
+  call_at Was (x ∷ past) c ticket q z r (inl e) =
+      more (first_asked Was past ticket q z r (awaited past) refl (subst (λ y. IsCalmAt P h start Was (y ∷ past)) (sym e) c).0)
     where
       more : CallAt past ticket q z r → CallAt (x ∷ past) ticket q z r
       more c = (c.0, inr c.1, c.2, c.3)
@@ -225,32 +260,45 @@ module _ (P : Text → Type 0) (h : History) (is : IsHistory h) (start : Start) 
       more : CallAt past ticket q z r → CallAt (x ∷ past) ticket q z r
       more c = (c.0, inr c.1, c.2, c.3)
 
-  drop_at : (Was : List ℕ → Type 0) (past : Past) → IsCalmAt P h start Was past → (fault : Fault) → Among (Dropped fault) past → IsDue Was fault
+  drop_at : (Was : List ℕ → Type 0) (past : Past) → IsCalmAt P h start Was past → (fault : Fault)
+      → Among (Dropped fault) past → IsDue Was fault
   drop_at Was [] c fault a = absurd a
   drop_at Was (x ∷ past) c fault (inl e) = (subst (λ y. IsCalmAt P h start Was (y ∷ past)) (sym e) c).0
   drop_at Was (x ∷ past) c fault (inr a) = drop_at Was past (calm_rest Was x past c) fault a
 
   -- what is true of an answer about one of these paths
-  true_at : (call : Call) (z : ℤ) (r : Result) → IsAnsweredFor P h start (λ payload. ⊥) call z r → IsAbout P call → Reads (tree_at h (from_zero z)) (question_of call) r × IsTrueWrite h call (from_zero z) r
+  true_at : (call : Call) (z : ℤ) (r : Result) → IsAnsweredFor P h start (λ payload. ⊥) call z r → IsAbout P call
+      → Reads (tree_at h (from_zero z)) (question_of call) r × IsTrueWrite h call (from_zero z) r
   true_at call z r (inl a) about =
       let g = a.2 in
-      let gives = g.2.1 about in
-      (subst (λ n. Reads (tree_at h n) (question_of call) r) (sym g.1) (given_true h is g.0 call r gives), subst (λ n. IsTrueWrite h call n r) (sym g.1) (given_write h g.0 call r gives))
-  true_at call z (Refused code) (inr d) about = (refused_read (tree_at h (from_zero z)) (question_of call) code, refused_write h call (from_zero z) code)
+      let gives = g.2.1 about in (
+        subst (λ n. Reads (tree_at h n) (question_of call) r) (sym g.1) (given_true h is g.0 call r gives),
+        subst (λ n. IsTrueWrite h call n r) (sym g.1) (given_write h g.0 call r gives),
+      )
+  true_at call z (Refused code) (inr d) about =
+      (refused_read (tree_at h (from_zero z)) (question_of call) code, refused_write h call (from_zero z) code)
   true_at call z _ (inr d) about = absurd d
 
-  above_at : (call : Call) (z : ℤ) (r : Result) → IsAnsweredFor P h start (λ payload. ⊥) call z r → ((from_zero start.last ≤ from_zero z) × (z ≡ pos (from_zero z))) ⊎ IsDenial z r
+  above_at : (call : Call) (z : ℤ) (r : Result)
+      → IsAnsweredFor P h start (λ payload. ⊥) call z r → ((from_zero start.last ≤ from_zero z) × (z ≡ pos (from_zero z))) ⊎ IsDenial z r
   above_at call z r (inl a) = inl (a.1, a.0)
   above_at call z r (inr d) = inr d
 
-  pub headline_at : (items : List Item) (view : View) → Stands start items view → (served : ServedAt P h start items) → HeadlineAt P h start items view served.entries
+  pub headline_at : (items : List Item) (view : View) → Stands start items view → (served : ServedAt P h start items)
+      → HeadlineAt P h start items view served.entries
   headline_at items view s served =
       let stands = stands_here items s.asked served in
       record {
         coherent = coherent_at items view s served;
         answers = λ ticket zxid result a.
             let t = given_answers ticket zxid result start items view s a in
-            let c = call_at (WasSentAt served.entries) (past_of start items) stands.calm ticket t.0 zxid result t.1 in
-            (c.0, c.1, subst (λ q. Among (Takes_in (Answers_call ticket q zxid result)) (past_of start items)) (sym c.2) t.1, true_at c.0 zxid result c.3, above_at c.0 zxid result c.3);
-        drops = λ fault a. drop_at (WasSentAt served.entries) (past_of start items) stands.calm fault (given_drops fault start items view s a);
+            let c = call_at (WasSentAt served.entries) (past_of start items) stands.calm ticket t.0 zxid result t.1 in (
+              c.0,
+              c.1,
+              subst (λ q. Among (Takes_in (Answers_call ticket q zxid result)) (past_of start items)) (sym c.2) t.1,
+              true_at c.0 zxid result c.3,
+              above_at c.0 zxid result c.3,
+            );
+        drops =
+            λ fault a. drop_at (WasSentAt served.entries) (past_of start items) stands.calm fault (given_drops fault start items view s a);
       }

@@ -1,13 +1,17 @@
 -- Each item of a client keeps what is between it and its servers.
-use Rattle.zk_turns.specs.Turns.{Framed, WatchesRefused, IsAsked, Start, Outcome, Silent, Input, Bytes, Cut, Now, Call, Turned, Turn, Comes, signals_of, signals, Opened as Opening, IsAskable}
+use Rattle.zk_turns.specs.Turns.{Framed, WatchesRefused, IsAsked, Start, Outcome, Silent, Input, Bytes, Cut, Now, Call, Turned, Turn, Comes}
+use Rattle.zk_turns.specs.Turns.{signals_of, signals, Opened as Opening, IsAskable}
 use Rattle.zk_frames.specs.declared.fault.FrameFault.{FrameFault}
 use Rattle.zk_frames.specs.Frame.{frame}
 use Rattle.zk_conversation.specs.Calls.{Call as Asked_call, part_xid}
 use Rattle.zk_conversation.specs.Pending.{Call_waits}
-use Rattle.zk_turns.specs.Past.{is_open, Asking, For_call, For_part, parts_asked, awaited, pending_for, Happening, Past, Came, Dropped, Pinged, Ticked, is_talking, state_of, has_halted, held_of, pending_of, lists_of, last_of, Took as Takes_in, Lost as Loses_it, Accepted as Accepts, Expiry, Replies as Answers_call}
+use Rattle.zk_turns.specs.Past.{is_open, Asking, For_call, For_part, parts_asked, awaited, pending_for, Happening, Past, Came, Dropped}
+use Rattle.zk_turns.specs.Past.{Pinged, Ticked, is_talking, state_of, has_halted, held_of, pending_of, lists_of, last_of, Took as Takes_in}
+use Rattle.zk_turns.specs.Past.{Lost as Loses_it, Accepted as Accepts, Expiry, Replies as Answers_call}
 use Rattle.zk_watches.specs.Lists.{Lists}
 use Rattle.zk_watches.specs.Parts.{parts}
-use Rattle.std.proofs.Common.{◌≡◌, ℕ, zero, suc, ◌≤◌, ℤ, pos, Bool, true, false, cond, ◌&&◌, List, [], ◌∷◌, ◌++◌, map, drop, length, refl, sym, ap, subst, ◌∙◌, arith, inl, inr, ◌⊎◌, Option, Some, None, append_assoc}
+use Rattle.std.proofs.Common.{◌≡◌, ℕ, zero, suc, ◌≤◌, ℤ, pos, Bool, true, false, cond, ◌&&◌, List, [], ◌∷◌, ◌++◌, map, drop, length, refl}
+use Rattle.std.proofs.Common.{sym, ap, subst, ◌∙◌, arith, inl, inr, ◌⊎◌, Option, Some, None, append_assoc}
 use Rattle.std.specs.Prelude.{⊤, nat_lt, nat_le, is_some, if◌then◌else◌, not, ◌*◌, ◌-◌, max}
 use Rattle.std.specs.List.{AllByRecursion}
 use Rattle.std.proofs.lemmas.List.{length-append, map-append}
@@ -15,7 +19,8 @@ use Rattle.zk_session.specs.declared.states.State.{State}
 use Rattle.zk_session.specs.declared.states.State.TheVariants.{Idle, Connecting, Connected, Expired, Closed}
 use Rattle.zk_session.specs.SessionView.{Welcome}
 use Rattle.zk_turns.specs.View.{View, view_at}
-use Rattle.zk_turns.specs.Taken.{reading, cut, Cutting, Unfinished, Bad, Payload, of_cutting, happenings, joined, past_after, opens, if_open, due, timeout_of, refusal, comes}
+use Rattle.zk_turns.specs.Taken.{reading, cut, Cutting, Unfinished, Bad, Payload, of_cutting, happenings, joined, past_after, opens}
+use Rattle.zk_turns.specs.Taken.{if_open, due, timeout_of, refusal, comes}
 use Rattle.zk_turns.specs.Rule.{IsOpen}
 use Rattle.zk_turns.proofs.Stepped.{Counted, talks_in}
 use Rattle.zk_turns.proofs.Pieces.{byte_happens}
@@ -28,20 +33,24 @@ use Rattle.zk_laws.specs.Log.{Item as Log_item, Took, last, left_by}
 use Rattle.zk_laws.specs.Steps.{is_behind, restores}
 use Rattle.zk_laws.specs.ServerSteps.{Stage, Waiting, Serving, Ended}
 use Rattle.zk_laws.specs.Seen.{seen, item_of}
-use Rattle.zk_laws.specs.Served.{MayEnter, Goes_on, Sent, requests, part_requests, unread, Wire, new_wire, no_wire, is_going, IsPayload, wire_past}
+use Rattle.zk_laws.specs.Served.{MayEnter, Goes_on, Sent, requests, part_requests, unread, Wire, new_wire, no_wire, is_going, IsPayload}
+use Rattle.zk_laws.specs.Served.{wire_past}
 use Rattle.zk_laws.specs.Flight.{Letter, frames, messages, answers, AreLater, Owes}
 use Rattle.zk_laws.proofs.Seeing.{last_is}
 use Rattle.zk_laws.proofs.Ordering.{are_parts}
-use Rattle.zk_laws.proofs.Framed.{taken_first, first_too_long, none_cut, reads_notice, reads_pong, reads_part, reads_reply, reads_accepted, reads_expired}
+use Rattle.zk_laws.proofs.Framed.{taken_first, first_too_long, none_cut, reads_notice, reads_pong, reads_part, reads_reply, reads_accepted}
+use Rattle.zk_laws.proofs.Framed.{reads_expired}
 use Rattle.zk_laws.proofs.Flight.{owes_parts, requests_parts, unread_more}
 use Rattle.theory_local.proofs.Kept_at.{IsOpeningAt, IsStartingAt, IsTalkingAt, IsKeptAt, IsLow, not_behind, start_joins, talking_right}
-use Rattle.theory_local.proofs.Flow.{Tail, Nothing_more, Failure, tail_bytes, IsForAt, IsLetterAt, IsFlow, IsTail, IsSpelt, IsGivenAt, IsAnsweredFor, AnswersFirstAt, IsAnswered, IsCalmAt, Stands_at, reads_refusal, reads_denial}
+use Rattle.theory_local.proofs.Flow.{Tail, Nothing_more, Failure, tail_bytes, IsForAt, IsLetterAt, IsFlow, IsTail, IsSpelt, IsGivenAt}
+use Rattle.theory_local.proofs.Flow.{IsAnsweredFor, AnswersFirstAt, IsAnswered, IsCalmAt, Stands_at, reads_refusal, reads_denial}
 use Rattle.theory_local.specs.LocalHeadline.{IsDenial}
 use Rattle.zk_laws.specs.Flight.{HasCode}
 use Rattle.zk_turns.specs.Spelled.{IsHeaded}
 use Rattle.zk_conversation.specs.Questions.{Question}
 use Rattle.zk_conversation.specs.Results.{Result, NoNode, Refused, Found, Read, Listing, Made, Done}
-use Rattle.theory_local.proofs.Taking_at.{ticked, denied, came, lost, dropped, began, asked, pinged, still, talking_of, took_notice, took_pong, took_part, took_reply, and_false}
+use Rattle.theory_local.proofs.Taking_at.{ticked, denied, came, lost, dropped, began, asked, pinged, still, talking_of, took_notice}
+use Rattle.theory_local.proofs.Taking_at.{took_pong, took_part, took_reply, and_false}
 
 and_two : (a b : Bool) → (a && b) ≡ true → (a ≡ true) × (b ≡ true)
 and_two true b e = (refl, e)
@@ -71,7 +80,8 @@ later_notices [] = tt
 later_notices (n ∷ ns) = later_notices ns
 
 module _ (P : Text → Type 0) (h : History) (start : Start) (Was : List ℕ → Type 0) where
-  first_by : (log : List Log_item) (stage : Stage) (rs : List Request) (m : Message) (ms : List Message) (place : ℕ) → IsOpeningAt P h log rs (m ∷ ms) place stage → MayBeFirst m ms rs
+  first_by : (log : List Log_item) (stage : Stage) (rs : List Request) (m : Message) (ms : List Message) (place : ℕ)
+      → IsOpeningAt P h log rs (m ∷ ms) place stage → MayBeFirst m ms rs
   first_by log Waiting rs m ms place o = absurd (let e = o.1 in cc)
   first_by log Serving rs m ms place o = by o.1.1
     where
@@ -79,13 +89,17 @@ module _ (P : Text → Type 0) (h : History) (start : Start) (Was : List ℕ →
       by e = let f : Accepted ≡ m = cc in let g : ms ≡ map Notifies o.1.0 = cc in subst (λ x. MayBeFirst x ms rs) f ((o.1.0, g), o.0)
   first_by log Ended rs m ms place o = let f : Expires ≡ m = let e = o.1 in cc in subst (λ x. MayBeFirst x ms rs) f tt
 
-  starting_of : (past : Past) (wire : Wire) (letters : List Letter) (tail : Tail) → state_of past ≡ Connecting → IsFlow P h start Was past wire letters tail
-      → IsStartingAt P h (seen start past) (map (λ s. s.request) (unread start past wire)) (messages letters) wire.server.place wire.server.watches wire.server.stage
+  starting_of : (past : Past) (wire : Wire) (letters : List Letter) (tail : Tail)
+      → state_of past ≡ Connecting → IsFlow P h start Was past wire letters tail
+      → IsStartingAt P h (seen start past) (map (λ s. s.request) (unread start past wire))
+      (messages letters) wire.server.place wire.server.watches wire.server.stage
   starting_of past wire letters tail st g =
-      subst (λ s. IsKeptAt P h (is_talking s) (seen start past) (map (λ s. s.request) (unread start past wire)) (messages letters) wire.server.place wire.server.watches wire.server.stage) st g.kept
+      subst (λ s. IsKeptAt P h (is_talking s) (seen start past) (map (λ s. s.request) (unread start past wire))
+      (messages letters) wire.server.place wire.server.watches wire.server.stage) st g.kept
 
   -- the letters of notices wait for nothing
-  notices_ask : (ns : List Notice) (ls : List Letter) → messages ls ≡ map Notifies ns → AllByRecursion (IsLetterAt P h start Was) ls → answers ls ≡ []
+  notices_ask : (ns : List Notice) (ls : List Letter)
+      → messages ls ≡ map Notifies ns → AllByRecursion (IsLetterAt P h start Was) ls → answers ls ≡ []
   notices_ask [] [] e a = refl
   notices_ask (n ∷ ns) [] e a = refl
   notices_ask [] (l ∷ ls) e a = absurd cc
@@ -101,9 +115,11 @@ module _ (P : Text → Type 0) (h : History) (start : Start) (Was : List ℕ →
   no_tail (Failure payload rest) stage owed t e = absurd (let f = t.6 in cc)
 
   -- the acceptance is taken, and the parts are sent
-  took_accepted : (past : Past) (wire : Wire) (xid : ℤ) (p : List ℕ) (ps : List Asking) (ls : List Letter) (tail : Tail) → state_of past ≡ Connecting
+  took_accepted : (past : Past) (wire : Wire) (xid : ℤ) (p : List ℕ) (ps : List Asking) (ls : List Letter) (tail : Tail)
+      → state_of past ≡ Connecting
       → IsFlow P h start Was past wire (record { message = Accepted; payload = p; xid = xid; asked = ps } ∷ ls) tail
-      → (ns : List Notice) → messages ls ≡ map Notifies ns → map (λ s. s.request) (unread start past wire) ≡ [] → IsCalmAt P h start Was past → wire.coming ≡ frames ls ++ tail_bytes tail → (welcome : Welcome)
+      → (ns : List Notice) → messages ls ≡ map Notifies ns → map (λ s. s.request) (unread start past wire) ≡ []
+      → IsCalmAt P h start Was past → wire.coming ≡ frames ls ++ tail_bytes tail → (welcome : Welcome)
       → Stands_at P h start Was (Takes_in (Accepts welcome) ∷ past) wire
   took_accepted past wire xid p ps ls tail st g ns told none calm coming welcome =
       let all : List Lists = parts (lists_of past) in
@@ -114,12 +130,17 @@ module _ (P : Text → Type 0) (h : History) (start : Start) (Was : List ℕ →
       let n = length-append (requests start past) sent in
       let unasked : unread start past wire ≡ [] = nothing_left (unread start past wire) none in
       let quiet : tail ≡ Nothing_more = no_tail tail wire.server.stage g.owed g.ended (subst (λ l. Owes l g.owed) unasked g.owes) in
-      let t = start_joins P h (seen start past) rs (messages ls) wire.server.place wire.server.watches wire.server.stage all (are_parts start past) (starting_of past wire (record { message = Accepted; payload = p; xid = xid; asked = ps } ∷ ls) tail st g) in
+      let t = start_joins P h (seen start past) rs
+      (messages ls) wire.server.place wire.server.watches wire.server.stage all (are_parts start past)
+      (starting_of past wire (record { message = Accepted; payload = p; xid = xid; asked = ps } ∷ ls) tail st g) in
       let same : rs ++ restores (last (seen start past)) all ≡ map (λ s. s.request) (drop wire.processed (requests start past ++ sent)) =
-      ap (λ z. rs ++ restores z all) (last_is start past) ∙ ap (λ t. rs ++ t) (sym (requests_parts (last_of start past) all)) ∙ sym (map-append (λ s. s.request) (unread start past wire) sent) ∙ ap (λ t. map (λ s. s.request) t) (sym u) in
-      let t' = subst (λ l. IsTalkingAt P h (Took Accepted ∷ seen start past) l (messages ls) wire.server.place wire.server.watches wire.server.stage) same t in
+      ap (λ z. rs ++ restores z all) (last_is start past) ∙ ap (λ t. rs ++ t) (sym (requests_parts (last_of start past) all))
+      ∙ sym (map-append (λ s. s.request) (unread start past wire) sent) ∙ ap (λ t. map (λ s. s.request) t) (sym u) in
+      let t' = subst (λ l. IsTalkingAt P h (Took Accepted ∷ seen start past) l
+      (messages ls) wire.server.place wire.server.watches wire.server.stage) same t in
       record {
-        right = talking_right P h (Took Accepted ∷ seen start past) (rs ++ restores (last (seen start past)) all) (messages ls) wire.server.place wire.server.watches wire.server.stage t;
+        right = talking_right P h (Took Accepted ∷ seen start past) (rs ++ restores (last (seen start past)) all)
+            (messages ls) wire.server.place wire.server.watches wire.server.stage t;
         calm = calm;
         counted = omega arith;
         going = λ e. (
@@ -139,19 +160,25 @@ module _ (P : Text → Type 0) (h : History) (start : Start) (Was : List ℕ →
         );
       }
 
-  took_expiry : (past : Past) (wire : Wire) → IsCalmAt P h start Was past → Counted past → Stands_at P h start Was (Takes_in Expiry ∷ past) wire
-  took_expiry past wire calm counted = record { right = λ side path p answer e. absurd cc; calm = calm; counted = counted; going = λ e. absurd cc }
+  took_expiry : (past : Past) (wire : Wire)
+      → IsCalmAt P h start Was past → Counted past → Stands_at P h start Was (Takes_in Expiry ∷ past) wire
+  took_expiry past wire calm counted =
+      record { right = λ side path p answer e. absurd cc; calm = calm; counted = counted; going = λ e. absurd cc }
 
   -- the first payload of a connection
-  opening_read : (past : Past) (wire : Wire) (m : Message) (xid : ℤ) (p : List ℕ) (ps : List Asking) (ls : List Letter) (tail : Tail) → state_of past ≡ Connecting
+  opening_read : (past : Past) (wire : Wire) (m : Message) (xid : ℤ) (p : List ℕ) (ps : List Asking) (ls : List Letter) (tail : Tail)
+      → state_of past ≡ Connecting
       → IsFlow P h start Was past wire (record { message = m; payload = p; xid = xid; asked = ps } ∷ ls) tail
-      → IsCalmAt P h start Was past → Counted past → wire.coming ≡ frames ls ++ tail_bytes tail → MayBeFirst m (messages ls) (map (λ s. s.request) (unread start past wire))
+      → IsCalmAt P h start Was past → Counted past → wire.coming ≡ frames ls ++ tail_bytes tail
+      → MayBeFirst m (messages ls) (map (λ s. s.request) (unread start past wire))
       → Stands_at P h start Was (reading Connecting (pending_of past) (last_of start past) p ∷ past) wire
   opening_read past wire Accepted xid p ps ls tail st g calm counted coming first =
       let w = reads_accepted (pending_of past) (last_of start past) xid p g.are.0.spelt in
-      subst (λ t. Stands_at P h start Was (t ∷ past) wire) (sym w.1) (took_accepted past wire xid p ps ls tail st g first.0.0 first.0.1 first.1 calm coming w.0)
+      subst (λ t. Stands_at P h start Was (t ∷ past) wire) (sym w.1)
+      (took_accepted past wire xid p ps ls tail st g first.0.0 first.0.1 first.1 calm coming w.0)
   opening_read past wire Expires xid p ps ls tail st g calm counted coming first =
-      subst (λ t. Stands_at P h start Was (t ∷ past) wire) (sym (reads_expired (pending_of past) (last_of start past) xid p g.are.0.spelt)) (took_expiry past wire calm counted)
+      subst (λ t. Stands_at P h start Was (t ∷ past) wire) (sym (reads_expired (pending_of past) (last_of start past) xid p g.are.0.spelt))
+      (took_expiry past wire calm counted)
   opening_read past wire (Replies q z res) xid p ps ls tail st g calm counted coming first = absurd first
   opening_read past wire (Watches_set b z) xid p ps ls tail st g calm counted coming first = absurd first
   opening_read past wire (Notifies n) xid p ps ls tail st g calm counted coming first = absurd first
@@ -179,82 +206,108 @@ module _ (P : Text → Type 0) (h : History) (start : Start) (Was : List ℕ →
   coded_of call z _ (inr low) = absurd low
 
   -- a reply whose zxid is from 0
-  told_of : (past : Past) (call : Asked_call) (z : ℕ) (r : Result) → (last (seen start past) ≤ z) ⊎ IsLow z r → IsGivenAt P h call z r ⊎ IsLow z r → IsAnsweredFor P h start Was call (pos z) r
+  told_of : (past : Past) (call : Asked_call) (z : ℕ) (r : Result)
+      → (last (seen start past) ≤ z) ⊎ IsLow z r → IsGivenAt P h call z r ⊎ IsLow z r → IsAnsweredFor P h start Was call (pos z) r
   told_of past call z r (inl le) (inl given) = let began = began_low past in inl (refl, omega arith, given)
   told_of past call z r (inr low) given = inr (denial_of z r low)
   told_of past call z r (inl le) (inr low) = inr (denial_of z r low)
 
-  module _ (past : Past) (wire : Wire) (q : Question) (z : ℕ) (res : Result) (xid : ℤ) (p : List ℕ) (ps : List Asking) (ls : List Letter) (tail : Tail) (talks : is_talking (state_of past) ≡ true)
+  module _ (past : Past) (wire : Wire) (q : Question) (z : ℕ) (res : Result) (xid : ℤ) (p : List ℕ) (ps : List Asking) (ls : List Letter)
+      (tail : Tail) (talks : is_talking (state_of past) ≡ true)
       (g : IsFlow P h start Was past wire (record { message = Replies q z res; payload = p; xid = xid; asked = ps } ∷ ls) tail)
       (calm : IsCalmAt P h start Was past) (counted : Counted past) (coming : wire.coming ≡ frames ls ++ tail_bytes tail) where
     -- the reply is read with this zxid
     reply_taken : (zxid : ℤ) → from_zero zxid ≡ z → IsAnsweredFor P h start Was g.are.0.is_for.2 zxid res
-        → reading Connected (record { xid = pos g.are.0.is_for.1; waiting = Call_waits g.are.0.is_for.0 q } ∷ map pending_for (answers ls ++ g.owed)) (last_of start past) p ≡ Takes_in (Answers_call g.are.0.is_for.0 q zxid res)
+        → reading Connected (record { xid = pos g.are.0.is_for.1; waiting = Call_waits g.are.0.is_for.0 q }
+        ∷ map pending_for (answers ls ++ g.owed)) (last_of start past) p ≡ Takes_in (Answers_call g.are.0.is_for.0 q zxid res)
         → Stands_at P h start Was (reading Connected (pending_of past) (last_of start past) p ∷ past) wire
     reply_taken zxid same told read =
         let f = g.are.0.is_for in
         let x : Asking = For_call f.1 f.0 f.2 in
         let first : awaited past ≡ x ∷ (answers ls ++ g.owed) = g.pending ∙ ap (λ l. l ++ answers ls ++ g.owed) f.5 in
         let mine : pending_of past ≡ record { xid = pos f.1; waiting = Call_waits f.0 q } ∷ map pending_for (answers ls ++ g.owed) =
-        ap (map pending_for) first ∙ ap (λ t. record { xid = pos f.1; waiting = Call_waits f.0 t } ∷ map pending_for (answers ls ++ g.owed)) f.4 in
-        let holds : IsAnswered P h start Was f.0 q zxid res past = subst (λ l. AnswersFirstAt P h start Was f.0 q zxid res l) (sym first) (refl, f.4, told) in
+        ap (map pending_for) first
+        ∙ ap (λ t. record { xid = pos f.1; waiting = Call_waits f.0 t } ∷ map pending_for (answers ls ++ g.owed)) f.4 in
+        let holds : IsAnswered P h start Was f.0 q zxid res past =
+        subst (λ l. AnswersFirstAt P h start Was f.0 q zxid res l) (sym first) (refl, f.4, told) in
         subst (λ t. Stands_at P h start Was (t ∷ past) wire) (sym (ap (λ l. reading Connected l (last_of start past) p) mine ∙ read))
         (took_reply P h start Was past wire q z zxid same res xid p ps ls tail talks g calm counted coming f.0 x first holds)
 
     -- the payload is the message's
-    reply_plain : IsPayload xid (Replies q z res) p → Stands_at P h start Was (reading Connected (pending_of past) (last_of start past) p ∷ past) wire
+    reply_plain : IsPayload xid (Replies q z res) p
+        → Stands_at P h start Was (reading Connected (pending_of past) (last_of start past) p ∷ past) wire
     reply_plain s =
         let f = g.are.0.is_for in
         let spelt : IsPayload (pos f.1) (Replies q z res) p = subst (λ t. IsPayload t (Replies q z res) p) f.3 s in
-        let t = talking_of P h start Was past wire (record { message = Replies q z res; payload = p; xid = xid; asked = ps } ∷ ls) tail talks g in
-        let behind : is_behind (seen start past) (Replies q z res) ≡ false = not_behind (seen start past) (Replies q z res) (messages ls) _ t.rises in
+        let t = talking_of P h start Was past wire
+        (record { message = Replies q z res; payload = p; xid = xid; asked = ps } ∷ ls) tail talks g in
+        let behind : is_behind (seen start past) (Replies q z res) ≡ false =
+        not_behind (seen start past) (Replies q z res) (messages ls) _ t.rises in
         reply_taken (pos z) refl (told_of past f.2 z res t.rises.0 f.6)
-        (reads_reply (map pending_for (answers ls ++ g.owed)) (last_of start past) f.1 f.0 q z res p (coded_of f.2 z res f.6) spelt (ap (λ t. is_some (left_by q res) && nat_lt z t) (sym (last_is start past)) ∙ behind))
+        (reads_reply (map pending_for (answers ls ++ g.owed)) (last_of start past) f.1 f.0 q z res p (coded_of f.2 z res f.6) spelt
+        (ap (λ t. is_some (left_by q res) && nat_lt z t) (sym (last_is start past)) ∙ behind))
 
-  reply_read : (past : Past) (wire : Wire) (q : Question) (z : ℕ) (res : Result) (xid : ℤ) (p : List ℕ) (ps : List Asking) (ls : List Letter) (tail : Tail) → is_talking (state_of past) ≡ true
+  reply_read : (past : Past) (wire : Wire) (q : Question) (z : ℕ) (res : Result) (xid : ℤ) (p : List ℕ) (ps : List Asking)
+      (ls : List Letter) (tail : Tail) → is_talking (state_of past) ≡ true
       → IsFlow P h start Was past wire (record { message = Replies q z res; payload = p; xid = xid; asked = ps } ∷ ls) tail
       → IsCalmAt P h start Was past → Counted past → wire.coming ≡ frames ls ++ tail_bytes tail → IsSpelt xid (Replies q z res) p
       → Stands_at P h start Was (reading Connected (pending_of past) (last_of start past) p ∷ past) wire
-  reply_read past wire q z (Refused code) xid p ps ls tail talks g calm counted coming (inl s) = reply_plain past wire q z (Refused code) xid p ps ls tail talks g calm counted coming s
+  reply_read past wire q z (Refused code) xid p ps ls tail talks g calm counted coming (inl s) =
+      reply_plain past wire q z (Refused code) xid p ps ls tail talks g calm counted coming s
   reply_read past wire q z (Refused code) xid p ps ls tail talks g calm counted coming (inr d) =
       let f = g.are.0.is_for in
       reply_taken past wire q z (Refused code) xid p ps ls tail talks g calm counted coming d.1 (d.3 ∙ sym d.0) (inr d.3)
-      (reads_denial (map pending_for (answers ls ++ g.owed)) (last_of start past) f.1 f.0 q d.1 code p d.2 d.4 (subst (λ t. IsHeaded t d.1 code p d.2) f.3 d.5))
-  reply_read past wire q z NoNode xid p ps ls tail talks g calm counted coming s = reply_plain past wire q z NoNode xid p ps ls tail talks g calm counted coming s
-  reply_read past wire q z (Found stat) xid p ps ls tail talks g calm counted coming s = reply_plain past wire q z (Found stat) xid p ps ls tail talks g calm counted coming s
-  reply_read past wire q z (Read b stat) xid p ps ls tail talks g calm counted coming s = reply_plain past wire q z (Read b stat) xid p ps ls tail talks g calm counted coming s
-  reply_read past wire q z (Listing ns stat) xid p ps ls tail talks g calm counted coming s = reply_plain past wire q z (Listing ns stat) xid p ps ls tail talks g calm counted coming s
-  reply_read past wire q z (Made at) xid p ps ls tail talks g calm counted coming s = reply_plain past wire q z (Made at) xid p ps ls tail talks g calm counted coming s
-  reply_read past wire q z Done xid p ps ls tail talks g calm counted coming s = reply_plain past wire q z Done xid p ps ls tail talks g calm counted coming s
+      (reads_denial (map pending_for (answers ls ++ g.owed)) (last_of start past) f.1 f.0 q d.1 code p d.2 d.4
+      (subst (λ t. IsHeaded t d.1 code p d.2) f.3 d.5))
+  reply_read past wire q z NoNode xid p ps ls tail talks g calm counted coming s =
+      reply_plain past wire q z NoNode xid p ps ls tail talks g calm counted coming s
+  reply_read past wire q z (Found stat) xid p ps ls tail talks g calm counted coming s =
+      reply_plain past wire q z (Found stat) xid p ps ls tail talks g calm counted coming s
+  reply_read past wire q z (Read b stat) xid p ps ls tail talks g calm counted coming s =
+      reply_plain past wire q z (Read b stat) xid p ps ls tail talks g calm counted coming s
+  reply_read past wire q z (Listing ns stat) xid p ps ls tail talks g calm counted coming s =
+      reply_plain past wire q z (Listing ns stat) xid p ps ls tail talks g calm counted coming s
+  reply_read past wire q z (Made at) xid p ps ls tail talks g calm counted coming s =
+      reply_plain past wire q z (Made at) xid p ps ls tail talks g calm counted coming s
+  reply_read past wire q z Done xid p ps ls tail talks g calm counted coming s =
+      reply_plain past wire q z Done xid p ps ls tail talks g calm counted coming s
 
   -- a later payload
-  talking_read : (past : Past) (wire : Wire) (m : Message) (xid : ℤ) (p : List ℕ) (ps : List Asking) (ls : List Letter) (tail : Tail) → is_talking (state_of past) ≡ true
+  talking_read : (past : Past) (wire : Wire) (m : Message) (xid : ℤ) (p : List ℕ) (ps : List Asking) (ls : List Letter) (tail : Tail)
+      → is_talking (state_of past) ≡ true
       → IsFlow P h start Was past wire (record { message = m; payload = p; xid = xid; asked = ps } ∷ ls) tail
       → IsCalmAt P h start Was past → Counted past → wire.coming ≡ frames ls ++ tail_bytes tail
       → Stands_at P h start Was (reading Connected (pending_of past) (last_of start past) p ∷ past) wire
   talking_read past wire Accepted xid p ps ls tail talks g calm counted coming = absurd (g.later talks)
   talking_read past wire Expires xid p ps ls tail talks g calm counted coming = absurd (g.later talks)
   talking_read past wire (Notifies n) xid p ps ls tail talks g calm counted coming =
-      subst (λ t. Stands_at P h start Was (t ∷ past) wire) (sym (reads_notice (pending_of past) (last_of start past) xid n p g.are.0.spelt)) (took_notice P h start Was past wire n xid p ps ls tail talks g calm counted coming)
+      subst (λ t. Stands_at P h start Was (t ∷ past) wire) (sym (reads_notice (pending_of past) (last_of start past) xid n p g.are.0.spelt))
+      (took_notice P h start Was past wire n xid p ps ls tail talks g calm counted coming)
   talking_read past wire Pong xid p ps ls tail talks g calm counted coming =
-      subst (λ t. Stands_at P h start Was (t ∷ past) wire) (sym (reads_pong (pending_of past) (last_of start past) xid p g.are.0.spelt)) (took_pong P h start Was past wire xid p ps ls tail talks g calm counted coming)
+      subst (λ t. Stands_at P h start Was (t ∷ past) wire) (sym (reads_pong (pending_of past) (last_of start past) xid p g.are.0.spelt))
+      (took_pong P h start Was past wire xid p ps ls tail talks g calm counted coming)
   talking_read past wire (Watches_set b z) xid p ps ls tail talks g calm counted coming =
       let x : Asking = For_part b in
       let first : awaited past ≡ x ∷ (answers ls ++ g.owed) = g.pending ∙ ap (λ l. l ++ answers ls ++ g.owed) g.are.0.is_for.1 in
       let spelt : IsPayload part_xid (Watches_set b z) p = subst (λ t. IsPayload t (Watches_set b z) p) g.are.0.is_for.0 g.are.0.spelt in
       subst (λ t. Stands_at P h start Was (t ∷ past) wire)
-      (sym (ap (λ l. reading Connected (map pending_for l) (last_of start past) p) first ∙ reads_part (map pending_for (answers ls ++ g.owed)) (last_of start past) b z p spelt))
+      (sym (ap (λ l. reading Connected (map pending_for l) (last_of start past) p) first
+      ∙ reads_part (map pending_for (answers ls ++ g.owed)) (last_of start past) b z p spelt))
       (took_part P h start Was past wire b z xid p ps ls tail talks g calm counted coming)
-  talking_read past wire (Replies q z res) xid p ps ls tail talks g calm counted coming = reply_read past wire q z res xid p ps ls tail talks g calm counted coming g.are.0.spelt
+  talking_read past wire (Replies q z res) xid p ps ls tail talks g calm counted coming =
+      reply_read past wire q z res xid p ps ls tail talks g calm counted coming g.are.0.spelt
 
-  state_read : (past : Past) (wire : Wire) (l : Letter) (ls : List Letter) (tail : Tail) (st : State) → state_of past ≡ st → is_open st ≡ true
-      → IsFlow P h start Was past wire (l ∷ ls) tail → IsCalmAt P h start Was past → Counted past → wire.coming ≡ frames ls ++ tail_bytes tail
+  state_read : (past : Past) (wire : Wire) (l : Letter) (ls : List Letter) (tail : Tail) (st : State)
+      → state_of past ≡ st → is_open st ≡ true
+      → IsFlow P h start Was past wire (l ∷ ls) tail → IsCalmAt P h start Was past → Counted past
+      → wire.coming ≡ frames ls ++ tail_bytes tail
       → Stands_at P h start Was (reading (state_of past) (pending_of past) (last_of start past) l.payload ∷ past) wire
   state_read past wire l ls tail Connecting e o g calm counted coming =
       let s = starting_of past wire (l ∷ ls) tail e g in
       subst (λ s. Stands_at P h start Was (reading s (pending_of past) (last_of start past) l.payload ∷ past) wire) (sym e)
       (opening_read past wire l.message l.xid l.payload l.asked ls tail e g calm counted coming
-      (first_by (seen start past) wire.server.stage (map (λ s. s.request) (unread start past wire)) l.message (messages ls) wire.server.place s.opening))
+      (first_by (seen start past) wire.server.stage (map (λ s. s.request) (unread start past wire)) l.message
+      (messages ls) wire.server.place s.opening))
   state_read past wire l ls tail Connected e o g calm counted coming =
       subst (λ s. Stands_at P h start Was (reading s (pending_of past) (last_of start past) l.payload ∷ past) wire) (sym e)
       (talking_read past wire l.message l.xid l.payload l.asked ls tail (ap is_talking e) g calm counted coming)
@@ -263,13 +316,15 @@ module _ (P : Text → Type 0) (h : History) (start : Start) (Was : List ℕ →
   state_read past wire l ls tail Closed e o g calm counted coming = absurd cc
 
   -- the reply with an error is taken
-  failure_read : (past : Past) (wire : Wire) (p rest : List ℕ) (st : State) → state_of past ≡ st → is_open st ≡ true → Stands_at P h start Was past wire → IsFlow P h start Was past wire [] (Failure p rest)
+  failure_read : (past : Past) (wire : Wire) (p rest : List ℕ) (st : State)
+      → state_of past ≡ st → is_open st ≡ true → Stands_at P h start Was past wire → IsFlow P h start Was past wire [] (Failure p rest)
       → Stands_at P h start Was (reading (state_of past) (pending_of past) (last_of start past) p ∷ past) wire
   failure_read past wire p rest Connecting e o s g =
       let t = starting_of past wire [] (Failure p rest) e g in
       absurd (none_first wire.server.stage g.ended.3 t.opening)
     where
-      none_first : (stage : Stage) → stage ≡ Ended → IsOpeningAt P h (seen start past) (map (λ s. s.request) (unread start past wire)) [] wire.server.place stage → ⊥
+      none_first : (stage : Stage)
+          → stage ≡ Ended → IsOpeningAt P h (seen start past) (map (λ s. s.request) (unread start past wire)) [] wire.server.place stage → ⊥
       none_first Waiting e o = cc
       none_first Serving e o = cc
       none_first Ended e o = let f = o.1 in cc
@@ -278,7 +333,8 @@ module _ (P : Text → Type 0) (h : History) (start : Start) (Was : List ℕ →
       let first : awaited past ≡ For_part f.4 ∷ f.5 = g.pending ∙ f.6 in
       subst (λ s. Stands_at P h start Was (reading s (pending_of past) (last_of start past) p ∷ past) wire) (sym e)
       (subst (λ t. Stands_at P h start Was (t ∷ past) wire)
-      (sym (ap (λ l. reading Connected (map pending_for l) (last_of start past) p) first ∙ reads_refusal (map pending_for f.5) (last_of start past) f.4 p f.2))
+      (sym (ap (λ l. reading Connected (map pending_for l) (last_of start past) p) first
+      ∙ reads_refusal (map pending_for f.5) (last_of start past) f.4 p f.2))
       (dropped P h start Was (WatchesRefused f.2.code) past wire (inr (inr (f.2.code, refl, f.2.other))) s))
   failure_read past wire p rest Idle e o s g = absurd cc
   failure_read past wire p rest Expired e o s g = absurd cc
@@ -287,10 +343,12 @@ module _ (P : Text → Type 0) (h : History) (start : Start) (Was : List ℕ →
   -- ---- bytes
 
   -- the bytes of what is first
-  first_bytes : (past : Past) (wire : Wire) (l : Letter) (ls : List Letter) (tail : Tail) → IsFlow P h start Was past wire (l ∷ ls) tail → held_of past ++ wire.coming ≡ frame l.payload ++ (frames ls ++ tail_bytes tail)
+  first_bytes : (past : Past) (wire : Wire) (l : Letter) (ls : List Letter) (tail : Tail)
+      → IsFlow P h start Was past wire (l ∷ ls) tail → held_of past ++ wire.coming ≡ frame l.payload ++ (frames ls ++ tail_bytes tail)
   first_bytes past wire l ls tail g = g.bytes ∙ append_assoc (frame l.payload) (frames ls) (tail_bytes tail)
 
-  payload_read : (past : Past) (wire : Wire) (p : List ℕ) (on : is_going past ≡ true) (s : Stands_at P h start Was past wire) (letters : List Letter) (tail : Tail) → IsFlow P h start Was past wire letters tail → cut (held_of past) ≡ Payload p
+  payload_read : (past : Past) (wire : Wire) (p : List ℕ) (on : is_going past ≡ true) (s : Stands_at P h start Was past wire)
+      (letters : List Letter) (tail : Tail) → IsFlow P h start Was past wire letters tail → cut (held_of past) ≡ Payload p
       → Stands_at P h start Was (reading (state_of past) (pending_of past) (last_of start past) p ∷ past) wire
   payload_read past wire p on s [] Nothing_more g c = absurd (let f = none_cut (held_of past) wire.coming (Payload p) g.bytes c in cc)
   payload_read past wire p on s [] (Failure payload rest) g c =
@@ -298,31 +356,42 @@ module _ (P : Text → Type 0) (h : History) (start : Start) (Was : List ℕ →
       subst (λ b. Stands_at P h start Was (reading (state_of past) (pending_of past) (last_of start past) b ∷ past) wire) (sym t.0)
       (failure_read past wire payload rest (state_of past) refl (and_two (is_open (state_of past)) (not (has_halted past)) on).0 s g)
   payload_read past wire p on s (l ∷ ls) tail g c =
-      let t = taken_first (held_of past) wire.coming l.payload (frames ls ++ tail_bytes tail) p g.are.0.short (first_bytes past wire l ls tail g) c in
+      let t = taken_first (held_of past) wire.coming l.payload (frames ls ++ tail_bytes tail) p g.are.0.short
+      (first_bytes past wire l ls tail g) c in
       subst (λ b. Stands_at P h start Was (reading (state_of past) (pending_of past) (last_of start past) b ∷ past) wire) (sym t.0)
-      (state_read past wire l ls tail (state_of past) refl (and_two (is_open (state_of past)) (not (has_halted past)) on).0 g s.calm s.counted t.1)
+      (state_read past wire l ls tail (state_of past) refl
+      (and_two (is_open (state_of past)) (not (has_halted past)) on).0 g s.calm s.counted t.1)
 
-  bad_read : (past : Past) (wire : Wire) (fault : FrameFault) (s : Stands_at P h start Was past wire) (letters : List Letter) (tail : Tail) → IsFlow P h start Was past wire letters tail → cut (held_of past) ≡ Bad fault → Stands_at P h start Was (Dropped (Framed fault) ∷ past) wire
+  bad_read : (past : Past) (wire : Wire) (fault : FrameFault) (s : Stands_at P h start Was past wire) (letters : List Letter) (tail : Tail)
+      → IsFlow P h start Was past wire letters tail → cut (held_of past) ≡ Bad fault
+      → Stands_at P h start Was (Dropped (Framed fault) ∷ past) wire
   bad_read past wire fault s [] Nothing_more g c = absurd (let f = none_cut (held_of past) wire.coming (Bad fault) g.bytes c in cc)
   bad_read past wire fault s [] (Failure payload rest) g c =
-      let t = first_too_long (held_of past) wire.coming payload rest fault g.ended.1 g.bytes c in dropped P h start Was (Framed fault) past wire (inr (inl (ap Framed t.0, (payload, g.ended.0, t.1)))) s
+      let t = first_too_long (held_of past) wire.coming payload rest fault g.ended.1 g.bytes c in
+      dropped P h start Was (Framed fault) past wire (inr (inl (ap Framed t.0, (payload, g.ended.0, t.1)))) s
   bad_read past wire fault s (l ∷ ls) tail g c =
-      let t = first_too_long (held_of past) wire.coming l.payload (frames ls ++ tail_bytes tail) fault g.are.0.short (first_bytes past wire l ls tail g) c in dropped P h start Was (Framed fault) past wire (inr (inl (ap Framed t.0, (l.payload, g.are.0.was_sent, t.1)))) s
+      let t = first_too_long (held_of past) wire.coming l.payload (frames ls ++ tail_bytes tail) fault g.are.0.short
+      (first_bytes past wire l ls tail g) c in
+      dropped P h start Was (Framed fault) past wire (inr (inl (ap Framed t.0, (l.payload, g.are.0.was_sent, t.1)))) s
 
-  cut_read : (byte : ℕ) (past : Past) (wire : Wire) → is_going past ≡ true → Stands_at P h start Was (Came byte ∷ past) wire → (c : Cutting) → cut (held_of past ++ byte ∷ []) ≡ c
+  cut_read : (byte : ℕ) (past : Past) (wire : Wire) → is_going past ≡ true → Stands_at P h start Was (Came byte ∷ past) wire → (c : Cutting)
+      → cut (held_of past ++ byte ∷ []) ≡ c
       → Stands_at P h start Was (joined past (Came byte ∷ of_cutting (view_at start past) c)) wire
   cut_read byte past wire on s Unfinished c = s
   cut_read byte past wire on s (Bad fault) c = let g = s.going on in bad_read (Came byte ∷ past) wire fault s g.0 g.1 g.2 c
   cut_read byte past wire on s (Payload p) c = let g = s.going on in payload_read (Came byte ∷ past) wire p on s g.0 g.1 g.2 c
 
-  comes_one : (byte : ℕ) (rest : List ℕ) (past : Past) (wire : Wire) → is_going past ≡ true → wire.coming ≡ byte ∷ rest → Stands_at P h start Was past wire
+  comes_one : (byte : ℕ) (rest : List ℕ) (past : Past) (wire : Wire)
+      → is_going past ≡ true → wire.coming ≡ byte ∷ rest → Stands_at P h start Was past wire
       → Stands_at P h start Was (joined past (happenings (view_at start past) (Comes byte))) (record wire { coming = rest })
   comes_one byte rest past wire on c s =
       let two = and_two (is_open (state_of past)) (not (has_halted past)) on in
       let up : IsOpen (state_of past) = two.0 in
       subst (λ t. Stands_at P h start Was (joined past t) (record wire { coming = rest }))
-      (sym (byte_happens (view_at start past) byte (cut (held_of past ++ byte ∷ [])) (record { up = up; goes_on = not_true (has_halted past) two.1 }) refl))
-      (cut_read byte past (record wire { coming = rest }) on (came P h start Was byte rest past wire c s) (cut (held_of past ++ byte ∷ [])) refl)
+      (sym (byte_happens (view_at start past) byte (cut (held_of past ++ byte ∷ []))
+      (record { up = up; goes_on = not_true (has_halted past) two.1 }) refl))
+      (cut_read byte past (record wire { coming = rest }) on (came P h start Was byte rest past wire c s)
+      (cut (held_of past ++ byte ∷ [])) refl)
 
   quiet_bytes : (b : Bool) (st : State) (xs : List Happening) → (is_open st && not b) ≡ false → cond b [] (if_open st xs) ≡ []
   quiet_bytes true st xs e = refl
@@ -332,40 +401,51 @@ module _ (P : Text → Type 0) (h : History) (start : Start) (Was : List ℕ →
   quiet_bytes false Expired xs e = refl
   quiet_bytes false Closed xs e = refl
 
-  bytes_come : (bytes : List ℕ) (past : Past) (wire : Wire) → (is_going past ≡ true → (rest : List ℕ) × (wire.coming ≡ bytes ++ rest)) → Stands_at P h start Was past wire
+  bytes_come : (bytes : List ℕ) (past : Past) (wire : Wire) → (is_going past ≡ true → (rest : List ℕ) × (wire.coming ≡ bytes ++ rest))
+      → Stands_at P h start Was past wire
       → Stands_at P h start Was (past_after start past (map Comes bytes)) (record wire { coming = drop (length bytes) wire.coming })
   bytes_come [] past wire may s = s
   bytes_come (byte ∷ bytes) past wire may s =
-      subst (λ t. Stands_at P h start Was (past_after start (joined past (happenings (view_at start past) (Comes byte))) (map Comes bytes)) (record wire { coming = t })) (drop_less (length bytes) wire.coming)
+      subst (λ t. Stands_at P h start Was (past_after start (joined past (happenings (view_at start past) (Comes byte))) (map Comes bytes))
+      (record wire { coming = t })) (drop_less (length bytes) wire.coming)
       (by (is_going past) refl (λ past' wire' may' s'. bytes_come bytes past' wire' may' s'))
     where
       by : (b : Bool) → is_going past ≡ b
-          → ((past' : Past) (wire' : Wire) → (is_going past' ≡ true → (rest : List ℕ) × (wire'.coming ≡ bytes ++ rest)) → Stands_at P h start Was past' wire' → Stands_at P h start Was (past_after start past' (map Comes bytes)) (record wire' { coming = drop (length bytes) wire'.coming }))
-          → Stands_at P h start Was (past_after start (joined past (happenings (view_at start past) (Comes byte))) (map Comes bytes)) (record wire { coming = drop (length bytes) (drop 1 wire.coming) })
+          → ((past' : Past) (wire' : Wire) → (is_going past' ≡ true → (rest : List ℕ) × (wire'.coming ≡ bytes ++ rest))
+          → Stands_at P h start Was past' wire' → Stands_at P h start Was (past_after start past' (map Comes bytes))
+          (record wire' { coming = drop (length bytes) wire'.coming }))
+          → Stands_at P h start Was (past_after start (joined past (happenings (view_at start past) (Comes byte))) (map Comes bytes))
+          (record wire { coming = drop (length bytes) (drop 1 wire.coming) })
       by true on ih =
           let m = may on in
           let t : drop 1 wire.coming ≡ bytes ++ m.0 = ap (drop 1) m.1 in
           ih (joined past (happenings (view_at start past) (Comes byte))) (record wire { coming = drop 1 wire.coming }) (λ e. (m.0, t))
-          (subst (λ l. Stands_at P h start Was (joined past (happenings (view_at start past) (Comes byte))) (record wire { coming = l })) (sym t) (comes_one byte (bytes ++ m.0) past wire on m.1 s))
+          (subst (λ l. Stands_at P h start Was (joined past (happenings (view_at start past) (Comes byte))) (record wire { coming = l }))
+          (sym t) (comes_one byte (bytes ++ m.0) past wire on m.1 s))
       by false off ih =
-          subst (λ t. Stands_at P h start Was (past_after start (joined past t) (map Comes bytes)) (record wire { coming = drop (length bytes) (drop 1 wire.coming) }))
+          subst (λ t. Stands_at P h start Was (past_after start (joined past t) (map Comes bytes))
+          (record wire { coming = drop (length bytes) (drop 1 wire.coming) }))
           (sym (quiet_bytes (has_halted past) (state_of past) (comes (view_at start past) byte) off))
-          (ih past (record wire { coming = drop 1 wire.coming }) (λ e. absurd cc) (still P h start Was past wire (record wire { coming = drop 1 wire.coming }) off s))
+          (ih past (record wire { coming = drop 1 wire.coming }) (λ e. absurd cc)
+          (still P h start Was past wire (record wire { coming = drop 1 wire.coming }) off s))
 
   -- ---- other signals
 
   going_by : (b : Bool) (st : State) (past : Past) → has_halted past ≡ b → state_of past ≡ st → is_going past ≡ (is_open st && not b)
   going_by b st past e f = ap (λ t. is_open t && not (has_halted past)) f ∙ ap (λ t. is_open st && not t) e
 
-  opens_here : (place : ℕ) (past : Past) (wire : Wire) → Stands_at P h start Was past wire → (b : Bool) (st : State) → has_halted past ≡ b → state_of past ≡ st → Stands_at P h start Was (joined past (cond b [] (opens st))) (new_wire place)
-  opens_here place past wire s true st e f = still P h start Was past wire (new_wire place) (going_by true st past e f ∙ and_false P h start Was (is_open st)) s
+  opens_here : (place : ℕ) (past : Past) (wire : Wire) → Stands_at P h start Was past wire → (b : Bool) (st : State)
+      → has_halted past ≡ b → state_of past ≡ st → Stands_at P h start Was (joined past (cond b [] (opens st))) (new_wire place)
+  opens_here place past wire s true st e f =
+      still P h start Was past wire (new_wire place) (going_by true st past e f ∙ and_false P h start Was (is_open st)) s
   opens_here place past wire s false Idle e f = began P h start Was place past wire s
   opens_here place past wire s false Connecting e f = began P h start Was place (Loses_it ∷ past) wire (lost P h start Was past wire s)
   opens_here place past wire s false Connected e f = began P h start Was place (Loses_it ∷ past) wire (lost P h start Was past wire s)
   opens_here place past wire s false Expired e f = still P h start Was past wire (new_wire place) (going_by false Expired past e f) s
   opens_here place past wire s false Closed e f = still P h start Was past wire (new_wire place) (going_by false Closed past e f) s
 
-  cuts_here : (past : Past) (wire : Wire) → Stands_at P h start Was past wire → (b : Bool) (st : State) → Stands_at P h start Was (joined past (cond b [] (if_open st (Loses_it ∷ [])))) wire
+  cuts_here : (past : Past) (wire : Wire) → Stands_at P h start Was past wire → (b : Bool) (st : State)
+      → Stands_at P h start Was (joined past (cond b [] (if_open st (Loses_it ∷ [])))) wire
   cuts_here past wire s true st = s
   cuts_here past wire s false Idle = s
   cuts_here past wire s false Connecting = lost P h start Was past wire s
@@ -373,26 +453,35 @@ module _ (P : Text → Type 0) (h : History) (start : Start) (Was : List ℕ →
   cuts_here past wire s false Expired = s
   cuts_here past wire s false Closed = s
 
-  cond_here : (b : Bool) (xs ys : List Happening) (past : Past) (wire : Wire) → Stands_at P h start Was (joined past xs) wire → Stands_at P h start Was (joined past ys) wire → Stands_at P h start Was (joined past (cond b xs ys)) wire
+  cond_here : (b : Bool) (xs ys : List Happening) (past : Past) (wire : Wire) → Stands_at P h start Was (joined past xs) wire
+      → Stands_at P h start Was (joined past ys) wire → Stands_at P h start Was (joined past (cond b xs ys)) wire
   cond_here true xs ys past wire p q = p
   cond_here false xs ys past wire p q = q
 
-  due_here : (view : View) (now : ℕ) (past : Past) (wire : Wire) → Stands_at P h start Was past wire → (st : State) → view.standing.state ≡ st → state_of past ≡ st → has_halted past ≡ false → Stands_at P h start Was (joined past (if_open st (due view now))) wire
+  due_here : (view : View) (now : ℕ) (past : Past) (wire : Wire) → Stands_at P h start Was past wire → (st : State) → view.standing.state
+      ≡ st → state_of past ≡ st → has_halted past ≡ false → Stands_at P h start Was (joined past (if_open st (due view now))) wire
   due_here view now past wire s Idle v f e = s
   due_here view now past wire s Expired v f e = s
   due_here view now past wire s Closed v f e = s
   due_here view now past wire s Connecting v f e =
-      cond_here (nat_le (2 * timeout_of view) (3 * (now - view.moments.heard))) (Dropped Silent ∷ []) _ past wire (dropped P h start Was Silent past wire (inl refl) s)
-      (subst (λ t. Stands_at P h start Was (joined past (if is_talking t && nat_le (timeout_of view) (3 * (now - view.moments.sent)) then Pinged ∷ [] else [])) wire) (sym v) s)
+      cond_here (nat_le (2 * timeout_of view) (3 * (now - view.moments.heard))) (Dropped Silent ∷ []) _ past wire
+      (dropped P h start Was Silent past wire (inl refl) s)
+      (subst (λ t. Stands_at P h start Was (joined past
+      (if is_talking t && nat_le (timeout_of view) (3 * (now - view.moments.sent)) then Pinged ∷ [] else [])) wire) (sym v) s)
   due_here view now past wire s Connected v f e =
-      cond_here (nat_le (2 * timeout_of view) (3 * (now - view.moments.heard))) (Dropped Silent ∷ []) _ past wire (dropped P h start Was Silent past wire (inl refl) s)
-      (subst (λ t. Stands_at P h start Was (joined past (if is_talking t && nat_le (timeout_of view) (3 * (now - view.moments.sent)) then Pinged ∷ [] else [])) wire) (sym v)
-      (cond_here (nat_le (timeout_of view) (3 * (now - view.moments.sent))) (Pinged ∷ []) [] past wire (pinged P h start Was past wire (going_by false Connected past e f) (ap is_talking f) s) s))
+      cond_here (nat_le (2 * timeout_of view) (3 * (now - view.moments.heard))) (Dropped Silent ∷ []) _ past wire
+      (dropped P h start Was Silent past wire (inl refl) s)
+      (subst (λ t. Stands_at P h start Was
+      (joined past (if is_talking t && nat_le (timeout_of view) (3 * (now - view.moments.sent)) then Pinged ∷ [] else [])) wire) (sym v)
+      (cond_here (nat_le (timeout_of view) (3 * (now - view.moments.sent))) (Pinged ∷ []) [] past wire
+      (pinged P h start Was past wire (going_by false Connected past e f) (ap is_talking f) s) s))
 
   ticks_here : (moment : ℕ) (past : Past) (wire : Wire) → Stands_at P h start Was past wire → (b : Bool) → has_halted past ≡ b
-      → Stands_at P h start Was (joined past (cond b [] (Ticked moment ∷ if_open (state_of past) (due (view_at start past) (max moment (view_at start past).moments.now))))) wire
+      → Stands_at P h start Was (joined past (cond b []
+      (Ticked moment ∷ if_open (state_of past) (due (view_at start past) (max moment (view_at start past).moments.now))))) wire
   ticks_here moment past wire s true e = s
-  ticks_here moment past wire s false e = due_here (view_at start past) (max moment (view_at start past).moments.now) (Ticked moment ∷ past) wire (ticked P h start Was moment past wire s) (state_of past) refl refl e
+  ticks_here moment past wire s false e = due_here (view_at start past) (max moment (view_at start past).moments.now)
+      (Ticked moment ∷ past) wire (ticked P h start Was moment past wire s) (state_of past) refl refl e
 
   talking_open : (st : State) → is_talking st ≡ true → is_open st ≡ true
   talking_open Connected e = refl
@@ -401,27 +490,38 @@ module _ (P : Text → Type 0) (h : History) (start : Start) (Was : List ℕ →
   talking_open Expired e = absurd cc
   talking_open Closed e = absurd cc
 
-  calls_here : (ticket : ℕ) (question : Asked_call) (past : Past) (wire : Wire) → IsAskable question → Stands_at P h start Was past wire → has_halted past ≡ false → (why : Option Outcome) → refusal (view_at start past) question ≡ why
+  calls_here : (ticket : ℕ) (question : Asked_call) (past : Past) (wire : Wire) → IsAskable question → Stands_at P h start Was past wire
+      → has_halted past ≡ false → (why : Option Outcome) → refusal (view_at start past) question ≡ why
       → Stands_at P h start Was (joined past (calls ticket question why)) wire
   calls_here ticket question past wire may s e None r =
       let talks = talks_in start (state_of past) (view_at start past) question r in
-      asked P h start Was ticket question past wire (ap (λ t. is_open (state_of past) && not t) e ∙ ap (λ t. t && true) (talking_open (state_of past) talks)) talks may s
+      asked P h start Was ticket question past wire
+      (ap (λ t. is_open (state_of past) && not t) e ∙ ap (λ t. t && true) (talking_open (state_of past) talks)) talks may s
   calls_here ticket question past wire may s e (Some why) r = denied P h start Was ticket why past wire s
 
-  called_here : (ticket : ℕ) (question : Asked_call) (past : Past) (wire : Wire) → IsAskable question → Stands_at P h start Was past wire → (b : Bool) → has_halted past ≡ b
+  called_here : (ticket : ℕ) (question : Asked_call) (past : Past) (wire : Wire)
+      → IsAskable question → Stands_at P h start Was past wire → (b : Bool) → has_halted past ≡ b
       → Stands_at P h start Was (joined past (cond b [] (calls ticket question (refusal (view_at start past) question)))) wire
   called_here ticket question past wire may s true e = s
-  called_here ticket question past wire may s false e = calls_here ticket question past wire may s e (refusal (view_at start past) question) refl
+  called_here ticket question past wire may s false e =
+      calls_here ticket question past wire may s e (refusal (view_at start past) question) refl
 
   -- what a turn asks of the servers, and the server after it
   abbrev MayTurn : ℕ → Input → Past → Wire → Type 0
   MayTurn place input past wire =
-      elim input [ Opening ↦ place ≤ length h.transactions | Bytes bytes ↦ is_going past ≡ true → (rest : List ℕ) × (wire.coming ≡ bytes ++ rest) | _ ↦ ⊤ ]
+      elim input [
+        | Opening ↦ place ≤ length h.transactions
+        | Bytes bytes ↦ is_going past ≡ true
+            → (rest : List ℕ) × (wire.coming ≡ bytes ++ rest)
+        | _ ↦ ⊤
+      ]
 
   abbrev wire_after : ℕ → Input → Wire → Wire
-  wire_after place input wire = elim input [ Opening ↦ new_wire place | Bytes bytes ↦ record wire { coming = drop (length bytes) wire.coming } | _ ↦ wire ]
+  wire_after place input wire =
+      elim input [ Opening ↦ new_wire place | Bytes bytes ↦ record wire { coming = drop (length bytes) wire.coming } | _ ↦ wire ]
 
-  turn_here : (place : ℕ) (input : Input) (past : Past) (wire : Wire) → IsAsked input → MayTurn place input past wire → Stands_at P h start Was past wire → Stands_at P h start Was (past_after start past (signals_of input)) (wire_after place input wire)
+  turn_here : (place : ℕ) (input : Input) (past : Past) (wire : Wire) → IsAsked input → MayTurn place input past wire
+      → Stands_at P h start Was past wire → Stands_at P h start Was (past_after start past (signals_of input)) (wire_after place input wire)
   turn_here place Opening past wire ask may s = opens_here place past wire s (has_halted past) (state_of past) refl refl
   turn_here place (Bytes bytes) past wire ask may s = bytes_come bytes past wire may s
   turn_here place Cut past wire ask may s = cuts_here past wire s (has_halted past) (state_of past)
@@ -433,5 +533,7 @@ module _ (P : Text → Type 0) (h : History) (start : Start) (Was : List ℕ →
   first_at = record { right = λ side path p answer e. absurd cc; going = λ e. absurd cc; calm = tt; counted = omega arith }
 
   -- A turn.
-  pub turned_at : (place : ℕ) (turn : Turn) (past : Past) (wire : Wire) → IsAsked turn.input → MayEnter h start (Goes_on place (Turned turn)) past wire → Stands_at P h start Was past wire → Stands_at P h start Was (past_after start past (signals (Turned turn))) (wire_past place (Turned turn) wire)
+  pub turned_at : (place : ℕ) (turn : Turn) (past : Past) (wire : Wire)
+      → IsAsked turn.input → MayEnter h start (Goes_on place (Turned turn)) past wire → Stands_at P h start Was past wire
+      → Stands_at P h start Was (past_after start past (signals (Turned turn))) (wire_past place (Turned turn) wire)
   turned_at place turn past wire ask may s = turn_here place turn.input past wire ask may s

@@ -1,5 +1,6 @@
 -- Each happening of a client keeps what is between it and its servers.
-use Rattle.std.proofs.Common.{◌≡◌, ℕ, ◌≤◌, ◌<◌, ℤ, pos, negsuc, Bool, true, false, ◌&&◌, List, [], ◌∷◌, ◌++◌, map, drop, length, refl, sym, ap, subst, ◌∙◌, arith, append_assoc}
+use Rattle.std.proofs.Common.{◌≡◌, ℕ, ◌≤◌, ◌<◌, ℤ, pos, negsuc, Bool, true, false, ◌&&◌, List, [], ◌∷◌, ◌++◌, map, drop, length, refl, sym}
+use Rattle.std.proofs.Common.{ap, subst, ◌∙◌, arith, append_assoc}
 use Rattle.std.proofs.lemmas.List.{length-append, append-nil, map-append}
 use Rattle.zk_nodes.specs.Path.{Text}
 use Rattle.zk_nodes.specs.History.{History}
@@ -7,7 +8,10 @@ use Rattle.zk_conversation.specs.Calls.{Call, call_payload, ping_payload}
 use Rattle.zk_conversation.specs.Questions.{Question, Close}
 use Rattle.zk_conversation.specs.Results.{Result}
 use Rattle.zk_turns.specs.Turns.{Start, Outcome, Fault, IsAskable}
-use Rattle.zk_turns.specs.Past.{is_open, Asking, For_call, For_part, awaited, pending_for, Past, Began, Came, Dropped, Asked, Denied, Pinged, Ticked, Forgot, is_talking, state_of, held_of, xid_of, answered, questions, Took as Takes_in, Lost as Loses_it, Halted as Halts_now, Replies as Answers_call, Watches_set as Sets_watches, Notifies as Tells, Pong as Echo}
+use Rattle.zk_turns.specs.Past.{is_open, Asking, For_call, For_part, awaited, pending_for, Past, Began, Came, Dropped, Asked, Denied}
+use Rattle.zk_turns.specs.Past.{Pinged, Ticked, Forgot, is_talking, state_of, held_of, xid_of, answered, questions, Took as Takes_in}
+use Rattle.zk_turns.specs.Past.{Lost as Loses_it, Halted as Halts_now, Replies as Answers_call, Watches_set as Sets_watches}
+use Rattle.zk_turns.specs.Past.{Notifies as Tells, Pong as Echo}
 use Rattle.zk_turns.proofs.Stepped.{Counted, counted_next, Waits, waits}
 use Rattle.zk_laws.specs.Server.{Notice}
 use Rattle.zk_laws.specs.Messages.{Message, Connect, Replies, Watches_set, Notifies, Pong, Request, Ask, Ping, from_zero}
@@ -19,29 +23,61 @@ use Rattle.zk_laws.specs.Flight.{Letter, frames, messages, answers, AreLater, Ow
 use Rattle.zk_laws.proofs.Ahead.{max_zero}
 use Rattle.zk_laws.proofs.Seeing.{last_is}
 use Rattle.zk_laws.proofs.Flight.{awaited_less, awaited_more, owes_append, owes_one, unread_more}
-use Rattle.theory_local.proofs.Kept_at.{AreRight, IsAskableRequest, IsTalkingAt, IsKeptAt, talking_right, right_still, talk_requests, talk_takes, kept_forgets}
+use Rattle.theory_local.proofs.Kept_at.{AreRight, IsAskableRequest, IsTalkingAt, IsKeptAt, talking_right, right_still, talk_requests}
+use Rattle.theory_local.proofs.Kept_at.{talk_takes, kept_forgets}
 use Rattle.theory_local.proofs.Flow.{Tail, Nothing_more, Failure, tail_bytes, IsDue, IsFlow, IsTail, IsAnswered, IsCalmAt, Stands_at}
 
 module _ (P : Text → Type 0) (h : History) (start : Start) (Was : List ℕ → Type 0) where
   -- ---- happenings that leave no item
 
-  pub ticked : (moment : ℕ) (past : Past) (wire : Wire) → Stands_at P h start Was past wire → Stands_at P h start Was (Ticked moment ∷ past) wire
+  pub ticked : (moment : ℕ) (past : Past) (wire : Wire)
+      → Stands_at P h start Was past wire → Stands_at P h start Was (Ticked moment ∷ past) wire
   ticked moment past wire s = record {
     right = s.right;
     calm = s.calm;
     counted = s.counted;
-    going = λ e. let g = s.going e in (g.0, g.1, record { enough = g.2.enough; are = g.2.are; bytes = g.2.bytes; owed = g.2.owed; owes = g.2.owes; pending = g.2.pending; later = g.2.later; ended = g.2.ended; kept = g.2.kept });
+    going = λ e. let g = s.going e in (
+      g.0,
+      g.1,
+      record {
+        enough = g.2.enough;
+        are = g.2.are;
+        bytes = g.2.bytes;
+        owed = g.2.owed;
+        owes = g.2.owes;
+        pending = g.2.pending;
+        later = g.2.later;
+        ended = g.2.ended;
+        kept = g.2.kept;
+      },
+    );
   }
 
-  pub denied : (ticket : ℕ) (why : Outcome) (past : Past) (wire : Wire) → Stands_at P h start Was past wire → Stands_at P h start Was (Denied ticket why ∷ past) wire
+  pub denied : (ticket : ℕ) (why : Outcome) (past : Past) (wire : Wire)
+      → Stands_at P h start Was past wire → Stands_at P h start Was (Denied ticket why ∷ past) wire
   denied ticket why past wire s = record {
     right = s.right;
     calm = s.calm;
     counted = s.counted;
-    going = λ e. let g = s.going e in (g.0, g.1, record { enough = g.2.enough; are = g.2.are; bytes = g.2.bytes; owed = g.2.owed; owes = g.2.owes; pending = g.2.pending; later = g.2.later; ended = g.2.ended; kept = g.2.kept });
+    going = λ e. let g = s.going e in (
+      g.0,
+      g.1,
+      record {
+        enough = g.2.enough;
+        are = g.2.are;
+        bytes = g.2.bytes;
+        owed = g.2.owed;
+        owes = g.2.owes;
+        pending = g.2.pending;
+        later = g.2.later;
+        ended = g.2.ended;
+        kept = g.2.kept;
+      },
+    );
   }
 
-  pub came : (byte : ℕ) (rest : List ℕ) (past : Past) (wire : Wire) → wire.coming ≡ byte ∷ rest → Stands_at P h start Was past wire → Stands_at P h start Was (Came byte ∷ past) (record wire { coming = rest })
+  pub came : (byte : ℕ) (rest : List ℕ) (past : Past) (wire : Wire) → wire.coming ≡ byte ∷ rest → Stands_at P h start Was past wire
+      → Stands_at P h start Was (Came byte ∷ past) (record wire { coming = rest })
   came byte rest past wire c s = record {
     right = s.right;
     calm = s.calm;
@@ -65,11 +101,14 @@ module _ (P : Text → Type 0) (h : History) (start : Start) (Was : List ℕ →
 
   -- ---- ends
 
-  over_by : (now : Past) (wire : Wire) → AreRight P h (seen start now) → IsCalmAt P h start Was now → answered now ≤ length (questions now) → is_going now ≡ false → Stands_at P h start Was now wire
-  over_by now wire right calm counted off = record { right = right; calm = calm; counted = counted; going = λ e. absurd (let f = sym off ∙ e in cc) }
+  over_by : (now : Past) (wire : Wire) → AreRight P h (seen start now) → IsCalmAt P h start Was now → answered now ≤ length (questions now)
+      → is_going now ≡ false → Stands_at P h start Was now wire
+  over_by now wire right calm counted off =
+      record { right = right; calm = calm; counted = counted; going = λ e. absurd (let f = sym off ∙ e in cc) }
 
   -- with no connection the server does not matter
-  pub still : (past : Past) (wire other : Wire) → is_going past ≡ false → Stands_at P h start Was past wire → Stands_at P h start Was past other
+  pub still : (past : Past) (wire other : Wire)
+      → is_going past ≡ false → Stands_at P h start Was past wire → Stands_at P h start Was past other
   still past wire other off s = over_by past other s.right s.calm s.counted off
 
   lost_right : (past : Past) → AreRight P h (seen start past) → AreRight P h (Lost ∷ seen start past)
@@ -78,7 +117,8 @@ module _ (P : Text → Type 0) (h : History) (start : Start) (Was : List ℕ →
   pub lost : (past : Past) (wire : Wire) → Stands_at P h start Was past wire → Stands_at P h start Was (Loses_it ∷ past) wire
   lost past wire s = over_by (Loses_it ∷ past) wire (lost_right past s.right) s.calm s.counted refl
 
-  pub dropped : (fault : Fault) (past : Past) (wire : Wire) → IsDue Was fault → Stands_at P h start Was past wire → Stands_at P h start Was (Dropped fault ∷ past) wire
+  pub dropped : (fault : Fault) (past : Past) (wire : Wire)
+      → IsDue Was fault → Stands_at P h start Was past wire → Stands_at P h start Was (Dropped fault ∷ past) wire
   dropped fault past wire why s = over_by (Dropped fault ∷ past) wire (lost_right past s.right) (why, s.calm) s.counted refl
 
   pub and_false : (b : Bool) → (b && false) ≡ false
@@ -86,7 +126,8 @@ module _ (P : Text → Type 0) (h : History) (start : Start) (Was : List ℕ →
   and_false false = refl
 
   pub halted : (past : Past) (wire : Wire) → Stands_at P h start Was past wire → Stands_at P h start Was (Halts_now ∷ past) wire
-  halted past wire s = over_by (Halts_now ∷ past) wire (λ side path p answer e. absurd cc) s.calm s.counted (and_false (is_open (state_of past)))
+  halted past wire s =
+      over_by (Halts_now ∷ past) wire (λ side path p answer e. absurd cc) s.calm s.counted (and_false (is_open (state_of past)))
 
   pub forgot : (past : Past) (wire : Wire) → Stands_at P h start Was past wire → Stands_at P h start Was (Forgot ∷ past) wire
   forgot past wire s = record {
@@ -105,14 +146,16 @@ module _ (P : Text → Type 0) (h : History) (start : Start) (Was : List ℕ →
         pending = g.2.pending;
         later = g.2.later;
         ended = g.2.ended;
-        kept = kept_forgets P h (is_talking (state_of past)) (seen start past) (map (λ s. s.request) (unread start past wire)) (messages g.0) wire.server.place wire.server.watches wire.server.stage g.2.kept;
+        kept = kept_forgets P h (is_talking (state_of past)) (seen start past) (map (λ s. s.request) (unread start past wire))
+            (messages g.0) wire.server.place wire.server.watches wire.server.stage g.2.kept;
       },
     );
   }
 
   -- ---- a connection begins
 
-  pub began : (place : ℕ) (past : Past) (wire : Wire) → Stands_at P h start Was past wire → Stands_at P h start Was (Began ∷ past) (new_wire place)
+  pub began : (place : ℕ) (past : Past) (wire : Wire)
+      → Stands_at P h start Was past wire → Stands_at P h start Was (Began ∷ past) (new_wire place)
   began place past wire s = record {
     right = right_still P h Opened (seen start past) (λ side path. refl) (max_zero (last (seen start past))) s.right;
     calm = s.calm;
@@ -140,34 +183,45 @@ module _ (P : Text → Type 0) (h : History) (start : Start) (Was : List ℕ →
 
   -- ---- on an open connection
 
-  pub talking_of : (past : Past) (wire : Wire) (letters : List Letter) (tail : Tail) → is_talking (state_of past) ≡ true → IsFlow P h start Was past wire letters tail
-      → IsTalkingAt P h (seen start past) (map (λ s. s.request) (unread start past wire)) (messages letters) wire.server.place wire.server.watches wire.server.stage
+  pub talking_of : (past : Past) (wire : Wire) (letters : List Letter) (tail : Tail)
+      → is_talking (state_of past) ≡ true → IsFlow P h start Was past wire letters tail
+      → IsTalkingAt P h (seen start past) (map (λ s. s.request) (unread start past wire))
+      (messages letters) wire.server.place wire.server.watches wire.server.stage
   talking_of past wire letters tail talks g =
-      subst (λ b. IsKeptAt P h b (seen start past) (map (λ s. s.request) (unread start past wire)) (messages letters) wire.server.place wire.server.watches wire.server.stage) talks g.kept
+      subst (λ b. IsKeptAt P h b (seen start past) (map (λ s. s.request) (unread start past wire))
+      (messages letters) wire.server.place wire.server.watches wire.server.stage) talks g.kept
 
-  pub kept_of : (b : Bool) (log : List Item) (rs : List Request) (ms : List Message) (wire : Wire) → b ≡ true → IsTalkingAt P h log rs ms wire.server.place wire.server.watches wire.server.stage
+  pub kept_of : (b : Bool) (log : List Item) (rs : List Request) (ms : List Message) (wire : Wire)
+      → b ≡ true → IsTalkingAt P h log rs ms wire.server.place wire.server.watches wire.server.stage
       → IsKeptAt P h b log rs ms wire.server.place wire.server.watches wire.server.stage
   kept_of b log rs ms wire e t = subst (λ c. IsKeptAt P h c log rs ms wire.server.place wire.server.watches wire.server.stage) (sym e) t
 
-  tail_more : (tail : Tail) (stage : Stage) (owed mine : List Asking) → IsTail P h start Was tail stage owed → IsTail P h start Was tail stage (owed ++ mine)
+  tail_more : (tail : Tail) (stage : Stage) (owed mine : List Asking)
+      → IsTail P h start Was tail stage owed → IsTail P h start Was tail stage (owed ++ mine)
   tail_more Nothing_more stage owed mine t = tt
   tail_more (Failure payload rest) stage owed mine t = (t.0, t.1, t.2, t.3, t.4, t.5 ++ mine, ap (λ l. l ++ mine) t.6)
 
   asked_requests : (past : Past) (wire : Wire) (s : Sent) → wire.processed ≤ length (requests start past)
-      → map (λ s. s.request) (unread start past wire) ++ s.request ∷ [] ≡ map (λ s. s.request) (drop wire.processed (requests start past ++ s ∷ []))
+      → map (λ s. s.request) (unread start past wire) ++ s.request ∷ []
+      ≡ map (λ s. s.request) (drop wire.processed (requests start past ++ s ∷ []))
   asked_requests past wire s le =
-      sym (map-append (λ s. s.request) (unread start past wire) (s ∷ [])) ∙ ap (λ l. map (λ s. s.request) l) (sym (unread_more wire.processed (requests start past) (s ∷ []) le))
+      sym (map-append (λ s. s.request) (unread start past wire) (s ∷ []))
+      ∙ ap (λ l. map (λ s. s.request) l) (sym (unread_more wire.processed (requests start past) (s ∷ []) le))
 
   -- one request more, and what it asks waits
-  request_more : (past now : Past) (wire : Wire) (ls : List Letter) (tail : Tail) (s : Sent) (mine : List Asking) → is_talking (state_of past) ≡ true → (g : IsFlow P h start Was past wire ls tail)
-      → seen start now ≡ seen start past → state_of now ≡ state_of past → requests start past ++ s ∷ [] ≡ requests start now → held_of now ≡ held_of past
-      → WaitsFor s.xid s.request mine → awaited now ≡ awaited past ++ mine → IsAskableRequest s.request → IsFlow P h start Was now wire ls tail
+  request_more : (past now : Past) (wire : Wire) (ls : List Letter) (tail : Tail) (s : Sent) (mine : List Asking)
+      → is_talking (state_of past) ≡ true → (g : IsFlow P h start Was past wire ls tail)
+      → seen start now ≡ seen start past → state_of now ≡ state_of past → requests start past ++ s ∷ [] ≡ requests start now
+      → held_of now ≡ held_of past
+      → WaitsFor s.xid s.request mine → awaited now ≡ awaited past ++ mine → IsAskableRequest s.request
+      → IsFlow P h start Was now wire ls tail
   request_more past now wire ls tail s mine talks g same state asked held waits more may =
       let n = length-append (requests start past) (s ∷ []) in
       let le = g.enough in
       let enough : wire.processed ≤ length (requests start past ++ s ∷ []) = omega arith in
       let behind = ap (drop wire.processed) asked in
-      let t = talk_requests P h (seen start past) (map (λ s. s.request) (unread start past wire)) (s.request ∷ []) (messages ls) wire.server.place wire.server.watches wire.server.stage (may, tt) (talking_of past wire ls tail talks g) in
+      let t = talk_requests P h (seen start past) (map (λ s. s.request) (unread start past wire)) (s.request ∷ [])
+      (messages ls) wire.server.place wire.server.watches wire.server.stage (may, tt) (talking_of past wire ls tail talks g) in
       let rs = asked_requests past wire s g.enough ∙ ap (map (λ s. s.request)) behind in
       record {
         enough = subst (λ l. wire.processed ≤ length l) asked enough;
@@ -179,12 +233,15 @@ module _ (P : Text → Type 0) (h : History) (start : Start) (Was : List ℕ →
         pending = more ∙ ap (λ l. l ++ mine) g.pending ∙ append_assoc (answers ls) g.owed mine;
         later = λ t. g.later talks;
         ended = tail_more tail wire.server.stage g.owed mine g.ended;
-        kept = kept_of (is_talking (state_of now)) (seen start now) (map (λ s. s.request) (unread start now wire)) (messages ls) wire (ap is_talking state ∙ talks)
-            (subst (λ log. IsTalkingAt P h log (map (λ s. s.request) (unread start now wire)) (messages ls) wire.server.place wire.server.watches wire.server.stage) (sym same)
+        kept = kept_of (is_talking (state_of now)) (seen start now) (map (λ s. s.request) (unread start now wire)) (messages ls) wire
+            (ap is_talking state ∙ talks)
+            (subst (λ log. IsTalkingAt P h log (map (λ s. s.request) (unread start now wire))
+            (messages ls) wire.server.place wire.server.watches wire.server.stage) (sym same)
             (subst (λ l. IsTalkingAt P h (seen start past) l (messages ls) wire.server.place wire.server.watches wire.server.stage) rs t));
       }
 
-  pub asked : (ticket : ℕ) (question : Call) (past : Past) (wire : Wire) → is_going past ≡ true → is_talking (state_of past) ≡ true → IsAskable question → Stands_at P h start Was past wire → Stands_at P h start Was (Asked ticket question ∷ past) wire
+  pub asked : (ticket : ℕ) (question : Call) (past : Past) (wire : Wire) → is_going past ≡ true → is_talking (state_of past) ≡ true
+      → IsAskable question → Stands_at P h start Was past wire → Stands_at P h start Was (Asked ticket question ∷ past) wire
   asked ticket question past wire on talks may s =
       let g = s.going on in
       let sent : Sent = record { payload = call_payload (pos (xid_of past)) question; xid = pos (xid_of past); request = Ask question } in
@@ -196,12 +253,14 @@ module _ (P : Text → Type 0) (h : History) (start : Start) (Was : List ℕ →
         going = λ e. (
           g.0,
           g.1,
-          request_more past (Asked ticket question ∷ past) wire g.0 g.1 sent (waiting ∷ []) talks g.2 refl refl refl refl (ticket, xid_of past, refl, refl)
+          request_more past (Asked ticket question ∷ past) wire g.0 g.1 sent (waiting ∷ []) talks g.2 refl refl refl refl
+              (ticket, xid_of past, refl, refl)
               (awaited_more (is_talking (state_of past)) (answered past) (questions past) waiting talks s.counted) may,
         );
       }
 
-  pub pinged : (past : Past) (wire : Wire) → is_going past ≡ true → is_talking (state_of past) ≡ true → Stands_at P h start Was past wire → Stands_at P h start Was (Pinged ∷ past) wire
+  pub pinged : (past : Past) (wire : Wire) → is_going past ≡ true → is_talking (state_of past) ≡ true → Stands_at P h start Was past wire
+      → Stands_at P h start Was (Pinged ∷ past) wire
   pinged past wire on talks s =
       let g = s.going on in
       let sent : Sent = record { payload = ping_payload; xid = negsuc 1; request = Ping } in
@@ -209,21 +268,30 @@ module _ (P : Text → Type 0) (h : History) (start : Start) (Was : List ℕ →
         right = s.right;
         calm = s.calm;
         counted = s.counted;
-        going = λ e. (g.0, g.1, request_more past (Pinged ∷ past) wire g.0 g.1 sent [] talks g.2 refl refl refl refl refl (sym (append-nil (awaited past))) tt);
+        going = λ e. (
+          g.0,
+          g.1,
+          request_more past (Pinged ∷ past) wire g.0 g.1 sent [] talks g.2 refl refl refl refl refl (sym (append-nil (awaited past))) tt,
+        );
       }
 
   -- ---- messages that are taken
 
   -- the first letter is taken
-  took_by : (past now : Past) (wire : Wire) (m : Message) (xid : ℤ) (p : List ℕ) (ps : List Asking) (ls : List Letter) (tail : Tail) → is_talking (state_of past) ≡ true
+  took_by : (past now : Past) (wire : Wire) (m : Message) (xid : ℤ) (p : List ℕ) (ps : List Asking) (ls : List Letter) (tail : Tail)
+      → is_talking (state_of past) ≡ true
       → (g : IsFlow P h start Was past wire (record { message = m; payload = p; xid = xid; asked = ps } ∷ ls) tail)
-      → seen start now ≡ Took m ∷ seen start past → state_of now ≡ state_of past → requests start past ≡ requests start now → held_of now ≡ [] → awaited now ≡ answers ls ++ g.owed
-      → wire.coming ≡ frames ls ++ tail_bytes tail → AreLater (messages ls) → IsCalmAt P h start Was now → answered now ≤ length (questions now) → Stands_at P h start Was now wire
+      → seen start now ≡ Took m ∷ seen start past → state_of now ≡ state_of past → requests start past ≡ requests start now
+      → held_of now ≡ [] → awaited now ≡ answers ls ++ g.owed
+      → wire.coming ≡ frames ls ++ tail_bytes tail → AreLater (messages ls) → IsCalmAt P h start Was now
+      → answered now ≤ length (questions now) → Stands_at P h start Was now wire
   took_by past now wire m xid p ps ls tail talks g same state asked held pending coming later calm counted =
       let rs : List Request = map (λ s. s.request) (unread start past wire) in
-      let t = talk_takes P h (seen start past) rs m (messages ls) wire.server.place wire.server.watches wire.server.stage (talking_of past wire (record { message = m; payload = p; xid = xid; asked = ps } ∷ ls) tail talks g) in
+      let t = talk_takes P h (seen start past) rs m (messages ls) wire.server.place wire.server.watches wire.server.stage
+      (talking_of past wire (record { message = m; payload = p; xid = xid; asked = ps } ∷ ls) tail talks g) in
       let t' = subst (λ log. IsTalkingAt P h log rs (messages ls) wire.server.place wire.server.watches wire.server.stage) (sym same) t in
-      let t'' = subst (λ l. IsTalkingAt P h (seen start now) (map (λ s. s.request) (drop wire.processed l)) (messages ls) wire.server.place wire.server.watches wire.server.stage) asked t' in
+      let t'' = subst (λ l. IsTalkingAt P h (seen start now) (map (λ s. s.request) (drop wire.processed l))
+      (messages ls) wire.server.place wire.server.watches wire.server.stage) asked t' in
       record {
         right = talking_right P h (seen start now) rs (messages ls) wire.server.place wire.server.watches wire.server.stage t';
         calm = calm;
@@ -240,7 +308,8 @@ module _ (P : Text → Type 0) (h : History) (start : Start) (Was : List ℕ →
             pending = pending;
             later = λ t. later;
             ended = g.ended;
-            kept = kept_of (is_talking (state_of now)) (seen start now) (map (λ s. s.request) (unread start now wire)) (messages ls) wire (ap is_talking state ∙ talks) t'';
+            kept = kept_of (is_talking (state_of now)) (seen start now) (map (λ s. s.request) (unread start now wire)) (messages ls) wire
+                (ap is_talking state ∙ talks) t'';
           },
         );
       }
@@ -248,40 +317,57 @@ module _ (P : Text → Type 0) (h : History) (start : Start) (Was : List ℕ →
   waits_there : (past : Past) (p : Asking) (more : List Asking) → awaited past ≡ p ∷ more → answered past < length (questions past)
   waits_there past p more e = subst (λ l. Waits (map pending_for l) past) e (waits past)
 
-  pub took_notice : (past : Past) (wire : Wire) (n : Notice) (xid : ℤ) (p : List ℕ) (ps : List Asking) (ls : List Letter) (tail : Tail) → is_talking (state_of past) ≡ true
+  pub took_notice : (past : Past) (wire : Wire) (n : Notice) (xid : ℤ) (p : List ℕ) (ps : List Asking) (ls : List Letter) (tail : Tail)
+      → is_talking (state_of past) ≡ true
       → IsFlow P h start Was past wire (record { message = Notifies n; payload = p; xid = xid; asked = ps } ∷ ls) tail
-      → IsCalmAt P h start Was past → Counted past → wire.coming ≡ frames ls ++ tail_bytes tail → Stands_at P h start Was (Takes_in (Tells n.event n.path) ∷ past) wire
+      → IsCalmAt P h start Was past → Counted past → wire.coming ≡ frames ls ++ tail_bytes tail
+      → Stands_at P h start Was (Takes_in (Tells n.event n.path) ∷ past) wire
   took_notice past wire n xid p ps ls tail talks g calm counted coming =
-      took_by past (Takes_in (Tells n.event n.path) ∷ past) wire (Notifies n) xid p ps ls tail talks g refl refl refl refl (g.pending ∙ ap (λ l. l ++ answers ls ++ g.owed) g.are.0.is_for) coming (g.later talks) calm counted
+      took_by past (Takes_in (Tells n.event n.path) ∷ past) wire (Notifies n) xid p ps ls tail talks g refl refl refl refl
+      (g.pending ∙ ap (λ l. l ++ answers ls ++ g.owed) g.are.0.is_for) coming (g.later talks) calm counted
 
-  pub took_pong : (past : Past) (wire : Wire) (xid : ℤ) (p : List ℕ) (ps : List Asking) (ls : List Letter) (tail : Tail) → is_talking (state_of past) ≡ true
+  pub took_pong : (past : Past) (wire : Wire) (xid : ℤ) (p : List ℕ) (ps : List Asking) (ls : List Letter) (tail : Tail)
+      → is_talking (state_of past) ≡ true
       → IsFlow P h start Was past wire (record { message = Pong; payload = p; xid = xid; asked = ps } ∷ ls) tail
-      → IsCalmAt P h start Was past → Counted past → wire.coming ≡ frames ls ++ tail_bytes tail → Stands_at P h start Was (Takes_in Echo ∷ past) wire
+      → IsCalmAt P h start Was past → Counted past → wire.coming ≡ frames ls ++ tail_bytes tail
+      → Stands_at P h start Was (Takes_in Echo ∷ past) wire
   took_pong past wire xid p ps ls tail talks g calm counted coming =
-      took_by past (Takes_in Echo ∷ past) wire Pong xid p ps ls tail talks g refl refl refl refl (g.pending ∙ ap (λ l. l ++ answers ls ++ g.owed) g.are.0.is_for) coming (g.later talks) calm counted
+      took_by past (Takes_in Echo ∷ past) wire Pong xid p ps ls tail talks g refl refl refl refl
+      (g.pending ∙ ap (λ l. l ++ answers ls ++ g.owed) g.are.0.is_for) coming (g.later talks) calm counted
 
-  pub took_part : (past : Past) (wire : Wire) (b : Bool) (z : ℕ) (xid : ℤ) (p : List ℕ) (ps : List Asking) (ls : List Letter) (tail : Tail) → is_talking (state_of past) ≡ true
+  pub took_part : (past : Past) (wire : Wire) (b : Bool) (z : ℕ) (xid : ℤ) (p : List ℕ) (ps : List Asking) (ls : List Letter) (tail : Tail)
+      → is_talking (state_of past) ≡ true
       → IsFlow P h start Was past wire (record { message = Watches_set b z; payload = p; xid = xid; asked = ps } ∷ ls) tail
-      → IsCalmAt P h start Was past → Counted past → wire.coming ≡ frames ls ++ tail_bytes tail → Stands_at P h start Was (Takes_in (Sets_watches b (pos z)) ∷ past) wire
+      → IsCalmAt P h start Was past → Counted past → wire.coming ≡ frames ls ++ tail_bytes tail
+      → Stands_at P h start Was (Takes_in (Sets_watches b (pos z)) ∷ past) wire
   took_part past wire b z xid p ps ls tail talks g calm counted coming =
       let x : Asking = For_part b in
       let first : awaited past ≡ x ∷ (answers ls ++ g.owed) = g.pending ∙ ap (λ l. l ++ answers ls ++ g.owed) g.are.0.is_for.1 in
       took_by past (Takes_in (Sets_watches b (pos z)) ∷ past) wire (Watches_set b z) xid p ps ls tail talks g refl refl refl refl
-      (awaited_less (is_talking (state_of past)) (answered past) (questions past) x (answers ls ++ g.owed) first) coming (g.later talks) calm
+      (awaited_less (is_talking (state_of past)) (answered past) (questions past) x (answers ls ++ g.owed) first)
+      coming (g.later talks) calm
       (counted_next (Takes_in (Sets_watches b (pos z))) past (waits_there past x (answers ls ++ g.owed) first) counted)
 
-  pub took_reply : (past : Past) (wire : Wire) (q : Question) (z : ℕ) (zxid : ℤ) (same : from_zero zxid ≡ z) (res : Result) (xid : ℤ) (p : List ℕ) (ps : List Asking) (ls : List Letter) (tail : Tail) → is_talking (state_of past) ≡ true
+  pub took_reply : (past : Past) (wire : Wire) (q : Question) (z : ℕ) (zxid : ℤ) (same : from_zero zxid ≡ z) (res : Result) (xid : ℤ)
+      (p : List ℕ) (ps : List Asking) (ls : List Letter) (tail : Tail) → is_talking (state_of past) ≡ true
       → (g : IsFlow P h start Was past wire (record { message = Replies q z res; payload = p; xid = xid; asked = ps } ∷ ls) tail)
-      → IsCalmAt P h start Was past → Counted past → wire.coming ≡ frames ls ++ tail_bytes tail → (ticket : ℕ) (x : Asking) → awaited past ≡ x ∷ (answers ls ++ g.owed) → IsAnswered P h start Was ticket q zxid res past
+      → IsCalmAt P h start Was past → Counted past → wire.coming ≡ frames ls ++ tail_bytes tail → (ticket : ℕ) (x : Asking)
+      → awaited past ≡ x ∷ (answers ls ++ g.owed) → IsAnswered P h start Was ticket q zxid res past
       → Stands_at P h start Was (Takes_in (Answers_call ticket q zxid res) ∷ past) wire
   took_reply past wire Close z zxid same res xid p ps ls tail talks g calm counted coming ticket x first holds =
       let rs : List Request = map (λ s. s.request) (unread start past wire) in
-      let t = talk_takes P h (seen start past) rs (Replies Close z res) (messages ls) wire.server.place wire.server.watches wire.server.stage (talking_of past wire (record { message = Replies Close z res; payload = p; xid = xid; asked = ps } ∷ ls) tail talks g) in
+      let t =
+      talk_takes P h (seen start past) rs (Replies Close z res) (messages ls) wire.server.place wire.server.watches wire.server.stage
+      (talking_of past wire (record { message = Replies Close z res; payload = p; xid = xid; asked = ps } ∷ ls) tail talks g) in
       over_by (Takes_in (Answers_call ticket Close zxid res) ∷ past) wire
       (subst (λ n. AreRight P h (Took (Replies Close n res) ∷ seen start past)) (sym same)
-      (talking_right P h (Took (Replies Close z res) ∷ seen start past) rs (messages ls) wire.server.place wire.server.watches wire.server.stage t))
-      (holds, calm) (counted_next (Takes_in (Answers_call ticket Close zxid res)) past (waits_there past x (answers ls ++ g.owed) first) counted) refl
+      (talking_right P h (Took (Replies Close z res) ∷ seen start past) rs
+      (messages ls) wire.server.place wire.server.watches wire.server.stage t))
+      (holds, calm)
+      (counted_next (Takes_in (Answers_call ticket Close zxid res)) past (waits_there past x (answers ls ++ g.owed) first) counted) refl
   took_reply past wire q z zxid same res xid p ps ls tail talks g calm counted coming ticket x first holds =
-      took_by past (Takes_in (Answers_call ticket q zxid res) ∷ past) wire (Replies q z res) xid p ps ls tail talks g (ap (λ n. Took (Replies q n res) ∷ seen start past) same) refl refl refl
-      (awaited_less (is_talking (state_of past)) (answered past) (questions past) x (answers ls ++ g.owed) first) coming (g.later talks) (holds, calm)
+      took_by past (Takes_in (Answers_call ticket q zxid res) ∷ past) wire (Replies q z res) xid p ps ls tail talks g
+      (ap (λ n. Took (Replies q n res) ∷ seen start past) same) refl refl refl
+      (awaited_less (is_talking (state_of past)) (answered past) (questions past) x (answers ls ++ g.owed) first) coming
+      (g.later talks) (holds, calm)
       (counted_next (Takes_in (Answers_call ticket q zxid res)) past (waits_there past x (answers ls ++ g.owed) first) counted)

@@ -26,7 +26,19 @@ abbrev pub read_config : Asked_call
 read_config = GetData at_config false
 
 abbrev pub stat_of_config : Stat
-stat_of_config = record { czxid = pos 0; mzxid = pos 0; ctime = pos 0; mtime = pos 0; version = negsuc 0; cversion = pos 0; aversion = negsuc 0; ephemeral_owner = pos 0; data_length = pos 0; num_children = pos 0; pzxid = pos 0 }
+stat_of_config = record {
+  czxid = pos 0;
+  mzxid = pos 0;
+  ctime = pos 0;
+  mtime = pos 0;
+  version = negsuc 0;
+  cversion = pos 0;
+  aversion = negsuc 0;
+  ephemeral_owner = pos 0;
+  data_length = pos 0;
+  num_children = pos 0;
+  pzxid = pos 0;
+}
 
 abbrev pub what_config_held : Result
 what_config_held = Read (Some []) stat_of_config
@@ -36,7 +48,8 @@ abbrev pub config_payload : List ℕ
 config_payload =
     0 ∷ 0 ∷ 0 ∷ 1 ∷ 0 ∷ 0 ∷ 0 ∷ 0 ∷ 0 ∷ 0 ∷ 0 ∷ 5 ∷ 0 ∷ 0 ∷ 0 ∷ 0 ∷ 0 ∷ 0 ∷ 0 ∷ 0
     ∷ 0 ∷ 0 ∷ 0 ∷ 0 ∷ 0 ∷ 0 ∷ 0 ∷ 0 ∷ 0 ∷ 0 ∷ 0 ∷ 0 ∷ 0 ∷ 0 ∷ 0 ∷ 0 ∷ 0 ∷ 0 ∷ 0 ∷ 0 ∷ 0 ∷ 0 ∷ 0 ∷ 0 ∷ 0 ∷ 0 ∷ 0 ∷ 0 ∷ 0 ∷ 0 ∷ 0 ∷ 0
-    ∷ 255 ∷ 255 ∷ 255 ∷ 255 ∷ 0 ∷ 0 ∷ 0 ∷ 0 ∷ 255 ∷ 255 ∷ 255 ∷ 255 ∷ 0 ∷ 0 ∷ 0 ∷ 0 ∷ 0 ∷ 0 ∷ 0 ∷ 0 ∷ 0 ∷ 0 ∷ 0 ∷ 0 ∷ 0 ∷ 0 ∷ 0 ∷ 0 ∷ 0 ∷ 0 ∷ 0 ∷ 0 ∷ 0 ∷ 0 ∷ 0 ∷ 0 ∷ []
+    ∷ 255 ∷ 255 ∷ 255 ∷ 255 ∷ 0 ∷ 0 ∷ 0 ∷ 0 ∷ 255 ∷ 255 ∷ 255 ∷ 255 ∷ 0 ∷ 0 ∷ 0 ∷ 0 ∷ 0 ∷ 0 ∷ 0 ∷ 0 ∷ 0 ∷ 0 ∷ 0 ∷ 0 ∷ 0 ∷ 0 ∷ 0 ∷ 0 ∷ 0 ∷ 0
+    ∷ 0 ∷ 0 ∷ 0 ∷ 0 ∷ 0 ∷ 0 ∷ []
 
 -- the reply to the read of /a, with xid 2
 abbrev pub second_payload : List ℕ
@@ -48,7 +61,8 @@ refusal_payload = 255 ∷ 255 ∷ 255 ∷ 248 ∷ 0 ∷ 0 ∷ 0 ∷ 0 ∷ 0 ∷ 
 
 -- a turn that gives what is due
 abbrev pub local_turn : List LocalEntry → Input → Item
-local_turn earlier input = Turned (record { input = input; outputs = due_signals new_client (past_of new_client (items_at earlier)) (signals_of input) })
+local_turn earlier input =
+    Turned (record { input = input; outputs = due_signals new_client (past_of new_client (items_at earlier)) (signals_of input) })
 
 abbrev pub until_config : List LocalEntry
 until_config =

@@ -26,8 +26,10 @@ use Rattle.theory_local.specs.LocalServed.{LocalEntry, items_at, wire_at, WasSen
 
 -- Each answer about one of these paths that is marked good is what there is to see in the tree.
 pub record IsTrueAt (P : Text → Type 0) (tree : Tree) (cache : Cache) : Type 0 where
-  pub nodes : (path : Text) → P path → (kept : Kept Answer) → cache.nodes path ≡ Some kept → kept.mark ≡ Good → Fits kept.answer (to_see Data tree (path_of path))
-  pub children : (path : Text) → P path → (kept : Kept Names) → cache.children path ≡ Some kept → kept.mark ≡ Good → FitsNames kept.answer (to_see Child tree (path_of path))
+  pub nodes : (path : Text) → P path → (kept : Kept Answer)
+      → cache.nodes path ≡ Some kept → kept.mark ≡ Good → Fits kept.answer (to_see Data tree (path_of path))
+  pub children : (path : Text) → P path → (kept : Kept Names)
+      → cache.children path ≡ Some kept → kept.mark ≡ Good → FitsNames kept.answer (to_see Child tree (path_of path))
 
 -- Each answer about one of these paths that is marked good is the history's answer at the client's last seen zxid.
 abbrev pub IsCoherentAt : (Text → Type 0) → History → View → Type 0
@@ -59,10 +61,12 @@ IsDenial zxid _ = ⊥
 -- All of it at once: what is good at these paths is the history's at the last seen zxid; each Answer with a reply's zxid is of a reply
 -- that was taken, to a call that was asked with its ticket, true where that is about one of these paths, and not below the zxid that the
 -- client began with, unless it is such a refusal; each Drop has its reason.
-pub record HeadlineAt (P : Text → Type 0) (h : History) (start : Start) (items : List Item) (view : View) (entries : List LocalEntry) : Type 0 where
+pub record HeadlineAt (P : Text → Type 0) (h : History) (start : Start) (items : List Item) (view : View)
+    (entries : List LocalEntry) : Type 0 where
   pub coherent : IsCoherentAt P h view
   pub answers : (ticket : ℕ) (zxid : ℤ) (result : Result) → Among (Answers ticket (Replied zxid result)) (outputs_of items)
-      → (call : Call) × Among (Asked ticket call) (past_of start items) × Among (Takes_in (Answers_call ticket (question_of call) zxid result)) (past_of start items)
+      → (call : Call) × Among (Asked ticket call) (past_of start items)
+      × Among (Takes_in (Answers_call ticket (question_of call) zxid result)) (past_of start items)
       × (IsAbout P call → Reads (tree_at h (from_zero zxid)) (question_of call) result × IsTrueWrite h call (from_zero zxid) result)
       × (((from_zero start.last ≤ from_zero zxid) × (zxid ≡ pos (from_zero zxid))) ⊎ IsDenial zxid result)
   pub drops : (fault : Fault) → Among (Drop fault) (outputs_of items) → IsDueAt entries fault

@@ -14,7 +14,8 @@ use Rattle.zk_turns.specs.Meaning.{Among}
 use Rattle.zk_laws.specs.Server.{Notice, IsOther}
 use Rattle.zk_laws.specs.Messages.{Restore, Ask, Notifies, from_zero}
 use Rattle.zk_laws.specs.ServerSteps.{ServerStep, Serving, Ended, IsNext, messages_by}
-use Rattle.zk_laws.specs.Served.{Entry, Goes_on, Serves, MayEnter, Wire, no_wire, unread, first_xid, is_going, ArePayloads, wire_past, wire_on}
+use Rattle.zk_laws.specs.Served.{Entry, Goes_on, Serves, MayEnter, Wire, no_wire, unread, first_xid, is_going, ArePayloads, wire_past}
+use Rattle.zk_laws.specs.Served.{wire_on}
 use Rattle.theory_local.specs.LocalSteps.{MayDoAt}
 
 -- An entry of a schedule: an item of the client, or a server's move. Beside the steps of the model a server tells anything at
@@ -39,9 +40,11 @@ wire_at h [] = no_wire
 wire_at h (Goes place item ∷ earlier) = wire_past place item (wire_at h earlier)
 wire_at h (Steps step payloads ∷ earlier) = wire_on h step payloads (wire_at h earlier)
 wire_at h (Tells sent payloads ∷ earlier) = record (wire_at h earlier) { coming = (wire_at h earlier).coming ++ flat_map frame payloads }
-wire_at h (Denies call payload ∷ earlier) = record (wire_at h earlier) { processed = (wire_at h earlier).processed + 1; coming = (wire_at h earlier).coming ++ frame payload }
+wire_at h (Denies call payload ∷ earlier) =
+    record (wire_at h earlier) { processed = (wire_at h earlier).processed + 1; coming = (wire_at h earlier).coming ++ frame payload }
 wire_at h (Fails payload rest ∷ earlier) =
-    record (wire_at h earlier) { server = record ((wire_at h earlier).server) { stage = Ended }; coming = (wire_at h earlier).coming ++ frame payload ++ rest }
+    record (wire_at h earlier)
+    { server = record ((wire_at h earlier).server) { stage = Ended }; coming = (wire_at h earlier).coming ++ frame payload ++ rest }
 
 -- the payload is one of those that the servers have sent
 abbrev pub WasSentAt : List LocalEntry → List ℕ → Type 0
@@ -53,7 +56,8 @@ WasSentAt (Denies call denying ∷ earlier) payload = (payload ≡ denying) ⊎ 
 WasSentAt (Fails failing rest ∷ earlier) payload = (payload ≡ failing) ⊎ WasSentAt earlier payload
 
 -- A server's step on the open connection, with the payloads of its messages.
-pub record MayStepAt (P : Text → Type 0) (h : History) (start : Start) (step : ServerStep) (payloads : List (List ℕ)) (past : Past) (wire : Wire) : Type 0 where
+pub record MayStepAt (P : Text → Type 0) (h : History) (start : Start) (step : ServerStep) (payloads : List (List ℕ)) (past : Past)
+    (wire : Wire) : Type 0 where
   pub going : is_going past ≡ true
   pub may : MayDoAt P h step wire.server (map (λ sent. sent.request) (unread start past wire))
   pub told : ArePayloads (first_xid (unread start past wire)) (messages_by h step wire.server.place) payloads
@@ -70,13 +74,15 @@ pub record MayDeny (start : Start) (call : Call) (payload : List ℕ) (past : Pa
   pub serving : wire.server.stage ≡ Serving
   pub next : IsNext (Ask call) (map (λ sent. sent.request) (unread start past wire))
   pub short : length payload < 2 ^ 31
-  pub error : (zxid : ℤ) × (code : ℤ) × (behind : List ℕ) × (from_zero zxid ≡ 0) × IsOther code × IsHeaded (first_xid (unread start past wire)) zxid code payload behind
+  pub error : (zxid : ℤ) × (code : ℤ) × (behind : List ℕ) × (from_zero zxid ≡ 0) × IsOther code
+      × IsHeaded (first_xid (unread start past wire)) zxid code payload behind
 
 -- A reply with an error where a part of setWatches comes next.
 pub record MayFail (start : Start) (payload : List ℕ) (past : Past) (wire : Wire) : Type 0 where
   pub going : is_going past ≡ true
   pub serving : wire.server.stage ≡ Serving
-  pub next : (is_last : Bool) × (relative : ℕ) × (part : Lists) × IsNext (Restore is_last relative part) (map (λ sent. sent.request) (unread start past wire))
+  pub next : (is_last : Bool) × (relative : ℕ) × (part : Lists)
+      × IsNext (Restore is_last relative part) (map (λ sent. sent.request) (unread start past wire))
   pub short : length payload < 2 ^ 31
   pub error : (zxid : ℤ) × (code : ℤ) × (behind : List ℕ) × (code ≢ pos 0) × IsHeaded part_xid zxid code payload behind
 
@@ -91,7 +97,8 @@ MayEnterAt P h start (Fails payload rest) past wire = MayFail start payload past
 -- A schedule has the newest entry first.
 abbrev pub IsServingAt : (Text → Type 0) → History → Start → List LocalEntry → Type 0
 IsServingAt P h start [] = ⊤
-IsServingAt P h start (entry ∷ earlier) = MayEnterAt P h start entry (past_of start (items_at earlier)) (wire_at h earlier) × IsServingAt P h start earlier
+IsServingAt P h start (entry ∷ earlier) =
+    MayEnterAt P h start entry (past_of start (items_at earlier)) (wire_at h earlier) × IsServingAt P h start earlier
 
 -- The client was served by servers that keep to the model at these paths: there is a schedule of its items.
 pub record ServedAt (P : Text → Type 0) (h : History) (start : Start) (items : List Item) : Type 0 where

@@ -12,7 +12,8 @@ use Rattle.zk_turns.specs.Meaning.{Among}
 use Rattle.zk_laws.specs.Flight.{HasCode}
 use Rattle.zk_laws.specs.Server.{Notice, AreSent, fires_all, tree_held, Gives, part_tells}
 use Rattle.zk_laws.specs.Messages.{Request, Restore, Ask}
-use Rattle.zk_laws.specs.ServerSteps.{Waiting, Serving, Ended, ServerEnd, ServerStep, Advances, Answers, Restores, IsNext, changes_next, MayDo}
+use Rattle.zk_laws.specs.ServerSteps.{Waiting, Serving, Ended, ServerEnd, ServerStep, Advances, Answers, Restores, IsNext, changes_next}
+use Rattle.zk_laws.specs.ServerSteps.{MayDo}
 
 -- the path is one of those for which the test is true
 abbrev pub IsOf : (Text → Bool) → Text → Type 0
@@ -36,16 +37,20 @@ GivesAt P h place call result = HasCode result × (IsAbout P call → Gives h pl
 -- Each side of one of these paths of which something is fired is told of. More may be told, of any path: it makes an answer stale at most.
 abbrev pub AreToldAt : (Text → Type 0) → List Notice → List Notice → Type 0
 AreToldAt P fired sent =
-    (side : Side) (notice : Notice) → P notice.path → Among notice fired → concerns notice.event side ≡ true → (one : Notice) × Among one sent × (concerns one.event side ≡ true) × (one.path ≡ notice.path)
+    (side : Side) (notice : Notice) → P notice.path → Among notice fired → concerns notice.event side ≡ true
+    → (one : Notice) × Among one sent × (concerns one.event side ≡ true) × (one.path ≡ notice.path)
 
 -- The steps that a server may take that keeps to the model at these paths. What it sends and where it stands then is by the same
 -- `messages_by` and `end_after`: so each reply has the zxid of the transactions that the server holds, whatever it is about. Before it
 -- admits the client it keeps to the model at all paths: there nothing is watched, and it tells nothing.
 abbrev pub MayDoAt : (Text → Type 0) → History → ServerStep → ServerEnd → List Request → Type 0
 MayDoAt P h (Advances sent) server requests =
-    (server.stage ≢ Ended) × (server.place < length h.transactions) × AreToldAt P (fires_all (changes_next h server.place) server.watches) sent
+    (server.stage ≢ Ended) × (server.place < length h.transactions)
+    × AreToldAt P (fires_all (changes_next h server.place) server.watches) sent
     × (server.stage ≡ Waiting → AreSent (fires_all (changes_next h server.place) server.watches) sent)
-MayDoAt P h (Answers call result) server requests = (server.stage ≡ Serving) × IsNext (Ask call) requests × GivesAt P h server.place call result
+MayDoAt P h (Answers call result) server requests =
+    (server.stage ≡ Serving) × IsNext (Ask call) requests × GivesAt P h server.place call result
 MayDoAt P h (Restores is_last relative part sent) server requests =
-    (server.stage ≡ Serving) × IsNext (Restore is_last relative part) requests × AreToldAt P (part_tells relative (tree_held h server.place) part) sent
+    (server.stage ≡ Serving) × IsNext (Restore is_last relative part) requests
+    × AreToldAt P (part_tells relative (tree_held h server.place) part) sent
 MayDoAt P h step server requests = MayDo h step server requests

@@ -28,25 +28,29 @@ ghost use Rattle.zk_laws.specs.Example.{two_changes, at_a, fields_at_five};
 ghost use Rattle.zk_laws.specs.Meeting_example.{new_client};
 ghost use Rattle.zk_laws.specs.Headline.{IsTrueOf, IsCoherentWith, IsQuietAt, tree_of};
 ghost use Rattle.theory_local.specs.LocalSteps.{IsOf, IsAbout, AreToldAt, MayDoAt};
-ghost use Rattle.theory_local.specs.LocalServed.{LocalEntry, Tells, Denies, Fails, MayEnterAt, items_at, wire_at, local_of, IsServingAt, ServedAt};
+ghost use Rattle.theory_local.specs.LocalServed.{LocalEntry, Tells, Denies, Fails, MayEnterAt, items_at, wire_at, local_of, IsServingAt};
+ghost use Rattle.theory_local.specs.LocalServed.{ServedAt};
 ghost use Rattle.theory_local.specs.LocalHeadline.{IsTrueAt, IsCoherentAt, IsQuietAfter, tree_after, HeadlineAt};
 ghost use Rattle.theory_local.specs.Departure_example.{only_a, until_config, until_refused};
 
 /// The headline at some paths: what servers answer and tell elsewhere does not touch what is good there, nor which answers are true there.
 pub fn local_headline()
-    ensures { (paths : Text → Bool) (h : History) → IsHistory h → (start : Start) (items : List Client_item) (view : View) → Stands start items view
+    ensures { (paths : Text → Bool) (h : History) → IsHistory h → (start : Start) (items : List Client_item) (view : View)
+        → Stands start items view
         → (served : ServedAt (IsOf paths) h start items) → HeadlineAt (IsOf paths) h start items view served.entries }
 {}
 
 /// Each answer about one of these paths that is marked good is the history's answer at the client's last seen zxid.
 pub fn local_coherence()
-    ensures { (paths : Text → Bool) (h : History) → IsHistory h → (start : Start) (items : List Client_item) (view : View) → Stands start items view → ServedAt (IsOf paths) h start items → IsCoherentAt (IsOf paths) h view }
+    ensures { (paths : Text → Bool) (h : History) → IsHistory h → (start : Start) (items : List Client_item) (view : View)
+        → Stands start items view → ServedAt (IsOf paths) h start items → IsCoherentAt (IsOf paths) h view }
 {}
 
 /// Where the client has taken all that the server of its connection sent, and no watches are still to be set again, each good answer
 /// about one of these paths is also what that server would answer where it stands.
 pub fn local_quiet()
-    ensures { (paths : Text → Bool) (h : History) → IsHistory h → (start : Start) (entries : List LocalEntry) (view : View) → IsServingAt (IsOf paths) h start entries → Stands start (items_at entries) view
+    ensures { (paths : Text → Bool) (h : History) → IsHistory h → (start : Start) (entries : List LocalEntry) (view : View)
+        → IsServingAt (IsOf paths) h start entries → Stands start (items_at entries) view
         → IsQuietAfter h start entries → IsTrueAt (IsOf paths) (tree_after h entries) view.cache }
 {}
 
@@ -54,32 +58,47 @@ pub fn local_quiet()
 /// ask less (`fewer`); and what is true at all paths is true as `zk_laws` says it (`everywhere`). So `coherence` and `quiet_client` of
 /// `zk_laws` are the case of all paths, and follow (`coherence`, `quiet`).
 pub fn model_is_local()
-    ensures serving { (paths : Text → Bool) (h : History) (start : Start) (entries : List Entry) → IsServing h start entries → IsServingAt (IsOf paths) h start (map local_of entries) }
-    ensures served { (paths : Text → Bool) (h : History) (start : Start) (items : List Client_item) → Served h start items → ServedAt (IsOf paths) h start items }
+    ensures serving { (paths : Text → Bool) (h : History) (start : Start) (entries : List Entry) → IsServing h start entries
+        → IsServingAt (IsOf paths) h start (map local_of entries) }
+    ensures served { (paths : Text → Bool) (h : History) (start : Start) (items : List Client_item) → Served h start items
+        → ServedAt (IsOf paths) h start items }
     ensures items { (entries : List Entry) → items_at (map local_of entries) ≡ items_in entries }
     ensures wire { (h : History) (entries : List Entry) → wire_at h (map local_of entries) ≡ wire_of h entries }
-    ensures fewer { (paths some : Text → Bool) (h : History) (start : Start) (entries : List LocalEntry) → ((path : Text) → IsOf some path → IsOf paths path) → IsServingAt (IsOf paths) h start entries → IsServingAt (IsOf some) h start entries }
-    ensures coherence { (h : History) → IsHistory h → (start : Start) (items : List Client_item) (view : View) → Stands start items view → Served h start items → IsCoherentWith h view }
-    ensures quiet { (h : History) → IsHistory h → (start : Start) (entries : List Entry) (view : View) → IsServing h start entries → Stands start (items_in entries) view → IsQuietAt h start entries → IsTrueOf (tree_of h entries) view.cache }
-    ensures everywhere { (paths : Text → Bool) (tree : Tree) (cache : Cache) → ((path : Text) → IsOf paths path) → IsTrueAt (IsOf paths) tree cache → IsTrueOf tree cache }
+    ensures fewer { (paths some : Text → Bool) (h : History) (start : Start) (entries : List LocalEntry) → ((path : Text) → IsOf some path
+        → IsOf paths path) → IsServingAt (IsOf paths) h start entries → IsServingAt (IsOf some) h start entries }
+    ensures coherence { (h : History) → IsHistory h → (start : Start) (items : List Client_item) (view : View) → Stands start items view
+        → Served h start items → IsCoherentWith h view }
+    ensures quiet { (h : History) → IsHistory h → (start : Start) (entries : List Entry) (view : View) → IsServing h start entries
+        → Stands start (items_in entries) view → IsQuietAt h start entries → IsTrueOf (tree_of h entries) view.cache }
+    ensures everywhere { (paths : Text → Bool) (tree : Tree) (cache : Cache) → ((path : Text) → IsOf paths path)
+        → IsTrueAt (IsOf paths) tree cache → IsTrueOf tree cache }
 {}
 
 /// What servers may do beside the model: give a call about another path any result (`answers`), and tell nothing of it (`silence`); tell
-/// more than what is fired (`notices`), or of the same side by another event (`events`); tell anything at any moment (`tells`); refuse a call with a zxid below
-/// 0 (`denials`); answer a part of setWatches with an error, and send any bytes after it (`errors`).
+/// more than what is fired (`notices`), or of the same side by another event (`events`); tell anything at any moment (`tells`); refuse a
+/// call with a zxid below 0 (`denials`); answer a part of setWatches with an error, and send any bytes after it (`errors`).
 pub fn elsewhere_is_free()
-    ensures answers { (paths : Text → Bool) (h : History) (server : ServerEnd) (requests : List Request) (call : Call) (result : Result) → server.stage ≡ Serving → IsNext (Ask call) requests → HasCode result → (IsAbout (IsOf paths) call → ⊥)
+    ensures answers { (paths : Text → Bool) (h : History) (server : ServerEnd) (requests : List Request) (call : Call) (result : Result)
+        → server.stage ≡ Serving → IsNext (Ask call) requests → HasCode result → (IsAbout (IsOf paths) call → ⊥)
         → MayDoAt (IsOf paths) h (Answers call result) server requests }
-    ensures silence { (paths : Text → Bool) (event : Event) (path : Text) → (IsOf paths path → ⊥) → AreToldAt (IsOf paths) (record { event = event; path = path } ∷ []) [] }
-    ensures notices { (paths : Text → Bool) (fired sent more : List Notice) → AreToldAt (IsOf paths) fired sent → AreToldAt (IsOf paths) fired (sent ++ more) }
-    ensures events { (paths : Text → Bool) (path : Text) → AreToldAt (IsOf paths) (record { event = DataChanged; path = path } ∷ []) (record { event = Created; path = path } ∷ []) }
-    ensures tells { (paths : Text → Bool) (h : History) (start : Start) (sent : List Notice) (payloads : List (List ℕ)) (past : Past) (wire : Wire) → is_going past ≡ true → wire.server.stage ≡ Serving → ArePayloads (pos 0) (map Notifies sent) payloads
+    ensures silence { (paths : Text → Bool) (event : Event) (path : Text) → (IsOf paths path → ⊥)
+        → AreToldAt (IsOf paths) (record { event = event; path = path } ∷ []) [] }
+    ensures notices { (paths : Text → Bool) (fired sent more : List Notice) → AreToldAt (IsOf paths) fired sent
+        → AreToldAt (IsOf paths) fired (sent ++ more) }
+    ensures events { (paths : Text → Bool) (path : Text)
+        → AreToldAt (IsOf paths) (record { event = DataChanged; path = path } ∷ []) (record { event = Created; path = path } ∷ []) }
+    ensures tells { (paths : Text → Bool) (h : History) (start : Start) (sent : List Notice) (payloads : List (List ℕ)) (past : Past)
+        (wire : Wire) → is_going past ≡ true → wire.server.stage ≡ Serving → ArePayloads (pos 0) (map Notifies sent) payloads
         → MayEnterAt (IsOf paths) h start (Tells sent payloads) past wire }
-    ensures denials { (paths : Text → Bool) (h : History) (start : Start) (call : Call) (n : ℕ) (code : ℤ) (payload behind : List ℕ) (past : Past) (wire : Wire) → is_going past ≡ true → wire.server.stage ≡ Serving
-        → IsNext (Ask call) (map (λ sent. sent.request) (unread start past wire)) → length payload < 2 ^ 31 → IsOther code → IsHeaded (first_xid (unread start past wire)) (negsuc n) code payload behind
+    ensures denials { (paths : Text → Bool) (h : History) (start : Start) (call : Call) (n : ℕ) (code : ℤ) (payload behind : List ℕ)
+        (past : Past) (wire : Wire) → is_going past ≡ true → wire.server.stage ≡ Serving
+        → IsNext (Ask call) (map (λ sent. sent.request) (unread start past wire)) → length payload < 2 ^ 31 → IsOther code
+        → IsHeaded (first_xid (unread start past wire)) (negsuc n) code payload behind
         → MayEnterAt (IsOf paths) h start (Denies call payload) past wire }
-    ensures errors { (paths : Text → Bool) (h : History) (start : Start) (is_last : Bool) (relative : ℕ) (part : Lists) (zxid code : ℤ) (payload behind rest : List ℕ) (past : Past) (wire : Wire) → is_going past ≡ true → wire.server.stage ≡ Serving
-        → IsNext (Restore is_last relative part) (map (λ sent. sent.request) (unread start past wire)) → length payload < 2 ^ 31 → code ≢ pos 0 → IsHeaded part_xid zxid code payload behind
+    ensures errors { (paths : Text → Bool) (h : History) (start : Start) (is_last : Bool) (relative : ℕ) (part : Lists) (zxid code : ℤ)
+        (payload behind rest : List ℕ) (past : Past) (wire : Wire) → is_going past ≡ true → wire.server.stage ≡ Serving
+        → IsNext (Restore is_last relative part) (map (λ sent. sent.request) (unread start past wire)) → length payload < 2 ^ 31
+        → code ≢ pos 0 → IsHeaded part_xid zxid code payload behind
         → MayEnterAt (IsOf paths) h start (Fails payload rest) past wire }
 {}
 
@@ -91,7 +110,8 @@ pub fn departing_schedule()
     ensures history { IsHistory two_changes }
     ensures serving { IsServingAt (IsOf only_a) two_changes new_client until_refused }
     ensures stands { Stands new_client (items_at until_refused) (view_at new_client (past_of new_client (items_at until_refused))) }
-    ensures kept { kept_data at_a (past_of new_client (items_at until_refused)) ≡ Some (record { answer = Full (Some (104 ∷ 105 ∷ [])) fields_at_five; mark = Good }) }
+    ensures kept { kept_data at_a (past_of new_client (items_at until_refused))
+        ≡ Some (record { answer = Full (Some (104 ∷ 105 ∷ [])) fields_at_five; mark = Good }) }
     ensures last { last_of new_client (past_of new_client (items_at until_refused)) ≡ pos 5 }
     ensures refused { Among (Dropped (WatchesRefused (negsuc 111))) (past_of new_client (items_at until_refused)) }
     ensures departs { (h : History) → IsHistory h → Served h new_client (items_at until_config) → ⊥ }

@@ -7,7 +7,8 @@ newest_last : (low : ℕ) (earlier : List Transaction) (last : Transaction) → 
 newest_last low [] last = refl
 newest_last low (one ∷ more) last = newest_last one.zxid more last
 
-after_last : (earlier : List Transaction) (last : Transaction) (tree : Tree) → after (earlier ++ last ∷ []) tree ≡ apply_all last.zxid last.time last.changes (after earlier tree)
+after_last : (earlier : List Transaction) (last : Transaction) (tree : Tree)
+    → after (earlier ++ last ∷ []) tree ≡ apply_all last.zxid last.time last.changes (after earlier tree)
 after_last [] last tree = refl
 after_last (one ∷ more) last tree = after_last more last (apply_all one.zxid one.time one.changes tree)
 
@@ -17,7 +18,8 @@ none_tree h = refl
 pub none_zxid : (h : History) → zxid_held h 0 ≡ 0
 none_zxid h = refl
 
-pub last_zxid : (h : History) (place : ℕ) (earlier : List Transaction) (last : Transaction) → held h place ≡ earlier ++ last ∷ [] → zxid_held h place ≡ last.zxid
+pub last_zxid : (h : History) (place : ℕ) (earlier : List Transaction) (last : Transaction)
+    → held h place ≡ earlier ++ last ∷ [] → zxid_held h place ≡ last.zxid
 last_zxid h place earlier last e = ap (λ (all : List Transaction). newest 0 all) e ∙ newest_last 0 earlier last
 
 pub last_tree : (h : History) (place : ℕ) (earlier : List Transaction) (last : Transaction) → held h place ≡ earlier ++ last ∷ []

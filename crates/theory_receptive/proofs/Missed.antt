@@ -1,5 +1,6 @@
 -- A stale answer was reported once: by the notice that ended it, and by none that came after.
-use Rattle.std.proofs.Common.{◌≡◌, ◌⊎◌, ◌&&◌, cond, Bool, true, false, List, [], ◌∷◌, ◌++◌, append_assoc, Option, Some, None, inl, inr, refl, sym, ap, subst, ◌∙◌, ℕ, ℤ}
+use Rattle.std.proofs.Common.{◌≡◌, ◌⊎◌, ◌&&◌, cond, Bool, true, false, List, [], ◌∷◌, ◌++◌, append_assoc, Option, Some, None, inl, inr}
+use Rattle.std.proofs.Common.{refl, sym, ap, subst, ◌∙◌, ℕ, ℤ}
 use Rattle.std.specs.Prelude.{◌↔◌, bytes_eq, is_some}
 use Rattle.std.specs.List.{AllByRecursion}
 use Rattle.zk_cache.specs.Kept.{Answer, Names, good, is_marked_good}
@@ -26,7 +27,9 @@ use Rattle.zk_turns.proofs.Lists.{same_text}
 use Rattle.zk_turns.proofs.Marks.{data_marks, child_marks}
 use Rattle.zk_turns.proofs.Reporting.{reports_are}
 use Rattle.zk_turns.specs.Meaning.{Among}
-use Rattle.zk_turns.specs.Past.{Happening, Began, Lost, Pinged, Forgot, Halted, Came, Ticked, Took, Dropped, Asked, Denied, Past, Accepted, Expiry, Pong, Skipped, Replies, Watches_set, Notifies, Word, Says, Ends, Empties, Nothing, Left, if_at, reply_word, is_good, kept_data, kept_names, word_data, word_child, word_on, leaves_data, leaves_child}
+use Rattle.zk_turns.specs.Past.{Happening, Began, Lost, Pinged, Forgot, Halted, Came, Ticked, Took, Dropped, Asked, Denied, Past, Accepted}
+use Rattle.zk_turns.specs.Past.{Expiry, Pong, Skipped, Replies, Watches_set, Notifies, Word, Says, Ends, Empties, Nothing, Left, if_at}
+use Rattle.zk_turns.specs.Past.{reply_word, is_good, kept_data, kept_names, word_data, word_child, word_on, leaves_data, leaves_child}
 use Rattle.zk_turns.specs.Reported.{report_on, reports_in, reports_of}
 use Rattle.zk_turns.specs.Rule.{Stands}
 use Rattle.zk_turns.specs.Sent.{outputs_of}
@@ -42,7 +45,8 @@ reports_by (Took (Notifies event path)) past = report_on Child event path past +
 reports_by _ past = []
 
 one_more : (x : Happening) (past : Past) → reports_of (x ∷ past) ≡ reports_by x past ++ reports_of past
-one_more (Took (Notifies event path)) past = sym (append_assoc (report_on Child event path past) (report_on Data event path past) (reports_of past))
+one_more (Took (Notifies event path)) past =
+    sym (append_assoc (report_on Child event path past) (report_on Data event path past) (reports_of past))
 one_more (Took (Accepted welcome)) past = refl
 one_more (Took Expiry) past = refl
 one_more (Took Pong) past = refl
@@ -77,12 +81,15 @@ side_of : Output → Side
 side_of (Report path side event) = side
 side_of _ = Data
 
-about_side : (path at : Text) (side on : Side) (other event : Event) → Report path side other ≡ Report at on event → (side ≡ on) × (path ≡ at)
+about_side : (path at : Text) (side on : Side) (other event : Event)
+    → Report path side other ≡ Report at on event → (side ≡ on) × (path ≡ at)
 about_side path at side on other event is =
     (ap (λ (o : Output). elim o [ Report p s e ↦ s | _ ↦ side ]) is, ap (λ (o : Output). elim o [ Report p s e ↦ p | _ ↦ path ]) is)
 
-in_report : (path at : Text) (side on : Side) (other event : Event) (past : Past) (is_told good_there : Bool) → good_there ≡ is_good on at past
-    → Among (Report path side other) (cond (is_told && good_there) (Report at on event ∷ []) []) → (side ≡ on) × (path ≡ at) × (is_good on at past ≡ true)
+in_report : (path at : Text) (side on : Side) (other event : Event) (past : Past) (is_told good_there : Bool)
+    → good_there ≡ is_good on at past
+    → Among (Report path side other) (cond (is_told && good_there) (Report at on event ∷ []) [])
+    → (side ≡ on) × (path ≡ at) × (is_good on at past ≡ true)
 in_report path at side on other event past true true good among = elim among [
   | inl is ↦ (let a = about_side path at side on other event is in (a.0, a.1, sym good))
   | inr none ↦ absurd none
@@ -90,18 +97,22 @@ in_report path at side on other event past true true good among = elim among [
 in_report path at side on other event past true false good among = absurd among
 in_report path at side on other event past false good_there good among = absurd among
 
-reported_on : (path at : Text) (side on : Side) (other event : Event) (past : Past) → Among (Report path side other) (report_on on event at past)
+reported_on : (path at : Text) (side on : Side) (other event : Event) (past : Past)
+    → Among (Report path side other) (report_on on event at past)
     → (side ≡ on) × (path ≡ at) × (is_good on at past ≡ true)
 reported_on path at side on other event past = in_report path at side on other event past (concerns event on) (is_good on at past) refl
 
-good_at : (path at : Text) (side on : Side) (past : Past) → (side ≡ on) × (path ≡ at) × (is_good on at past ≡ true) → is_good side path past ≡ true
+good_at : (path at : Text) (side on : Side) (past : Past) → (side ≡ on) × (path ≡ at) × (is_good on at past ≡ true)
+    → is_good side path past ≡ true
 good_at path at side on past is = ap (λ s. is_good s path past) is.0 ∙ ap (λ p. is_good on p past) is.1 ∙ is.2
 
-reported_by : (path : Text) (side : Side) (other : Event) (x : Happening) (past : Past) → Among (Report path side other) (reports_by x past) → is_good side path past ≡ true
-reported_by path side other (Took (Notifies event at)) past among = elim (among_split (Report path side other) (report_on Child event at past) (report_on Data event at past) among) [
-  | inl first ↦ good_at path at side Child past (reported_on path at side Child other event past first)
-  | inr second ↦ good_at path at side Data past (reported_on path at side Data other event past second)
-]
+reported_by : (path : Text) (side : Side) (other : Event) (x : Happening) (past : Past) → Among (Report path side other) (reports_by x past)
+    → is_good side path past ≡ true
+reported_by path side other (Took (Notifies event at)) past among =
+    elim (among_split (Report path side other) (report_on Child event at past) (report_on Data event at past) among) [
+      | inl first ↦ good_at path at side Child past (reported_on path at side Child other event past first)
+      | inr second ↦ good_at path at side Data past (reported_on path at side Data other event past second)
+    ]
 reported_by path side other (Took (Accepted welcome)) past among = absurd among
 reported_by path side other (Took Expiry) past among = absurd among
 reported_by path side other (Took Pong) past among = absurd among
@@ -149,7 +160,8 @@ module _ {A : Type 0} where
   noticed side path at event true false about same is = absurd cc
   noticed side path at event false same about eq is = absurd cc
 
-  ended_by : (side : Side) (leaves : Question → Result → Option (Left A)) (path : Text) (x : Happening) → word_on side leaves path x ≡ Ends → IsNoticeOf side path x
+  ended_by : (side : Side) (leaves : Question → Result → Option (Left A)) (path : Text) (x : Happening)
+      → word_on side leaves path x ≡ Ends → IsNoticeOf side path x
   ended_by side leaves path (Took (Notifies event at)) is = noticed side path at event (concerns event side) (bytes_eq at path) refl refl is
   ended_by side leaves path (Took (Replies ticket question zxid result)) is = absurd (not_replied question (leaves question result) path is)
   ended_by side leaves path (Took (Accepted welcome)) is = absurd cc
@@ -173,17 +185,21 @@ module _ {A : Type 0} where
 -- on its side, and above and beside that on the other one
 abbrev Told : Side → Text → Event → Past → Type 0
 Told side path event before =
-    (above : List Output) × (beside : List Output) × (reports_by (Took (Notifies event path)) before ≡ above ++ Report path side event ∷ beside)
+    (above : List Output) × (beside : List Output)
+    × (reports_by (Took (Notifies event path)) before ≡ above ++ Report path side event ∷ beside)
     × ((other : Event) → Among (Report path side other) (above ++ beside) → ⊥)
 
-told_on : (side : Side) (path : Text) (event : Event) (before : Past) → concerns event side ≡ true → is_good side path before ≡ true → report_on side event path before ≡ Report path side event ∷ []
+told_on : (side : Side) (path : Text) (event : Event) (before : Past)
+    → concerns event side ≡ true → is_good side path before ≡ true → report_on side event path before ≡ Report path side event ∷ []
 told_on side path event before about good =
-    ap (λ (b : Bool). cond (b && is_good side path before) (Report path side event ∷ []) []) about ∙ ap (λ (b : Bool). cond (true && b) (Report path side event ∷ []) []) good
+    ap (λ (b : Bool). cond (b && is_good side path before) (Report path side event ∷ []) []) about
+    ∙ ap (λ (b : Bool). cond (true && b) (Report path side event ∷ []) []) good
 
 not_both : Data ≡ Child → ⊥
 not_both is = absurd cc
 
-one_notice : (side : Side) (path : Text) (event : Event) (before : Past) → concerns event side ≡ true → is_good side path before ≡ true → Told side path event before
+one_notice : (side : Side) (path : Text) (event : Event) (before : Past)
+    → concerns event side ≡ true → is_good side path before ≡ true → Told side path event before
 one_notice Data path event before about good = (
   report_on Child event path before,
   [],
@@ -209,21 +225,32 @@ module _ {A : Type 0} (side : Side) (path : Text) (leaves : Question → Result 
   word = word_on side leaves path
 
   -- while an answer is stale nothing is reported there
-  none_since : (since : List Happening) (notice : Happening) (before : Past) (answer : A) → word notice ≡ Ends → kept before ≡ good answer → AllByRecursion (LeavesStale word) since
+  none_since : (since : List Happening) (notice : Happening) (before : Past) (answer : A)
+      → word notice ≡ Ends → kept before ≡ good answer → AllByRecursion (LeavesStale word) since
       → (other : Event) → Among (Report path side other) (reports_since since (notice ∷ before)) → ⊥
   none_since [] notice before answer ended was stays other among = absurd among
   none_since (x ∷ since) notice before answer ended was stays other among =
       elim (among_split (Report path side other) (reports_by x (since ++ notice ∷ before)) (reports_since since (notice ∷ before)) among) [
         | inl here ↦ (
-            let is = (stale_is (since ++ notice ∷ before) answer).1 (record { since = since; notice = notice; before = before; whole = refl; ended = ended; was_good = was; stays = stays.1 }) in
-            let not_good : is_good side path (since ++ notice ∷ before) ≡ false = sym (marks (since ++ notice ∷ before)) ∙ ap is_marked_good is in
+            let is = (stale_is (since ++ notice ∷ before) answer).1 (record {
+              since = since;
+              notice = notice;
+              before = before;
+              whole = refl;
+              ended = ended;
+              was_good = was;
+              stays = stays.1;
+            }) in
+            let not_good : is_good side path (since ++ notice ∷ before) ≡ false =
+            sym (marks (since ++ notice ∷ before)) ∙ ap is_marked_good is in
             let is_so : true ≡ false = sym (reported_by path side other x (since ++ notice ∷ before) here) ∙ not_good in
             absurd cc
             )
         | inr later ↦ none_since since notice before answer ended was stays.1 other later
       ]
 
-  once : (past : Past) (answer : A) (outputs : List Output) → reports_in outputs ≡ reports_of past → IsStaleSince word kept past answer → IsReportedOnce side path word kept past outputs answer
+  once : (past : Past) (answer : A) (outputs : List Output)
+      → reports_in outputs ≡ reports_of past → IsStaleSince word kept past answer → IsReportedOnce side path word kept past outputs answer
   once past answer outputs all stale =
       let notice = ended_by side leaves path stale.notice stale.ended in
       let good_before : is_good side path stale.before ≡ true = sym (marks stale.before) ∙ ap is_marked_good stale.was_good in
@@ -236,10 +263,12 @@ module _ {A : Type 0} (side : Side) (path : Text) (leaves : Question → Result 
         later = since ++ told.0;
         beside = told.1;
         reported = all ∙ ap reports_of stale.whole ∙ since_and_before stale.since (stale.notice ∷ stale.before)
-            ∙ ap (λ (rest : List Output). since ++ rest) (one_more stale.notice stale.before ∙ ap (λ (x : Happening). reports_by x stale.before ++ reports_of stale.before) notice.1
+            ∙ ap (λ (rest : List Output). since ++ rest)
+            (one_more stale.notice stale.before ∙ ap (λ (x : Happening). reports_by x stale.before ++ reports_of stale.before) notice.1
             ∙ ap (λ (first : List Output). first ++ reports_of stale.before) told.2)
             ∙ sym (append_assoc since (told.0 ++ Report path side notice.0 ∷ told.1) (reports_of stale.before))
-            ∙ ap (λ (first : List Output). first ++ reports_of stale.before) (sym (append_assoc since told.0 (Report path side notice.0 ∷ told.1)));
+            ∙ ap (λ (first : List Output). first ++ reports_of stale.before)
+            (sym (append_assoc since told.0 (Report path side notice.0 ∷ told.1)));
         once = λ other among. elim (among_split (Report path side other) (since ++ told.0) told.1 among) [
           | inl first ↦ elim (among_split (Report path side other) since told.0 first) [
             | inl later ↦ none_since stale.since stale.notice stale.before answer stale.ended stale.was_good stale.stays other later
@@ -265,12 +294,14 @@ pub changes : ChangesAreReported
 changes h start entries view is may s quiet path kept at differs =
     let past = past_of start (items_in entries) in
     by_mark kept (λ good. absurd (differs ((quiet_client h is start entries view may s quiet).nodes path kept at good)))
-    (λ stale. once Data path leaves_data (kept_data path) (nodes path) (data_marks path) past kept.answer (outputs_of (items_in entries)) (reports_are start (items_in entries) view s)
+    (λ stale. once Data path leaves_data (kept_data path) (nodes path) (data_marks path) past kept.answer (outputs_of (items_in entries))
+    (reports_are start (items_in entries) view s)
     ((nodes path past kept.answer).0 (sym (ap (λ c. c.nodes path) s.cache) ∙ at ∙ is_stale kept stale)))
 
 pub names : NamesAreReported
 names h start entries view is may s quiet path kept at differs =
     let past = past_of start (items_in entries) in
     by_mark kept (λ good. absurd (differs ((quiet_client h is start entries view may s quiet).children path kept at good)))
-    (λ stale. once Child path leaves_child (kept_names path) (children path) (child_marks path) past kept.answer (outputs_of (items_in entries)) (reports_are start (items_in entries) view s)
+    (λ stale. once Child path leaves_child (kept_names path) (children path) (child_marks path) past kept.answer
+    (outputs_of (items_in entries)) (reports_are start (items_in entries) view s)
     ((children path past kept.answer).0 (sym (ap (λ c. c.children path) s.cache) ∙ at ∙ is_stale kept stale)))

@@ -28,7 +28,8 @@ pub record Awaits (h : History) (start : Start) (entries : List Entry) (stage : 
   pub reaches : Reaches h start entries stage
   pub payload : List ℕ
   pub others : List Sent
-  pub next : unread start (past_of start (items_in entries)) (wire_of h entries) ≡ record { payload = payload; xid = xid; request = request } ∷ others
+  pub next : unread start (past_of start (items_in entries))
+      (wire_of h entries) ≡ record { payload = payload; xid = xid; request = request } ∷ others
 
 -- The schedule goes on with this step of the server, which sends these payloads.
 abbrev pub CanTake : History → Start → List Entry → ServerStep → List (List ℕ) → Type 0
@@ -59,5 +60,16 @@ pub record IsTellable (zxid err : ℤ) (notice : Notice) : Type 0 where
 
 -- the Stat of a node, with these counts and this aclVersion
 abbrev pub stat_value : Node → (cversion acl_version children : ℤ) → Value stat
-stat_value node cversion acl_version children =
-    (pos node.czxid, (pos node.mzxid, (node.ctime, (node.mtime, (pos node.version, (cversion, (acl_version, (node.owner, (pos (size_of node.content), (children, pos node.pzxid))))))))))
+stat_value node cversion acl_version children = (
+  pos node.czxid,
+  (
+    pos node.mzxid,
+    (
+      node.ctime,
+      (
+        node.mtime,
+        (pos node.version, (cversion, (acl_version, (node.owner, (pos (size_of node.content), (children, pos node.pzxid)))))),
+      ),
+    ),
+  ),
+)

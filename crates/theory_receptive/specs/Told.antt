@@ -24,16 +24,20 @@ pub record Fired : Type 0 where
 -- The watches that a change fires (Guide, "ZooKeeper Watches"): where a node is made, its data watch and the child watch of its
 -- parent; where it is set, its data watch; where it is deleted, both of its own, and the child watch of its parent.
 abbrev pub fired_by : Change → List Fired
-fired_by (Creates (name ∷ above) content owner) = record { side = Data; path = name ∷ above; event = Created } ∷ record { side = Child; path = above; event = ChildrenChanged } ∷ []
+fired_by (Creates (name ∷ above) content owner) =
+    record { side = Data; path = name ∷ above; event = Created } ∷ record { side = Child; path = above; event = ChildrenChanged } ∷ []
 fired_by (Sets path content) = record { side = Data; path = path; event = DataChanged } ∷ []
 fired_by (Deletes (name ∷ above)) =
-    record { side = Data; path = name ∷ above; event = Deleted } ∷ record { side = Child; path = name ∷ above; event = Deleted } ∷ record { side = Child; path = above; event = ChildrenChanged } ∷ []
+    record { side = Data; path = name ∷ above; event = Deleted }
+    ∷ record { side = Child; path = name ∷ above; event = Deleted } ∷ record { side = Child; path = above; event = ChildrenChanged }
+    ∷ []
 fired_by _ = []
 
 -- of these the ones that are set, as notices
 abbrev pub notices_of : Watches → List Fired → List Notice
 notices_of watches [] = []
-notices_of watches (one ∷ more) = if watches one.side one.path then record { event = one.event; path = text_of one.path } ∷ notices_of watches more else notices_of watches more
+notices_of watches (one ∷ more) =
+    if watches one.side one.path then record { event = one.event; path = text_of one.path } ∷ notices_of watches more else notices_of watches more
 
 -- the side of the path is among them
 abbrev pub Fires : List Fired → Side → NodePath → Type 0
@@ -44,14 +48,18 @@ Fires fired side path = (event : Event) × Among (record { side = side; path = p
 abbrev pub IsDue : ℕ → Tree → Lists → Event → Text → Type 0
 IsDue relative tree part Created path = Among path part.exist_watches × (node : Node) × (tree (path_of path) ≡ Some node)
 IsDue relative tree part Deleted path = (Among path part.data_watches ⊎ Among path part.child_watches) × (tree (path_of path) ≡ None)
-IsDue relative tree part DataChanged path = Among path part.data_watches × (node : Node) × (tree (path_of path) ≡ Some node) × (relative < node.mzxid)
-IsDue relative tree part ChildrenChanged path = Among path part.child_watches × (node : Node) × (tree (path_of path) ≡ Some node) × (relative < node.pzxid)
+IsDue relative tree part DataChanged path =
+    Among path part.data_watches × (node : Node) × (tree (path_of path) ≡ Some node) × (relative < node.mzxid)
+IsDue relative tree part ChildrenChanged path =
+    Among path part.child_watches × (node : Node) × (tree (path_of path) ≡ Some node) × (relative < node.pzxid)
 
 -- A listed path of which nothing is told, so that it is watched again.
 abbrev pub IsSetAgain : ℕ → Tree → Lists → Side → Text → Type 0
 IsSetAgain relative tree part Data path =
-    (Among path part.data_watches × (node : Node) × (tree (path_of path) ≡ Some node) × (node.mzxid ≤ relative)) ⊎ (Among path part.exist_watches × (tree (path_of path) ≡ None))
-IsSetAgain relative tree part Child path = Among path part.child_watches × (node : Node) × (tree (path_of path) ≡ Some node) × (node.pzxid ≤ relative)
+    (Among path part.data_watches × (node : Node) × (tree (path_of path) ≡ Some node)
+    × (node.mzxid ≤ relative)) ⊎ (Among path part.exist_watches × (tree (path_of path) ≡ None))
+IsSetAgain relative tree part Child path =
+    Among path part.child_watches × (node : Node) × (tree (path_of path) ≡ Some node) × (node.pzxid ≤ relative)
 
 -- A payload that spells the notice: with any zxid, code and state, and any bytes after.
 pub record Tells (notice : Notice) (payload : List ℕ) : Type 0 where

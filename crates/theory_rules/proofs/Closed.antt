@@ -1,5 +1,6 @@
 -- What the reply to a close ends.
-use Rattle.std.proofs.Common.{◌≡◌, ℕ, ℤ, pos, Bool, true, false, cond, ◌||◌, List, [], ◌∷◌, ◌++◌, Option, Some, None, Ok, refl, sym, ap, subst, ◌∙◌, inl, inr}
+use Rattle.std.proofs.Common.{◌≡◌, ℕ, ℤ, pos, Bool, true, false, cond, ◌||◌, List, [], ◌∷◌, ◌++◌, Option, Some, None, Ok, refl, sym, ap}
+use Rattle.std.proofs.Common.{subst, ◌∙◌, inl, inr}
 use Rattle.std.specs.Prelude.{negsuc}
 use Rattle.std.specs.Ordering.{int_eq}
 use Rattle.zk_session.specs.declared.states.State.{State}
@@ -8,9 +9,11 @@ use Rattle.zk_conversation.specs.Calls.{Call}
 use Rattle.zk_conversation.specs.Questions.{Close}
 use Rattle.zk_conversation.specs.Results.{Result, NoNode, Refused, Done, record_of}
 use Rattle.zk_turns.specs.Turns.{Start, Item, Outcome, Signal, Opens, Comes, Cuts, Ticks, Calls, Forget, Halt, signals}
-use Rattle.zk_turns.specs.Past.{Past, Happening, Came, Took, Lost, Denied, Ticked, Forgot, Halted, Replies, state_of, has_halted, held_of, is_final}
+use Rattle.zk_turns.specs.Past.{Past, Happening, Came, Took, Lost, Denied, Ticked, Forgot, Halted, Replies, state_of, has_halted, held_of}
+use Rattle.zk_turns.specs.Past.{is_final}
 use Rattle.zk_turns.specs.View.{View, view_at}
-use Rattle.zk_turns.specs.Taken.{happenings, caused, opens, if_open, comes, of_cutting, cut, Cutting, Unfinished, Bad, Payload, due, refusal_when_connected, joined, past_after, past_of}
+use Rattle.zk_turns.specs.Taken.{happenings, caused, opens, if_open, comes, of_cutting, cut, Cutting, Unfinished, Bad, Payload, due}
+use Rattle.zk_turns.specs.Taken.{refusal_when_connected, joined, past_after, past_of}
 use Rattle.zk_turns.specs.Meaning.{Among}
 use Rattle.zk_turns.proofs.Words.{calls, refusal_in}
 use Rattle.zk_turns.proofs.Cases.{by_cond, by_due}
@@ -39,7 +42,8 @@ module _ (start : Start) (ticket : ℕ) (zxid : ℤ) (result : Result) where
   abbrev IsClosing : Past → Type 0
   IsClosing past = Among (Took (Replies ticket Close zxid result)) past → state_of past ≡ Closed
 
-  closing_next : (happening : Happening) (past : Past) → (state_of past ≡ Closed → IsQuiet happening) → IsClosing past → IsClosing (happening ∷ past)
+  closing_next : (happening : Happening) (past : Past) → (state_of past ≡ Closed → IsQuiet happening)
+      → IsClosing past → IsClosing (happening ∷ past)
   closing_next happening past t c (inl e) = subst (λ h. state_of (h ∷ past) ≡ Closed) e refl
   closing_next happening past t c (inr a) = tame_stays happening past (t (c a)) (c a)
 
@@ -47,14 +51,18 @@ module _ (start : Start) (ticket : ℕ) (zxid : ℤ) (result : Result) where
   closing_all [] past t c = c
   closing_all (happening ∷ more) past t c = closing_all more (happening ∷ past) t.1 (closing_next happening past t.0 c)
 
-  cutting_tame : (cutting : Cutting) (byte : ℕ) (past : Past) → (state_of past ≡ Closed → ⊥) → AllTame (of_cutting (view_at start past) cutting) (Came byte ∷ past)
+  cutting_tame : (cutting : Cutting) (byte : ℕ) (past : Past) → (state_of past ≡ Closed → ⊥)
+      → AllTame (of_cutting (view_at start past) cutting) (Came byte ∷ past)
   cutting_tame Unfinished byte past n = tt
   cutting_tame (Bad fault) byte past n = (λ f. absurd (n f), tt)
   cutting_tame (Payload payload) byte past n = (λ f. absurd (n f), tt)
 
-  byte_tame : (state : State) (byte : ℕ) (past : Past) → state_of past ≡ state → AllTame (if_open state (comes (view_at start past) byte)) past
-  byte_tame Connecting byte past e = (λ f. absurd (let g = sym e ∙ f in cc), cutting_tame (cut (held_of past ++ byte ∷ [])) byte past (λ f. let g = sym e ∙ f in cc))
-  byte_tame Connected byte past e = (λ f. absurd (let g = sym e ∙ f in cc), cutting_tame (cut (held_of past ++ byte ∷ [])) byte past (λ f. let g = sym e ∙ f in cc))
+  byte_tame : (state : State) (byte : ℕ) (past : Past)
+      → state_of past ≡ state → AllTame (if_open state (comes (view_at start past) byte)) past
+  byte_tame Connecting byte past e =
+      (λ f. absurd (let g = sym e ∙ f in cc), cutting_tame (cut (held_of past ++ byte ∷ [])) byte past (λ f. let g = sym e ∙ f in cc))
+  byte_tame Connected byte past e =
+      (λ f. absurd (let g = sym e ∙ f in cc), cutting_tame (cut (held_of past ++ byte ∷ [])) byte past (λ f. let g = sym e ∙ f in cc))
   byte_tame _ byte past e = tt
 
   opens_tame : (state : State) (past : Past) → state_of past ≡ state → AllTame (opens state) past
@@ -71,17 +79,21 @@ module _ (start : Start) (ticket : ℕ) (zxid : ℤ) (result : Result) where
   due_tame : (view : View) (now : ℕ) (past : Past) → (state_of past ≡ Closed → ⊥) → AllTame (due view now) past
   due_tame view now past n = by_due (TameBehind past) view now (λ f. absurd (n f), tt) (λ f. absurd (n f), tt) tt
 
-  due_open_tame : (state : State) (view : View) (now moment : ℕ) (past : Past) → state_of past ≡ state → AllTame (if_open state (due view now)) (Ticked moment ∷ past)
+  due_open_tame : (state : State) (view : View) (now moment : ℕ) (past : Past)
+      → state_of past ≡ state → AllTame (if_open state (due view now)) (Ticked moment ∷ past)
   due_open_tame Connecting view now moment past e = due_tame view now (Ticked moment ∷ past) (λ f. let g = sym e ∙ f in cc)
   due_open_tame Connected view now moment past e = due_tame view now (Ticked moment ∷ past) (λ f. let g = sym e ∙ f in cc)
   due_open_tame _ view now moment past e = tt
 
-  connected_tame : (other : ℕ) (call : Call) (why : Option Outcome) (past : Past) → (state_of past ≡ Closed → ⊥) → AllTame (calls other call why) past
+  connected_tame : (other : ℕ) (call : Call) (why : Option Outcome) (past : Past) → (state_of past ≡ Closed → ⊥)
+      → AllTame (calls other call why) past
   connected_tame other call None past n = (λ f. absurd (n f), tt)
   connected_tame other call (Some why) past n = (λ f. tt, tt)
 
-  calls_tame : (state : State) (other : ℕ) (call : Call) (past : Past) → state_of past ≡ state → AllTame (calls other call (refusal_in state (view_at start past) call)) past
-  calls_tame Connected other call past e = connected_tame other call (refusal_when_connected (view_at start past) call) past (λ f. let g = sym e ∙ f in cc)
+  calls_tame : (state : State) (other : ℕ) (call : Call) (past : Past)
+      → state_of past ≡ state → AllTame (calls other call (refusal_in state (view_at start past) call)) past
+  calls_tame Connected other call past e =
+      connected_tame other call (refusal_when_connected (view_at start past) call) past (λ f. let g = sym e ∙ f in cc)
   calls_tame Idle other call past e = (λ f. tt, tt)
   calls_tame Connecting other call past e = (λ f. tt, tt)
   calls_tame Expired other call past e = (λ f. tt, tt)
@@ -104,7 +116,8 @@ module _ (start : Start) (ticket : ℕ) (zxid : ℤ) (result : Result) where
   closing_signals : (more : List Signal) (past : Past) → IsClosing past → IsClosing (past_after start past more)
   closing_signals [] past c = c
   closing_signals (signal ∷ more) past c =
-      closing_signals more (joined past (happenings (view_at start past) signal)) (closing_all (happenings (view_at start past) signal) past (signal_tame signal past) c)
+      closing_signals more (joined past (happenings (view_at start past) signal))
+      (closing_all (happenings (view_at start past) signal) past (signal_tame signal past) c)
 
   closing : (items : List Item) → IsClosing (past_of start items)
   closing [] a = absurd a

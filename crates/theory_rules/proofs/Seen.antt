@@ -1,5 +1,6 @@
 -- No reply is ahead of what is seen after its turn.
-use Rattle.std.proofs.Common.{◌≡◌, ℕ, ℤ, pos, length, Bool, true, false, cond, List, [], ◌∷◌, ◌++◌, map, Option, Some, None, refl, sym, ap, subst, ◌∙◌, inl, inr, ◌⊎◌, arith}
+use Rattle.std.proofs.Common.{◌≡◌, ℕ, ℤ, pos, length, Bool, true, false, cond, List, [], ◌∷◌, ◌++◌, map, Option, Some, None, refl, sym, ap}
+use Rattle.std.proofs.Common.{subst, ◌∙◌, inl, inr, ◌⊎◌, arith}
 use Rattle.std.specs.Prelude.{◌≤ℤ◌, nat_le, nat_lt}
 use Rattle.std.specs.List.{flat_map}
 use Rattle.std.proofs.lemmas.Int.{ints}
@@ -15,13 +16,16 @@ use Rattle.zk_conversation.specs.Calls.{Call, call_payload}
 use Rattle.zk_conversation.specs.Questions.{Question, Close, question_of, watched_side}
 use Rattle.zk_conversation.specs.Results.{Result}
 use Rattle.zk_conversation.specs.Pending.{Pending, Waiting, Part_waits, Call_waits, is_close_pending, calls_pending}
-use Rattle.zk_turns.specs.Turns.{Outcome, Replied, ConnectionLoss, SessionClosed, TooManyPending, TooManyWatches, TooLarge, Output, Answer, Report, Signal, Opens, Comes, Cuts, Ticks, Calls, Forget, Halt, signals_of}
-use Rattle.zk_turns.specs.Past.{Happening, Began, Came, Took, Dropped, Lost, Asked, Denied, Pinged, Ticked, Forgot, Halted, Message, Accepted, Expiry, Replies, Watches_set, Notifies, Pong, Skipped}
+use Rattle.zk_turns.specs.Turns.{Outcome, Replied, ConnectionLoss, SessionClosed, TooManyPending, TooManyWatches, TooLarge, Output, Answer}
+use Rattle.zk_turns.specs.Turns.{Report, Signal, Opens, Comes, Cuts, Ticks, Calls, Forget, Halt, signals_of}
+use Rattle.zk_turns.specs.Past.{Happening, Began, Came, Took, Dropped, Lost, Asked, Denied, Pinged, Ticked, Forgot, Halted, Message}
+use Rattle.zk_turns.specs.Past.{Accepted, Expiry, Replies, Watches_set, Notifies, Pong, Skipped}
 use Rattle.std.specs.Int.{int_max}
 use Rattle.zk_turns.specs.View.{View}
 use Rattle.zk_turns.specs.Taken.{happenings, caused, opens, comes, of_cutting, cut, Cutting, Unfinished, Bad, Payload, due, is_full_on}
 use Rattle.zk_turns.specs.Meaning.{Among}
-use Rattle.zk_turns.specs.Rule.{says, next, next_reply, next_message, seen, loss, losses, part_frame, report, after_all, says_all, after_signals, says_signals}
+use Rattle.zk_turns.specs.Rule.{says, next, next_reply, next_message, seen, loss, losses, part_frame, report, after_all, says_all}
+use Rattle.zk_turns.specs.Rule.{after_signals, says_signals}
 use Rattle.zk_turns.proofs.Words.{calls, refusal_in, closing}
 use Rattle.zk_turns.proofs.Cases.{by_cond, by_open, by_due}
 use Rattle.zk_turns.proofs.Over.{later_le, le_itself, le_through}
@@ -29,15 +33,18 @@ use Rattle.zk_turns.proofs.Stream.{of_reading}
 use Rattle.theory_rules.specs.Seeing.{LaterMoves, EarlierLeaves, TurnsRaise, RepliesAreSeen}
 use Rattle.zk_limits.specs.declared.limits.TheConstants.{LONGEST_OUTGOING, MOST_PENDING}
 
-reply_saved : (question : Question) (zxid : ℤ) (result : Result) (view : View) → (next_reply view question zxid result).saved ≡ seen zxid view
+reply_saved : (question : Question) (zxid : ℤ) (result : Result) (view : View)
+    → (next_reply view question zxid result).saved ≡ seen zxid view
 reply_saved Close zxid result view = refl
 reply_saved _ zxid result view = refl
 
 pub later_moves : LaterMoves
-later_moves ticket question zxid result view e = ap (λ s. s.last) (reply_saved question zxid result view) ∙ ap (λ b. cond b zxid view.saved.last) e
+later_moves ticket question zxid result view e =
+    ap (λ s. s.last) (reply_saved question zxid result view) ∙ ap (λ b. cond b zxid view.saved.last) e
 
 pub earlier_leaves : EarlierLeaves
-earlier_leaves ticket question zxid result view e = ap (λ s. s.last) (reply_saved question zxid result view) ∙ ap (λ b. cond b zxid view.saved.last) e
+earlier_leaves ticket question zxid result view e =
+    ap (λ s. s.last) (reply_saved question zxid result view) ∙ ap (λ b. cond b zxid view.saved.last) e
 
 -- ---- it never falls
 
@@ -45,7 +52,8 @@ first_later : (a b : ℤ) → a ≤ℤ int_max a b
 first_later a b = grind (arith, ints)
 
 message_raises : (message : Message) (view : View) → view.saved.last ≤ℤ (next_message view message).saved.last
-message_raises (Replies ticket question zxid result) view = subst (λ s. view.saved.last ≤ℤ s.last) (sym (reply_saved question zxid result view)) (later_le zxid view.saved.last)
+message_raises (Replies ticket question zxid result) view =
+    subst (λ s. view.saved.last ≤ℤ s.last) (sym (reply_saved question zxid result view)) (later_le zxid view.saved.last)
 message_raises (Watches_set true zxid) view = later_le zxid view.saved.last
 message_raises (Watches_set false zxid) view = le_itself view.saved.last
 message_raises _ view = le_itself view.saved.last
@@ -60,10 +68,12 @@ raises_all (happening ∷ more) view = le_through _ _ _ (raises happening view) 
 
 raises_signals : (more : List Signal) (view : View) → view.saved.last ≤ℤ (after_signals view more).saved.last
 raises_signals [] view = le_itself view.saved.last
-raises_signals (signal ∷ more) view = le_through _ _ _ (raises_all (happenings view signal) view) (raises_signals more (after_all view (happenings view signal)))
+raises_signals (signal ∷ more) view =
+    le_through _ _ _ (raises_all (happenings view signal) view) (raises_signals more (after_all view (happenings view signal)))
 
 pub turns_raise : TurnsRaise
-turns_raise view after turn rule = subst (λ v. view.saved.last ≤ℤ v.saved.last) (sym rule.next) (raises_signals (signals_of turn.input) view)
+turns_raise view after turn rule =
+    subst (λ v. view.saved.last ≤ℤ v.saved.last) (sym rule.next) (raises_signals (signals_of turn.input) view)
 
 -- ---- a refusal is no reply
 
@@ -111,11 +121,13 @@ plain_refusal Closed view call = λ r. r
 plain_cutting : (view : View) (cutting : Cutting) → ArePlain (of_cutting view cutting)
 plain_cutting view Unfinished = tt
 plain_cutting view (Bad fault) = (tt, tt)
-plain_cutting view (Payload payload) = (of_reading IsPlain (λ message. tt) (λ fault. tt) view.standing.state view.pending view.saved.last payload, tt)
+plain_cutting view (Payload payload) =
+    (of_reading IsPlain (λ message. tt) (λ fault. tt) view.standing.state view.pending view.saved.last payload, tt)
 
 plain_caused : (signal : Signal) (view : View) → ArePlain (caused view signal)
 plain_caused Opens view = plain_opens view.standing.state
-plain_caused (Comes byte) view = by_open ArePlain view.standing.state (comes view byte) tt (tt, plain_cutting view (cut (view.held ++ byte ∷ [])))
+plain_caused (Comes byte) view =
+    by_open ArePlain view.standing.state (comes view byte) tt (tt, plain_cutting view (cut (view.held ++ byte ∷ [])))
 plain_caused Cuts view = by_open ArePlain view.standing.state (Lost ∷ []) tt (tt, tt)
 plain_caused (Ticks moment) view = (tt, by_open ArePlain view.standing.state (due view _) tt (by_due ArePlain view _ (tt, tt) (tt, tt) tt))
 plain_caused (Calls ticket call) view = plain_calls ticket call _ (plain_refusal view.standing.state view call)
@@ -147,7 +159,8 @@ module _ (ticket : ℕ) (zxid : ℤ) (result : Result) where
   no_parts relative (p ∷ ps) (inl e) = cc
   no_parts relative (p ∷ ps) (inr a) = no_parts relative ps a
 
-  no_loss : (waiting : Waiting) → Among told (elim waiting [ Part_waits last ↦ [] | Call_waits other question ↦ Answer other ConnectionLoss ∷ [] ]) → ⊥
+  no_loss : (waiting : Waiting)
+      → Among told (elim waiting [ Part_waits last ↦ [] | Call_waits other question ↦ Answer other ConnectionLoss ∷ [] ]) → ⊥
   no_loss (Part_waits last) a = a
   no_loss (Call_waits other question) (inl e) = cc
   no_loss (Call_waits other question) (inr a) = a
@@ -157,7 +170,8 @@ module _ (ticket : ℕ) (zxid : ℤ) (result : Result) where
   no_losses (p ∷ ps) a = elim (among_either told (loss p) (flat_map loss ps) a) [ inl b ↦ no_loss p.waiting b | inr b ↦ no_losses ps b ]
 
   none_lost : (view : View) → Among told (losses view) → ⊥
-  none_lost view a = elim (among_either told (flat_map loss view.pending) _ a) [ inl b ↦ no_losses view.pending b | inr (inl e) ↦ cc | inr (inr b) ↦ b ]
+  none_lost view a =
+      elim (among_either told (flat_map loss view.pending) _ a) [ inl b ↦ no_losses view.pending b | inr (inl e) ↦ cc | inr (inr b) ↦ b ]
 
   no_report : (view : View) (event : Event) (path : Text) (side : Side) → Among told (report view event path side) → ⊥
   no_report view event path side a = by (fires view.lists event side path) a
@@ -179,15 +193,21 @@ module _ (ticket : ℕ) (zxid : ℤ) (result : Result) where
   seen_message Expiry view (inr a) = absurd a
   seen_message (Replies other question z r) view (inl e) =
       let same : zxid ≡ z = cc in
-      subst (λ s. zxid ≤ℤ s.last) (sym (reply_saved question z r view)) (subst (λ t. t ≤ℤ int_max z view.saved.last) (sym same) (first_later z view.saved.last))
+      subst (λ s. zxid ≤ℤ s.last) (sym (reply_saved question z r view))
+      (subst (λ t. t ≤ℤ int_max z view.saved.last) (sym same) (first_later z view.saved.last))
   seen_message (Replies other question z r) view (inr a) = absurd (no_closing question a)
   seen_message (Watches_set last z) view a = absurd a
   seen_message (Notifies event path) view a =
-      absurd (elim (among_either told (report view event path Data) (report view event path Child) a) [ inl b ↦ no_report view event path Data b | inr b ↦ no_report view event path Child b ])
+      absurd (elim (among_either told (report view event path Data) (report view event path Child) a) [
+        | inl b ↦
+            no_report view event path Data b
+        | inr b ↦ no_report view event path Child b
+      ])
   seen_message Pong view a = absurd a
   seen_message Skipped view a = absurd a
 
-  seen_next : (happening : Happening) (view : View) → IsPlain happening → Among told (says view happening) → zxid ≤ℤ (next view happening).saved.last
+  seen_next : (happening : Happening) (view : View) → IsPlain happening → Among told (says view happening)
+      → zxid ≤ℤ (next view happening).saved.last
   seen_next (Took message) view p a = seen_message message view a
   seen_next Began view p (inl e) = absurd cc
   seen_next Began view p (inr (inl e)) = absurd cc
@@ -206,7 +226,8 @@ module _ (ticket : ℕ) (zxid : ℤ) (result : Result) where
   seen_next Forgot view p a = absurd a
   seen_next Halted view p a = absurd a
 
-  seen_all : (more : List Happening) (view : View) → ArePlain more → Among told (says_all view more) → zxid ≤ℤ (after_all view more).saved.last
+  seen_all : (more : List Happening) (view : View) → ArePlain more → Among told (says_all view more)
+      → zxid ≤ℤ (after_all view more).saved.last
   seen_all [] view p a = absurd a
   seen_all (happening ∷ more) view p a = elim (among_either told (says view happening) (says_all (next view happening) more) a) [
     | inl b ↦ le_through _ _ _ (seen_next happening view p.0 b) (raises_all more (next view happening))
@@ -215,12 +236,15 @@ module _ (ticket : ℕ) (zxid : ℤ) (result : Result) where
 
   seen_signals : (more : List Signal) (view : View) → Among told (says_signals view more) → zxid ≤ℤ (after_signals view more).saved.last
   seen_signals [] view a = absurd a
-  seen_signals (signal ∷ more) view a = elim (among_either told (says_all view (happenings view signal)) (says_signals (after_all view (happenings view signal)) more) a) [
-    | inl b ↦ le_through _ _ _ (seen_all (happenings view signal) view (plain_signal signal view) b) (raises_signals more (after_all view (happenings view signal)))
-    | inr b ↦ seen_signals more (after_all view (happenings view signal)) b
-  ]
+  seen_signals (signal ∷ more) view a =
+      elim (among_either told (says_all view (happenings view signal)) (says_signals (after_all view (happenings view signal)) more) a) [
+        | inl b ↦ le_through _ _ _ (seen_all (happenings view signal) view (plain_signal signal view) b)
+            (raises_signals more (after_all view (happenings view signal)))
+        | inr b ↦ seen_signals more (after_all view (happenings view signal)) b
+      ]
 
 pub replies_seen : RepliesAreSeen
 replies_seen ticket zxid result view after turn rule a =
     subst (λ v. zxid ≤ℤ v.saved.last) (sym rule.next)
-    (seen_signals ticket zxid result (signals_of turn.input) view (subst (λ outs. Among (Answer ticket (Replied zxid result)) outs) rule.outputs a))
+    (seen_signals ticket zxid result (signals_of turn.input) view
+    (subst (λ outs. Among (Answer ticket (Replied zxid result)) outs) rule.outputs a))

@@ -24,20 +24,25 @@ parts_tell zxid [] = refl
 parts_tell zxid (part ∷ parts) = parts_tell zxid parts
 
 -- nor do reports
-reports_tell : (first second : Bool) (path : Text) (event : Event) → states_in (cond first (Report path Data event ∷ []) [] ++ cond second (Report path Child event ∷ []) []) ≡ []
+reports_tell : (first second : Bool) (path : Text) (event : Event)
+    → states_in (cond first (Report path Data event ∷ []) [] ++ cond second (Report path Child event ∷ []) []) ≡ []
 reports_tell false false path event = refl
 reports_tell false true path event = refl
 reports_tell true false path event = refl
 reports_tell true true path event = refl
 
-one_lost : (pending : Pending) (waiting : Waiting) → pending.waiting ≡ waiting → (more : List Output) → states_in (loss pending ++ more) ≡ states_in more
-one_lost pending (Part_waits last) is more = ap (λ (w : Waiting). states_in (elim w [ Part_waits last ↦ [] | Call_waits ticket question ↦ Answer ticket ConnectionLoss ∷ [] ] ++ more)) is
-one_lost pending (Call_waits ticket question) is more = ap (λ (w : Waiting). states_in (elim w [ Part_waits last ↦ [] | Call_waits ticket question ↦ Answer ticket ConnectionLoss ∷ [] ] ++ more)) is
+one_lost : (pending : Pending) (waiting : Waiting) → pending.waiting ≡ waiting → (more : List Output)
+    → states_in (loss pending ++ more) ≡ states_in more
+one_lost pending (Part_waits last) is more = ap (λ (w : Waiting).
+    states_in (elim w [ Part_waits last ↦ [] | Call_waits ticket question ↦ Answer ticket ConnectionLoss ∷ [] ] ++ more)) is
+one_lost pending (Call_waits ticket question) is more = ap (λ (w : Waiting).
+    states_in (elim w [ Part_waits last ↦ [] | Call_waits ticket question ↦ Answer ticket ConnectionLoss ∷ [] ] ++ more)) is
 
 losses_tell : (pending : List Pending) → states_in (flat_map loss pending ++ Enters Idle ∷ []) ≡ Idle ∷ []
 losses_tell [] = refl
 losses_tell (one ∷ more) =
-    ap states_in (append_assoc (loss one) (flat_map loss more) (Enters Idle ∷ [])) ∙ one_lost one one.waiting refl (flat_map loss more ++ Enters Idle ∷ []) ∙ losses_tell more
+    ap states_in (append_assoc (loss one) (flat_map loss more) (Enters Idle ∷ []))
+    ∙ one_lost one one.waiting refl (flat_map loss more ++ Enters Idle ∷ []) ∙ losses_tell more
 
 pub told : (view : View) (happening : Happening) → states_in (says view happening) ≡ brings happening
 told view Lost = losses_tell view.pending
@@ -53,7 +58,8 @@ told view _ = refl
 pub all_told : (view : View) (happenings : List Happening) → states_in (says_all view happenings) ≡ flat_map brings happenings
 all_told view [] = refl
 all_told view (happening ∷ more) =
-    flat_map-append entered (says view happening) (says_all (next view happening) more) ∙ ap (λ (first : List State). first ++ states_in (says_all (next view happening) more)) (told view happening)
+    flat_map-append entered (says view happening) (says_all (next view happening) more)
+    ∙ ap (λ (first : List State). first ++ states_in (says_all (next view happening) more)) (told view happening)
     ∙ ap (λ (rest : List State). brings happening ++ rest) (all_told (next view happening) more)
 
 pub state : (happening : Happening) (past : Past) → state_of (happening ∷ past) ≡ brought (brings happening) (state_of past)
@@ -62,7 +68,8 @@ state (Took (Replies ticket _ zxid result)) past = refl
 state (Took _) past = refl
 state _ past = refl
 
-pub next_state : (view : View) (happening : Happening) → (next view happening).standing.state ≡ brought (brings happening) view.standing.state
+pub next_state : (view : View) (happening : Happening)
+    → (next view happening).standing.state ≡ brought (brings happening) view.standing.state
 next_state view (Took (Replies ticket Close zxid result)) = refl
 next_state view (Took (Replies ticket _ zxid result)) = refl
 next_state view (Took (Watches_set true zxid)) = refl

@@ -13,7 +13,8 @@ use Rattle.zk_turns.specs.View.{View}
 use Rattle.zk_turns.specs.Taken.{if_open, caused}
 use Rattle.zk_turns.specs.Rule.{IsOpen, losses, next, says_all, says_signals}
 use Rattle.zk_turns.proofs.Stepped.{one_signal_says}
-use Rattle.theory_rules.specs.Ticking.{IsToldOf, GoesBy, unheard_for, unsent_for, PingIsSent, ConnectionIsGivenUp, NothingIsSent, NothingWhileConnecting, NothingElsewhere}
+use Rattle.theory_rules.specs.Ticking.{IsToldOf, GoesBy, unheard_for, unsent_for, PingIsSent, ConnectionIsGivenUp, NothingIsSent}
+use Rattle.theory_rules.specs.Ticking.{NothingWhileConnecting, NothingElsewhere}
 
 -- by the state, what falls due
 abbrev timeout_in : State → View → ℕ
@@ -24,7 +25,8 @@ by_tests silent unsent = cond silent (Dropped Silent ∷ []) (cond unsent (Pinge
 
 abbrev falls_due : State → View → ℕ → List Happening
 falls_due state view now =
-    if_open state (by_tests (nat_le (2 * timeout_in state view) (3 * (now - view.moments.heard))) (is_talking state && nat_le (timeout_in state view) (3 * (now - view.moments.sent))))
+    if_open state (by_tests (nat_le (2 * timeout_in state view) (3 * (now - view.moments.heard)))
+    (is_talking state && nat_le (timeout_in state view) (3 * (now - view.moments.sent))))
 
 module _ (moment : ℕ) (view after : View) (turn : Turn) (told : IsToldOf moment view turn after) where
   abbrev said : List Happening → List Output
@@ -44,13 +46,15 @@ module _ (moment : ℕ) (view after : View) (turn : Turn) (told : IsToldOf momen
   dropped : (silent unsent : Bool) → silent ≡ true → said (by_tests silent unsent) ≡ Drop Silent ∷ losses view
   dropped silent unsent e = ap (λ s. said (by_tests s unsent)) e ∙ append-nil (Drop Silent ∷ losses view)
 
-  ping_here : view.standing.state ≡ Connected → view.saved.session.timeout ≤ 3 * unsent_for view moment → 3 * unheard_for view moment < 2 * view.saved.session.timeout → turn.outputs ≡ Send (frame ping_payload) ∷ []
+  ping_here : view.standing.state ≡ Connected → view.saved.session.timeout ≤ 3 * unsent_for view moment
+      → 3 * unheard_for view moment < 2 * view.saved.session.timeout → turn.outputs ≡ Send (frame ping_payload) ∷ []
   ping_here e a b =
       let s : nat_le (2 * view.saved.session.timeout) (3 * unheard_for view moment) ≡ false = grind (arith, nat_tests) in
       let u : nat_le view.saved.session.timeout (3 * unsent_for view moment) ≡ true = grind (arith, nat_tests) in
       says_in Connected e ∙ tested _ _ false true s u
 
-  none_here : view.standing.state ≡ Connected → 3 * unsent_for view moment < view.saved.session.timeout → 3 * unheard_for view moment < 2 * view.saved.session.timeout → turn.outputs ≡ []
+  none_here : view.standing.state ≡ Connected → 3 * unsent_for view moment < view.saved.session.timeout
+      → 3 * unheard_for view moment < 2 * view.saved.session.timeout → turn.outputs ≡ []
   none_here e a b =
       let s : nat_le (2 * view.saved.session.timeout) (3 * unheard_for view moment) ≡ false = grind (arith, nat_tests) in
       let u : nat_le view.saved.session.timeout (3 * unsent_for view moment) ≡ false = grind (arith, nat_tests) in

@@ -22,7 +22,8 @@ pub record IsToldOf (moment : ℕ) (view : View) (turn : Turn) (after : View) : 
 -- The timeout that a client goes by: the one that it asks for while it connects, and then the one that was granted.
 abbrev pub GoesBy : View → ℕ → Type 0
 GoesBy view timeout =
-    ((view.standing.state ≡ Connecting) × (timeout ≡ view.saved.asked)) ⊎ ((view.standing.state ≡ Connected) × (timeout ≡ view.saved.session.timeout))
+    ((view.standing.state ≡ Connecting) × (timeout ≡ view.saved.asked))
+    ⊎ ((view.standing.state ≡ Connected) × (timeout ≡ view.saved.session.timeout))
 
 -- A third of the timeout has passed with nothing sent, and less than two thirds with nothing heard: a ping is sent, and nothing else.
 abbrev pub PingIsSent : Type 0

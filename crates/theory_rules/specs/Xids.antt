@@ -24,16 +24,19 @@ BeginAgain = (ticket : ℕ) (call : Call) (past : Past) → xid_of past ≡ 2147
 
 -- Nothing but a call that is sent moves it: no refusal, no ping, no cut and no new connection.
 abbrev pub CallsAloneMove : Type 0
-CallsAloneMove = (happening : Happening) (past : Past) → ((ticket : ℕ) (call : Call) → happening ≢ Asked ticket call) → xid_of (happening ∷ past) ≡ xid_of past
+CallsAloneMove = (happening : Happening) (past : Past) → ((ticket : ℕ) (call : Call) → happening ≢ Asked ticket call)
+    → xid_of (happening ∷ past) ≡ xid_of past
 
 -- A call that is not refused goes out with it.
 abbrev pub GoesOut : Type 0
-GoesOut = (ticket : ℕ) (call : Call) (view after : View) (turn : Turn) → Rule view turn after → turn.input ≡ turns.Call ticket call → refusal view call ≡ None
+GoesOut = (ticket : ℕ) (call : Call) (view after : View) (turn : Turn) → Rule view turn after → turn.input ≡ turns.Call ticket call
+    → refusal view call ≡ None
     → turn.outputs ≡ Send (frame (call_payload (pos view.xid) call)) ∷ []
 
 -- What a client that goes on has as its next xid is this one.
 abbrev pub IsShown : Type 0
-IsShown = (start : Start) (items : List Item) (view : View) → Stands start items view → view.standing.halted ≡ false → view.xid ≡ xid_of (past_of start items)
+IsShown = (start : Start) (items : List Item) (view : View) → Stands start items view → view.standing.halted ≡ false
+    → view.xid ≡ xid_of (past_of start items)
 
 -- No call has the xid of a ping or of a part of setWatches.
 abbrev pub AreApart : Type 0

@@ -12,7 +12,8 @@ ghost use Rattle.zk_nodes.specs.Path.{Text};
 ghost use Rattle.zk_session.specs.SessionView.{Welcome};
 ghost use Rattle.zk_cache.specs.Kept.{Answer as Kept_answer, Names, without_stale};
 ghost use Rattle.zk_turns.specs.Turns.{Fault};
-ghost use Rattle.zk_turns.specs.Past.{Happening, Past, Began, Lost, Forgot, Took, Dropped, Accepted, state_of, kept_data, kept_names, word_data, word_child};
+ghost use Rattle.zk_turns.specs.Past.{Happening, Past, Began, Lost, Forgot, Took, Dropped, Accepted, state_of, kept_data, kept_names};
+ghost use Rattle.zk_turns.specs.Past.{word_data, word_child};
 ghost use Rattle.zk_turns.specs.View.{View};
 ghost use Rattle.zk_turns.specs.Rule.{next, says, says_all};
 ghost use Rattle.theory_rules.specs.Rules.{states_in, brings, brought, IsStaleSince, as_stale};
@@ -65,17 +66,24 @@ pub fn states_are_told()
     ensures told { (view : View) (happening : Happening) → states_in (says view happening) ≡ brings happening }
     ensures all { (view : View) (happenings : List Happening) → states_in (says_all view happenings) ≡ flat_map brings happenings }
     ensures state { (happening : Happening) (past : Past) → state_of (happening ∷ past) ≡ brought (brings happening) (state_of past) }
-    ensures next { (view : View) (happening : Happening) → (next view happening).standing.state ≡ brought (brings happening) view.standing.state }
+    ensures next { (view : View) (happening : Happening)
+        → (next view happening).standing.state ≡ brought (brings happening) view.standing.state }
 {}
 
 /// A stale answer is the one that was good when a notice ended that, and it stays until it is read again, forgotten, or the session is
 /// over: through the loss of a connection, whichever way, and the beginning and acceptance of the next.
 pub fn stale_answers()
-    ensures nodes { (path : Text) (past : Past) (answer : Kept_answer) → kept_data path past ≡ as_stale answer ↔ IsStaleSince (word_data path) (kept_data path) past answer }
-    ensures children { (path : Text) (past : Past) (names : Names) → kept_names path past ≡ as_stale names ↔ IsStaleSince (word_child path) (kept_names path) past names }
-    ensures nodes_stay { (path : Text) (past : Past) (welcome : Welcome) (fault : Fault) → (kept_data path (Lost ∷ past) ≡ kept_data path past) × (kept_data path (Dropped fault ∷ past) ≡ kept_data path past)
+    ensures nodes { (path : Text) (past : Past) (answer : Kept_answer)
+        → kept_data path past ≡ as_stale answer ↔ IsStaleSince (word_data path) (kept_data path) past answer }
+    ensures children { (path : Text) (past : Past) (names : Names)
+        → kept_names path past ≡ as_stale names ↔ IsStaleSince (word_child path) (kept_names path) past names }
+    ensures nodes_stay { (path : Text) (past : Past) (welcome : Welcome) (fault : Fault)
+        → (kept_data path (Lost ∷ past) ≡ kept_data path past) × (kept_data path (Dropped fault ∷ past) ≡ kept_data path past)
         × (kept_data path (Began ∷ past) ≡ kept_data path past) × (kept_data path (Took (Accepted welcome) ∷ past) ≡ kept_data path past) }
-    ensures children_stay { (path : Text) (past : Past) (welcome : Welcome) (fault : Fault) → (kept_names path (Lost ∷ past) ≡ kept_names path past) × (kept_names path (Dropped fault ∷ past) ≡ kept_names path past)
-        × (kept_names path (Began ∷ past) ≡ kept_names path past) × (kept_names path (Took (Accepted welcome) ∷ past) ≡ kept_names path past) }
-    ensures forgotten { (path : Text) (past : Past) → (kept_data path (Forgot ∷ past) ≡ without_stale (kept_data path past)) × (kept_names path (Forgot ∷ past) ≡ without_stale (kept_names path past)) }
+    ensures children_stay { (path : Text) (past : Past) (welcome : Welcome) (fault : Fault)
+        → (kept_names path (Lost ∷ past) ≡ kept_names path past) × (kept_names path (Dropped fault ∷ past) ≡ kept_names path past)
+        × (kept_names path (Began ∷ past) ≡ kept_names path past)
+        × (kept_names path (Took (Accepted welcome) ∷ past) ≡ kept_names path past) }
+    ensures forgotten { (path : Text) (past : Past) → (kept_data path (Forgot ∷ past) ≡ without_stale (kept_data path past))
+        × (kept_names path (Forgot ∷ past) ≡ without_stale (kept_names path past)) }
 {}

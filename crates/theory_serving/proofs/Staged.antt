@@ -11,7 +11,8 @@ use Rattle.zk_watches.specs.Lists.{Lists}
 use Rattle.zk_watches.specs.Parts.{parts}
 use Rattle.zk_laws.specs.Messages.{Message, Request, Connect, Restore, Ask, Ping, from_zero}
 use Rattle.zk_laws.specs.ServerSteps.{Stage, Waiting, Serving, Ended, ServerStep, Advances, Admits, Refuses, Answers, Restores, Pongs}
-use Rattle.zk_laws.specs.Served.{Sent, Entry, Goes_on, Serves, items_in, Wire, new_wire, wire_of, wire_past, wire_on, is_going, unread, requests, part_requests, WasSent, IsServing}
+use Rattle.zk_laws.specs.Served.{Sent, Entry, Goes_on, Serves, items_in, Wire, new_wire, wire_of, wire_past, wire_on, is_going, unread}
+use Rattle.zk_laws.specs.Served.{requests, part_requests, WasSent, IsServing}
 use Rattle.zk_laws.specs.Log.{Item as Seen}
 use Rattle.zk_laws.specs.Seen.{seen}
 use Rattle.zk_laws.specs.Steps.{Connection, Up}
@@ -51,13 +52,15 @@ parts_later relative (part ∷ next ∷ more) = (tt, parts_later relative (next 
 requests_later : (start : Start) (past : Past) → AreLater (requests start past)
 requests_later start [] = tt
 requests_later start (Began ∷ past) = tt
-requests_later start (Takes_in (Accepts welcome) ∷ past) = more_later (requests start past) _ (requests_later start past) (parts_later (last_of start past) (parts (lists_of past)))
+requests_later start (Takes_in (Accepts welcome) ∷ past) =
+    more_later (requests start past) _ (requests_later start past) (parts_later (last_of start past) (parts (lists_of past)))
 requests_later start (Asked ticket call ∷ past) = more_later (requests start past) _ (requests_later start past) (tt, tt)
 requests_later start (Pinged ∷ past) = more_later (requests start past) _ (requests_later start past) (tt, tt)
 requests_later start (Takes_in _ ∷ past) = requests_later start past
 requests_later start (_ ∷ past) = requests_later start past
 
-behind_first : (n : ℕ) (sent : List Sent) (first : Sent) (more : List Sent) → drop (suc n) sent ≡ first ∷ more → AreLater sent → IsLater first
+behind_first : (n : ℕ) (sent : List Sent) (first : Sent) (more : List Sent)
+    → drop (suc n) sent ≡ first ∷ more → AreLater sent → IsLater first
 behind_first n [] first more e a = absurd cc
 behind_first n (s ∷ sent) first more e a = first_all IsLater n sent first more e a
 
@@ -69,7 +72,8 @@ IsNew wire = wire.processed ≡ 0 → wire.server.stage ≢ Serving
 new_past : (place : ℕ) (item : Item) (wire : Wire) → IsNew wire → IsNew (wire_past place item wire)
 new_past place (Turned turn) wire new = by turn.input
   where
-    by : (input : Input) → IsNew (elim input [ Opening ↦ new_wire place | Bytes bytes ↦ record wire { coming = drop (length bytes) wire.coming } | _ ↦ wire ])
+    by : (input : Input) → IsNew
+        (elim input [ Opening ↦ new_wire place | Bytes bytes ↦ record wire { coming = drop (length bytes) wire.coming } | _ ↦ wire ])
     by Opening = λ e f. absurd cc
     by (Bytes bytes) = new
     by Cut = new
@@ -109,7 +113,8 @@ module _ (h : History) (is : IsHistory h) (start : Start) (entries : List Entry)
   first_is : {A : Type 0} {x y : A} {xs ys : List A} → x ∷ xs ≡ y ∷ ys → x ≡ y
   first_is e = cc
 
-  starting : (log : List Seen) (at : Stage) (messages : List Message) (place : ℕ) → IsOpening h log at asked_of messages place → IsFor first.request at
+  starting : (log : List Seen) (at : Stage) (messages : List Message) (place : ℕ)
+      → IsOpening h log at asked_of messages place → IsFor first.request at
   starting log Waiting messages place o = subst (λ (r : Request). IsFor r Waiting) (sym (first_is o.0)) (λ e. absurd cc)
   starting log Serving messages place o = absurd cc
   starting log Ended messages place o = absurd cc
@@ -126,13 +131,17 @@ module _ (h : History) (is : IsHistory h) (start : Start) (entries : List Entry)
   talking e later (Ask call) same = later
   talking e later Ping same = later
 
-  by_state : unread start past wire ≡ first ∷ more → (letters : List Letter) (talks : Bool) → IsKeptUp h (seen start past) (connection start past wire letters) talks → IsFor first.request stage
-  by_state e letters false kept = starting (seen start past) stage (messages letters) wire.server.place (subst (λ (sent : List Sent). IsOpening h (seen start past) stage (map (λ s. s.request) sent) (messages letters) wire.server.place) e kept.opening)
+  by_state : unread start past wire ≡ first ∷ more → (letters : List Letter) (talks : Bool)
+      → IsKeptUp h (seen start past) (connection start past wire letters) talks → IsFor first.request stage
+  by_state e letters false kept = starting (seen start past) stage (messages letters) wire.server.place (subst (λ (sent : List Sent).
+      IsOpening h (seen start past) stage (map (λ s. s.request) sent) (messages letters) wire.server.place) e kept.opening)
   by_state e letters true kept = talking e kept.stage first.request refl
 
-  pub for_stage : AllAsked (items_in entries) → IsServing h start entries → is_going past ≡ true → unread start past wire ≡ first ∷ more → IsFor first.request stage
+  pub for_stage : AllAsked (items_in entries)
+      → IsServing h start entries → is_going past ≡ true → unread start past wire ≡ first ∷ more → IsFor first.request stage
   for_stage asked serving going e =
       let m : Matches h start (WasSent entries) past wire = schedule_here h is start entries asked serving in
       let g = m.going going in
       let c : Connection = connection start past wire g.0 in
-      by_state e g.0 (is_talking (state_of past)) (reached_kept h (from_zero start.last) (record { log = seen start past; link = Up c }) is (up_reached h start (WasSent entries) past wire m.link g.0 g.1 m.reached))
+      by_state e g.0 (is_talking (state_of past)) (reached_kept h (from_zero start.last) (record { log = seen start past; link = Up c }) is
+      (up_reached h start (WasSent entries) past wire m.link g.0 g.1 m.reached))

@@ -1,9 +1,11 @@
 -- What a turn makes a client send are the frames of the requests that it adds.
 use Rattle.zk_watches.specs.Lists.{fires, Lists}
-use Rattle.zk_turns.specs.Turns.{Framed, Silent, Start, Outcome, Signal, Opens, Comes, Cuts, Ticks, Calls, Forget, Halt, Output, Send, Report, Enters}
+use Rattle.zk_turns.specs.Turns.{Framed, Silent, Start, Outcome, Signal, Opens, Comes, Cuts, Ticks, Calls, Forget, Halt, Output, Send}
+use Rattle.zk_turns.specs.Turns.{Report, Enters}
 use Rattle.zk_conversation.specs.Calls.{Call}
 use Rattle.zk_nodes.specs.Path.{Text}
-use Rattle.std.proofs.Common.{◌≡◌, ℕ, ℤ, Bool, true, false, cond, List, [], ◌∷◌, ◌++◌, map, Option, Some, None, refl, sym, ap, subst, ◌∙◌, append_assoc}
+use Rattle.std.proofs.Common.{◌≡◌, ℕ, ℤ, Bool, true, false, cond, List, [], ◌∷◌, ◌++◌, map, Option, Some, None, refl, sym, ap, subst, ◌∙◌}
+use Rattle.std.proofs.Common.{append_assoc}
 use Rattle.std.specs.Prelude.{◌&&◌, not, if◌then◌else◌, nat_le, max, ◌*◌, ◌-◌, ⊤}
 use Rattle.std.specs.List.{flat_map, AllByRecursion}
 use Rattle.std.proofs.lemmas.List.{append-nil, map-append}
@@ -16,11 +18,14 @@ use Rattle.zk_conversation.specs.Pending.{Pending, Waiting, Part_waits, Call_wai
 use Rattle.zk_session.specs.declared.states.State.{State}
 use Rattle.zk_session.specs.declared.states.State.TheVariants.{Idle, Connecting, Connected, Expired, Closed}
 use Rattle.zk_frames.specs.Frame.{frame, joined}
-use Rattle.zk_turns.specs.Past.{is_talking, is_open, Past, Happening, Began, Came, Took, Dropped, Lost, Asked, Denied, Pinged, Ticked, Forgot, Halted, Message, Accepted, Expiry, Replies, Watches_set, Notifies, Pong, Skipped, state_of, held_of, has_halted, lists_of, last_of, now_of}
+use Rattle.zk_turns.specs.Past.{is_talking, is_open, Past, Happening, Began, Came, Took, Dropped, Lost, Asked, Denied, Pinged, Ticked}
+use Rattle.zk_turns.specs.Past.{Forgot, Halted, Message, Accepted, Expiry, Replies, Watches_set, Notifies, Pong, Skipped, state_of, held_of}
+use Rattle.zk_turns.specs.Past.{has_halted, lists_of, last_of, now_of}
 use Rattle.zk_watches.specs.Parts.{parts}
 use Rattle.zk_turns.specs.View.{View, view_at}
 use Rattle.zk_turns.specs.Taken as taken
-use Rattle.zk_turns.specs.Taken.{reading, caused, happenings, opens, of_cutting, cut, Cutting, Unfinished, Bad, Payload, due, timeout_of, refusal, past_after, past_of, comes, if_open}
+use Rattle.zk_turns.specs.Taken.{reading, caused, happenings, opens, of_cutting, cut, Cutting, Unfinished, Bad, Payload, due, timeout_of}
+use Rattle.zk_turns.specs.Taken.{refusal, past_after, past_of, comes, if_open}
 use Rattle.zk_turns.specs.Rule.{IsOpen, says, part_frame, loss, losses, report, due_happenings, due_signals}
 use Rattle.zk_turns.specs.Sent.{part_of}
 use Rattle.zk_turns.proofs.Stream.{of_reading}
@@ -33,11 +38,13 @@ abbrev pub framed : List Sent → List ℕ
 framed sent = joined (map (λ one. one.payload) sent)
 
 pub framed_more : (first second : List Sent) → framed (first ++ second) ≡ framed first ++ framed second
-framed_more first second = ap joined (map-append (λ one. one.payload) first second) ∙ flat_map-append frame (map (λ one. one.payload) first) (map (λ one. one.payload) second)
+framed_more first second = ap joined (map-append (λ one. one.payload) first second)
+    ∙ flat_map-append frame (map (λ one. one.payload) first) (map (λ one. one.payload) second)
 
 sent_in_more : (first second : List Output) → sent_in (first ++ second) ≡ sent_in first ++ sent_in second
 sent_in_more [] second = refl
-sent_in_more (Send bytes ∷ first) second = ap (λ t. bytes ++ t) (sent_in_more first second) ∙ sym (append_assoc bytes (sent_in first) (sent_in second))
+sent_in_more (Send bytes ∷ first) second =
+    ap (λ t. bytes ++ t) (sent_in_more first second) ∙ sym (append_assoc bytes (sent_in first) (sent_in second))
 sent_in_more (_ ∷ first) second = sent_in_more first second
 
 nothing_more : (first second : List Output) → EndsNothing first → EndsNothing second → EndsNothing (first ++ second)
@@ -74,7 +81,8 @@ all_silent [] = record { sends = refl; nothing = tt }
 all_silent (p ∷ ps) = silent_more (loss p) (flat_map loss ps) (loss_silent p) (all_silent ps)
 
 losses_silent : (view : View) → IsSilent (losses view)
-losses_silent view = silent_more (flat_map loss view.pending) (Enters Idle ∷ []) (all_silent view.pending) (record { sends = refl; nothing = (refl, tt) })
+losses_silent view =
+    silent_more (flat_map loss view.pending) (Enters Idle ∷ []) (all_silent view.pending) (record { sends = refl; nothing = (refl, tt) })
 
 parts_sent : (relative : ℤ) (ps : List Lists) → sent_in (map (part_frame relative) ps) ≡ framed (part_requests relative ps)
 parts_sent relative [] = refl
@@ -120,14 +128,22 @@ module _ (start : Start) where
         going = x.going;
         more = x.more ++ y.more;
         whole = y.whole ∙ ap (λ t. t ++ y.more) x.whole ∙ append_assoc (requests start a) x.more y.more;
-        sent = sent_in_more first second ∙ ap (λ t. t ++ sent_in second) x.sent ∙ ap (λ t. framed x.more ++ t) y.sent ∙ sym (framed_more x.more y.more);
+        sent = sent_in_more first second ∙ ap (λ t. t ++ sent_in second) x.sent ∙ ap (λ t. framed x.more ++ t) y.sent
+            ∙ sym (framed_more x.more y.more);
         nothing = nothing_more first second x.nothing y.nothing;
       }
 
   -- what happens adds no request
-  adds_none : (before after : Past) (outputs : List Output) → is_going before ≡ true → requests start after ≡ requests start before → IsSilent outputs → Adds before after outputs
+  adds_none : (before after : Past) (outputs : List Output)
+      → is_going before ≡ true → requests start after ≡ requests start before → IsSilent outputs → Adds before after outputs
   adds_none before after outputs going same silent =
-      record { going = going; more = []; whole = same ∙ sym (append-nil (requests start before)); sent = silent.sends; nothing = silent.nothing }
+      record {
+        going = going;
+        more = [];
+        whole = same ∙ sym (append-nil (requests start before));
+        sent = silent.sends;
+        nothing = silent.nothing;
+      }
 
   empty : IsSilent []
   empty = record { sends = refl; nothing = tt }
@@ -146,11 +162,13 @@ module _ (start : Start) where
   }
   message_on Expiry past up going = absurd cc
   message_on (Replies ticket Close zxid result) past up going = absurd cc
-  message_on (Replies ticket question zxid result) past up going = adds_none past _ _ going refl (record { sends = refl; nothing = (refl, tt) })
+  message_on (Replies ticket question zxid result) past up going =
+      adds_none past _ _ going refl (record { sends = refl; nothing = (refl, tt) })
   message_on (Watches_set last zxid) past up going = adds_none past _ _ going refl empty
   message_on (Notifies event path) past up going =
       adds_none past _ _ going refl
-      (silent_more (report (view_at start past) event path Data) (report (view_at start past) event path Child) (report_silent (view_at start past) event path Data) (report_silent (view_at start past) event path Child))
+      (silent_more (report (view_at start past) event path Data) (report (view_at start past) event path Child)
+      (report_silent (view_at start past) event path Data) (report_silent (view_at start past) event path Child))
   message_on Pong past up going = adds_none past _ _ going refl empty
   message_on Skipped past up going = adds_none past _ _ going refl empty
 
@@ -162,25 +180,33 @@ module _ (start : Start) where
   KeepsAll more past = KeepsOn past (taken.joined past more) (due_happenings start past more)
 
   one_on : (happening : Happening) (past : Past) → KeepsOne happening past → KeepsAll (happening ∷ []) past
-  one_on happening past k = and_on past (happening ∷ past) (happening ∷ past) (says (view_at start past) happening) [] k (still (happening ∷ past))
+  one_on happening past k =
+      and_on past (happening ∷ past) (happening ∷ past) (says (view_at start past) happening) [] k (still (happening ∷ past))
 
-  first_on : (happening : Happening) (more : List Happening) (past : Past) → KeepsOne happening past → KeepsAll more (happening ∷ past) → KeepsAll (happening ∷ more) past
+  first_on : (happening : Happening) (more : List Happening) (past : Past) → KeepsOne happening past → KeepsAll more (happening ∷ past)
+      → KeepsAll (happening ∷ more) past
   first_on happening more past k l =
-      and_on past (happening ∷ past) (taken.joined (happening ∷ past) more) (says (view_at start past) happening) (due_happenings start (happening ∷ past) more) k l
+      and_on past (happening ∷ past) (taken.joined (happening ∷ past) more) (says (view_at start past) happening)
+      (due_happenings start (happening ∷ past) more) k l
 
   -- a connection that is given up or lost goes on no more
   dropped_on : (happening : Happening) (past : Past) → (is_going (happening ∷ past) ≡ true → ⊥) → KeepsAll (happening ∷ []) past
   dropped_on happening past over going = absurd (over going)
 
-  cutting_on : (cutting : Cutting) (byte : ℕ) (past : Past) → IsOpen (state_of past) → KeepsAll (Came byte ∷ of_cutting (view_at start past) cutting) past
+  cutting_on : (cutting : Cutting) (byte : ℕ) (past : Past) → IsOpen (state_of past)
+      → KeepsAll (Came byte ∷ of_cutting (view_at start past) cutting) past
   cutting_on Unfinished byte past up = one_on (Came byte) past (came_on byte past)
-  cutting_on (Bad fault) byte past up = first_on (Came byte) (Dropped (Framed fault) ∷ []) past (came_on byte past) (dropped_on (Dropped (Framed fault)) (Came byte ∷ past) (λ g. cc))
+  cutting_on (Bad fault) byte past up = first_on (Came byte) (Dropped (Framed fault) ∷ []) past (came_on byte past)
+      (dropped_on (Dropped (Framed fault)) (Came byte ∷ past) (λ g. cc))
   cutting_on (Payload payload) byte past up =
-      first_on (Came byte) (reading (state_of past) (view_at start past).pending (view_at start past).saved.last payload ∷ []) past (came_on byte past)
-      (of_reading (λ h. KeepsAll (h ∷ []) (Came byte ∷ past)) (λ message. one_on (Took message) (Came byte ∷ past) (message_on message (Came byte ∷ past) up)) (λ fault. dropped_on (Dropped fault) (Came byte ∷ past) (λ g. cc))
+      first_on (Came byte) (reading (state_of past) (view_at start past).pending (view_at start past).saved.last payload ∷ [])
+      past (came_on byte past)
+      (of_reading (λ h. KeepsAll (h ∷ []) (Came byte ∷ past)) (λ message. one_on (Took message) (Came byte ∷ past)
+      (message_on message (Came byte ∷ past) up)) (λ fault. dropped_on (Dropped fault) (Came byte ∷ past) (λ g. cc))
       (state_of past) (view_at start past).pending (view_at start past).saved.last payload)
 
-  byte_on : (state : State) (byte : ℕ) (past : Past) → (IsOpen state → IsOpen (state_of past)) → KeepsAll (if_open state (comes (view_at start past) byte)) past
+  byte_on : (state : State) (byte : ℕ) (past : Past) → (IsOpen state → IsOpen (state_of past))
+      → KeepsAll (if_open state (comes (view_at start past) byte)) past
   byte_on Connecting byte past up = cutting_on (cut (held_of past ++ byte ∷ [])) byte past (up refl)
   byte_on Connected byte past up = cutting_on (cut (held_of past ++ byte ∷ [])) byte past (up refl)
   byte_on _ byte past up = still past
@@ -199,10 +225,13 @@ module _ (start : Start) where
 
   due_on : (view : View) (now : ℕ) (past : Past) → KeepsAll (due view now) past
   due_on view now past =
-      cond_on (nat_le (2 * timeout_of view) (3 * (now - view.moments.heard))) _ _ past (dropped_on (Dropped Silent) past (λ g. cc)) (by view.standing.state)
+      cond_on (nat_le (2 * timeout_of view) (3 * (now - view.moments.heard))) _ _ past (dropped_on (Dropped Silent) past (λ g. cc))
+      (by view.standing.state)
     where
-      by : (state : State) → KeepsAll (if is_talking state && nat_le (timeout_of view) (3 * (now - view.moments.sent)) then Pinged ∷ [] else []) past
-      by Connected = cond_on (nat_le (timeout_of view) (3 * (now - view.moments.sent))) (Pinged ∷ []) [] past (one_on Pinged past (pinged_on past)) (still past)
+      by : (state : State)
+          → KeepsAll (if is_talking state && nat_le (timeout_of view) (3 * (now - view.moments.sent)) then Pinged ∷ [] else []) past
+      by Connected = cond_on (nat_le (timeout_of view) (3 * (now - view.moments.sent))) (Pinged ∷ []) [] past
+          (one_on Pinged past (pinged_on past)) (still past)
       by _ = still past
 
   due_open_on : (state : State) (view : View) (now : ℕ) (past : Past) → KeepsAll (if_open state (due view now)) past
@@ -237,7 +266,8 @@ module _ (start : Start) where
   caused_on Opens past n = absurd n
   caused_on (Comes byte) past n = byte_on (state_of past) byte past (λ up. up)
   caused_on Cuts past n = lost_on (state_of past) past
-  caused_on (Ticks moment) past n = first_on (Ticked moment) (if_open (state_of past) (due (view_at start past) (max moment (now_of past)))) past (ticked_on moment past) (due_open_on (state_of past) (view_at start past) (max moment (now_of past)) (Ticked moment ∷ past))
+  caused_on (Ticks moment) past n = first_on (Ticked moment) (if_open (state_of past) (due (view_at start past) (max moment (now_of past))))
+      past (ticked_on moment past) (due_open_on (state_of past) (view_at start past) (max moment (now_of past)) (Ticked moment ∷ past))
   caused_on (Calls ticket call) past n = call_on ticket call (refusal (view_at start past) call) past
   caused_on Forget past n = one_on Forgot past (forgot_on past)
   caused_on Halt past n = dropped_on Halted past (halted_over past)
@@ -248,11 +278,13 @@ module _ (start : Start) where
   signal_on signal past n = cond_on (has_halted past) [] (caused (view_at start past) signal) past (still past) (caused_on signal past n)
 
   -- What comes after each other without a new connection keeps it on.
-  pub signals_on : (signals : List Signal) (past : Past) → AllByRecursion NotOpens signals → KeepsOn past (past_after start past signals) (due_signals start past signals)
+  pub signals_on : (signals : List Signal) (past : Past)
+      → AllByRecursion NotOpens signals → KeepsOn past (past_after start past signals) (due_signals start past signals)
   signals_on [] past n = still past
   signals_on (signal ∷ more) past n =
       let now : Past = taken.joined past (happenings (view_at start past) signal) in
-      and_on past now (past_after start now more) (due_happenings start past (happenings (view_at start past) signal)) (due_signals start now more) (signal_on signal past n.0) (signals_on more now n.1)
+      and_on past now (past_after start now more) (due_happenings start past (happenings (view_at start past) signal))
+      (due_signals start now more) (signal_on signal past n.0) (signals_on more now n.1)
 
   -- ---- a connection begins
 
@@ -275,13 +307,17 @@ module _ (start : Start) where
   alone after outputs b = subst (λ t. Begins after t) (sym (append-nil outputs)) b
 
   again : (past : Past) → Begins (Began ∷ Lost ∷ past) (due_happenings start past (Lost ∷ Began ∷ []))
-  again past = begins_behind (Began ∷ Lost ∷ past) (losses (view_at start past)) (says (view_at start (Lost ∷ past)) Began ++ []) (losses_silent (view_at start past))
+  again past = begins_behind (Began ∷ Lost ∷ past) (losses (view_at start past)) (says (view_at start (Lost ∷ past)) Began ++ [])
+      (losses_silent (view_at start past))
       (alone (Began ∷ Lost ∷ past) (says (view_at start (Lost ∷ past)) Began) (begun (Lost ∷ past)))
 
   not_open : (past : Past) (state : State) → state_of past ≡ state → is_open state ≡ false → is_going past ≡ true → ⊥
-  not_open past state e closed going = absurd (let f : (is_open state && not (has_halted past)) ≡ true = subst (λ s. (is_open s && not (has_halted past)) ≡ true) e going in let g : (false && not (has_halted past)) ≡ true = subst (λ b. (b && not (has_halted past)) ≡ true) closed f in cc)
+  not_open past state e closed going =
+      absurd (let f : (is_open state && not (has_halted past)) ≡ true = subst (λ s. (is_open s && not (has_halted past)) ≡ true) e going in
+      let g : (false && not (has_halted past)) ≡ true = subst (λ b. (b && not (has_halted past)) ≡ true) closed f in cc)
 
-  opens_by : (state : State) (past : Past) → state_of past ≡ state → is_going (taken.joined past (opens state)) ≡ true → Begins (taken.joined past (opens state)) (due_happenings start past (opens state))
+  opens_by : (state : State) (past : Past) → state_of past ≡ state → is_going (taken.joined past (opens state)) ≡ true
+      → Begins (taken.joined past (opens state)) (due_happenings start past (opens state))
   opens_by Idle past e going = alone (Began ∷ past) (says (view_at start past) Began) (begun past)
   opens_by Connecting past e going = again past
   opens_by Connected past e going = again past
@@ -300,9 +336,11 @@ module _ (start : Start) where
   opens_or_not true past e going = absurd (halted_closed past e going)
   opens_or_not false past e going = opens_by (state_of past) past refl going
 
-  pub opens_on : (past : Past) → is_going (past_after start past (Opens ∷ [])) ≡ true → Begins (past_after start past (Opens ∷ [])) (due_signals start past (Opens ∷ []))
+  pub opens_on : (past : Past) → is_going (past_after start past (Opens ∷ [])) ≡ true
+      → Begins (past_after start past (Opens ∷ [])) (due_signals start past (Opens ∷ []))
   opens_on past going =
-      alone (past_after start past (Opens ∷ [])) (due_happenings start past (happenings (view_at start past) Opens)) (opens_or_not (has_halted past) past refl going)
+      alone (past_after start past (Opens ∷ [])) (due_happenings start past (happenings (view_at start past) Opens))
+      (opens_or_not (has_halted past) past refl going)
 
   -- ---- a connection is cut
 
@@ -313,7 +351,8 @@ module _ (start : Start) where
   cut_by Expired past e going = not_open past Expired e refl going
   cut_by Closed past e going = not_open past Closed e refl going
 
-  cut_or_not : (b : Bool) (past : Past) → has_halted past ≡ b → is_going (taken.joined past (cond b [] (if_open (state_of past) (Lost ∷ [])))) ≡ true → ⊥
+  cut_or_not : (b : Bool) (past : Past)
+      → has_halted past ≡ b → is_going (taken.joined past (cond b [] (if_open (state_of past) (Lost ∷ [])))) ≡ true → ⊥
   cut_or_not true past e going = halted_closed past e going
   cut_or_not false past e going = cut_by (state_of past) past refl going
 

@@ -33,7 +33,9 @@ use Rattle.zk_laws.specs.Example.{two_changes, at_a, fields_at_five, just_a, a_c
 use Rattle.zk_laws.specs.Meeting_example.{welcome_payload, notice_payload, new_client, until_half_read}
 use Rattle.zk_laws.proofs.Shown.{all_sent, is_history}
 use Rattle.zk_laws.proofs.Meeting_shown.{half_read_then, stands_then, typed_then}
-use Rattle.theory_serving.specs.Whole_example.{third_change, three_changes, just_long, write_a, absent_payload, restored_payload, pong_payload, stat_bytes, written_payload, until_watched, until_lost, until_back, until_told, until_ponged, until_written, expired_payload, until_expired}
+use Rattle.theory_serving.specs.Whole_example.{third_change, three_changes, just_long, write_a, absent_payload, restored_payload}
+use Rattle.theory_serving.specs.Whole_example.{pong_payload, stat_bytes, written_payload, until_watched, until_lost, until_back, until_told}
+use Rattle.theory_serving.specs.Whole_example.{until_ponged, until_written, expired_payload, until_expired}
 
 -- what the payloads spell
 
@@ -45,7 +47,11 @@ unfolding int_bytes long_bytes counted_bytes
 welcomed = record { fits = (omega (arith, ints), (omega (arith, ints), (omega (arith, ints), omega arith))); whole = refl; ends = refl }
 
 abbrev refusal : Response
-refusal = record { front = (pos 0, (pos 0, (pos 0, Some (0 ∷ 0 ∷ 0 ∷ 0 ∷ 0 ∷ 0 ∷ 0 ∷ 0 ∷ 0 ∷ 0 ∷ 0 ∷ 0 ∷ 0 ∷ 0 ∷ 0 ∷ 0 ∷ [])))); read_only = None }
+refusal = record {
+  front =
+      (pos 0, (pos 0, (pos 0, Some (0 ∷ 0 ∷ 0 ∷ 0 ∷ 0 ∷ 0 ∷ 0 ∷ 0 ∷ 0 ∷ 0 ∷ 0 ∷ 0 ∷ 0 ∷ 0 ∷ 0 ∷ 0 ∷ []))));
+  read_only = None;
+}
 
 refused : IsResponse expired_payload refusal []
 unfolding int_bytes long_bytes counted_bytes
@@ -85,7 +91,25 @@ written_recorded : HasRecord stat stat_value stat_bytes
 unfolding int_bytes long_bytes counted_bytes
 written_recorded = record {
   ignored = [];
-  fits = (omega (arith, ints), (omega (arith, ints), (omega (arith, ints), (omega (arith, ints), (omega (arith, ints), (omega (arith, ints), (omega (arith, ints), (omega (arith, ints), (omega (arith, ints), (omega (arith, ints), omega (arith, ints)))))))))));
+  fits = (
+    omega (arith, ints),
+    (
+      omega (arith, ints),
+      (
+        omega (arith, ints),
+        (
+          omega (arith, ints),
+          (
+            omega (arith, ints),
+            (
+              omega (arith, ints),
+              (omega (arith, ints), (omega (arith, ints), (omega (arith, ints), (omega (arith, ints), omega (arith, ints))))),
+            ),
+          ),
+        ),
+      ),
+    ),
+  );
   whole = refl;
 }
 
@@ -103,7 +127,8 @@ half_read_later : IsServing three_changes new_client until_half_read
 half_read_later = goes_serving two_changes three_changes new_client until_half_read goes half_read_then
 
 pub watched_then : IsServing three_changes new_client until_watched
-unfolding is_utf8 chars encode cut arriving connect_payload call_payload part_payload ping_payload int_bytes long_bytes counted_bytes bytes_at int_at long_at boolean_at length_of length_at counted_at text_bytes_at elements_at flag_at response_at record_of
+unfolding is_utf8 chars encode cut arriving connect_payload call_payload part_payload ping_payload int_bytes long_bytes counted_bytes
+    bytes_at int_at long_at boolean_at length_of length_at counted_at text_bytes_at elements_at flag_at response_at record_of
 watched_then = (
   λ on. ([], refl),
   (
@@ -113,20 +138,26 @@ watched_then = (
 )
 
 pub lost_then : IsServing three_changes new_client until_lost
-unfolding is_utf8 chars encode cut arriving connect_payload call_payload part_payload ping_payload int_bytes long_bytes counted_bytes bytes_at int_at long_at boolean_at length_of length_at counted_at text_bytes_at elements_at flag_at response_at record_of
+unfolding is_utf8 chars encode cut arriving connect_payload call_payload part_payload ping_payload int_bytes long_bytes counted_bytes
+    bytes_at int_at long_at boolean_at length_of length_at counted_at text_bytes_at elements_at flag_at response_at record_of
 lost_then = (
   tt,
   (
     λ on. (_, refl),
     (
-      record { going = refl; may = (serves_still, omega arith, all_sent (a_changed ∷ [])); told = (omega arith, (_, _, _, notice_headed, _, _, notice_recorded, refl), tt) },
+      record {
+        going = refl;
+        may = (serves_still, omega arith, all_sent (a_changed ∷ []));
+        told = (omega arith, (_, _, _, notice_headed, _, _, notice_recorded, refl), tt);
+      },
       watched_then,
     ),
   ),
 )
 
 pub back_then : IsServing three_changes new_client until_back
-unfolding is_utf8 chars encode cut arriving connect_payload call_payload part_payload ping_payload int_bytes long_bytes counted_bytes bytes_at int_at long_at boolean_at length_of length_at counted_at text_bytes_at elements_at flag_at response_at record_of
+unfolding is_utf8 chars encode cut arriving connect_payload call_payload part_payload ping_payload int_bytes long_bytes counted_bytes
+    bytes_at int_at long_at boolean_at length_of length_at counted_at text_bytes_at elements_at flag_at response_at record_of
 back_then = (
   λ on. ([], refl),
   (
@@ -136,7 +167,8 @@ back_then = (
 )
 
 pub told_then : IsServing three_changes new_client until_told
-unfolding is_utf8 chars encode cut arriving connect_payload call_payload part_payload ping_payload int_bytes long_bytes counted_bytes bytes_at int_at long_at boolean_at length_of length_at counted_at text_bytes_at elements_at flag_at response_at record_of
+unfolding is_utf8 chars encode cut arriving connect_payload call_payload part_payload ping_payload int_bytes long_bytes counted_bytes
+    bytes_at int_at long_at boolean_at length_of length_at counted_at text_bytes_at elements_at flag_at response_at record_of
 told_then = (
   λ on. ([], refl),
   (
@@ -156,7 +188,8 @@ told_then = (
 )
 
 pub ponged_then : IsServing three_changes new_client until_ponged
-unfolding is_utf8 chars encode cut arriving connect_payload call_payload part_payload ping_payload int_bytes long_bytes counted_bytes bytes_at int_at long_at boolean_at length_of length_at counted_at text_bytes_at elements_at flag_at response_at record_of
+unfolding is_utf8 chars encode cut arriving connect_payload call_payload part_payload ping_payload int_bytes long_bytes counted_bytes
+    bytes_at int_at long_at boolean_at length_of length_at counted_at text_bytes_at elements_at flag_at response_at record_of
 ponged_then = (
   λ on. ([], refl),
   (
@@ -166,7 +199,8 @@ ponged_then = (
 )
 
 pub written_then : IsServing three_changes new_client until_written
-unfolding is_utf8 chars encode cut arriving connect_payload call_payload part_payload ping_payload int_bytes long_bytes counted_bytes bytes_at int_at long_at boolean_at length_of length_at counted_at text_bytes_at elements_at flag_at response_at record_of
+unfolding is_utf8 chars encode cut arriving connect_payload call_payload part_payload ping_payload int_bytes long_bytes counted_bytes
+    bytes_at int_at long_at boolean_at length_of length_at counted_at text_bytes_at elements_at flag_at response_at record_of
 written_then = (
   λ on. ([], refl),
   (
@@ -183,7 +217,8 @@ written_then = (
 )
 
 pub expired_then : IsServing three_changes new_client until_expired
-unfolding is_utf8 chars encode cut arriving connect_payload call_payload part_payload ping_payload int_bytes long_bytes counted_bytes bytes_at int_at long_at boolean_at length_of length_at counted_at text_bytes_at elements_at flag_at response_at record_of
+unfolding is_utf8 chars encode cut arriving connect_payload call_payload part_payload ping_payload int_bytes long_bytes counted_bytes
+    bytes_at int_at long_at boolean_at length_of length_at counted_at text_bytes_at elements_at flag_at response_at record_of
 expired_then = (
   λ on. ([], refl),
   (
@@ -205,7 +240,8 @@ three_history = record {
 
 -- the answer is still good: the notice did not come whole
 pub good_then : kept_data at_a (past_of new_client (items_in until_lost)) ≡ good (Full (Some (104 ∷ 105 ∷ [])) fields_at_five)
-unfolding is_utf8 chars encode cut arriving connect_payload call_payload part_payload ping_payload int_bytes long_bytes counted_bytes bytes_at int_at long_at boolean_at length_of length_at counted_at text_bytes_at elements_at flag_at response_at record_of
+unfolding is_utf8 chars encode cut arriving connect_payload call_payload part_payload ping_payload int_bytes long_bytes counted_bytes
+    bytes_at int_at long_at boolean_at length_of length_at counted_at text_bytes_at elements_at flag_at response_at record_of
 good_then = refl
 
 -- the server of the second connection held the first transaction alone
@@ -213,39 +249,54 @@ pub behind_then : (wire_of three_changes until_back).server.place ≡ 1
 behind_then = refl
 
 -- the change that was missed made the answer stale
-pub stale_then : kept_data at_a (past_of new_client (items_in until_told)) ≡ Some (record { answer = Full (Some (104 ∷ 105 ∷ [])) fields_at_five; mark = Stale })
-unfolding is_utf8 chars encode cut arriving connect_payload call_payload part_payload ping_payload int_bytes long_bytes counted_bytes bytes_at int_at long_at boolean_at length_of length_at counted_at text_bytes_at elements_at flag_at response_at record_of
+pub stale_then : kept_data at_a (past_of new_client (items_in until_told))
+    ≡ Some (record { answer = Full (Some (104 ∷ 105 ∷ [])) fields_at_five; mark = Stale })
+unfolding is_utf8 chars encode cut arriving connect_payload call_payload part_payload ping_payload int_bytes long_bytes counted_bytes
+    bytes_at int_at long_at boolean_at length_of length_at counted_at text_bytes_at elements_at flag_at response_at record_of
 stale_then = refl
 
 -- the requests of the second connection
-pub asked_then : map (λ sent. sent.request) (requests new_client (past_of new_client (items_in until_written))) ≡ Connect 5 ∷ Restore false 5 just_a ∷ Restore true 5 just_long ∷ Ping ∷ Ask write_a ∷ []
-unfolding is_utf8 chars encode cut arriving connect_payload call_payload part_payload ping_payload int_bytes long_bytes counted_bytes bytes_at int_at long_at boolean_at length_of length_at counted_at text_bytes_at elements_at flag_at response_at record_of
+pub asked_then : map (λ sent. sent.request) (requests new_client (past_of new_client (items_in until_written)))
+    ≡ Connect 5 ∷ Restore false 5 just_a ∷ Restore true 5 just_long ∷ Ping ∷ Ask write_a ∷ []
+unfolding is_utf8 chars encode cut arriving connect_payload call_payload part_payload ping_payload int_bytes long_bytes counted_bytes
+    bytes_at int_at long_at boolean_at length_of length_at counted_at text_bytes_at elements_at flag_at response_at record_of
 asked_then = refl
 
 -- and each was processed
 pub answered_then : unread new_client (past_of new_client (items_in until_written)) (wire_of three_changes until_written) ≡ []
-unfolding is_utf8 chars encode cut arriving connect_payload call_payload part_payload ping_payload int_bytes long_bytes counted_bytes bytes_at int_at long_at boolean_at length_of length_at counted_at text_bytes_at elements_at flag_at response_at record_of
+unfolding is_utf8 chars encode cut arriving connect_payload call_payload part_payload ping_payload int_bytes long_bytes counted_bytes
+    bytes_at int_at long_at boolean_at length_of length_at counted_at text_bytes_at elements_at flag_at response_at record_of
 answered_then = refl
 
 -- all that the server sent was taken, and nothing waits to be set again
 pub quiet_then : IsQuietAt three_changes new_client until_written
-unfolding is_utf8 chars encode cut arriving connect_payload call_payload part_payload ping_payload int_bytes long_bytes counted_bytes bytes_at int_at long_at boolean_at length_of length_at counted_at text_bytes_at elements_at flag_at response_at record_of
+unfolding is_utf8 chars encode cut arriving connect_payload call_payload part_payload ping_payload int_bytes long_bytes counted_bytes
+    bytes_at int_at long_at boolean_at length_of length_at counted_at text_bytes_at elements_at flag_at response_at record_of
 quiet_then = record { going = refl; talking = refl; received = refl; taken = refl; restored = tt }
 
 pub seven_then : last_of new_client (past_of new_client (items_in until_written)) ≡ pos 7
-unfolding is_utf8 chars encode cut arriving connect_payload call_payload part_payload ping_payload int_bytes long_bytes counted_bytes bytes_at int_at long_at boolean_at length_of length_at counted_at text_bytes_at elements_at flag_at response_at record_of
+unfolding is_utf8 chars encode cut arriving connect_payload call_payload part_payload ping_payload int_bytes long_bytes counted_bytes
+    bytes_at int_at long_at boolean_at length_of length_at counted_at text_bytes_at elements_at flag_at response_at record_of
 seven_then = refl
 
 pub over_then : state_of (past_of new_client (items_in until_expired)) ≡ Expired
-unfolding is_utf8 chars encode cut arriving connect_payload call_payload part_payload ping_payload int_bytes long_bytes counted_bytes bytes_at int_at long_at boolean_at length_of length_at counted_at text_bytes_at elements_at flag_at response_at record_of
+unfolding is_utf8 chars encode cut arriving connect_payload call_payload part_payload ping_payload int_bytes long_bytes counted_bytes
+    bytes_at int_at long_at boolean_at length_of length_at counted_at text_bytes_at elements_at flag_at response_at record_of
 over_then = refl
 
 -- a client stands there, and was asked with values of their types
 pub whole_stands : Stands new_client (items_in until_expired) (view_at new_client (past_of new_client (items_in until_expired)))
 whole_stands =
-    given_stands new_client (items_in until_expired) (refl, (refl, (refl, (refl, (refl, (refl, (refl, (refl, (refl, (refl, (refl, (refl, (refl, (refl, (refl, stands_then.said.1.1.1)))))))))))))))
+    given_stands new_client (items_in until_expired) (
+      refl,
+      (
+        refl,
+        (refl, (refl, (refl, (refl, (refl, (refl, (refl, (refl, (refl, (refl, (refl, (refl, (refl, stands_then.said.1.1.1))))))))))))),
+      ),
+    )
     (tt, (tt, (tt, (tt, (refl, (tt, (tt, (tt, (tt, (tt, (tt, (tt, (tt, (refl, (tt, stands_then.asked.1.1.1)))))))))))))))
 
 pub whole_typed : AllAskOf IsTyped (items_in until_expired)
 unfolding is_utf8 chars encode
-whole_typed = (tt, (tt, (tt, (tt, ((refl, omega (arith, ints)), (tt, (tt, (tt, (tt, (tt, (tt, (tt, (tt, (refl, (tt, typed_then.1.1.1)))))))))))))))
+whole_typed =
+    (tt, (tt, (tt, (tt, ((refl, omega (arith, ints)), (tt, (tt, (tt, (tt, (tt, (tt, (tt, (tt, (refl, (tt, typed_then.1.1.1)))))))))))))))

@@ -37,7 +37,19 @@ abbrev pub write_a : Call
 write_a = SetData at_a (Some (104 ∷ [])) (negsuc 0)
 
 abbrev pub stat_at_seven : Stat
-stat_at_seven = record { czxid = pos 5; mzxid = pos 7; ctime = pos 1000; mtime = pos 3000; version = pos 2; cversion = pos 0; aversion = pos 0; ephemeral_owner = pos 0; data_length = pos 1; num_children = pos 0; pzxid = pos 5 }
+stat_at_seven = record {
+  czxid = pos 5;
+  mzxid = pos 7;
+  ctime = pos 1000;
+  mtime = pos 3000;
+  version = pos 2;
+  cversion = pos 0;
+  aversion = pos 0;
+  ephemeral_owner = pos 0;
+  data_length = pos 1;
+  num_children = pos 0;
+  pzxid = pos 5;
+}
 
 abbrev pub what_was_written : Result
 what_was_written = Found stat_at_seven
@@ -58,7 +70,8 @@ pong_payload = 255 ∷ 255 ∷ 255 ∷ 254 ∷ 0 ∷ 0 ∷ 0 ∷ 0 ∷ 0 ∷ 0 �
 abbrev pub stat_bytes : List ℕ
 stat_bytes =
     0 ∷ 0 ∷ 0 ∷ 0 ∷ 0 ∷ 0 ∷ 0 ∷ 5 ∷ 0 ∷ 0 ∷ 0 ∷ 0 ∷ 0 ∷ 0 ∷ 0 ∷ 7 ∷ 0 ∷ 0 ∷ 0 ∷ 0 ∷ 0 ∷ 0 ∷ 3 ∷ 232 ∷ 0 ∷ 0 ∷ 0 ∷ 0 ∷ 0 ∷ 0 ∷ 11 ∷ 184
-    ∷ 0 ∷ 0 ∷ 0 ∷ 2 ∷ 0 ∷ 0 ∷ 0 ∷ 0 ∷ 0 ∷ 0 ∷ 0 ∷ 0 ∷ 0 ∷ 0 ∷ 0 ∷ 0 ∷ 0 ∷ 0 ∷ 0 ∷ 0 ∷ 0 ∷ 0 ∷ 0 ∷ 1 ∷ 0 ∷ 0 ∷ 0 ∷ 0 ∷ 0 ∷ 0 ∷ 0 ∷ 0 ∷ 0 ∷ 0 ∷ 0 ∷ 5 ∷ []
+    ∷ 0 ∷ 0 ∷ 0 ∷ 2 ∷ 0 ∷ 0 ∷ 0 ∷ 0 ∷ 0 ∷ 0 ∷ 0 ∷ 0 ∷ 0 ∷ 0 ∷ 0 ∷ 0 ∷ 0 ∷ 0 ∷ 0 ∷ 0 ∷ 0 ∷ 0 ∷ 0 ∷ 1 ∷ 0 ∷ 0 ∷ 0 ∷ 0 ∷ 0 ∷ 0 ∷ 0
+    ∷ 0 ∷ 0 ∷ 0 ∷ 0 ∷ 5 ∷ []
 
 -- the reply to the write: xid 3, zxid 7
 abbrev pub written_payload : List ℕ

@@ -31,7 +31,8 @@ pub record IsWire (start : Start) (past : Past) (wire : Wire) (shown : Shown) : 
 -- The entries are a schedule over the history that is shown, and while the client has a connection its server is the one shown.
 pub record Shows (start : Start) (entries : List Entry) (shown : Shown) : Type 0 where
   pub serving : IsServing shown.history start entries
-  pub wire : is_going (past_of start (items_in entries)) ≡ true → IsWire start (past_of start (items_in entries)) (wire_of shown.history entries) shown
+  pub wire : is_going (past_of start (items_in entries)) ≡ true
+      → IsWire start (past_of start (items_in entries)) (wire_of shown.history entries) shown
 
 -- A client that has gone through these items was served by the servers in memory: there is a schedule of its items that ends
 -- where they are.
@@ -56,12 +57,14 @@ IsPathCall call.Close = ⊤
 
 -- the texts of a part are paths
 abbrev pub HasPaths : Lists → Type 0
-HasPaths part = AllByRecursion IsPath part.data_watches × AllByRecursion IsPath part.exist_watches × AllByRecursion IsPath part.child_watches
+HasPaths part = AllByRecursion IsPath part.data_watches × AllByRecursion IsPath part.exist_watches
+    × AllByRecursion IsPath part.child_watches
 
 -- What is known of a request beside its reading, where callers ask about paths with values of their types: a client that comes asks
 -- for a timeout above 0.
 abbrev pub IsFit : Request → List ℕ → Type 0
-IsFit (Connect seen) payload = (timeout : ℕ) × (0 < timeout) × (session : ℤ) × (password : List ℕ) × IsRecord connect_request (pos 0, (pos seen, (pos timeout, (session, (Some password, false))))) payload
+IsFit (Connect seen) payload = (timeout : ℕ) × (0 < timeout) × (session : ℤ) × (password : List ℕ)
+    × IsRecord connect_request (pos 0, (pos seen, (pos timeout, (session, (Some password, false))))) payload
 IsFit (Restore is_last relative part) payload = HasPaths part
 IsFit (Ask asked) payload = IsTyped asked × IsPathCall asked
 IsFit Ping payload = ⊤

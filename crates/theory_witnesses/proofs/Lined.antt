@@ -1,5 +1,6 @@
 -- Two wait in line, one after the other, and their names rise.
-use Rattle.std.proofs.Common.{◌≡◌, ◌≤◌, ℕ, pos, Bool, true, false, ◌&&◌, cond, [], ◌∷◌, refl, sym, ap, subst, arith, inl, inr, ◌⊎◌, Option, Some, None, is_some}
+use Rattle.std.proofs.Common.{◌≡◌, ◌≤◌, ℕ, pos, Bool, true, false, ◌&&◌, cond, [], ◌∷◌, refl, sym, ap, subst, arith, inl, inr, ◌⊎◌, Option}
+use Rattle.std.proofs.Common.{Some, None, is_some}
 use Rattle.std.specs.Prelude.{bytes_eq, nat_le}
 use Rattle.std.proofs.lemmas.Slice.Eq.{bytes_eq-Decides}
 use Rattle.zk_nodes.specs.Path.{Name}
@@ -26,14 +27,16 @@ none_made name node e = absurd cc
 first_made : (tree : Tree) → AllMade tree → AllMade (apply_all 5 (pos 1000) first_comes.changes tree)
 first_made tree all name node e = go (bytes_eq name first_name) refl e
   where
-    go : (b : Bool) → bytes_eq name first_name ≡ b → cond (b && true) (Some (made 5 (pos 1000) None (pos 7))) (tree (name ∷ line)) ≡ Some node → IsMade name node
+    go : (b : Bool) → bytes_eq name first_name ≡ b
+        → cond (b && true) (Some (made 5 (pos 1000) None (pos 7))) (tree (name ∷ line)) ≡ Some node → IsMade name node
     go true same e = inl ((bytes_eq-Decides name first_name).0 same, sym (ap czxid_in e))
     go false apart e = all name node e
 
 second_made : (tree : Tree) → AllMade tree → AllMade (apply_all 6 (pos 2000) second_comes.changes tree)
 second_made tree all name node e = go (bytes_eq name second_name) refl e
   where
-    go : (b : Bool) → bytes_eq name second_name ≡ b → cond (b && true) (Some (made 6 (pos 2000) None (pos 8))) (tree (name ∷ line)) ≡ Some node → IsMade name node
+    go : (b : Bool) → bytes_eq name second_name ≡ b
+        → cond (b && true) (Some (made 6 (pos 2000) None (pos 8))) (tree (name ∷ line)) ≡ Some node → IsMade name node
     go true same e = inr ((bytes_eq-Decides name second_name).0 same, sym (ap czxid_in e))
     go false apart e = all name node e
 
@@ -54,8 +57,11 @@ with_second tree = apply_all 6 (pos 2000) second_comes.changes tree
 made_at : (zxid : ℕ) → AllMade (tree_at two_in_line zxid)
 made_at zxid = go (nat_le 5 zxid) (nat_le 6 zxid) (nat_le 9 zxid)
   where
-    go : (a b c : Bool) → AllMade (after (cond a (first_comes ∷ cond b (second_comes ∷ cond c (first_goes ∷ []) []) (cond c (first_goes ∷ []) [])) (cond b (second_comes ∷ cond c (first_goes ∷ []) []) (cond c (first_goes ∷ []) []))) root_alone)
-    go true true true = first_gone (with_second (with_first root_alone)) (second_made (with_first root_alone) (first_made root_alone none_made))
+    go : (a b c : Bool)
+        → AllMade (after (cond a (first_comes ∷ cond b (second_comes ∷ cond c (first_goes ∷ []) []) (cond c (first_goes ∷ []) []))
+        (cond b (second_comes ∷ cond c (first_goes ∷ []) []) (cond c (first_goes ∷ []) []))) root_alone)
+    go true true true =
+        first_gone (with_second (with_first root_alone)) (second_made (with_first root_alone) (first_made root_alone none_made))
     go true true false = second_made (with_first root_alone) (first_made root_alone none_made)
     go true false true = first_gone (with_first root_alone) (first_made root_alone none_made)
     go true false false = first_made root_alone none_made
@@ -71,7 +77,9 @@ names_rise zxid one other node its e f p q before = go (made_at zxid one node e)
     go (inl a) (inl b) = let x = a.1 in let y = b.1 in omega (arith, x, y)
     go (inl a) (inr b) = let x = a.1 in let y = b.1 in omega (arith, x, y)
     go (inr a) (inl b) =
-        let wrong : is_before second_name first_name ≡ true = subst (λ (n : Name). is_before second_name n ≡ true) b.0 (subst (λ (n : Name). is_before n other ≡ true) a.0 before) in absurd cc
+        let wrong : is_before second_name first_name ≡ true =
+        subst (λ (n : Name). is_before second_name n ≡ true) b.0 (subst (λ (n : Name). is_before n other ≡ true) a.0 before) in
+        absurd cc
     go (inr a) (inr b) = let x = a.1 in let y = b.1 in omega (arith, x, y)
 
 -- which names are there at a zxid
@@ -82,7 +90,8 @@ names_at zxid name there = go (tree_at two_in_line zxid (name ∷ line)) refl th
     of_made node (inl a) = inl a.0
     of_made node (inr b) = inr b.0
 
-    go : (found : Option Node) → tree_at two_in_line zxid (name ∷ line) ≡ found → is_some found ≡ true → (name ≡ first_name) ⊎ (name ≡ second_name)
+    go : (found : Option Node)
+        → tree_at two_in_line zxid (name ∷ line) ≡ found → is_some found ≡ true → (name ≡ first_name) ⊎ (name ≡ second_name)
     go None e s = absurd cc
     go (Some node) e s = of_made node (made_at zxid name node e)
 
@@ -116,8 +125,10 @@ second_holds = record {
   first = λ name there begins. go name there (names_at 9 name there);
 }
   where
-    go : (name : Name) → is_some (tree_at two_in_line 9 (name ∷ line)) ≡ true → (name ≡ first_name) ⊎ (name ≡ second_name) → is_before name second_name ≡ false
-    go name there (inl e) = let gone : is_some (tree_at two_in_line 9 (first_name ∷ line)) ≡ true = subst (λ (n : Name). is_some (tree_at two_in_line 9 (n ∷ line)) ≡ true) e there in absurd cc
+    go : (name : Name) → is_some (tree_at two_in_line 9 (name ∷ line)) ≡ true → (name ≡ first_name) ⊎ (name ≡ second_name)
+        → is_before name second_name ≡ false
+    go name there (inl e) = let gone : is_some (tree_at two_in_line 9 (first_name ∷ line)) ≡ true =
+        subst (λ (n : Name). is_some (tree_at two_in_line 9 (n ∷ line)) ≡ true) e there in absurd cc
     go name there (inr e) = ap (λ (n : Name). is_before n second_name) e
 
 childless : (child : Name) → after (first_comes ∷ second_comes ∷ []) root_alone (child ∷ first_name ∷ line) ≡ None

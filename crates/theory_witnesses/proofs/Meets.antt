@@ -12,7 +12,8 @@ use Rattle.theory_serving.proofs.Whole_shown.{three_history, whole_stands, lost_
 use Rattle.zk_conclusions.specs.Seen.{IsServedFrom}
 use Rattle.theory_witnesses.specs.Met.{shown_after}
 
-served_after : (entries : List Entry) → AllSaid new_client (items_in entries) → AllAskOf IsAskable (items_in entries) → IsServing three_changes new_client entries → IsServedFrom three_changes (shown_after entries)
+served_after : (entries : List Entry) → AllSaid new_client (items_in entries) → AllAskOf IsAskable (items_in entries)
+    → IsServing three_changes new_client entries → IsServedFrom three_changes (shown_after entries)
 served_after entries said asked may = record {
   start = new_client;
   items = items_in entries;

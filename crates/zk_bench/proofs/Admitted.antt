@@ -10,16 +10,23 @@ use Rattle.zk_bench.specs.Serving.{SendsResponse, SendsMessage}
 
 -- a message that is told by a response with no flag
 tells_so : (message : Message) (response : Response) (old new : List ℕ) → SendsResponse response old new → response.read_only ≡ None
-    → (IsResponse (response_spelling response) response [] → (xid : ℤ) → IsPayload xid message (response_spelling response)) → SendsMessage message old new
+    → (IsResponse (response_spelling response) response [] → (xid : ℤ) → IsPayload xid message (response_spelling response))
+    → SendsMessage message old new
 tells_so message response old new s none told = record {
   payload = response_spelling response;
   small = s.small;
-  spelled = told (record { fits = s.fits; whole = sym (append-nil (response_spelling response)); ends = subst (λ (flag : Option Bool). EndsPayload flag []) (sym none) refl });
+  spelled = told (record {
+    fits = s.fits;
+    whole = sym (append-nil (response_spelling response));
+    ends = subst (λ (flag : Option Bool). EndsPayload flag []) (sym none) refl;
+  });
   output = s.output;
 }
 
-pub accepts_so : (response : Response) (old new : List ℕ) → SendsResponse response old new → response.read_only ≡ None → int_lt (pos 0) (response_timeout response) ≡ true → SendsMessage Accepted old new
+pub accepts_so : (response : Response) (old new : List ℕ) → SendsResponse response old new → response.read_only ≡ None
+    → int_lt (pos 0) (response_timeout response) ≡ true → SendsMessage Accepted old new
 accepts_so response old new s none up = tells_so Accepted response old new s none (λ whole xid. (response, [], whole, up))
 
-pub expires_so : (response : Response) (old new : List ℕ) → SendsResponse response old new → response.read_only ≡ None → int_lt (pos 0) (response_timeout response) ≡ false → SendsMessage Expired old new
+pub expires_so : (response : Response) (old new : List ℕ) → SendsResponse response old new → response.read_only ≡ None
+    → int_lt (pos 0) (response_timeout response) ≡ false → SendsMessage Expired old new
 expires_so response old new s none over = tells_so Expired response old new s none (λ whole xid. (response, [], whole, over))

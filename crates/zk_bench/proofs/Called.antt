@@ -47,7 +47,8 @@ calls (call.Delete text version) typed is = (is, refl, refl)
 calls call.Close typed is = tt
 
 -- a request but the first of a connection is told so
-pub told_so : (asked : wanted.Request) (xid : ℤ) (payload : List ℕ) → ((seen : ℕ) → asked ≡ wanted.Connect seen → ⊥) → IsReadAs asked xid payload → IsFit asked payload → Told asked xid payload
+pub told_so : (asked : wanted.Request) (xid : ℤ) (payload : List ℕ) → ((seen : ℕ) → asked ≡ wanted.Connect seen → ⊥)
+    → IsReadAs asked xid payload → IsFit asked payload → Told asked xid payload
 told_so (wanted.Connect seen) xid payload later read fit = absurd (later seen refl)
 told_so (wanted.Restore is_last relative part) xid payload later read fit = record {
   named = operation.SetWatches;
@@ -55,17 +56,20 @@ told_so (wanted.Restore is_last relative part) xid payload later read fit = reco
   read = read;
   wants = (refl, refl, refl, refl, record { data_watches = fit.0; exist_watches = fit.1; child_watches = fit.2 });
 }
-told_so (wanted.Ask asked) xid payload later read fit = record { named = call_operation asked; body = call_body asked; read = read; wants = calls asked fit.0 fit.1 }
+told_so (wanted.Ask asked) xid payload later read fit =
+    record { named = call_operation asked; body = call_body asked; read = read; wants = calls asked fit.0 fit.1 }
 told_so wanted.Ping xid payload later read fit = record { named = operation.Ping; body = tt; read = read; wants = tt }
 
 -- the request that is read asks for it
-pub asks_so : {A : Type 0} (asked : wanted.Request) (xid found : ℤ) (payload : List ℕ) (t : Told asked xid payload) (request : Request A) → asked_of found request ≡ record { xid = xid; operation = t.named; body = t.body } → Asks request asked
+pub asks_so : {A : Type 0} (asked : wanted.Request) (xid found : ℤ) (payload : List ℕ) (t : Told asked xid payload) (request : Request A)
+    → asked_of found request ≡ record { xid = xid; operation = t.named; body = t.body } → Asks request asked
 asks_so {A} asked xid found payload t request is = subst (λ (a : Asked). Wants a.operation a.body asked) (sym is) t.wants
 
 -- Reads and parts of setWatches, as the functions that answer them ask
 
 -- a read is the read of a request
-read_asked : {A : Type 0} (request : Request A) (asked : Call) → IsRead asked → IsBodyOf (operation_of request) (body_of request) asked → IsReadOf request asked
+read_asked : {A : Type 0} (request : Request A) (asked : Call)
+    → IsRead asked → IsBodyOf (operation_of request) (body_of request) asked → IsReadOf request asked
 read_asked (requests.Exists r) (call.Exists text watch) look is = is
 read_asked (requests.GetData r) (call.GetData text watch) look is = is
 read_asked (requests.GetChildren2 r) (call.GetChildren text watch) look is = is
@@ -76,7 +80,8 @@ read_asked request call.Close look is = absurd look
 read_asked request asked look is = absurd is
 
 -- a part of setWatches is that of a request
-part_asked : {A : Type 0} (request : Request A) (since : ℕ) (part : Lists) → IsPartOf (operation_of request) (body_of request) since part → IsRestoring request since part
+part_asked : {A : Type 0} (request : Request A) (since : ℕ) (part : Lists)
+    → IsPartOf (operation_of request) (body_of request) since part → IsRestoring request since part
 part_asked (requests.SetWatches r) since part is = (
   record {
     relative = is.0;
@@ -89,7 +94,8 @@ part_asked (requests.SetWatches r) since part is = (
 part_asked request since part is = absurd is
 
 -- what holds of reads and of parts of setWatches holds of a look
-pub looks : {A : Type 0} (P : wanted.Request → Type 0) (request : Request A) (asked : wanted.Request) → IsLook asked → Asks request asked → ((one : Call) → IsRead one → IsReadOf request one → P (wanted.Ask one))
+pub looks : {A : Type 0} (P : wanted.Request → Type 0) (request : Request A) (asked : wanted.Request)
+    → IsLook asked → Asks request asked → ((one : Call) → IsRead one → IsReadOf request one → P (wanted.Ask one))
     → ((is_last : Bool) (since : ℕ) (part : Lists) → IsRestoring request since part → P (wanted.Restore is_last since part)) → P asked
 looks P request (wanted.Connect seen) look asks reads parts = absurd look
 looks P request (wanted.Restore is_last since part) look asks reads parts = parts is_last since part (part_asked request since part asks)
@@ -98,23 +104,35 @@ looks P request wanted.Ping look asks reads parts = absurd look
 
 -- Writes, as the functions that answer them ask
 
-pub creates_asked : {A : Type 0} (P : wanted.Request → Type 0) (r : CreateRequest A) (asked : wanted.Request) → Asks (requests.Create r) asked → ((text : Text) (number : ℕ) → IsPath text → r.path ≡ Some text → r.flags ≡ pos number → number ≤ 3 → P (wanted.Ask (call.Create text r.bytes number))) → P asked
-creates_asked P r (wanted.Ask (call.Create text content mode)) asks f = subst (λ (o : Option (List ℕ)). P (wanted.Ask (call.Create text o mode))) asks.2 (f text mode asks.0 asks.1 asks.3 asks.4)
+pub creates_asked : {A : Type 0} (P : wanted.Request → Type 0) (r : CreateRequest A) (asked : wanted.Request)
+    → Asks (requests.Create r) asked → ((text : Text) (number : ℕ)
+    → IsPath text → r.path ≡ Some text → r.flags ≡ pos number → number ≤ 3 → P (wanted.Ask (call.Create text r.bytes number))) → P asked
+creates_asked P r (wanted.Ask (call.Create text content mode)) asks f =
+    subst (λ (o : Option (List ℕ)). P (wanted.Ask (call.Create text o mode))) asks.2 (f text mode asks.0 asks.1 asks.3 asks.4)
 creates_asked P r asked asks f = absurd asks
 
-pub sets_asked : {A : Type 0} (P : wanted.Request → Type 0) (r : SetDataRequest A) (asked : wanted.Request) → Asks (requests.SetData r) asked → ((text : Text) → IsPath text → r.path ≡ Some text → P (wanted.Ask (call.SetData text r.bytes r.version))) → P asked
-sets_asked P r (wanted.Ask (call.SetData text content version)) asks f = subst (λ (o : Option (List ℕ)). P (wanted.Ask (call.SetData text o version))) asks.2 (subst (λ (v : ℤ). P (wanted.Ask (call.SetData text r.bytes v))) asks.3 (f text asks.0 asks.1))
+pub sets_asked : {A : Type 0} (P : wanted.Request → Type 0) (r : SetDataRequest A) (asked : wanted.Request)
+    → Asks (requests.SetData r) asked
+    → ((text : Text) → IsPath text → r.path ≡ Some text → P (wanted.Ask (call.SetData text r.bytes r.version))) → P asked
+sets_asked P r (wanted.Ask (call.SetData text content version)) asks f =
+    subst (λ (o : Option (List ℕ)). P (wanted.Ask (call.SetData text o version))) asks.2
+    (subst (λ (v : ℤ). P (wanted.Ask (call.SetData text r.bytes v))) asks.3 (f text asks.0 asks.1))
 sets_asked P r asked asks f = absurd asks
 
-pub deletes_asked : {A : Type 0} (P : wanted.Request → Type 0) (r : DeleteRequest A) (asked : wanted.Request) → Asks (requests.Delete r) asked → ((text : Text) → IsPath text → r.path ≡ Some text → P (wanted.Ask (call.Delete text r.version))) → P asked
-deletes_asked P r (wanted.Ask (call.Delete text version)) asks f = subst (λ (v : ℤ). P (wanted.Ask (call.Delete text v))) asks.2 (f text asks.0 asks.1)
+pub deletes_asked : {A : Type 0} (P : wanted.Request → Type 0) (r : DeleteRequest A) (asked : wanted.Request)
+    → Asks (requests.Delete r) asked
+    → ((text : Text) → IsPath text → r.path ≡ Some text → P (wanted.Ask (call.Delete text r.version))) → P asked
+deletes_asked P r (wanted.Ask (call.Delete text version)) asks f =
+    subst (λ (v : ℤ). P (wanted.Ask (call.Delete text v))) asks.2 (f text asks.0 asks.1)
 deletes_asked P r asked asks f = absurd asks
 
 -- the mode of these flags is sequential where the call's is
-pub mode_is : (flags : ℤ) (number : ℕ) (ephemeral sequential : Bool) → number ≤ 3 → flags ≡ pos number → mode_of flags ≡ Some (ephemeral, sequential) → is_sequential number ≡ sequential
+pub mode_is : (flags : ℤ) (number : ℕ) (ephemeral sequential : Bool)
+    → number ≤ 3 → flags ≡ pos number → mode_of flags ≡ Some (ephemeral, sequential) → is_sequential number ≡ sequential
 mode_is flags number ephemeral sequential low is told =
     let same : Some (is_sequential number) ≡ Some sequential =
-    sym (mode_of-low number low) ∙ ap (λ (z : ℤ). option_map (λ (mode : Bool × Bool). mode.1) (mode_of z)) (sym is) ∙ ap (option_map (λ (mode : Bool × Bool). mode.1)) told in
+    sym (mode_of-low number low) ∙ ap (λ (z : ℤ). option_map (λ (mode : Bool × Bool). mode.1) (mode_of z)) (sym is)
+    ∙ ap (option_map (λ (mode : Bool × Bool). mode.1)) told in
     ap (λ (o : Option Bool). unwrap_or o sequential) same
 
 -- a mode from 0 to 3 is there
@@ -125,8 +143,10 @@ mode_there flags number low is none =
     absurd cc
 
 -- What is no write, no ping and no end of a session is a look.
-pub look_if : {A : Type 0} (request : Request A) (asked : wanted.Request) → Asks request asked → ((r : CreateRequest A) → request ≡ requests.Create r → ⊥) → ((r : SetDataRequest A) → request ≡ requests.SetData r → ⊥)
-    → ((r : DeleteRequest A) → request ≡ requests.Delete r → ⊥) → (request ≡ requests.Ping → ⊥) → (request ≡ requests.CloseSession → ⊥) → IsLook asked
+pub look_if : {A : Type 0} (request : Request A) (asked : wanted.Request) → Asks request asked
+    → ((r : CreateRequest A) → request ≡ requests.Create r → ⊥) → ((r : SetDataRequest A) → request ≡ requests.SetData r → ⊥)
+    → ((r : DeleteRequest A) → request ≡ requests.Delete r → ⊥) → (request ≡ requests.Ping → ⊥)
+    → (request ≡ requests.CloseSession → ⊥) → IsLook asked
 look_if request (wanted.Restore is_last since part) asks a b d p q = tt
 look_if requests.Ping wanted.Ping asks a b d p q = absurd (p refl)
 look_if request (wanted.Ask (call.Exists text watch)) asks a b d p q = tt
@@ -144,29 +164,37 @@ pings_asked P wanted.Ping asks p = p
 pings_asked P asked asks p = absurd asks
 
 -- The request that is read asks for what was asked, under its xid.
-found_so : {A : Type 0} (asked : wanted.Request) (xid found : ℤ) (payload : List ℕ) (request : Request A) → IsFor asked Serving → IsReadAs asked xid payload → IsFit asked payload
-    → ((a : Asked) → IsRecord (request_layout a.operation) (asked_value a) payload → asked_of found request ≡ a) → Asks request asked × (found ≡ xid)
+found_so : {A : Type 0} (asked : wanted.Request) (xid found : ℤ) (payload : List ℕ) (request : Request A)
+    → IsFor asked Serving → IsReadAs asked xid payload → IsFit asked payload
+    → ((a : Asked) → IsRecord (request_layout a.operation) (asked_value a) payload → asked_of found request ≡ a)
+    → Asks request asked × (found ≡ xid)
 found_so asked xid found payload request later read fit is =
     let t = told_so asked xid payload (λ seen e. subst (λ (a : wanted.Request). IsFor a Serving) e later refl) read fit in
     let same = is (record { xid = xid; operation = t.named; body = t.body }) t.read in
     (asks_so asked xid found payload t request same, ap (λ (a : Asked). a.xid) same)
 
 -- What is read has no other fault than want of memory.
-pub read_front : (b old : Served) (count : ℕ) (bytes : List ℕ) (asked : wanted.Request) (xid : ℤ) (P : Type 0) → b ≡ old → bytes ≡ b.connection.requests → IsFor asked Serving
+pub read_front : (b old : Served) (count : ℕ) (bytes : List ℕ) (asked : wanted.Request) (xid : ℤ) (P : Type 0)
+    → b ≡ old → bytes ≡ b.connection.requests → IsFor asked Serving
     → IsReadAs asked xid (take count (drop 4 old.connection.requests)) → IsFit asked (take count (drop 4 old.connection.requests))
     → ((a : Asked) → IsRecord (request_layout a.operation) (asked_value a) (take count (drop 4 bytes)) → P) → P
 read_front b old count bytes asked xid P same field later is fit gives =
     let at : old.connection.requests ≡ bytes = ap (λ (s : Served). s.connection.requests) (sym same) ∙ sym field in
-    let t = told_so asked xid (take count (drop 4 old.connection.requests)) (λ seen e. subst (λ (a : wanted.Request). IsFor a Serving) e later refl) is fit in
+    let t = told_so asked xid (take count (drop 4 old.connection.requests))
+    (λ seen e. subst (λ (a : wanted.Request). IsFor a Serving) e later refl) is fit in
     gives (record { xid = xid; operation = t.named; body = t.body })
-    (subst (λ (bs : List ℕ). IsRecord (request_layout t.named) (xid, (operation_number t.named, t.body)) (take count (drop 4 bs))) at t.read)
+    (subst
+    (λ (bs : List ℕ). IsRecord (request_layout t.named) (xid, (operation_number t.named, t.body)) (take count (drop 4 bs))) at t.read)
 
 -- and so does the one that is read from the front of a bench
-pub found_front : {A : Type 0} (b old : Served) (count : ℕ) (bytes : List ℕ) (asked : wanted.Request) (xid read found : ℤ) (request : Request A) → b ≡ old → bytes ≡ b.connection.requests → read ≡ found → IsFor asked Serving
+pub found_front : {A : Type 0} (b old : Served) (count : ℕ) (bytes : List ℕ) (asked : wanted.Request) (xid read found : ℤ)
+    (request : Request A) → b ≡ old → bytes ≡ b.connection.requests → read ≡ found → IsFor asked Serving
     → IsReadAs asked xid (take count (drop 4 old.connection.requests)) → IsFit asked (take count (drop 4 old.connection.requests))
-    → ((a : Asked) → IsRecord (request_layout a.operation) (asked_value a) (take count (drop 4 bytes)) → asked_of found request ≡ a) → Asks request asked × (read ≡ xid)
+    → ((a : Asked) → IsRecord (request_layout a.operation) (asked_value a) (take count (drop 4 bytes)) → asked_of found request ≡ a)
+    → Asks request asked × (read ≡ xid)
 found_front b old count bytes asked xid read found request same field ranged later is fit gives =
     let at : old.connection.requests ≡ bytes = ap (λ (s : Served). s.connection.requests) (sym same) ∙ sym field in
     let told = found_so asked xid found (take count (drop 4 old.connection.requests)) request later is fit
-    (λ a whole. gives a (subst (λ (bs : List ℕ). IsRecord (request_layout a.operation) (asked_value a) (take count (drop 4 bs))) at whole)) in
+    (λ a whole.
+    gives a (subst (λ (bs : List ℕ). IsRecord (request_layout a.operation) (asked_value a) (take count (drop 4 bs))) at whole)) in
     (told.0, ranged ∙ told.1)

@@ -30,7 +30,8 @@ begun_goes_on old new zxid time is = record {
 }
 
 -- a transaction more, with one change
-pub changed_goes_on : (old mid new : HistoryView) (zxid : ℕ) (time : ℤ) (c : Change) → mid ≡ with_transaction old zxid time → new ≡ with_change mid c → Continues old new
+pub changed_goes_on : (old mid new : HistoryView) (zxid : ℕ) (time : ℤ) (c : Change)
+    → mid ≡ with_transaction old zxid time → new ≡ with_change mid c → Continues old new
 changed_goes_on old mid new zxid time c begun changed =
     let is : new ≡ with_change (with_transaction old zxid time) c = changed ∙ ap (λ (k : HistoryView). with_change k c) begun in
     record {
@@ -40,7 +41,8 @@ changed_goes_on old mid new zxid time c begun changed =
     }
 
 -- The n-th of rising transactions has a zxid above n more than the bound.
-pub above : (ts : List Transaction) (low n : ℕ) (t : Transaction) → AreRising low ts → slice_get ts n ≡ Some t → (low + n < t.zxid) × (t.zxid < 2 ^ 63)
+pub above : (ts : List Transaction) (low n : ℕ) (t : Transaction)
+    → AreRising low ts → slice_get ts n ≡ Some t → (low + n < t.zxid) × (t.zxid < 2 ^ 63)
 above [] low n t rising is = absurd (none-some t is)
 above (one ∷ more) low zero t rising is =
     let e : one ≡ t = ap (λ (o : Option Transaction). unwrap_or o one) is in

@@ -1,5 +1,6 @@
 -- Where a server stands in a history.
-use Rattle.std.proofs.Common.{◌≡◌, ◌<◌, ◌≤◌, ◌-◌, ◌^◌, ℕ, zero, suc, ℤ, pos, negsuc, List, [], ◌∷◌, Option, Some, None, refl, sym, ap, subst, ◌∙◌, arith, take, length}
+use Rattle.std.proofs.Common.{◌≡◌, ◌<◌, ◌≤◌, ◌-◌, ◌^◌, ℕ, zero, suc, ℤ, pos, negsuc, List, [], ◌∷◌, Option, Some, None, refl, sym, ap}
+use Rattle.std.proofs.Common.{subst, ◌∙◌, arith, take, length}
 use Rattle.std.specs.Prelude.{unwrap_or, slice_get, FitsSigned}
 use Rattle.std.specs.Int.{w64}
 use Rattle.zk_bench.proofs.Continuing.{above}
@@ -19,7 +20,8 @@ newest_at (one ∷ more) low (suc n) t is = newest_at more one.zxid n t is
 
 positive : (ts : List Transaction) (low n : ℕ) (t : Transaction) → AreRising low ts → slice_get ts n ≡ Some t → low < t.zxid
 positive [] low n t rising is = absurd (none-some t is)
-positive (one ∷ more) low zero t rising is = subst (λ (x : ℕ). low < x) (ap (λ (o : Option Transaction). (unwrap_or o one).zxid) is) rising.0
+positive (one ∷ more) low zero t rising is =
+    subst (λ (x : ℕ). low < x) (ap (λ (o : Option Transaction). (unwrap_or o one).zxid) is) rising.0
 positive (one ∷ more) low (suc n) t rising is = let rest = positive more one.zxid n t rising.2 is in omega (arith, rest, rising.0)
 
 whole : (zxid : ℤ) (n : ℕ) → natural zxid ≡ n → 0 < n → zxid ≡ pos n
@@ -32,7 +34,8 @@ there (one ∷ more) zero low e = cc
 there (one ∷ more) (suc n) low e = there more n (omega (arith, low)) e
 
 -- the zxid of a server that has taken some transactions
-pub zxid_is : (ts : List Transaction) (taken : ℕ) (zxid : ℤ) (t : Transaction) → AreRising 0 ts → (taken ≡ 0 → ⊥) → slice_get ts (taken - 1) ≡ Some t → t.zxid ≡ natural zxid → zxid ≡ pos (newest 0 (take taken ts))
+pub zxid_is : (ts : List Transaction) (taken : ℕ) (zxid : ℤ) (t : Transaction) → AreRising 0 ts → (taken ≡ 0 → ⊥)
+    → slice_get ts (taken - 1) ≡ Some t → t.zxid ≡ natural zxid → zxid ≡ pos (newest 0 (take taken ts))
 zxid_is ts zero zxid t rising some is e = absurd (some refl)
 zxid_is ts (suc n) zxid t rising some is e =
     let one : suc n - 1 ≡ n = omega arith in
@@ -64,7 +67,8 @@ pub next_are : (h : History) (n : ℕ) (t : Transaction) → slice_get h.transac
 next_are h n t is = ap (λ (o : Option Transaction). elim o [ None ↦ [] | Some one ↦ one.changes ]) is
 
 -- it is one of 64 bits
-pub zxid_fits : (ts : List Transaction) (taken : ℕ) (zxid : ℤ) (t : Transaction) → AreRising 0 ts → (taken ≡ 0 → ⊥) → slice_get ts (taken - 1) ≡ Some t → t.zxid ≡ natural zxid → FitsSigned w64 zxid
+pub zxid_fits : (ts : List Transaction) (taken : ℕ) (zxid : ℤ) (t : Transaction) → AreRising 0 ts → (taken ≡ 0 → ⊥)
+    → slice_get ts (taken - 1) ≡ Some t → t.zxid ≡ natural zxid → FitsSigned w64 zxid
 zxid_fits ts taken zxid t rising some is e =
     let bounds = above ts 0 (taken - 1) t rising is in
     let low : 0 < t.zxid = omega (arith, bounds.0) in
@@ -78,5 +82,7 @@ pub held_tree : (h : History) (taken : ℕ) → AreRising 0 h.transactions → t
 held_tree h taken rising = ap (λ (ts : List Transaction). after ts h.first) (up_to_newest 0 taken h.transactions rising)
 
 -- the newest tree is that of a server that has taken all transactions
-pub newest_tree : (h : History) (taken : ℕ) → AreRising 0 h.transactions → length h.transactions ≤ taken → tree_at h (newest 0 h.transactions) ≡ tree_held h taken
-newest_tree h taken rising all = ap (λ (ts : List Transaction). tree_at h (newest 0 ts)) (sym (take_all taken h.transactions all)) ∙ held_tree h taken rising
+pub newest_tree : (h : History) (taken : ℕ)
+    → AreRising 0 h.transactions → length h.transactions ≤ taken → tree_at h (newest 0 h.transactions) ≡ tree_held h taken
+newest_tree h taken rising all =
+    ap (λ (ts : List Transaction). tree_at h (newest 0 ts)) (sym (take_all taken h.transactions all)) ∙ held_tree h taken rising

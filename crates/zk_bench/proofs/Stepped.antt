@@ -1,5 +1,6 @@
 -- Steps of a server that takes transactions.
-use Rattle.std.proofs.Common.{ℕ, zero, suc, ℤ, pos, ◌≡◌, ◌≢◌, ◌<◌, ◌≤◌, ◌+◌, refl, ap, sym, ◌∙◌, subst, arith, List, [], ◌∷◌, ◌++◌, length, take, drop, ◌^◌, append_assoc, Bool, true, false, ◌&&◌, if◌then◌else◌}
+use Rattle.std.proofs.Common.{ℕ, zero, suc, ℤ, pos, ◌≡◌, ◌≢◌, ◌<◌, ◌≤◌, ◌+◌, refl, ap, sym, ◌∙◌, subst, arith, List, [], ◌∷◌, ◌++◌, length}
+use Rattle.std.proofs.Common.{take, drop, ◌^◌, append_assoc, Bool, true, false, ◌&&◌, if◌then◌else◌}
 use mathlib.Core.Path.{fun_ext}
 use Rattle.std.specs.Prelude.{slice_index, slice_set, slice_get, Option, Some, None, Ok, Err, OnOk, OnErr, IfErr, IsErrOf, int_lt, Vec}
 use Rattle.std.proofs.lemmas.Bool.Decides.{nat_tests}
@@ -14,7 +15,8 @@ use Rattle.zk_history.specs.HistoryView.{HistoryView, history_of, root_tree}
 use Rattle.zk_nodes.specs.declared.side.Side.{Side}
 use Rattle.zk_nodes.specs.declared.side.Side.TheVariants.{Data, Child}
 use Rattle.theory_serving.specs.GoingOn.{GoesOn}
-use Rattle.zk_laws.specs.Server.{Watches, Notice, AreSent, fires, leaves_set, fires_all, leaves_set_all, no_watches, without, same_side, zxid_held, tree_held, Reads, Gives, both, sets}
+use Rattle.zk_laws.specs.Server.{Watches, Notice, AreSent, fires, leaves_set, fires_all, leaves_set_all, no_watches, without, same_side}
+use Rattle.zk_laws.specs.Server.{zxid_held, tree_held, Reads, Gives, both, sets}
 use Rattle.zk_laws.specs.Messages.{Request, Ask}
 use Rattle.zk_conversation.specs.Calls.{Call}
 use Rattle.zk_conversation.specs.Calls as call
@@ -22,7 +24,8 @@ use Rattle.zk_conversation.specs.Questions.{question_of}
 use Rattle.zk_conversation.specs.Pending.{closes}
 use Rattle.zk_conversation.specs.Results.{Result, Refused}
 use Rattle.zk_bench.specs.Answering.{IsRead, IsTold, AnswersRead}
-use Rattle.zk_laws.specs.ServerSteps.{ServerEnd, Stage, Waiting, Serving, Ended as Silent, Advances, Answers, MayDo, end_after, changes_next}
+use Rattle.zk_laws.specs.ServerSteps.{ServerEnd, Stage, Waiting, Serving, Ended as Silent, Advances, Answers, MayDo, end_after}
+use Rattle.zk_laws.specs.ServerSteps.{changes_next}
 use Rattle.theory_serving.specs.Steps.{Step, Moves, ended_by, sent_by}
 use Rattle.theory_serving.proofs.Stepping.{last_moves, last_ended, last_sent}
 use Rattle.zk_bench.specs.declared.connection.Connection.{Connection}
@@ -39,20 +42,24 @@ use Rattle.zk_bench.specs.declared.bench.Bench.TheInside.{Inside}
 use Rattle.zk_bench.proofs.Fields.{bench_of}
 use Rattle.zk_bench.proofs.Placed.{no_room}
 use Rattle.zk_bench.specs.Linked.{linked_of}
-use Rattle.zk_bench.specs.Stepping.{stage_of, end_at, Catches, CatchesUp, shown_watches, phase_of, end_of, shown_of, IsReady, TakesSome, ProcessesIf, ProcessesOne, AnswersOne, ProcessesFirst, AnswersFirst}
+use Rattle.zk_bench.specs.Stepping.{stage_of, end_at, Catches, CatchesUp, shown_watches, phase_of, end_of, shown_of, IsReady, TakesSome}
+use Rattle.zk_bench.specs.Stepping.{ProcessesIf, ProcessesOne, AnswersOne, ProcessesFirst, AnswersFirst}
 use Rattle.zk_bench.specs.Front.{IsShort, IsWhole}
 use Rattle.theory_serving.proofs.Fronts.{front_there, front_field, front_behind, front_payload}
 
 -- no transaction is taken
-pub stays_there : {A : Type 0} (h : History) (place : ℕ) (old : Connection A) → place ≤ length h.transactions → CatchesUp h place old place old
+pub stays_there : {A : Type 0} (h : History) (place : ℕ) (old : Connection A)
+    → place ≤ length h.transactions → CatchesUp h place old place old
 stays_there h place old low = record { steps = []; moves = tt; sent = sym (append-nil old.output.items); low = low; ended = refl }
 
 -- the steps of one that has gone on are steps
-pub so_far : {A : Type 0} (h : History) (before : ℕ) (old : Connection A) (after : ℕ) (new : Connection A) → CatchesUp h before old after new → Catches h before old after new
+pub so_far : {A : Type 0} (h : History) (before : ℕ) (old : Connection A) (after : ℕ) (new : Connection A)
+    → CatchesUp h before old after new → Catches h before old after new
 so_far h before old after new g = record { steps = g.steps; moves = g.moves; sent = g.sent; low = g.low }
 
 -- one that can't be told is no step
-pub untold : {A : Type 0} (h : History) (before : ℕ) (old : Connection A) (at : ℕ) (mid : Connection A) (new : Connection A) → CatchesUp h before old at mid → at < length h.transactions
+pub untold : {A : Type 0} (h : History) (before : ℕ) (old : Connection A) (at : ℕ) (mid : Connection A) (new : Connection A)
+    → CatchesUp h before old at mid → at < length h.transactions
     → new.output.items ≡ mid.output.items → Catches h before old (at + 1) new
 untold h before old at mid new g room same = record { steps = g.steps; moves = g.moves; sent = same ∙ g.sent; low = omega (arith, room) }
 
@@ -68,19 +75,26 @@ serves : (phase : Phase) → phase ≡ Accepted → stage_of phase ≢ Silent
 serves phase e over = let at : Serving ≡ Silent = sym (ap stage_of e) ∙ over in absurd cc
 
 -- one transaction more
-pub takes_one : {A : Type 0} (h : History) (before : ℕ) (old : Connection A) (at : ℕ) (mid new : Connection A) (changes : List Change) → CatchesUp h before old at mid → mid.phase ≡ Accepted
+pub takes_one : {A : Type 0} (h : History) (before : ℕ) (old : Connection A) (at : ℕ) (mid new : Connection A) (changes : List Change)
+    → CatchesUp h before old at mid → mid.phase ≡ Accepted
     → at < length h.transactions → changes_next h at ≡ changes → watched new.watches ≡ leaves_set_all changes (watched mid.watches)
-    → Tells (fires_all changes (watched mid.watches)) mid.output.items new.output.items → new.phase ≡ mid.phase → CatchesUp h before old (at + 1) new
+    → Tells (fires_all changes (watched mid.watches)) mid.output.items new.output.items → new.phase ≡ mid.phase
+    → CatchesUp h before old (at + 1) new
 takes_one h before old at mid new changes g accepted room next left t phase =
     let last : Step = record { step = Advances t.sent; payloads = t.payloads } in
     let from : ServerEnd = end_at before old in
     let one : at + 1 ≡ suc at = omega arith in
-    let may : MayDo h (Advances t.sent) (end_at at mid) [] =
-    (serves mid.phase accepted, room, subst (λ (cs : List Change). AreSent (fires_all cs (watched mid.watches)) t.sent) (sym next) t.admitted) in
+    let may : MayDo h (Advances t.sent) (end_at at mid) [] = (
+      serves mid.phase accepted,
+      room,
+      subst (λ (cs : List Change). AreSent (fires_all cs (watched mid.watches)) t.sent) (sym next) t.admitted,
+    ) in
     record {
       steps = g.steps ++ last ∷ [];
-      moves = last_moves h (pos 0) [] g.steps last from g.moves (subst (λ (server : ServerEnd). MayDo h (Advances t.sent) server []) (sym g.ended) may) (t.spelled (pos 0));
-      sent = t.output ∙ ap (λ (bs : List ℕ). bs ++ flat_map frame t.payloads) g.sent ∙ append_assoc old.output.items (sent_by g.steps) (flat_map frame t.payloads)
+      moves = last_moves h (pos 0) [] g.steps last from g.moves
+          (subst (λ (server : ServerEnd). MayDo h (Advances t.sent) server []) (sym g.ended) may) (t.spelled (pos 0));
+      sent = t.output ∙ ap (λ (bs : List ℕ). bs ++ flat_map frame t.payloads) g.sent
+          ∙ append_assoc old.output.items (sent_by g.steps) (flat_map frame t.payloads)
           ∙ ap (λ (bs : List ℕ). old.output.items ++ bs) (sym (last_sent g.steps last));
       low = omega (arith, room);
       ended = last_ended h g.steps last from ∙ ap (end_after h (Advances t.sent)) g.ended
@@ -135,18 +149,21 @@ none_sent : AreSent [] []
 none_sent n = (omega arith, λ h. h)
 
 -- a transaction more, of which nobody is told
-pub takes_silently : {A : Type 0} (h : History) (at : ℕ) (old : Connection A) → old.phase ≡ Opening → watched old.watches ≡ no_watches → at < length h.transactions → CatchesUp h at old (at + 1) old
+pub takes_silently : {A : Type 0} (h : History) (at : ℕ) (old : Connection A)
+    → old.phase ≡ Opening → watched old.watches ≡ no_watches → at < length h.transactions → CatchesUp h at old (at + 1) old
 takes_silently h at old opening unwatched room =
     let changes : List Change = changes_next h at in
     let one : at + 1 ≡ suc at = omega arith in
     let fired : fires_all changes (watched old.watches) ≡ [] = ap (fires_all changes) unwatched ∙ none_fired_all changes in
-    let left : leaves_set_all changes (watched old.watches) ≡ watched old.watches = ap (leaves_set_all changes) unwatched ∙ none_left_all changes ∙ sym unwatched in
+    let left : leaves_set_all changes (watched old.watches) ≡ watched old.watches =
+    ap (leaves_set_all changes) unwatched ∙ none_left_all changes ∙ sym unwatched in
     record {
       steps = record { step = Advances []; payloads = [] } ∷ [];
       moves = ((waits old.phase opening, room, subst (λ (ns : List Notice). AreSent ns []) (sym fired) none_sent), tt, tt);
       sent = sym (append-nil old.output.items);
       low = omega (arith, room);
-      ended = ap (λ (w : Watches). end_with (suc at) w (stage_of old.phase)) left ∙ ap (λ (n : ℕ). end_with n (watched old.watches) (stage_of old.phase)) (sym one);
+      ended = ap (λ (w : Watches). end_with (suc at) w (stage_of old.phase)) left
+          ∙ ap (λ (n : ℕ). end_with n (watched old.watches) (stage_of old.phase)) (sym one);
     }
   where
     end_with : ℕ → Watches → Stage → ServerEnd
@@ -177,13 +194,15 @@ same_history h = record { first = refl; more = []; transactions = sym (append-ni
 pub shows_taken : {A : Type 0} (b : Served) (old new : Connection A) → b.connection ≡ linked_of old → IsReady b → is_open old.phase ≡ true
     → new ≡ record old { watches = new.watches; output = new.output }
     → CatchesUp (history_of b.history) (slice_index b.taken b.server) old (slice_index b.taken b.server + 1) new
-    → TakesSome (shown_of b) (shown_of (record b { taken = slice_set b.taken b.server (slice_index b.taken b.server + 1); connection = linked_of new }))
+    → TakesSome (shown_of b)
+    (shown_of (record b { taken = slice_set b.taken b.server (slice_index b.taken b.server + 1); connection = linked_of new }))
 shows_taken b old new is ready up rest g =
     let h : History = history_of b.history in
     let place : ℕ = slice_index b.taken b.server in
     let phase : new.phase ≡ old.phase = ap (λ k. k.phase) rest in
     let from : end_of b ≡ end_at place old = ap (λ (c : Linked). end_linked place c) is in
-    let put : slice_index (slice_set b.taken b.server (place + 1)) b.server ≡ place + 1 = set_there b.taken b.server (place + 1) ready.there in
+    let put : slice_index (slice_set b.taken b.server (place + 1)) b.server ≡ place + 1 =
+    set_there b.taken b.server (place + 1) ready.there in
     record {
       steps = g.steps;
       takes = record {
@@ -200,7 +219,8 @@ shows_taken b old new is ready up rest g =
 
 -- each server still holds a beginning
 pub ready_taken : (b : Served) (server : ℕ) (connection : Linked) → IsReady b → slice_index b.taken server < length b.history.transactions
-    → (connection.phase ≡ Opening → shown_watches connection ≡ no_watches) → IsReady (record b { taken = slice_set b.taken server (slice_index b.taken server + 1); connection = connection })
+    → (connection.phase ≡ Opening → shown_watches connection ≡ no_watches)
+    → IsReady (record b { taken = slice_set b.taken server (slice_index b.taken server + 1); connection = connection })
 ready_taken b server connection ready room unwatched = record {
   taken = taken_set (history_of b.history) b.taken server (slice_index b.taken server + 1) ready.taken (omega (arith, room));
   there = subst (λ (n : ℕ). b.server < n) (sym (length_set b.taken server (slice_index b.taken server + 1))) ready.there;
@@ -208,15 +228,18 @@ ready_taken b server connection ready room unwatched = record {
 }
 
 -- nothing is watched yet, where nothing was told
-still_unwatched : {A : Type 0} (old new : Connection A) → (old.phase ≢ Accepted → new ≡ old) → new ≡ record old { watches = new.watches; output = new.output }
+still_unwatched : {A : Type 0} (old new : Connection A) → (old.phase ≢ Accepted → new ≡ old)
+    → new ≡ record old { watches = new.watches; output = new.output }
     → (old.phase ≡ Opening → shown_watches (linked_of old) ≡ no_watches) → new.phase ≡ Opening → shown_watches (linked_of new) ≡ no_watches
 still_unwatched {A} old new idle rest before opening =
     let at : old.phase ≡ Opening = sym (ap (λ k. k.phase) rest) ∙ opening in
     let same : new ≡ old = idle (λ e. let f : Opening ≡ Accepted = sym at ∙ e in absurd cc) in
     ap {A = Connection A} {B = Watches} (λ k. shown_watches (linked_of k)) same ∙ before at
 
-pub ready_told : {A : Type 0} (i : Inside A) (before : Served) (server : ℕ) (new : Connection A) → bench_of i ≡ before → slice_index i.taken server < length i.history.transactions
-    → (i.connection.phase ≢ Accepted → new ≡ i.connection) → new ≡ record i.connection { watches = new.watches; output = new.output } → IsReady before
+pub ready_told : {A : Type 0} (i : Inside A) (before : Served) (server : ℕ) (new : Connection A)
+    → bench_of i ≡ before → slice_index i.taken server < length i.history.transactions
+    → (i.connection.phase ≢ Accepted → new ≡ i.connection)
+    → new ≡ record i.connection { watches = new.watches; output = new.output } → IsReady before
     → IsReady (record (bench_of i) { taken = slice_set i.taken server (slice_index i.taken server + 1); connection = linked_of new })
 ready_told i before server new same room idle rest was_ready =
     let ready : IsReady (bench_of i) = subst IsReady (sym same) was_ready in
@@ -226,7 +249,8 @@ pub not_open : (phase : Phase) → phase ≡ Ended → phase_of phase ≢ shows.
 not_open phase over e = let f : shows.Over ≡ shows.Open = sym (ap phase_of over) ∙ e in absurd cc
 
 -- an end, where nothing was sent, goes by no step
-ends_by : (xid : ℤ) (asked : List Request) (old new : Served) → GoesOn (history_of old.history) (history_of new.history) → new.connection.phase ≡ Ended → new.connection.output ≡ old.connection.output → GoesBy xid asked [] (shown_of old) (shown_of new)
+ends_by : (xid : ℤ) (asked : List Request) (old new : Served) → GoesOn (history_of old.history) (history_of new.history)
+    → new.connection.phase ≡ Ended → new.connection.output ≡ old.connection.output → GoesBy xid asked [] (shown_of old) (shown_of new)
 ends_by xid asked old new goes over same = record {
   history = goes;
   moves = tt;
@@ -235,9 +259,14 @@ ends_by xid asked old new goes over same = record {
   ended = λ e. absurd (not_open new.connection.phase over e);
 }
 
-pub shows_ended : (old new : Served) → GoesOn (history_of old.history) (history_of new.history) → new.connection.phase ≡ Ended → new.connection.output ≡ old.connection.output → TakesSome (shown_of old) (shown_of new)
+pub shows_ended : (old new : Served) → GoesOn (history_of old.history) (history_of new.history)
+    → new.connection.phase ≡ Ended → new.connection.output ≡ old.connection.output → TakesSome (shown_of old) (shown_of new)
 shows_ended old new goes over same =
-    record { steps = []; takes = record { goes = ends_by (pos 0) [] old new goes over same; requests = λ e. absurd (not_open new.connection.phase over e) } }
+    record {
+      steps = [];
+      takes =
+          record { goes = ends_by (pos 0) [] old new goes over same; requests = λ e. absurd (not_open new.connection.phase over e) };
+    }
 
 -- nothing happens
 pub shows_same : (b : Served) → is_open b.connection.phase ≡ true → TakesSome (shown_of b) (shown_of b)
@@ -256,26 +285,33 @@ shows_same b up = record {
 }
 
 -- a transaction that is told where the client was admitted, and not told where it was not
-pub told_or_silent : {A : Type 0} (h : History) (at : ℕ) (old new : Connection A) (changes : List Change) → is_open old.phase ≡ true → (old.phase ≡ Opening → watched old.watches ≡ no_watches)
+pub told_or_silent : {A : Type 0} (h : History) (at : ℕ) (old new : Connection A) (changes : List Change)
+    → is_open old.phase ≡ true → (old.phase ≡ Opening → watched old.watches ≡ no_watches)
     → at < length h.transactions → changes_next h at ≡ changes
-    → (old.phase ≡ Accepted → watched new.watches ≡ leaves_set_all changes (watched old.watches)) → (old.phase ≡ Accepted → Tells (fires_all changes (watched old.watches)) old.output.items new.output.items)
+    → (old.phase ≡ Accepted → watched new.watches ≡ leaves_set_all changes (watched old.watches))
+    → (old.phase ≡ Accepted → Tells (fires_all changes (watched old.watches)) old.output.items new.output.items)
     → (old.phase ≢ Accepted → new ≡ old) → new ≡ record old { watches = new.watches; output = new.output } → CatchesUp h at old (at + 1) new
 told_or_silent {A} h at old new changes up unwatched room next left tells idle rest = go old.phase refl
   where
     go : (phase : Phase) → old.phase ≡ phase → CatchesUp h at old (at + 1) new
     go Apart e = let f : is_open Apart ≡ true = ap is_open (sym e) ∙ up in absurd cc
     go Opening e =
-        subst (λ (k : Connection A). CatchesUp h at old (at + 1) k) (sym (idle (λ a. let f : Opening ≡ Accepted = sym e ∙ a in absurd cc))) (takes_silently h at old e (unwatched e) room)
-    go Accepted e = takes_one h at old at old new changes (stays_there h at old (omega (arith, room))) e room next (left e) (tells e) (ap (λ k. k.phase) rest)
+        subst (λ (k : Connection A). CatchesUp h at old (at + 1) k) (sym (idle (λ a. let f : Opening ≡ Accepted = sym e ∙ a in absurd cc)))
+        (takes_silently h at old e (unwatched e) room)
+    go Accepted e = takes_one h at old at old new changes (stays_there h at old (omega (arith, room))) e room next (left e) (tells e)
+        (ap (λ k. k.phase) rest)
     go Ended e = let f : is_open Ended ≡ true = ap is_open (sym e) ∙ up in absurd cc
 
 -- how many each server has taken, where there was a transaction
-pub advanced_is : (b : Served) (server : ℕ) → slice_index b.taken server < length b.history.transactions → slice_set b.taken server (slice_index b.taken server + 1) ≡ advanced b server
+pub advanced_is : (b : Served) (server : ℕ) → slice_index b.taken server < length b.history.transactions
+    → slice_set b.taken server (slice_index b.taken server + 1) ≡ advanced b server
 advanced_is b server room = go (slice_get b.history.transactions (slice_index b.taken server)) refl
   where
-    go : (o : Option Transaction) → slice_get b.history.transactions (slice_index b.taken server) ≡ o → slice_set b.taken server (slice_index b.taken server + 1) ≡ advanced_by o b.taken server
+    go : (o : Option Transaction) → slice_get b.history.transactions (slice_index b.taken server) ≡ o
+        → slice_set b.taken server (slice_index b.taken server + 1) ≡ advanced_by o b.taken server
     go (Some one) e = refl
-    go None e = let low : length b.history.transactions ≤ slice_index b.taken server = no_room b.history.transactions (slice_index b.taken server) e in absurd (omega (arith, room, low))
+    go None e = let low : length b.history.transactions ≤ slice_index b.taken server =
+        no_room b.history.transactions (slice_index b.taken server) e in absurd (omega (arith, room, low))
 
 -- What becomes of the outcome
 
@@ -285,7 +321,8 @@ ready_ended b ready = record { taken = ready.taken; there = ready.there; unwatch
 pub ready_disconnected : (b : Served) → IsReady b → IsReady (disconnected b)
 ready_disconnected b ready = record { taken = ready.taken; there = ready.there; unwatched = λ e. absurd cc }
 
-pub settled : (P : Served → Type 0) (outcome : Outcome (Unit {0}) Stop) (mid new : Served) → OnOk outcome (new ≡ mid) → (IsErrOf outcome stops.End → new ≡ ended mid) → (IsErrOf outcome stops.Memory → new ≡ disconnected mid)
+pub settled : (P : Served → Type 0) (outcome : Outcome (Unit {0}) Stop) (mid new : Served) → OnOk outcome (new ≡ mid)
+    → (IsErrOf outcome stops.End → new ≡ ended mid) → (IsErrOf outcome stops.Memory → new ≡ disconnected mid)
     → P mid → P (ended mid) → P (disconnected mid) → P new
 settled P (Ok u) mid new a b c p q r = subst P (sym a) p
 settled P (Err stops.End) mid new a b c p q r = subst P (sym (b refl)) q
@@ -300,8 +337,10 @@ never_so (Ok x) P p = absurd p
 never_so (Err e) P p = tt
 
 -- what holds where the connection goes on, or has ended
-pub settled_so : (P : Served → Type 0) (outcome : Outcome (Unit {0}) Stop) (result : Outcome (Unit {0}) AllocError) (mid new : Served) → OnOk outcome (new ≡ mid) → (IsErrOf outcome stops.End → new ≡ ended mid)
-    → (IsErrOf outcome stops.Memory → OnOk result ⊥) → OnOk outcome (P mid) → (IsErrOf outcome stops.End → P (ended mid)) → OnOk result (P new)
+pub settled_so : (P : Served → Type 0) (outcome : Outcome (Unit {0}) Stop) (result : Outcome (Unit {0}) AllocError) (mid new : Served)
+    → OnOk outcome (new ≡ mid) → (IsErrOf outcome stops.End → new ≡ ended mid)
+    → (IsErrOf outcome stops.Memory → OnOk result ⊥) → OnOk outcome (P mid)
+    → (IsErrOf outcome stops.End → P (ended mid)) → OnOk result (P new)
 settled_so P (Ok u) result mid new a b c p q = nothing_so result (P new) (subst P (sym a) p)
 settled_so P (Err stops.End) result mid new a b c p q = nothing_so result (P new) (subst P (sym (b refl)) (q refl))
 settled_so P (Err stops.Memory) result mid new a b c p q = never_so result (P new) (c refl)
@@ -316,7 +355,8 @@ seen_by : (held seen : ℕ) → int_lt (pos held) (pos seen) ≡ false → seen 
 seen_by held seen e = grind (arith, nat_tests)
 
 pub not_ahead : (held seen : ℕ) (kept last : ℤ) → kept ≡ pos held → last ≡ pos seen → int_lt kept last ≡ false → seen ≤ held
-not_ahead held seen kept last is asked e = seen_by held seen (ap (λ (z : ℤ). int_lt z (pos seen)) (sym is) ∙ ap (int_lt kept) (sym asked) ∙ e)
+not_ahead held seen kept last is asked e =
+    seen_by held seen (ap (λ (z : ℤ). int_lt z (pos seen)) (sym is) ∙ ap (int_lt kept) (sym asked) ∙ e)
 
 -- A client that has seen no more is not ahead.
 pub no_more_seen : (held seen : ℕ) (kept last : ℤ) → kept ≡ pos held → last ≡ pos seen → seen ≤ held → int_lt kept last ≡ true → ⊥
@@ -325,11 +365,14 @@ no_more_seen held seen kept last is asked low e =
     let more : held < seen = grind (arith, nat_tests) in
     omega (arith, more, low)
 
-pub ready_answered : {A : Type 0} (i : Inside A) (before : Served) (out : Vec ℕ A) → bench_of i ≡ before → IsReady before → IsReady (record (bench_of i) { connection = linked_of (record i.connection { output = out }) })
-ready_answered i before out same was_ready = let ready : IsReady (bench_of i) = subst IsReady (sym same) was_ready in record { taken = ready.taken; there = ready.there; unwatched = ready.unwatched }
+pub ready_answered : {A : Type 0} (i : Inside A) (before : Served) (out : Vec ℕ A)
+    → bench_of i ≡ before → IsReady before → IsReady (record (bench_of i) { connection = linked_of (record i.connection { output = out }) })
+ready_answered i before out same was_ready = let ready : IsReady (bench_of i) = subst IsReady (sym same) was_ready in
+    record { taken = ready.taken; there = ready.there; unwatched = ready.unwatched }
 
 -- the bytes of the request do not count
-pub front_gone : {P : Type 0} (b old : Served) (requests : List ℕ) (request : Request) (xid : ℤ) (new : Shown) → b ≡ old → ProcessesIf P request xid (shown_of (record b { connection = record b.connection { requests = requests } })) new
+pub front_gone : {P : Type 0} (b old : Served) (requests : List ℕ) (request : Request) (xid : ℤ) (new : Shown)
+    → b ≡ old → ProcessesIf P request xid (shown_of (record b { connection = record b.connection { requests = requests } })) new
     → ProcessesIf P request xid (shown_of old) new
 front_gone {P} b old requests request xid new same p = subst (λ (s : Served). ProcessesIf P request xid (shown_of s) new) same (record {
   steps = p.steps;
@@ -337,7 +380,8 @@ front_gone {P} b old requests request xid new same p = subst (λ (s : Served). P
   done = p.done;
 })
 
-pub ready_front : (b : Served) (requests : List ℕ) → IsReady b → IsReady (record b { connection = record b.connection { requests = requests } })
+pub ready_front : (b : Served) (requests : List ℕ)
+    → IsReady b → IsReady (record b { connection = record b.connection { requests = requests } })
 ready_front b requests ready = record { taken = ready.taken; there = ready.there; unwatched = ready.unwatched }
 
 pub ok_so : {T E : Type 0} (r : Outcome T E) (P Q : Type 0) → OnOk r P → (P → Q) → OnOk r Q
@@ -364,15 +408,19 @@ not_short payload rest bytes is small short =
     let low = short.short (omega (arith, there)) in
     omega (arith, there, field, low)
 
-pub whole_count : (payload rest bytes : List ℕ) (count : ℕ) → bytes ≡ frame payload ++ rest → length payload < 2 ^ 31 → IsWhole bytes count → count ≡ length payload
+pub whole_count : (payload rest bytes : List ℕ) (count : ℕ)
+    → bytes ≡ frame payload ++ rest → length payload < 2 ^ 31 → IsWhole bytes count → count ≡ length payload
 whole_count payload rest bytes count is small whole = sym whole.is ∙ front_field payload rest bytes is small
 
-pub whole_payload : (payload rest bytes : List ℕ) (count : ℕ) → bytes ≡ frame payload ++ rest → length payload < 2 ^ 31 → IsWhole bytes count → payload ≡ take count (drop 4 bytes)
+pub whole_payload : (payload rest bytes : List ℕ) (count : ℕ)
+    → bytes ≡ frame payload ++ rest → length payload < 2 ^ 31 → IsWhole bytes count → payload ≡ take count (drop 4 bytes)
 whole_payload payload rest bytes count is small whole =
-    sym (front_payload payload rest bytes is) ∙ ap (λ (n : ℕ). take n (drop 4 bytes)) (sym (whole_count payload rest bytes count is small whole))
+    sym (front_payload payload rest bytes is)
+    ∙ ap (λ (n : ℕ). take n (drop 4 bytes)) (sym (whole_count payload rest bytes count is small whole))
 
 -- a request that was processed, with its frame
-pub first_processed : (old new : Served) (request : Request) (xid : ℤ) (payload rest : List ℕ) → old.connection.requests ≡ frame payload ++ rest → new.connection.requests ≡ drop (4 + length payload) old.connection.requests
+pub first_processed : (old new : Served) (request : Request) (xid : ℤ) (payload rest : List ℕ)
+    → old.connection.requests ≡ frame payload ++ rest → new.connection.requests ≡ drop (4 + length payload) old.connection.requests
     → ProcessesOne request xid (shown_of old) (shown_of new) → ProcessesFirst request xid payload (shown_of old) (shown_of new)
 first_processed old new request xid payload rest is gone p = record {
   steps = p.steps;
@@ -384,14 +432,23 @@ first_processed old new request xid payload rest is gone p = record {
 }
 
 -- a connection that ends with nothing sent
-pub ends_first : (old new : Served) (request : Request) (xid : ℤ) (payload : List ℕ) → GoesOn (history_of old.history) (history_of new.history) → new.connection.phase ≡ Ended → new.connection.output ≡ old.connection.output
+pub ends_first : (old new : Served) (request : Request) (xid : ℤ) (payload : List ℕ) → GoesOn (history_of old.history)
+    (history_of new.history) → new.connection.phase ≡ Ended → new.connection.output ≡ old.connection.output
     → ProcessesFirst request xid payload (shown_of old) (shown_of new)
 ends_first old new request xid payload goes over same =
     let closed = not_open new.connection.phase over in
-    record { steps = []; processes = record { goes = ends_by xid (request ∷ []) old new goes over same; done = λ e. absurd (closed e); requests = λ e. absurd (closed e) } }
+    record {
+      steps = [];
+      processes = record {
+        goes = ends_by xid (request ∷ []) old new goes over same;
+        done = λ e. absurd (closed e);
+        requests = λ e. absurd (closed e);
+      };
+    }
 
 pub continues_so : (old new : HistoryView) → Continues old new → GoesOn (history_of old) (history_of new)
-continues_so old new c = record { first = ap (λ (ts : List Transaction). after ts root_tree) c.nodes; more = c.more; transactions = c.transactions }
+continues_so old new c =
+    record { first = ap (λ (ts : List Transaction). after ts root_tree) c.nodes; more = c.more; transactions = c.transactions }
 
 -- A read that is answered
 
@@ -399,7 +456,8 @@ pub goes_on : (asked : Call) → IsRead asked → closes (question_of asked) ≡
 goes_on call.Close is = absurd is
 goes_on asked is = refl
 
-pub gives_read : (h : History) (place : ℕ) (asked : Call) (result : Result) → IsRead asked → IsTold result → Reads (tree_held h place) (question_of asked) result → Gives h place asked result
+pub gives_read : (h : History) (place : ℕ) (asked : Call) (result : Result)
+    → IsRead asked → IsTold result → Reads (tree_held h place) (question_of asked) result → Gives h place asked result
 gives_read h place asked (Refused code) is told reads = absurd told
 gives_read h place (call.SetData text content version) result is told reads = absurd is
 gives_read h place (call.Create text content mode) result is told reads = absurd is
@@ -408,8 +466,10 @@ gives_read h place call.Close result is told reads = absurd is
 gives_read h place asked result is told reads = reads
 
 -- so a server that serves answers
-pub reads_so : {A : Type 0} (b : Served) (old new : Connection A) (asked : Call) (xid : ℤ) → b.connection ≡ linked_of old → old.phase ≡ Accepted
-    → AnswersRead (tree_held (history_of b.history) (slice_index b.taken b.server)) (zxid_held (history_of b.history) (slice_index b.taken b.server)) xid asked old new
+pub reads_so : {A : Type 0} (b : Served) (old new : Connection A) (asked : Call) (xid : ℤ)
+    → b.connection ≡ linked_of old → old.phase ≡ Accepted
+    → AnswersRead (tree_held (history_of b.history) (slice_index b.taken b.server))
+    (zxid_held (history_of b.history) (slice_index b.taken b.server)) xid asked old new
     → AnswersOne (Ask asked) xid (shown_of b) (shown_of (record b { connection = linked_of new }))
 reads_so b old new asked xid is accepted a =
     let h : History = history_of b.history in
@@ -422,13 +482,15 @@ reads_so b old new asked xid is accepted a =
       goes = record {
         history = same_history h;
         moves = ((serving, refl, gives_read h place asked a.result a.read a.told a.reads), (a.small, a.spelled, tt), tt);
-        sent = a.output ∙ ap (λ (c : Linked). c.output ++ frame a.payload) (sym is) ∙ ap (λ (bs : List ℕ). b.connection.output ++ bs) (twice (frame a.payload));
+        sent = a.output ∙ ap (λ (c : Linked). c.output ++ frame a.payload) (sym is)
+            ∙ ap (λ (bs : List ℕ). b.connection.output ++ bs) (twice (frame a.payload));
         there = λ e. let f : shows.Open ≡ shows.Apart = sym (ap phase_of phase) ∙ e in absurd cc;
         ended = λ still.
             ap (λ (w : Watches). end_with place w (stage_of new.phase)) a.left
             ∙ ap (λ (c : Linked). end_with place (both (shown_watches c) (sets (question_of asked) a.result)) (stage_of new.phase)) (sym is)
             ∙ ap (λ (p : Phase). end_with place (both (shown_watches b.connection) (sets (question_of asked) a.result)) (stage_of p)) phase
-            ∙ ap (λ (over : Bool). end_with place (both (shown_watches b.connection) (sets (question_of asked) a.result)) (if over then Silent else Serving)) (sym (goes_on asked a.read));
+            ∙ ap (λ (over : Bool). end_with place (both (shown_watches b.connection) (sets (question_of asked) a.result))
+            (if over then Silent else Serving)) (sym (goes_on asked a.read));
       };
       done = λ still. refl;
     }

@@ -48,4 +48,5 @@ HasAnswer zxid tree request = ⊤
 
 -- A request has an answer at the connected server.
 abbrev pub IsAnswerable : Request → Served → Type 0
-IsAnswerable request served = HasAnswer (zxid_of served) (tree_held (history_of served.history) (slice_index served.taken served.server)) request
+IsAnswerable request served =
+    HasAnswer (zxid_of served) (tree_held (history_of served.history) (slice_index served.taken served.server)) request

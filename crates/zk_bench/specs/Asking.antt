@@ -19,8 +19,10 @@ abbrev pub IsBodyOf : (named : Operation) → Value (body_layout named) → Call
 IsBodyOf operation.Exists body (call.Exists text watch) = IsPath text × (body.0 ≡ Some text) × (body.1 ≡ watch)
 IsBodyOf operation.GetData body (call.GetData text watch) = IsPath text × (body.0 ≡ Some text) × (body.1 ≡ watch)
 IsBodyOf operation.GetChildren2 body (call.GetChildren text watch) = IsPath text × (body.0 ≡ Some text) × (body.1 ≡ watch)
-IsBodyOf operation.SetData body (call.SetData text content version) = IsPath text × (body.0 ≡ Some text) × (body.1.0 ≡ content) × (body.1.1 ≡ version)
-IsBodyOf operation.Create body (call.Create text content mode) = IsPath text × (body.0 ≡ Some text) × (body.1.0 ≡ content) × (body.1.1.1 ≡ pos mode) × (mode ≤ 3)
+IsBodyOf operation.SetData body (call.SetData text content version) =
+    IsPath text × (body.0 ≡ Some text) × (body.1.0 ≡ content) × (body.1.1 ≡ version)
+IsBodyOf operation.Create body (call.Create text content mode) =
+    IsPath text × (body.0 ≡ Some text) × (body.1.0 ≡ content) × (body.1.1.1 ≡ pos mode) × (mode ≤ 3)
 IsBodyOf operation.Delete body (call.Delete text version) = IsPath text × (body.0 ≡ Some text) × (body.1 ≡ version)
 IsBodyOf operation.CloseSession body call.Close = ⊤
 IsBodyOf _ _ _ = ⊥
@@ -28,7 +30,8 @@ IsBodyOf _ _ _ = ⊥
 -- It is that of a part of setWatches: of paths, with this relative zxid.
 abbrev pub IsPartOf : (named : Operation) → Value (body_layout named) → ℕ → Lists → Type 0
 IsPartOf operation.SetWatches body since part =
-    (body.0 ≡ pos since) × (body.1.0 ≡ texts_value part.data_watches) × (body.1.1.0 ≡ texts_value part.exist_watches) × (body.1.1.1 ≡ texts_value part.child_watches) × ArePaths part
+    (body.0 ≡ pos since) × (body.1.0 ≡ texts_value part.data_watches) × (body.1.1.0 ≡ texts_value part.exist_watches)
+    × (body.1.1.1 ≡ texts_value part.child_watches) × ArePaths part
 IsPartOf _ _ since part = ⊥
 
 abbrev pub IsPing : Operation → Type 0

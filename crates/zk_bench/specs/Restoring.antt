@@ -14,7 +14,8 @@ use Rattle.zk_records.specs.declared.event.Event.{Event}
 use Rattle.zk_records.specs.declared.event.Event.TheVariants.{Created, Deleted, DataChanged, ChildrenChanged}
 use Rattle.zk_records.specs.declared.set_watches.SetWatches.{SetWatches}
 use Rattle.zk_watches.specs.Lists.{Lists}
-use Rattle.zk_laws.specs.Server.{Watches, Notice, same_side, known_check, missing_check, parent_check, tells, both, part_tells, part_sets, AreSent}
+use Rattle.zk_laws.specs.Server.{Watches, Notice, same_side, known_check, missing_check, parent_check, tells, both, part_tells, part_sets}
+use Rattle.zk_laws.specs.Server.{AreSent}
 use Rattle.zk_laws.specs.Messages.{Notifies, Watches_set}
 use Rattle.zk_laws.specs.Served.{ArePayloads}
 use Rattle.zk_bench.specs.declared.connection.Connection.{Connection}
@@ -67,12 +68,14 @@ abbrev pub texts_in : List (Option (List ℕ)) → List Text
 texts_in texts = map or_empty texts
 
 -- What was missed at paths of a list is sent, and the others are watched.
-pub record Rewatches (list : Watched) (relative : ℕ) (tree : Tree) (texts : List Text) (before behind : Watches) (old new : List ℕ) : Type 0 where
+pub record Rewatches (list : Watched) (relative : ℕ) (tree : Tree) (texts : List Text) (before behind : Watches)
+    (old new : List ℕ) : Type 0 where
   pub tells : Tells (told_of list relative tree texts) old new
   pub left : behind ≡ left_of list relative tree texts before
 
 -- A part of setWatches is answered from a tree: what was missed is sent, and then the reply under the xid and the zxid.
-pub record RestoresPart {A : Type 0} (tree : Tree) (zxid : ℕ) (xid : ℤ) (relative : ℕ) (part : Lists) (old new : Connection A) : Type 0 where
+pub record RestoresPart {A : Type 0} (tree : Tree) (zxid : ℕ) (xid : ℤ) (relative : ℕ) (part : Lists)
+    (old new : Connection A) : Type 0 where
   pub sent : List Notice
   pub admitted : AreSent (part_tells relative tree part) sent
   pub payloads : List (List ℕ)

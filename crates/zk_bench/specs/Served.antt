@@ -1,5 +1,6 @@
 -- What there is to see of a bench: servers over one history, and the connection to one of them.
-use Rattle.std.specs.Prelude.{ℕ, ◌+◌, ◌≡◌, Bool, true, false, List, [], ◌∷◌, ◌++◌, drop, slice_index, slice_set, Option, None, Some, slice_get}
+use Rattle.std.specs.Prelude.{ℕ, ◌+◌, ◌≡◌, Bool, true, false, List, [], ◌∷◌, ◌++◌, drop, slice_index, slice_set, Option, None, Some}
+use Rattle.std.specs.Prelude.{slice_get}
 use Rattle.zk_history.specs.HistoryView.{HistoryView}
 use Rattle.zk_nodes.specs.Path.{Text}
 use Rattle.zk_nodes.specs.History.{Transaction}

@@ -72,7 +72,11 @@ phase_of Ended = shows.Over
 
 -- the connected server's end
 abbrev pub end_of : Served → ServerEnd
-end_of served = record { place = slice_index served.taken served.server; watches = shown_watches served.connection; stage = stage_of served.connection.phase }
+end_of served = record {
+  place = slice_index served.taken served.server;
+  watches = shown_watches served.connection;
+  stage = stage_of served.connection.phase;
+}
 
 -- what a bench shows
 abbrev pub shown_of : Served → Shown

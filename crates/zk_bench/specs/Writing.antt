@@ -1,5 +1,6 @@
 -- Writes: what they make of the history, and which are refused, with which code.
-use Rattle.std.specs.Prelude.{ℕ, ℤ, pos, negsuc, ◌+◌, ◌-◌, ◌==◌, ◌≡◌, nat_lt, nat_le, Bool, true, false, ◌||◌, not, if◌then◌else◌, List, [], ◌∷◌, ◌++◌, length, replicate, sum_by, count_by, Option, Some, None, option_map, ⊤, bytes_eq, int_lt}
+use Rattle.std.specs.Prelude.{ℕ, ℤ, pos, negsuc, ◌+◌, ◌-◌, ◌==◌, ◌≡◌, nat_lt, nat_le, Bool, true, false, ◌||◌, not, if◌then◌else◌, List, []}
+use Rattle.std.specs.Prelude.{◌∷◌, ◌++◌, length, replicate, sum_by, count_by, Option, Some, None, option_map, ⊤, bytes_eq, int_lt}
 use Rattle.std.specs.Fmt.{decimal}
 use Rattle.std.specs.FinSet as set
 use Rattle.std.specs.Ordering.{int_eq}
@@ -10,7 +11,8 @@ use Rattle.zk_history.specs.Shown.{stat_of}
 use Rattle.zk_nodes.specs.declared.stat.Stat.{Stat}
 use Rattle.zk_nodes.specs.PathFault.{fault_of}
 use Rattle.zk_nodes.specs.declared.path_fault.PathFault.{PathFault}
-use Rattle.zk_history.specs.HistoryView.{HistoryView, with_change, with_transaction, HasChildren, IsAccepted, history_of, natural, newest_tree}
+use Rattle.zk_history.specs.HistoryView.{HistoryView, with_change, with_transaction, HasChildren, IsAccepted, history_of, natural}
+use Rattle.zk_history.specs.HistoryView.{newest_tree}
 use Rattle.zk_history.specs.declared.history_fault.HistoryFault.{HistoryFault}
 use Rattle.zk_history.specs.declared.history_fault.HistoryFault.TheVariants.{Place, Order, Illegal, Memory}
 use Rattle.zk_records.specs.declared.code.Code.{Code}
@@ -66,7 +68,8 @@ node_at tree text = node_of tree (path_told text)
 
 -- The Stat of the node at a text, or none where no node is there.
 abbrev pub IsStatAt : Tree → Text → Option Stat → Type 0
-IsStatAt tree text told = (names : Names) × HasChildren tree (path_of text) names × (told ≡ option_map (stat_of (set.len names)) (node_at tree text))
+IsStatAt tree text told =
+    (names : Names) × HasChildren tree (path_of text) names × (told ≡ option_map (stat_of (set.len names)) (node_at tree text))
 
 -- Which writes are refused, and with which code
 
@@ -86,7 +89,8 @@ is_version asked version = int_eq asked (negsuc 0) || int_eq asked version
 
 -- the code that refuses data at a node of this version: -103 where another one is asked for, -8 where it can't rise
 abbrev pub data_refusal : ℤ → ℤ → Option Code
-data_refusal asked version = if not (is_version asked version) then Some codes.BadVersion else (if int_lt version (pos 2147483647) then None else Some codes.BadArguments)
+data_refusal asked version = if not (is_version asked version) then Some codes.BadVersion
+    else (if int_lt version (pos 2147483647) then None else Some codes.BadArguments)
 
 -- The code that refuses a setData at a node, or at none: -101 there.
 abbrev pub set_refusal : Option Node → ℤ → Option Code
@@ -96,7 +100,8 @@ set_refusal (Some node) asked = data_refusal asked (pos node.version)
 -- the code that refuses that a node of this version with this many children is deleted: -103 where another version is asked for,
 -- -111 where there are children
 abbrev pub removal_refusal : ℤ → ℤ → ℤ → Option Code
-removal_refusal asked version children = if not (is_version asked version) then Some codes.BadVersion else (if int_eq children (pos 0) then None else Some codes.NotEmpty)
+removal_refusal asked version children =
+    if not (is_version asked version) then Some codes.BadVersion else (if int_eq children (pos 0) then None else Some codes.NotEmpty)
 
 -- the code that refuses that a node, or none, is deleted: -101 for none
 abbrev pub absence_refusal : Option Node → ℕ → ℤ → Option Code
@@ -105,7 +110,8 @@ absence_refusal (Some node) children asked = removal_refusal asked (pos node.ver
 
 -- The code that refuses a delete at a text with this many children: -8 for the root, and else as for the node there.
 abbrev pub deletion_refusal : Tree → Text → ℕ → ℤ → Option Code
-deletion_refusal tree text children asked = if bytes_eq text (47 ∷ []) then Some codes.BadArguments else absence_refusal (node_at tree text) children asked
+deletion_refusal tree text children asked =
+    if bytes_eq text (47 ∷ []) then Some codes.BadArguments else absence_refusal (node_at tree text) children asked
 
 -- Sequential nodes
 
@@ -167,7 +173,8 @@ first_of None second = second
 -- the code that refuses a create at the text of a path, or at none: -8 for none
 abbrev pub path_refusal : Tree → Bool → Option Text → ℕ → ℕ → Option Code
 path_refusal tree sequential None number children = Some codes.BadArguments
-path_refusal tree sequential (Some asked) number children = first_of (refusal_above tree (path_of asked)) (text_refusal tree (made_text sequential asked number) (pos children))
+path_refusal tree sequential (Some asked) number children =
+    first_of (refusal_above tree (path_of asked)) (text_refusal tree (made_text sequential asked number) (pos children))
 
 -- The code that refuses a create at a text, below a parent of this many children, where a sequential node would have this number.
 abbrev pub creation_refusal : Tree → Bool → Text → ℕ → ℕ → Option Code
@@ -194,4 +201,5 @@ AppendRefused kept time change Memory = is_over kept time ≡ false
 -- When the write of a client is not appended: -8 past the last zxid or time, and else a stop, of memory alone where the tree admits it.
 abbrev pub WriteRefused : HistoryView → ℕ → Change → Refusal → Type 0
 WriteRefused kept time change (refusals.Code code) = (code ≡ codes.BadArguments) × (is_over kept time ≡ true)
-WriteRefused kept time change (refusals.Stop stop) = (is_over kept time ≡ false) × (IsAccepted change (newest_tree kept) → stop ≡ stops.Memory)
+WriteRefused kept time change (refusals.Stop stop) =
+    (is_over kept time ≡ false) × (IsAccepted change (newest_tree kept) → stop ≡ stops.Memory)

@@ -1,6 +1,7 @@
 //! The servers and the connection to one of them.
 
-ghost use Rattle.std.specs.Prelude.{◌≡◌, ◌≢◌, ◌≤◌, ◌<◌, ◌-◌, ◌+◌, ◌^◌, ◌++◌, ℕ, ℤ, pos, List, Some, true, false, int_lt, slice_index, drop, take as first, length as bytes_of, vec_len, IfOk, OnOk, OnErr, IsOk, IsErrOf, IfErr};
+ghost use Rattle.std.specs.Prelude.{◌≡◌, ◌≢◌, ◌≤◌, ◌<◌, ◌-◌, ◌+◌, ◌^◌, ◌++◌, ℕ, ℤ, pos, List, Some, true, false, int_lt, slice_index, drop};
+ghost use Rattle.std.specs.Prelude.{take as first, length as bytes_of, vec_len, IfOk, OnOk, OnErr, IsOk, IsErrOf, IfErr};
 ghost use Rattle.zk_frames.specs.Frame.{frame, IsNegative};
 ghost use Rattle.zk_bench.specs.declared.phase.Phase.TheVariants.{Apart, Opening, Accepted};
 ghost use Rattle.zk_bench.specs.declared.stop.Stop.TheVariants as stops;
@@ -14,7 +15,9 @@ ghost use Rattle.zk_laws.specs.Messages.{Request as Wanted, Connect, Ask, Ping};
 ghost use Rattle.zk_conversation.specs.Calls.{SetData, Create, Close};
 ghost use Rattle.zk_laws.specs.Parsed.{IsRecord};
 ghost use Rattle.zk_records.specs.Layouts.{connect_request};
-ghost use Rattle.zk_bench.specs.Stepping.{IsReady, HasClient, TakesSome, ProcessesOne, AnswersOne, ProcessesFirst, AnswersFirst, Declines, IsSending, HasAll, HasWritten, LeavesUnmade, SendsStat, LeavesUnsent, zxid_of, stage_of, shown_of};
+ghost use Rattle.zk_bench.specs.Stepping.{IsReady, HasClient, TakesSome, ProcessesOne, AnswersOne, ProcessesFirst, AnswersFirst, Declines};
+ghost use Rattle.zk_bench.specs.Stepping.{IsSending, HasAll, HasWritten, LeavesUnmade, SendsStat, LeavesUnsent, zxid_of, stage_of};
+ghost use Rattle.zk_bench.specs.Stepping.{shown_of};
 ghost use Rattle.zk_bench.specs.Answerable.{IsAnswerable};
 ghost use Rattle.zk_bench.specs.Writing.{appended, mode_of as mode_told, tree_of};
 ghost use Rattle.zk_nodes.specs.History.{tree_at, size_of};
@@ -29,7 +32,8 @@ ghost use Rattle.zk_bench.specs.Asking.{Asks, IsLook};
 ghost use Rattle.zk_bench.specs.Serving.{Sends, SendsHeader};
 ghost use Rattle.zk_laws.specs.Parsed.{IsReadAs};
 ghost use Rattle.theory_serving.specs.Wires.{IsFit, IsFor, StandsFirst};
-ghost use Rattle.zk_bench.specs.Served.{started, linked, connected, disconnected, ended, is_open, advanced, with_requests, without_output, Continues};
+ghost use Rattle.zk_bench.specs.Served.{started, linked, connected, disconnected, ended, is_open, advanced, with_requests, without_output};
+ghost use Rattle.zk_bench.specs.Served.{Continues};
 
 use crate::connection::Connection;
 use crate::connects::{send_accepted, send_expired};
@@ -82,7 +86,14 @@ impl<A: Allocator + Copy> Model for Bench<A> {
 
     ghost Value = { Served };
 
-    ghost view = { λ b. record { history = b.history; taken = b.taken; server = b.server; connection = linked_of b.connection; expired = b.expired; time = b.time } };
+    ghost view = { λ b. record {
+      history = b.history;
+      taken = b.taken;
+      server = b.server;
+      connection = linked_of b.connection;
+      expired = b.expired;
+      time = b.time;
+    } };
 
     ghost invariant = { λ b. b.server < 8 };
 }
@@ -146,8 +157,8 @@ impl<A: Allocator + Copy> Bench<A> {
 
     /// One more transaction, of another session, with this change alone: it stands at the end of the history, one zxid above the last, at
     /// the time of [`now`](Bench::now), and no server has taken it yet. So others may change what the client watches whenever the test
-    /// says. Where the history does not allow the change (`Illegal`), a transaction with no change is there; it may also be there where memory
-    /// is refused (`Memory`). `Order` says that the zxid or the time would be past 2^63 - 1: then nothing has changed.
+    /// says. Where the history does not allow the change (`Illegal`), a transaction with no change is there; it may also be there where
+    /// memory is refused (`Memory`). `Order` says that the zxid or the time would be past 2^63 - 1: then nothing has changed.
     pub fn append(&mut self, change: Change<A>) -> Result<(), HistoryFault>
         ensures ok { OnOk result (self.new ≡ record self.old { history = appended self.old.history self.old.time (change_of change) }) }
         ensures goes_on { Continues self.old.history self.new.history }
@@ -198,7 +209,8 @@ impl<A: Allocator + Copy> Bench<A> {
         ensures elsewhere { n - 1 ≢ self.old.server → self.new.connection ≡ self.old.connection }
         // The connected server advances as a server of the laws does.
         ensures ready { IsReady self.old → IsReady self.new }
-        ensures advances { IsReady self.old → n - 1 ≡ self.old.server → is_open self.old.connection.phase ≡ true → OnOk result (TakesSome (shown_of self.old) (shown_of self.new)) }
+        ensures advances { IsReady self.old → n - 1 ≡ self.old.server → is_open self.old.connection.phase ≡ true
+            → OnOk result (TakesSome (shown_of self.old) (shown_of self.new)) }
         ensures apart { is_open self.old.connection.phase ≡ false → OnOk result (self.new.connection ≡ self.old.connection) }
         ensures lost { OnErr result (self.new.connection ≡ linked Apart) }
         ensures stays { OnOk result (self.new.connection.phase ≡ self.old.connection.phase) }
@@ -224,11 +236,15 @@ impl<A: Allocator + Copy> Bench<A> {
             → OnOk result (self.new.connection.requests ≡ drop (4 + count) self.old.connection.requests) }
         // The request that stands first, if it is one for the stage of the connection, is processed as a server of the laws does.
         ensures ready { IsReady self.old → IsReady self.new }
-        ensures serves { (request : Wanted) (xid : ℤ) (payload rest : List ℕ) → IsReady self.old → is_open self.old.connection.phase ≡ true → StandsFirst request xid payload rest self.old.connection.requests
-            → IsFor request (shown_of self.old).server.stage → OnOk result (ProcessesFirst request xid payload (shown_of self.old) (shown_of self.new)) }
+        ensures serves { (request : Wanted) (xid : ℤ) (payload rest : List ℕ) → IsReady self.old → is_open self.old.connection.phase ≡ true
+            → StandsFirst request xid payload rest self.old.connection.requests
+            → IsFor request (shown_of self.old).server.stage
+            → OnOk result (ProcessesFirst request xid payload (shown_of self.old) (shown_of self.new)) }
         // And it is answered, where it has an answer.
-        ensures answers { (request : Wanted) (xid : ℤ) (payload rest : List ℕ) → IsReady self.old → is_open self.old.connection.phase ≡ true → StandsFirst request xid payload rest self.old.connection.requests
-            → IsFor request (shown_of self.old).server.stage → IsAnswerable request self.old → OnOk result (AnswersFirst request xid (shown_of self.old) (shown_of self.new)) }
+        ensures answers { (request : Wanted) (xid : ℤ) (payload rest : List ℕ) → IsReady self.old → is_open self.old.connection.phase ≡ true
+            → StandsFirst request xid payload rest self.old.connection.requests
+            → IsFor request (shown_of self.old).server.stage → IsAnswerable request self.old
+            → OnOk result (AnswersFirst request xid (shown_of self.old) (shown_of self.new)) }
         ensures lost { OnErr result (self.new.connection ≡ linked Apart) }
         ensures history { Continues self.old.history self.new.history }
         ensures rest { self.new ≡ record self.old { history = self.new.history; taken = self.new.taken; connection = self.new.connection } }
@@ -248,11 +264,16 @@ impl<A: Allocator + Copy> Bench<A> {
         ensures processed { (count : ℕ) → IsWhole self.old.connection.requests count
             → self.new.connection.requests ≡ drop (4 + count) self.old.connection.requests }
         ensures ready { is_open self.old.connection.phase ≡ true → IsReady self.old → IsReady self.new }
-        ensures serves { (asked : Wanted) (xid : ℤ) (payload rest : List ℕ) → IsReady self.old → is_open self.old.connection.phase ≡ true → StandsFirst asked xid payload rest self.old.connection.requests
-            → IsFor asked (stage_of self.old.connection.phase) → OnOk result (AnswersOne asked xid (shown_of self.old) (shown_of self.new)) }
-        ensures breaks { (asked : Wanted) (xid : ℤ) (payload rest : List ℕ) → IsReady self.old → is_open self.old.connection.phase ≡ true → StandsFirst asked xid payload rest self.old.connection.requests
-            → IsFor asked (stage_of self.old.connection.phase) → IsErrOf result stops.End → ProcessesOne asked xid (shown_of self.old) (shown_of (ended self.new)) }
-        ensures stays { (asked : Wanted) (xid : ℤ) (payload rest : List ℕ) → IsReady self.old → is_open self.old.connection.phase ≡ true → StandsFirst asked xid payload rest self.old.connection.requests
+        ensures serves { (asked : Wanted) (xid : ℤ) (payload rest : List ℕ) → IsReady self.old → is_open self.old.connection.phase ≡ true
+            → StandsFirst asked xid payload rest self.old.connection.requests
+            → IsFor asked (stage_of self.old.connection.phase)
+            → OnOk result (AnswersOne asked xid (shown_of self.old) (shown_of self.new)) }
+        ensures breaks { (asked : Wanted) (xid : ℤ) (payload rest : List ℕ) → IsReady self.old → is_open self.old.connection.phase ≡ true
+            → StandsFirst asked xid payload rest self.old.connection.requests
+            → IsFor asked (stage_of self.old.connection.phase) → IsErrOf result stops.End
+            → ProcessesOne asked xid (shown_of self.old) (shown_of (ended self.new)) }
+        ensures stays { (asked : Wanted) (xid : ℤ) (payload rest : List ℕ) → IsReady self.old → is_open self.old.connection.phase ≡ true
+            → StandsFirst asked xid payload rest self.old.connection.requests
             → IsFor asked (stage_of self.old.connection.phase) → IsAnswerable asked self.old → ¬ IsErrOf result stops.End }
         ensures history { Continues self.old.history self.new.history }
         ensures rest { self.new ≡ record self.old { history = self.new.history; taken = self.new.taken; connection = self.new.connection } }
@@ -291,7 +312,8 @@ impl<A: Allocator + Copy> Bench<A> {
         ensures taken { self.new.taken ≡ advanced self.old server }
         ensures elsewhere { server ≢ self.old.server → (self.new.connection ≡ self.old.connection) × IsOk result }
         ensures ready { IsReady self.old → IsReady self.new }
-        ensures advances { IsReady self.old → server ≡ self.old.server → is_open self.old.connection.phase ≡ true → OnOk result (TakesSome (shown_of self.old) (shown_of self.new)) }
+        ensures advances { IsReady self.old → server ≡ self.old.server → is_open self.old.connection.phase ≡ true
+            → OnOk result (TakesSome (shown_of self.old) (shown_of self.new)) }
         ensures apart { is_open self.old.connection.phase ≡ false → (self.new.connection ≡ self.old.connection) × IsOk result }
         ensures sent { OnErr result (self.new.connection.output ≡ self.old.connection.output) }
         ensures phase { self.new.connection.phase ≡ self.old.connection.phase }
@@ -324,14 +346,20 @@ impl<A: Allocator + Copy> Bench<A> {
         ensures history { Continues self.old.history self.new.history }
         ensures rest { self.new ≡ record self.old { history = self.new.history; taken = self.new.taken; connection = self.new.connection } }
         ensures ready { is_open self.old.connection.phase ≡ true → IsReady self.old → IsReady self.new }
-        ensures serves { (asked : Wanted) (xid : ℤ) → IsReady self.old → is_open self.old.connection.phase ≡ true → IsFor asked (stage_of self.old.connection.phase)
-            → IsReadAs asked xid (first length (drop 4 self.old.connection.requests)) → IsFit asked (first length (drop 4 self.old.connection.requests))
+        ensures serves { (asked : Wanted) (xid : ℤ) → IsReady self.old → is_open self.old.connection.phase ≡ true
+            → IsFor asked (stage_of self.old.connection.phase)
+            → IsReadAs asked xid (first length (drop 4 self.old.connection.requests))
+            → IsFit asked (first length (drop 4 self.old.connection.requests))
             → OnOk result (AnswersOne asked xid (shown_of self.old) (shown_of self.new)) }
-        ensures ends { (asked : Wanted) (xid : ℤ) → IsReady self.old → is_open self.old.connection.phase ≡ true → IsFor asked (stage_of self.old.connection.phase)
-            → IsReadAs asked xid (first length (drop 4 self.old.connection.requests)) → IsFit asked (first length (drop 4 self.old.connection.requests))
+        ensures ends { (asked : Wanted) (xid : ℤ) → IsReady self.old → is_open self.old.connection.phase ≡ true
+            → IsFor asked (stage_of self.old.connection.phase)
+            → IsReadAs asked xid (first length (drop 4 self.old.connection.requests))
+            → IsFit asked (first length (drop 4 self.old.connection.requests))
             → IsErrOf result stops.End → ProcessesOne asked xid (shown_of self.old) (shown_of (ended self.new)) }
-        ensures stays { (asked : Wanted) (xid : ℤ) → IsReady self.old → is_open self.old.connection.phase ≡ true → IsFor asked (stage_of self.old.connection.phase)
-            → IsReadAs asked xid (first length (drop 4 self.old.connection.requests)) → IsFit asked (first length (drop 4 self.old.connection.requests)) → IsAnswerable asked self.old → ¬ IsErrOf result stops.End }
+        ensures stays { (asked : Wanted) (xid : ℤ) → IsReady self.old → is_open self.old.connection.phase ≡ true
+            → IsFor asked (stage_of self.old.connection.phase)
+            → IsReadAs asked xid (first length (drop 4 self.old.connection.requests)) → IsFit asked
+            (first length (drop 4 self.old.connection.requests)) → IsAnswerable asked self.old → ¬ IsErrOf result stops.End }
     {
         match self.connection.phase {
             Phase::Opening => self.process_first(length),
@@ -343,11 +371,14 @@ impl<A: Allocator + Copy> Bench<A> {
     #[tactic(auto, using(crate::proofs::Continuing::same_goes_on))]
     fn process_later(&mut self, length: usize) -> Result<(), Stop>
         requires { 4 + length ≤ bytes_of self.old.connection.requests }
-        ensures serves { (asked : Wanted) (xid : ℤ) → HasClient self.old → IsFor asked Serving → IsReadAs asked xid (first length (drop 4 self.old.connection.requests)) → IsFit asked (first length (drop 4 self.old.connection.requests))
+        ensures serves { (asked : Wanted) (xid : ℤ) → HasClient self.old → IsFor asked Serving → IsReadAs asked xid
+            (first length (drop 4 self.old.connection.requests)) → IsFit asked (first length (drop 4 self.old.connection.requests))
             → OnOk result (AnswersOne asked xid (shown_of self.old) (shown_of self.new)) }
-        ensures ends { (asked : Wanted) (xid : ℤ) → HasClient self.old → IsFor asked Serving → IsReadAs asked xid (first length (drop 4 self.old.connection.requests)) → IsFit asked (first length (drop 4 self.old.connection.requests))
+        ensures ends { (asked : Wanted) (xid : ℤ) → HasClient self.old → IsFor asked Serving → IsReadAs asked xid
+            (first length (drop 4 self.old.connection.requests)) → IsFit asked (first length (drop 4 self.old.connection.requests))
             → IsErrOf result stops.End → ProcessesOne asked xid (shown_of self.old) (shown_of (ended self.new)) }
-        ensures stays { (asked : Wanted) (xid : ℤ) → HasClient self.old → IsFor asked Serving → IsReadAs asked xid (first length (drop 4 self.old.connection.requests)) → IsFit asked (first length (drop 4 self.old.connection.requests))
+        ensures stays { (asked : Wanted) (xid : ℤ) → HasClient self.old → IsFor asked Serving → IsReadAs asked xid
+            (first length (drop 4 self.old.connection.requests)) → IsFit asked (first length (drop 4 self.old.connection.requests))
             → IsAnswerable asked self.old → ¬ IsErrOf result stops.End }
         ensures ready { HasClient self.old → IsReady self.new }
         ensures processed { self.new.connection.requests ≡ drop (4 + length) self.old.connection.requests }
@@ -368,11 +399,14 @@ impl<A: Allocator + Copy> Bench<A> {
     fn process_first(&mut self, length: usize) -> Result<(), Stop>
         requires { 4 + length ≤ bytes_of self.old.connection.requests }
         ensures ready { IsReady self.old → IsReady self.new }
-        ensures connects { (seen : ℕ) (timeout session : ℤ) (password : List ℕ) (xid : ℤ) → IsReady self.old → self.old.connection.phase ≡ Opening
-            → IsRecord connect_request (pos 0, (pos seen, (timeout, (session, (Some password, false))))) (first length (drop 4 self.old.connection.requests)) → int_lt (pos 0) timeout ≡ true
+        ensures connects { (seen : ℕ) (timeout session : ℤ) (password : List ℕ) (xid : ℤ) → IsReady self.old
+            → self.old.connection.phase ≡ Opening
+            → IsRecord connect_request (pos 0, (pos seen, (timeout, (session, (Some password, false)))))
+            (first length (drop 4 self.old.connection.requests)) → int_lt (pos 0) timeout ≡ true
             → OnOk result (AnswersOne (Connect seen) xid (shown_of self.old) (shown_of self.new)) }
         ensures stays { (seen : ℕ) (timeout session : ℤ) (password : List ℕ) → IsReady self.old
-            → IsRecord connect_request (pos 0, (pos seen, (timeout, (session, (Some password, false))))) (first length (drop 4 self.old.connection.requests)) → seen ≤ zxid_of self.old → ¬ IsErrOf result stops.End }
+            → IsRecord connect_request (pos 0, (pos seen, (timeout, (session, (Some password, false)))))
+            (first length (drop 4 self.old.connection.requests)) → seen ≤ zxid_of self.old → ¬ IsErrOf result stops.End }
         ensures sent { IsErrOf result stops.End → self.new.connection.output ≡ self.old.connection.output }
         ensures processed { self.new.connection.requests ≡ drop (4 + length) self.old.connection.requests }
         ensures rest { self.new ≡ record self.old { taken = self.new.taken; connection = self.new.connection } }
@@ -384,7 +418,8 @@ impl<A: Allocator + Copy> Bench<A> {
 
     // Answers with a header alone.
     fn send_err(&mut self, xid: i32, err: i32) -> Result<(), Stop>
-        ensures sends { IsReady self.old → OnOk result (SendsHeader (xid, (pos (zxid_of self.old), err)) self.old.connection.output self.new.connection.output) }
+        ensures sends { IsReady self.old
+            → OnOk result (SendsHeader (xid, (pos (zxid_of self.old), err)) self.old.connection.output self.new.connection.output) }
         ensures sent { IsErrOf result stops.End → self.new.connection.output ≡ self.old.connection.output }
         ensures stays { ¬ IsErrOf result stops.End }
         ensures only { IsSending self.old self.new }
@@ -397,9 +432,11 @@ impl<A: Allocator + Copy> Bench<A> {
     // Answers the first request of a connection.
     fn admit(&mut self, request: &ConnectRequest<A>) -> Result<(), Stop>
         ensures ready { IsReady self.old → IsReady self.new }
-        ensures admits { (seen : ℕ) (xid : ℤ) → IsReady self.old → self.old.connection.phase ≡ Opening → request.now.last_zxid_seen ≡ pos seen → int_lt (pos 0) request.now.time_out ≡ true
+        ensures admits { (seen : ℕ) (xid : ℤ) → IsReady self.old → self.old.connection.phase ≡ Opening
+            → request.now.last_zxid_seen ≡ pos seen → int_lt (pos 0) request.now.time_out ≡ true
             → OnOk result (AnswersOne (Connect seen) xid (shown_of self.old) (shown_of self.new)) }
-        ensures stays { (seen : ℕ) → IsReady self.old → request.now.last_zxid_seen ≡ pos seen → seen ≤ zxid_of self.old → ¬ IsErrOf result stops.End }
+        ensures stays { (seen : ℕ) → IsReady self.old → request.now.last_zxid_seen ≡ pos seen → seen ≤ zxid_of self.old
+            → ¬ IsErrOf result stops.End }
         ensures sent { IsErrOf result stops.End → self.new.connection.output ≡ self.old.connection.output }
         ensures requests { self.new.connection.requests ≡ self.old.connection.requests }
         ensures rest { self.new ≡ record self.old { taken = self.new.taken; connection = self.new.connection } }
@@ -421,9 +458,12 @@ impl<A: Allocator + Copy> Bench<A> {
     // Answers a request with its result, or says why it has none.
     #[tactic(auto, using(crate::proofs::Continuing::same_goes_on))]
     fn answer(&mut self, xid: i32, request: Request<A>) -> Result<(), Refusal>
-        ensures answers { (asked : Wanted) → HasClient self.old → Asks request asked → OnOk result (AnswersOne asked xid (shown_of self.old) (shown_of self.new)) }
-        ensures declines { (asked : Wanted) → HasClient self.old → Asks request asked → IfErr result (Declines asked xid self.old self.new) }
-        ensures stays { (asked : Wanted) → HasClient self.old → Asks request asked → IsAnswerable asked self.old → Fits (body_layout (operation_of request)) (body_of request) → ¬ IsErrOf result (refusals.Stop stops.End) }
+        ensures answers { (asked : Wanted) → HasClient self.old → Asks request asked
+            → OnOk result (AnswersOne asked xid (shown_of self.old) (shown_of self.new)) }
+        ensures declines { (asked : Wanted) → HasClient self.old → Asks request asked
+            → IfErr result (Declines asked xid self.old self.new) }
+        ensures stays { (asked : Wanted) → HasClient self.old → Asks request asked → IsAnswerable asked self.old
+            → Fits (body_layout (operation_of request)) (body_of request) → ¬ IsErrOf result (refusals.Stop stops.End) }
         ensures ready { HasClient self.old → IsReady self.new }
         ensures requests { self.new.connection.requests ≡ self.old.connection.requests }
         ensures history { Continues self.old.history self.new.history }
@@ -453,8 +493,10 @@ impl<A: Allocator + Copy> Bench<A> {
     fn read(&mut self, xid: i32, request: &Request<A>) -> Result<(), Refusal>
         ensures answers { (asked : Wanted) → HasClient self.old → IsLook asked → Asks request.now asked
             → OnOk result (AnswersOne asked xid (shown_of self.old) (shown_of self.new)) }
-        ensures declines { (asked : Wanted) → HasClient self.old → IsLook asked → Asks request.now asked → IfErr result (Declines asked xid self.old self.new) }
-        ensures stays { (asked : Wanted) → HasClient self.old → IsLook asked → Asks request.now asked → IsAnswerable asked self.old → ¬ IsErrOf result (refusals.Stop stops.End) }
+        ensures declines { (asked : Wanted) → HasClient self.old → IsLook asked → Asks request.now asked
+            → IfErr result (Declines asked xid self.old self.new) }
+        ensures stays { (asked : Wanted) → HasClient self.old → IsLook asked → Asks request.now asked → IsAnswerable asked self.old
+            → ¬ IsErrOf result (refusals.Stop stops.End) }
         ensures ready { HasClient self.old → IsReady self.new }
         ensures requests { self.new.connection.requests ≡ self.old.connection.requests }
         ensures rest { self.new ≡ record self.old { connection = self.new.connection } }
@@ -470,7 +512,8 @@ impl<A: Allocator + Copy> Bench<A> {
     // Answers a ping.
     fn pong(&mut self) -> Result<(), Stop>
         ensures answers { (xid : ℤ) → HasClient self.old → OnOk result (AnswersOne Ping xid (shown_of self.old) (shown_of self.new)) }
-        ensures ends { (xid : ℤ) → HasClient self.old → IsErrOf result stops.End → ProcessesOne Ping xid (shown_of self.old) (shown_of (ended self.new)) }
+        ensures ends { (xid : ℤ) → HasClient self.old → IsErrOf result stops.End
+            → ProcessesOne Ping xid (shown_of self.old) (shown_of (ended self.new)) }
         ensures stays { ¬ IsErrOf result stops.End }
         ensures only { IsSending self.old self.new }
     {
@@ -480,7 +523,8 @@ impl<A: Allocator + Copy> Bench<A> {
     // Answers the end of a session, and ends the connection.
     fn close(&mut self, xid: i32) -> Result<(), Stop>
         ensures answers { HasClient self.old → OnOk result (AnswersOne (Ask Close) xid (shown_of self.old) (shown_of self.new)) }
-        ensures ends { HasClient self.old → IsErrOf result stops.End → ProcessesOne (Ask Close) xid (shown_of self.old) (shown_of (ended self.new)) }
+        ensures ends { HasClient self.old → IsErrOf result stops.End
+            → ProcessesOne (Ask Close) xid (shown_of self.old) (shown_of (ended self.new)) }
         ensures stays { ¬ IsErrOf result stops.End }
         ensures ready { HasClient self.old → IsReady self.new }
         ensures requests { self.new.connection.requests ≡ self.old.connection.requests }
@@ -514,7 +558,8 @@ impl<A: Allocator + Copy> Bench<A> {
     fn newest(&self) -> Tree<'_, A>
         ensures history { result.history.now ≡ self.now.history }
         ensures seen { tree_of result.history.now result.zxid ≡ newest_tree self.now.history }
-        ensures held { HasAll self.now → tree_at (history_of self.now.history) (natural result.zxid) ≡ tree_held (history_of self.now.history) (slice_index self.now.taken self.now.server) }
+        ensures held { HasAll self.now → tree_at (history_of self.now.history) (natural result.zxid)
+            ≡ tree_held (history_of self.now.history) (slice_index self.now.taken self.now.server) }
     {
         Tree {
             alloc: self.alloc,
@@ -561,9 +606,12 @@ impl<A: Allocator + Copy> Bench<A> {
     // Answers a create: the codes of the specification in their order, or the path that is made.
     #[tactic(auto, using(crate::proofs::Continuing::same_goes_on))]
     fn create(&mut self, xid: i32, request: CreateRequest<A>) -> Result<(), Refusal>
-        ensures answers { (asked : Wanted) → HasClient self.old → Asks (requests.Create request) asked → OnOk result (AnswersOne asked xid (shown_of self.old) (shown_of self.new)) }
-        ensures declines { (asked : Wanted) → HasClient self.old → Asks (requests.Create request) asked → IfErr result (Declines asked xid self.old self.new) }
-        ensures stays { (asked : Wanted) → Asks (requests.Create request) asked → size_of request.bytes ≤ 2147483647 → ¬ IsErrOf result (refusals.Stop stops.End) }
+        ensures answers { (asked : Wanted) → HasClient self.old → Asks (requests.Create request) asked
+            → OnOk result (AnswersOne asked xid (shown_of self.old) (shown_of self.new)) }
+        ensures declines { (asked : Wanted) → HasClient self.old → Asks (requests.Create request) asked
+            → IfErr result (Declines asked xid self.old self.new) }
+        ensures stays { (asked : Wanted) → Asks (requests.Create request) asked → size_of request.bytes ≤ 2147483647
+            → ¬ IsErrOf result (refusals.Stop stops.End) }
         ensures has { HasClient self.old → HasClient self.new }
         ensures requests { self.new.connection.requests ≡ self.old.connection.requests }
         ensures history { Continues self.old.history self.new.history }
@@ -592,8 +640,10 @@ impl<A: Allocator + Copy> Bench<A> {
     // Makes a node in this mode, below the newest tree, and answers with its path.
     #[tactic(auto, using(crate::proofs::Continuing::same_goes_on))]
     fn make(&mut self, xid: i32, mode: Mode, text: &str, bytes: Buffer<A>) -> Result<(), Refusal>
-        ensures answers { (number : ℕ) → HasClient self.old → is_sequential number ≡ mode.sequential → OnOk result (AnswersOne (Ask (Create text.now bytes number)) xid (shown_of self.old) (shown_of self.new)) }
-        ensures declines { (number : ℕ) → HasClient self.old → IfErr result (Declines (Ask (Create text.now bytes number)) xid self.old self.new) }
+        ensures answers { (number : ℕ) → HasClient self.old → is_sequential number ≡ mode.sequential
+            → OnOk result (AnswersOne (Ask (Create text.now bytes number)) xid (shown_of self.old) (shown_of self.new)) }
+        ensures declines { (number : ℕ) → HasClient self.old
+            → IfErr result (Declines (Ask (Create text.now bytes number)) xid self.old self.new) }
         ensures stays { size_of bytes ≤ 2147483647 → ¬ IsErrOf result (refusals.Stop stops.End) }
         ensures has { HasClient self.old → HasClient self.new }
         ensures requests { self.new.connection.requests ≡ self.old.connection.requests }
@@ -612,7 +662,8 @@ impl<A: Allocator + Copy> Bench<A> {
     }
 
     fn send_created(&mut self, xid: i32, text: &str) -> Result<(), Stop>
-        ensures sends { IsReady self.old → OnOk result (Sends (xid, (pos (zxid_of self.old), pos 0)) create_response (Some text.now) self.old.connection.output self.new.connection.output) }
+        ensures sends { IsReady self.old → OnOk result (Sends (xid, (pos (zxid_of self.old), pos 0)) create_response
+            (Some text.now) self.old.connection.output self.new.connection.output) }
         ensures sent { IsErrOf result stops.End → self.new.connection.output ≡ self.old.connection.output }
         ensures stays { IsPath text.now → ¬ IsErrOf result stops.End }
         ensures only { IsSending self.old self.new }
@@ -626,8 +677,10 @@ impl<A: Allocator + Copy> Bench<A> {
     // Answers a setData: the codes of the specification in their order, or the Stat after the write.
     #[tactic(auto, using(crate::proofs::Continuing::same_goes_on))]
     fn set_data(&mut self, xid: i32, request: SetDataRequest<A>) -> Result<(), Refusal>
-        ensures answers { (asked : Wanted) → HasClient self.old → Asks (requests.SetData request) asked → OnOk result (AnswersOne asked xid (shown_of self.old) (shown_of self.new)) }
-        ensures declines { (asked : Wanted) → HasClient self.old → Asks (requests.SetData request) asked → IfErr result (Declines asked xid self.old self.new) }
+        ensures answers { (asked : Wanted) → HasClient self.old → Asks (requests.SetData request) asked
+            → OnOk result (AnswersOne asked xid (shown_of self.old) (shown_of self.new)) }
+        ensures declines { (asked : Wanted) → HasClient self.old → Asks (requests.SetData request) asked
+            → IfErr result (Declines asked xid self.old self.new) }
         ensures stays { size_of request.bytes ≤ 2147483647 → ¬ IsErrOf result (refusals.Stop stops.End) }
         ensures has { HasClient self.old → HasClient self.new }
         ensures requests { self.new.connection.requests ≡ self.old.connection.requests }
@@ -652,8 +705,10 @@ impl<A: Allocator + Copy> Bench<A> {
         bytes: Buffer<A>,
         version: i32,
     ) -> Result<(), Refusal>
-        ensures answers { HasClient self.old → IsPath text.now → OnOk result (AnswersOne (Ask (SetData text.now bytes version)) xid (shown_of self.old) (shown_of self.new)) }
-        ensures declines { HasClient self.old → IsPath text.now → IfErr result (Declines (Ask (SetData text.now bytes version)) xid self.old self.new) }
+        ensures answers { HasClient self.old → IsPath text.now
+            → OnOk result (AnswersOne (Ask (SetData text.now bytes version)) xid (shown_of self.old) (shown_of self.new)) }
+        ensures declines { HasClient self.old → IsPath text.now
+            → IfErr result (Declines (Ask (SetData text.now bytes version)) xid self.old self.new) }
         ensures stays { size_of bytes ≤ 2147483647 → ¬ IsErrOf result (refusals.Stop stops.End) }
         ensures has { HasClient self.old → HasClient self.new }
         ensures requests { self.new.connection.requests ≡ self.old.connection.requests }
@@ -693,8 +748,10 @@ impl<A: Allocator + Copy> Bench<A> {
     // Answers a delete: the codes of the specification in their order, or a header alone.
     #[tactic(auto, using(crate::proofs::Continuing::same_goes_on))]
     fn delete(&mut self, xid: i32, request: &DeleteRequest<A>) -> Result<(), Refusal>
-        ensures answers { (asked : Wanted) → HasClient self.old → Asks (requests.Delete request.now) asked → OnOk result (AnswersOne asked xid (shown_of self.old) (shown_of self.new)) }
-        ensures declines { (asked : Wanted) → HasClient self.old → Asks (requests.Delete request.now) asked → IfErr result (Declines asked xid self.old self.new) }
+        ensures answers { (asked : Wanted) → HasClient self.old → Asks (requests.Delete request.now) asked
+            → OnOk result (AnswersOne asked xid (shown_of self.old) (shown_of self.new)) }
+        ensures declines { (asked : Wanted) → HasClient self.old → Asks (requests.Delete request.now) asked
+            → IfErr result (Declines asked xid self.old self.new) }
         ensures stays { ¬ IsErrOf result (refusals.Stop stops.End) }
         ensures has { HasClient self.old → HasClient self.new }
         ensures requests { self.new.connection.requests ≡ self.old.connection.requests }

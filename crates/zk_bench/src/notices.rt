@@ -28,7 +28,8 @@ fn send_event<A: Allocator + Copy>(
     ensures rest { connection.new ≡ record connection.old { watches = connection.new.watches; output = connection.new.output } }
     ensures left { watched connection.new.watches ≡ leaves_at event (path_of path.now) (watched connection.old.watches) }
     ensures stays { IsPath path.now → ¬ IsErrOf result stops.End }
-    ensures tells { OnOk result (Tells (fires_at event (path_of path.now) (watched connection.old.watches)) connection.old.output.items connection.new.output.items) }
+    ensures tells { OnOk result (Tells
+        (fires_at event (path_of path.now) (watched connection.old.watches)) connection.old.output.items connection.new.output.items) }
     ensures begun { first (bytes_of connection.old.output.items) connection.new.output.items ≡ connection.old.output.items }
 {
     if connection.watches.fire(event, path) {
@@ -46,7 +47,8 @@ fn tell_change<A: Allocator + Copy>(
     ensures rest { connection.new ≡ record connection.old { watches = connection.new.watches; output = connection.new.output } }
     ensures left { OnOk result (watched connection.new.watches ≡ leaves_set (change_of change.now) (watched connection.old.watches)) }
     ensures stays { ¬ IsErrOf result stops.End }
-    ensures tells { OnOk result (Tells (fires (change_of change.now) (watched connection.old.watches)) connection.old.output.items connection.new.output.items) }
+    ensures tells { OnOk result
+        (Tells (fires (change_of change.now) (watched connection.old.watches)) connection.old.output.items connection.new.output.items) }
     ensures begun { first (bytes_of connection.old.output.items) connection.new.output.items ≡ connection.old.output.items }
 {
     let (event, path) = match change {
@@ -73,9 +75,11 @@ pub(crate) fn tell_changes<A: Allocator + Copy>(
     connection: &mut Connection<A>,
 ) -> Result<(), Stop>
     ensures rest { connection.new ≡ record connection.old { watches = connection.new.watches; output = connection.new.output } }
-    ensures left { OnOk result (watched connection.new.watches ≡ leaves_set_all (map change_of changes.now) (watched connection.old.watches)) }
+    ensures left { OnOk result
+        (watched connection.new.watches ≡ leaves_set_all (map change_of changes.now) (watched connection.old.watches)) }
     ensures stays { ¬ IsErrOf result stops.End }
-    ensures tells { OnOk result (Tells (fires_all (map change_of changes.now) (watched connection.old.watches)) connection.old.output.items connection.new.output.items) }
+    ensures tells { OnOk result (Tells
+        (fires_all (map change_of changes.now) (watched connection.old.watches)) connection.old.output.items connection.new.output.items) }
     ensures err { OnErr result (connection.new.output.items ≡ connection.old.output.items) }
 {
     let start = connection.output.len();
@@ -95,9 +99,11 @@ pub(crate) fn tell_accepted<A: Allocator + Copy>(
     connection: &mut Connection<A>,
 ) -> Result<(), Stop>
     ensures rest { connection.new ≡ record connection.old { watches = connection.new.watches; output = connection.new.output } }
-    ensures left { connection.old.phase ≡ Accepted → OnOk result (watched connection.new.watches ≡ leaves_set_all (map change_of changes.now) (watched connection.old.watches)) }
+    ensures left { connection.old.phase ≡ Accepted
+        → OnOk result (watched connection.new.watches ≡ leaves_set_all (map change_of changes.now) (watched connection.old.watches)) }
     ensures stays { ¬ IsErrOf result stops.End }
-    ensures tells { connection.old.phase ≡ Accepted → OnOk result (Tells (fires_all (map change_of changes.now) (watched connection.old.watches)) connection.old.output.items connection.new.output.items) }
+    ensures tells { connection.old.phase ≡ Accepted → OnOk result (Tells
+        (fires_all (map change_of changes.now) (watched connection.old.watches)) connection.old.output.items connection.new.output.items) }
     ensures idle { connection.old.phase ≢ Accepted → connection.new ≡ connection.old }
     ensures quiet { connection.old.phase ≢ Accepted → IsOk result }
     ensures err { OnErr result (connection.new.output.items ≡ connection.old.output.items) }

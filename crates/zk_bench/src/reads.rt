@@ -84,9 +84,11 @@ fn exists<A: Allocator + Copy>(
     ensures ends { IsErrOf result (refusals.Stop stops.End) → connection.new.output.items ≡ connection.old.output.items }
     ensures stays { ¬ IsErrOf result (refusals.Stop stops.End) }
     ensures answers { (text : Bytes) (zxid : ℕ) → IsPath text → request.now.path ≡ Some text → tree.now.zxid ≡ pos zxid
-        → OnOk result (AnswersRead (tree_at (history_of tree.now.history.now) zxid) zxid xid (Exists text request.now.watch) connection.old connection.new) }
+        → OnOk result (AnswersRead (tree_at (history_of tree.now.history.now) zxid) zxid xid
+        (Exists text request.now.watch) connection.old connection.new) }
     ensures refuses { (text : Bytes) (zxid : ℕ) → IsPath text → request.now.path ≡ Some text → tree.now.zxid ≡ pos zxid
-        → IfErr result (RefusesRead (tree_at (history_of tree.now.history.now) zxid) (Exists text request.now.watch) connection.old connection.new) }
+        → IfErr result
+        (RefusesRead (tree_at (history_of tree.now.history.now) zxid) (Exists text request.now.watch) connection.old connection.new) }
 {
     let text = text_of(&request.path);
     let stat = tree.stat(text)?;
@@ -109,10 +111,12 @@ fn watched<A: Allocator + Copy>(
 ) -> Result<Stat, Refusal>
     ensures found { (text : Bytes) → IsPath text → request.now.path ≡ Some text
         → IfOk result (λ stat. IsStat (tree_at (history_of tree.now.history.now) (natural tree.now.zxid)) (path_of text) (Some stat)) }
-    ensures left { OnOk result (names_of paths.new ≡ cond request.now.watch (set.insert (names_of paths.old) (or_empty request.now.path)) (names_of paths.old)) }
+    ensures left { OnOk result
+        (names_of paths.new ≡ cond request.now.watch (set.insert (names_of paths.old) (or_empty request.now.path)) (names_of paths.old)) }
     ensures stays { ¬ IsErrOf result (refusals.Stop stops.End) }
     ensures misses { (text : Bytes) → IsPath text → request.now.path ≡ Some text
-        → IfErr result (MissesNode (tree_at (history_of tree.now.history.now) (natural tree.now.zxid)) (path_of text) (names_of paths.old) (names_of paths.new)) }
+        → IfErr result (MissesNode (tree_at (history_of tree.now.history.now) (natural tree.now.zxid)) (path_of text)
+        (names_of paths.old) (names_of paths.new)) }
 {
     let text = text_of(&request.path);
     let Some(stat) = tree.stat(text)? else {
@@ -133,11 +137,14 @@ fn get_data<A: Allocator + Copy>(
     ensures rest { connection.new ≡ record connection.old { watches = connection.new.watches; output = connection.new.output } }
     ensures ends { IsErrOf result (refusals.Stop stops.End) → connection.new.output.items ≡ connection.old.output.items }
     ensures stays { (text : Bytes) → IsPath text → request.now.path ≡ Some text
-        → DataFit (tree_at (history_of tree.now.history.now) (natural tree.now.zxid) (path_of text)) → ¬ IsErrOf result (refusals.Stop stops.End) }
+        → DataFit (tree_at (history_of tree.now.history.now) (natural tree.now.zxid) (path_of text))
+        → ¬ IsErrOf result (refusals.Stop stops.End) }
     ensures answers { (text : Bytes) (zxid : ℕ) → IsPath text → request.now.path ≡ Some text → tree.now.zxid ≡ pos zxid
-        → OnOk result (AnswersRead (tree_at (history_of tree.now.history.now) zxid) zxid xid (GetData text request.now.watch) connection.old connection.new) }
+        → OnOk result (AnswersRead (tree_at (history_of tree.now.history.now) zxid) zxid xid
+        (GetData text request.now.watch) connection.old connection.new) }
     ensures refuses { (text : Bytes) (zxid : ℕ) → IsPath text → request.now.path ≡ Some text → tree.now.zxid ≡ pos zxid
-        → IfErr result (RefusesRead (tree_at (history_of tree.now.history.now) zxid) (GetData text request.now.watch) connection.old connection.new) }
+        → IfErr result
+        (RefusesRead (tree_at (history_of tree.now.history.now) zxid) (GetData text request.now.watch) connection.old connection.new) }
 {
     let stat = watched(tree, request, &mut connection.watches.data)?;
     let Some(data) = tree.data(text_of(&request.path))? else {
@@ -179,11 +186,14 @@ fn get_children_2<A: Allocator + Copy>(
     ensures rest { connection.new ≡ record connection.old { watches = connection.new.watches; output = connection.new.output } }
     ensures ends { IsErrOf result (refusals.Stop stops.End) → connection.new.output.items ≡ connection.old.output.items }
     ensures stays { (text : Bytes) → IsPath text → request.now.path ≡ Some text
-        → NamesFit (tree_at (history_of tree.now.history.now) (natural tree.now.zxid)) (path_of text) (tree_at (history_of tree.now.history.now) (natural tree.now.zxid) (path_of text)) → ¬ IsErrOf result (refusals.Stop stops.End) }
+        → NamesFit (tree_at (history_of tree.now.history.now) (natural tree.now.zxid)) (path_of text) (tree_at
+        (history_of tree.now.history.now) (natural tree.now.zxid) (path_of text)) → ¬ IsErrOf result (refusals.Stop stops.End) }
     ensures answers { (text : Bytes) (zxid : ℕ) → IsPath text → request.now.path ≡ Some text → tree.now.zxid ≡ pos zxid
-        → OnOk result (AnswersRead (tree_at (history_of tree.now.history.now) zxid) zxid xid (GetChildren text request.now.watch) connection.old connection.new) }
+        → OnOk result (AnswersRead (tree_at (history_of tree.now.history.now) zxid) zxid xid
+        (GetChildren text request.now.watch) connection.old connection.new) }
     ensures refuses { (text : Bytes) (zxid : ℕ) → IsPath text → request.now.path ≡ Some text → tree.now.zxid ≡ pos zxid
-        → IfErr result (RefusesRead (tree_at (history_of tree.now.history.now) zxid) (GetChildren text request.now.watch) connection.old connection.new) }
+        → IfErr result (RefusesRead (tree_at (history_of tree.now.history.now) zxid)
+        (GetChildren text request.now.watch) connection.old connection.new) }
 {
     let stat = watched(tree, request, &mut connection.watches.child)?;
     let children = children_at(tree, text_of(&request.path))?;
@@ -198,11 +208,14 @@ fn children_at<A: Allocator + Copy>(
     tree: &Tree<'_, A>,
     text: &str,
 ) -> Result<List<Text<A>, A>, Refusal>
-    ensures found { IsPath text.now → IfOk result (λ list. ListsChildren (tree_at (history_of tree.now.history.now) (natural tree.now.zxid)) (path_of text.now) (option_map (λ v. v.items) list.elements)) }
-    ensures fits { (names : NameSet) → IsPath text.now → HasChildren (tree_at (history_of tree.now.history.now) (natural tree.now.zxid)) (path_of text.now) names
+    ensures found { IsPath text.now → IfOk result (λ list. ListsChildren (tree_at (history_of tree.now.history.now) (natural tree.now.zxid))
+        (path_of text.now) (option_map (λ v. v.items) list.elements)) }
+    ensures fits { (names : NameSet) → IsPath text.now
+        → HasChildren (tree_at (history_of tree.now.history.now) (natural tree.now.zxid)) (path_of text.now) names
         → FitsReply (4 + size_of_names names + 68) → IfOk result (λ list. ListFits (option_map (λ v. v.items) list.elements)) }
     ensures stays { ¬ IsErrOf result (refusals.Stop stops.End) }
-    ensures misses { IsPath text.now → IfErr result (FindsNoNode (tree_at (history_of tree.now.history.now) (natural tree.now.zxid)) (path_of text.now)) }
+    ensures misses { IsPath text.now
+        → IfErr result (FindsNoNode (tree_at (history_of tree.now.history.now) (natural tree.now.zxid)) (path_of text.now)) }
 {
     let Some(names) = tree.names(text)? else {
         return Err(Refusal::Code(Code::NoNode));

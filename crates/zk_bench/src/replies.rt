@@ -62,7 +62,8 @@ pub(crate) fn send_notice<A: Allocator + Copy>(
     path: &str,
     out: &mut Vec<u8, A>,
 ) -> Result<(), Stop>
-    ensures sends { OnOk result (Sends (negsuc 0, (negsuc 0, pos 0)) watcher_event (event_number event, (pos 3, Some path.now)) out.old.items out.new.items) }
+    ensures sends { OnOk result
+        (Sends (negsuc 0, (negsuc 0, pos 0)) watcher_event (event_number event, (pos 3, Some path.now)) out.old.items out.new.items) }
     ensures ended { IsErrOf result stops.End → out.new.items ≡ out.old.items }
     ensures stays { IsPath path.now → ¬ IsErrOf result stops.End }
     ensures begun { first (bytes_of out.old.items) out.new.items ≡ out.old.items }

@@ -131,9 +131,11 @@ fn rewatch_lists<A: Allocator + Copy>(
     ensures begun { first (bytes_of connection.old.output.items) connection.new.output.items ≡ connection.old.output.items }
     ensures stays { (since : ℕ) (part : Lists) → IsPart request.now since part → ArePaths part → ¬ IsErrOf result stops.End }
     ensures tells { (since : ℕ) (part : Lists) → IsPart request.now since part → ArePaths part
-        → OnOk result (Tells (part_tells since (tree_at (history_of tree.now.history.now) (natural tree.now.zxid)) part) connection.old.output.items connection.new.output.items) }
+        → OnOk result (Tells (part_tells since (tree_at (history_of tree.now.history.now) (natural tree.now.zxid)) part)
+        connection.old.output.items connection.new.output.items) }
     ensures left { (since : ℕ) (part : Lists) → IsPart request.now since part → ArePaths part
-        → OnOk result (watched connection.new.watches ≡ both (watched connection.old.watches) (part_sets since (tree_at (history_of tree.now.history.now) (natural tree.now.zxid)) part)) }
+        → OnOk result (watched connection.new.watches ≡ both (watched connection.old.watches)
+        (part_sets since (tree_at (history_of tree.now.history.now) (natural tree.now.zxid)) part)) }
 {
     let relative = request.relative_zxid;
     let data = request.data_watches.or_empty();

@@ -75,7 +75,8 @@ pub(crate) fn numbered<A: Allocator + Copy>(
     requires { IsPath parent.now }
     ensures begins { IfOk result (λ made. IsPrefix path.now made) }
     ensures made { IfOk result (λ made. numbered_text path.now (creates_told (names_in parent.now) history.now.transactions) ≡ Some made) }
-    ensures none { IfErr result (λ refusal. IsCode refusal → numbered_text path.now (creates_told (names_in parent.now) history.now.transactions) ≡ None) }
+    ensures none { IfErr result
+        (λ refusal. IsCode refusal → numbered_text path.now (creates_told (names_in parent.now) history.now.transactions) ≡ None) }
     ensures refused { IfErr result (IsRefusedWith (Some codes.BadArguments)) }
 {
     let number = creates_below(history, parent);

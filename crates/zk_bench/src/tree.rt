@@ -49,7 +49,8 @@ impl<A: Allocator + Copy> Tree<'_, A> {
     /// The `Stat` of the node at a text, and none where no node is there.
     #[tactic(auto, using(crate::proofs::Answered::stat_found))]
     pub(crate) fn stat(&self, text: &str) -> Result<Option<Stat>, AllocError>
-        ensures { IfOk result (λ told. IsPath text.now → IsStat (tree_at (history_of self.now.history.now) (natural self.now.zxid)) (names_in text.now) told) }
+        ensures { IfOk result (λ told. IsPath text.now
+            → IsStat (tree_at (history_of self.now.history.now) (natural self.now.zxid)) (names_in text.now) told) }
     {
         let zxid = self.zxid;
         match path_of(self.alloc, text)? {
@@ -60,7 +61,8 @@ impl<A: Allocator + Copy> Tree<'_, A> {
 
     /// The data at a text, and none where no node is there.
     pub(crate) fn data(&self, text: &str) -> Result<Option<Data<A>>, AllocError>
-        ensures { IfOk result (λ told. IsPath text.now → data_told told ≡ view_of sides.Data (tree_at (history_of self.now.history.now) (natural self.now.zxid)) (names_in text.now)) }
+        ensures { IfOk result (λ told. IsPath text.now
+            → data_told told ≡ view_of sides.Data (tree_at (history_of self.now.history.now) (natural self.now.zxid)) (names_in text.now)) }
     {
         match path_of(self.alloc, text)? {
             Some(path) => self.history.data_at(self.zxid, &path),
@@ -70,7 +72,8 @@ impl<A: Allocator + Copy> Tree<'_, A> {
 
     /// The names of the children at a text, and none where no node is there.
     pub(crate) fn names(&self, text: &str) -> Result<Option<Names<A>>, AllocError>
-        ensures { IfOk result (λ told. IsPath text.now → names_told told ≡ view_of sides.Child (tree_at (history_of self.now.history.now) (natural self.now.zxid)) (names_in text.now)) }
+        ensures { IfOk result (λ told. IsPath text.now → names_told told
+            ≡ view_of sides.Child (tree_at (history_of self.now.history.now) (natural self.now.zxid)) (names_in text.now)) }
     {
         match path_of(self.alloc, text)? {
             Some(path) => self.history.names_at(self.zxid, &path),

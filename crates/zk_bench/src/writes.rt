@@ -17,7 +17,10 @@ ghost use Rattle.zk_bench.specs.declared.stop.Stop.TheVariants as stops;
 ghost use Rattle.zk_bench.specs.declared.stop.Refusal.TheVariants as refusals;
 ghost use Rattle.zk_bench.specs.Refusals.{IsCode};
 ghost use Rattle.zk_bench.specs.Served.{Continues};
-ghost use Rattle.zk_bench.specs.Writing.{appended, mode_of as mode_told, owner_of, IsAnswer, IsRefusedWith, IsStatAt, tree_of, node_at, is_version as version_told, data_refusal, removal_refusal, set_refusal, deletion_refusal, made_text, creates_beside, refusal_above, place_refusal, creation_refusal, AreBeside, is_over, AppendRefused, WriteRefused};
+ghost use Rattle.zk_bench.specs.Writing.{appended, mode_of as mode_told, owner_of, IsAnswer, IsRefusedWith, IsStatAt, tree_of, node_at};
+ghost use Rattle.zk_bench.specs.Writing.{is_version as version_told, data_refusal, removal_refusal, set_refusal, deletion_refusal};
+ghost use Rattle.zk_bench.specs.Writing.{made_text, creates_beside, refusal_above, place_refusal, creation_refusal, AreBeside, is_over};
+ghost use Rattle.zk_bench.specs.Writing.{AppendRefused, WriteRefused};
 
 use crate::sequence::numbered;
 use crate::stop::{Refusal, Stop};
@@ -92,8 +95,10 @@ fn path_in_mode<A: Allocator + Copy>(
     requires path { IsPath parent.now }
     requires parent { parent_of (names_in asked.now) ≡ Some (names_in parent.now) }
     ensures made { IfOk result (λ path. IsMadeOf asked.now mode.sequential path) }
-    ensures text { IfOk result (λ path. made_text mode.sequential asked.now (creates_beside (names_in asked.now) tree.now.history.now.transactions) ≡ Some path) }
-    ensures none { IfErr result (λ refusal. IsCode refusal → made_text mode.sequential asked.now (creates_beside (names_in asked.now) tree.now.history.now.transactions) ≡ None) }
+    ensures text { IfOk result
+        (λ path. made_text mode.sequential asked.now (creates_beside (names_in asked.now) tree.now.history.now.transactions) ≡ Some path) }
+    ensures none { IfErr result (λ refusal. IsCode refusal
+        → made_text mode.sequential asked.now (creates_beside (names_in asked.now) tree.now.history.now.transactions) ≡ None) }
     ensures refused { IfErr result (IsRefusedWith (Some codes.BadArguments)) }
 {
     if mode.sequential {
@@ -131,11 +136,14 @@ fn created_path<A: Allocator + Copy>(
     text: &str,
 ) -> Result<Path<A>, Refusal>
     ensures made { IfOk result (λ path. IsMadeOf text.now mode.sequential path) }
-    ensures text { IfOk result (λ path. made_text mode.sequential text.now (creates_beside (names_in text.now) tree.now.history.now.transactions) ≡ Some path) }
+    ensures text { IfOk result
+        (λ path. made_text mode.sequential text.now (creates_beside (names_in text.now) tree.now.history.now.transactions) ≡ Some path) }
     ensures accepted { (names : NameSet) → AreBeside (tree_of tree.now.history.now tree.now.zxid) (names_in text.now) names
-        → OnOk result (creation_refusal (tree_of tree.now.history.now tree.now.zxid) mode.sequential text.now (creates_beside (names_in text.now) tree.now.history.now.transactions) (set.len names) ≡ None) }
+        → OnOk result (creation_refusal (tree_of tree.now.history.now tree.now.zxid) mode.sequential text.now
+        (creates_beside (names_in text.now) tree.now.history.now.transactions) (set.len names) ≡ None) }
     ensures told { (names : NameSet) → AreBeside (tree_of tree.now.history.now tree.now.zxid) (names_in text.now) names
-        → IfErr result (IsRefusedWith (creation_refusal (tree_of tree.now.history.now tree.now.zxid) mode.sequential text.now (creates_beside (names_in text.now) tree.now.history.now.transactions) (set.len names))) }
+        → IfErr result (IsRefusedWith (creation_refusal (tree_of tree.now.history.now tree.now.zxid) mode.sequential text.now
+        (creates_beside (names_in text.now) tree.now.history.now.transactions) (set.len names))) }
     ensures beside { OnOk result ((names : NameSet) × AreBeside (tree_of tree.now.history.now tree.now.zxid) (names_in text.now) names) }
     ensures stays { ¬ IsErrOf result (refusals.Stop stops.End) }
     ensures refused { IfErr result IsAnswer }
@@ -167,14 +175,19 @@ pub(crate) fn creation<A: Allocator + Copy>(
     text: &str,
     bytes: Buffer<A>,
 ) -> Result<(String<A>, Change<A>), Refusal>
-    ensures made { IfOk result (λ made. (change_of made.1 ≡ Creates (names_in (string_bytes made.0)) bytes (owner_of mode.ephemeral)) × IsMadeOf text.now mode.sequential (string_bytes made.0)) }
-    ensures text { IfOk result (λ made. made_text mode.sequential text.now (creates_beside (names_in text.now) tree.now.history.now.transactions) ≡ Some (string_bytes made.0)) }
+    ensures made { IfOk result (λ made. (change_of made.1 ≡ Creates (names_in (string_bytes made.0)) bytes (owner_of mode.ephemeral))
+        × IsMadeOf text.now mode.sequential (string_bytes made.0)) }
+    ensures text { IfOk result (λ made. made_text mode.sequential text.now
+        (creates_beside (names_in text.now) tree.now.history.now.transactions) ≡ Some (string_bytes made.0)) }
     ensures accepted { (names : NameSet) → AreBeside (tree_of tree.now.history.now tree.now.zxid) (names_in text.now) names
-        → OnOk result (creation_refusal (tree_of tree.now.history.now tree.now.zxid) mode.sequential text.now (creates_beside (names_in text.now) tree.now.history.now.transactions) (set.len names) ≡ None) }
+        → OnOk result (creation_refusal (tree_of tree.now.history.now tree.now.zxid) mode.sequential text.now
+        (creates_beside (names_in text.now) tree.now.history.now.transactions) (set.len names) ≡ None) }
     ensures told { (names : NameSet) → AreBeside (tree_of tree.now.history.now tree.now.zxid) (names_in text.now) names
-        → IfErr result (IsRefusedWith (creation_refusal (tree_of tree.now.history.now tree.now.zxid) mode.sequential text.now (creates_beside (names_in text.now) tree.now.history.now.transactions) (set.len names))) }
+        → IfErr result (IsRefusedWith (creation_refusal (tree_of tree.now.history.now tree.now.zxid) mode.sequential text.now
+        (creates_beside (names_in text.now) tree.now.history.now.transactions) (set.len names))) }
     ensures path { IfOk result (λ made. IsPath (string_bytes made.0)) }
-    ensures allowed { size_of bytes ≤ 2147483647 → IfOk result (λ made. IsAccepted (change_of made.1) (tree_of tree.now.history.now tree.now.zxid)) }
+    ensures allowed { size_of bytes ≤ 2147483647
+        → IfOk result (λ made. IsAccepted (change_of made.1) (tree_of tree.now.history.now tree.now.zxid)) }
     ensures stays { ¬ IsErrOf result (refusals.Stop stops.End) }
     ensures refused { IfErr result IsAnswer }
 {
@@ -242,7 +255,8 @@ pub(crate) fn written_path<A: Allocator + Copy>(
     ensures path { IfOk result (λ path. path ≡ text.now) }
     ensures accepted { OnOk result (set_refusal (node_at (tree_of tree.now.history.now tree.now.zxid) text.now) version ≡ None) }
     ensures told { IfErr result (IsRefusedWith (set_refusal (node_at (tree_of tree.now.history.now tree.now.zxid) text.now) version)) }
-    ensures allowed { (content : Option (List ℕ)) → size_of content ≤ 2147483647 → OnOk result (IsAccepted (Sets (names_in text.now) content) (tree_of tree.now.history.now tree.now.zxid)) }
+    ensures allowed { (content : Option (List ℕ)) → size_of content ≤ 2147483647
+        → OnOk result (IsAccepted (Sets (names_in text.now) content) (tree_of tree.now.history.now tree.now.zxid)) }
     ensures stays { ¬ IsErrOf result (refusals.Stop stops.End) }
     ensures refused { IfErr result IsAnswer }
 {
@@ -275,11 +289,15 @@ pub(crate) fn deleted_path<A: Allocator + Copy>(
     request: &DeleteRequest<A>,
 ) -> Result<Path<A>, Refusal>
     ensures path { IfOk result (λ path. path ≡ or_empty request.now.path) }
-    ensures accepted { (names : NameSet) → HasChildren (tree_of tree.now.history.now tree.now.zxid) (names_in (or_empty request.now.path)) names
-        → OnOk result (deletion_refusal (tree_of tree.now.history.now tree.now.zxid) (or_empty request.now.path) (set.len names) request.now.version ≡ None) }
+    ensures accepted { (names : NameSet)
+        → HasChildren (tree_of tree.now.history.now tree.now.zxid) (names_in (or_empty request.now.path)) names
+        → OnOk result (deletion_refusal (tree_of tree.now.history.now tree.now.zxid) (or_empty request.now.path)
+        (set.len names) request.now.version ≡ None) }
     ensures told { (names : NameSet) → HasChildren (tree_of tree.now.history.now tree.now.zxid) (names_in (or_empty request.now.path)) names
-        → IfErr result (IsRefusedWith (deletion_refusal (tree_of tree.now.history.now tree.now.zxid) (or_empty request.now.path) (set.len names) request.now.version)) }
-    ensures allowed { OnOk result (IsAccepted (Deletes (names_in (or_empty request.now.path))) (tree_of tree.now.history.now tree.now.zxid)) }
+        → IfErr result (IsRefusedWith (deletion_refusal (tree_of tree.now.history.now tree.now.zxid) (or_empty request.now.path)
+        (set.len names) request.now.version)) }
+    ensures allowed { OnOk result
+        (IsAccepted (Deletes (names_in (or_empty request.now.path))) (tree_of tree.now.history.now tree.now.zxid)) }
     ensures stays { ¬ IsErrOf result (refusals.Stop stops.End) }
     ensures refused { IfErr result IsAnswer }
 {
@@ -330,7 +348,8 @@ pub(crate) fn append_write<A: Allocator + Copy>(
 ) -> Result<(), Refusal>
     ensures ok { OnOk result (history.new ≡ appended history.old time (change_of change)) }
     ensures goes_on { Continues history.old history.new }
-    ensures refused { IfErr result (λ refusal. IsCode refusal → (refusal ≡ refusals.Code codes.BadArguments) × (history.new ≡ history.old)) }
+    ensures refused { IfErr result
+        (λ refusal. IsCode refusal → (refusal ≡ refusals.Code codes.BadArguments) × (history.new ≡ history.old)) }
     ensures room { OnOk result (is_over history.old time ≡ false) }
     ensures accepted { OnOk result (IsAccepted (change_of change) (newest_tree history.old)) }
     ensures told { IfErr result (WriteRefused history.old time (change_of change)) }

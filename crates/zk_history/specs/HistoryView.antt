@@ -1,9 +1,11 @@
 -- What a history keeps: the nodes of its first tree, and its transactions.
-use Rattle.std.specs.Prelude.{ℕ, ℤ, pos, negsuc, ◌++◌, ◌≡◌, ◌<◌, ◌≤◌, Bool, true, false, if◌then◌else◌, List, [], ◌∷◌, Option, Some, None, ⊤, ◌&&◌, ◌==◌, is_some}
+use Rattle.std.specs.Prelude.{ℕ, ℤ, pos, negsuc, ◌++◌, ◌≡◌, ◌<◌, ◌≤◌, Bool, true, false, if◌then◌else◌, List, [], ◌∷◌, Option, Some, None}
+use Rattle.std.specs.Prelude.{⊤, ◌&&◌, ◌==◌, is_some}
 use Rattle.std.specs.List.{list_all}
 use Rattle.std.specs.FinSet as set
 use Rattle.zk_nodes.specs.Path.{Name, NodePath, path_eq}
-use Rattle.zk_nodes.specs.History.{Tree, Change, Creates, Sets, Deletes, Transaction, History, IsLegal, made, apply, apply_all, after, size_of, AreRising}
+use Rattle.zk_nodes.specs.History.{Tree, Change, Creates, Sets, Deletes, Transaction, History, IsLegal, made, apply, apply_all, after}
+use Rattle.zk_nodes.specs.History.{size_of, AreRising}
 use Rattle.zk_nodes.specs.Names.{Names}
 use Rattle.zk_history.specs.Replay.{children_at}
 
@@ -59,7 +61,8 @@ AreAccepted zxid time (change ∷ changes) tree = IsAccepted change tree × AreA
 -- so are those of each transaction
 abbrev pub AllAccepted : List Transaction → Tree → Type 0
 AllAccepted [] tree = ⊤
-AllAccepted (one ∷ more) tree = AreAccepted one.zxid one.time one.changes tree × AllAccepted more (apply_all one.zxid one.time one.changes tree)
+AllAccepted (one ∷ more) tree =
+    AreAccepted one.zxid one.time one.changes tree × AllAccepted more (apply_all one.zxid one.time one.changes tree)
 
 -- one creation
 abbrev pub is_creation : List Change → Bool

@@ -9,10 +9,12 @@ use Rattle.zk_nodes.specs.History.{Node, Change, Creates, Sets, Deletes, Transac
 abbrev pub node_after : ℕ → ℤ → NodePath → Change → Option Node → Option Node
 node_after zxid time p (Creates [] content owner) held = held
 node_after zxid time p (Creates (name ∷ path) content owner) held =
-    if path_eq p (name ∷ path) then Some (made zxid time content owner) else (if path_eq p path then option_map (regrouped zxid) held else held)
+    if path_eq p (name ∷ path) then Some (made zxid time content owner)
+    else (if path_eq p path then option_map (regrouped zxid) held else held)
 node_after zxid time p (Sets path content) held = if path_eq p path then option_map (written zxid time content) held else held
 node_after zxid time p (Deletes []) held = held
-node_after zxid time p (Deletes (name ∷ path)) held = if path_eq p (name ∷ path) then None else (if path_eq p path then option_map (regrouped zxid) held else held)
+node_after zxid time p (Deletes (name ∷ path)) held =
+    if path_eq p (name ∷ path) then None else (if path_eq p path then option_map (regrouped zxid) held else held)
 
 -- the same after changes
 abbrev pub node_after_all : ℕ → ℤ → NodePath → List Change → Option Node → Option Node
@@ -27,7 +29,8 @@ node_at z p (one ∷ more) held = node_at z p more (if nat_le one.zxid z then no
 -- the data of a change can be told by a Stat, and the version of what it sets at path p can still rise
 abbrev pub CanRise : NodePath → Change → Option Node → Type 0
 CanRise p (Creates path content owner) held = size_of content ≤ 2147483647
-CanRise p (Sets path content) held = (size_of content ≤ 2147483647) × (path_eq p path ≡ true → (n : Node) → held ≡ Some n → n.version < 2147483647)
+CanRise p (Sets path content) held =
+    (size_of content ≤ 2147483647) × (path_eq p path ≡ true → (n : Node) → held ≡ Some n → n.version < 2147483647)
 CanRise p (Deletes path) held = ⊤
 
 -- so it is for each change
@@ -39,7 +42,8 @@ CanRiseAll zxid time p (change ∷ changes) held = CanRise p change held × CanR
 abbrev pub CanRiseAt : ℕ → NodePath → List Transaction → Option Node → Type 0
 CanRiseAt z p [] held = ⊤
 CanRiseAt z p (one ∷ more) held =
-    (nat_le one.zxid z ≡ true → CanRiseAll one.zxid one.time p one.changes held) × CanRiseAt z p more (if nat_le one.zxid z then node_after_all one.zxid one.time p one.changes held else held)
+    (nat_le one.zxid z ≡ true → CanRiseAll one.zxid one.time p one.changes held)
+    × CanRiseAt z p more (if nat_le one.zxid z then node_after_all one.zxid one.time p one.changes held else held)
 
 -- the names of the children of path p after a change
 abbrev pub children_after : NodePath → Change → Names → Names
@@ -85,4 +89,5 @@ IsCounted p (change ∷ changes) n = (n ≤ 2147483647) × IsCounted p changes (
 -- so it does for each transaction up to a zxid
 abbrev pub IsCountedAt : ℕ → NodePath → List Transaction → ℕ → Type 0
 IsCountedAt z p [] n = n ≤ 2147483647
-IsCountedAt z p (one ∷ more) n = (nat_le one.zxid z ≡ true → IsCounted p one.changes n) × IsCountedAt z p more (if nat_le one.zxid z then count_after_all p one.changes n else n)
+IsCountedAt z p (one ∷ more) n = (nat_le one.zxid z ≡ true → IsCounted p one.changes n)
+    × IsCountedAt z p more (if nat_le one.zxid z then count_after_all p one.changes n else n)

@@ -1,5 +1,6 @@
 -- What a history knows of each path: the versions of its node, in the order of the changes that made them.
-use Rattle.std.specs.Prelude.{ℕ, ℤ, pos, ◌≡◌, ◌<◌, ◌≤◌, ◌+◌, ◌-◌, nat_le, Bool, true, false, ◌||◌, if◌then◌else◌, List, [], ◌∷◌, ◌++◌, length, take, Option, Some, None, option_map, slice_get, is_some, ⊤, String}
+use Rattle.std.specs.Prelude.{ℕ, ℤ, pos, ◌≡◌, ◌<◌, ◌≤◌, ◌+◌, ◌-◌, nat_le, Bool, true, false, ◌||◌, if◌then◌else◌, List, [], ◌∷◌, ◌++◌}
+use Rattle.std.specs.Prelude.{length, take, Option, Some, None, option_map, slice_get, is_some, ⊤, String}
 use Rattle.std.specs.FinSet as set
 use Rattle.std.specs.Option.{option_map_or}
 use Rattle.std.specs.BTreeMap.{BTreeMap, get_by_text}
@@ -42,7 +43,8 @@ AreOrdered low (one ∷ more) high = (low ≤ one.zxid) × AreOrdered one.zxid m
 -- the root as it is before all changes
 abbrev pub first_entry : NodePath → Option Entry
 first_entry path =
-    if path_eq path [] then Some (record { origin = Root; czxid = 0; mzxid = 0; pzxid = 0; ctime = pos 0; mtime = pos 0; version = 0; owner = pos 0 }) else None
+    if path_eq path [] then Some
+    (record { origin = Root; czxid = 0; mzxid = 0; pzxid = 0; ctime = pos 0; mtime = pos 0; version = 0; owner = pos 0 }) else None
 
 -- the node of a path at a version, or before all
 abbrev pub entry_of : NodePath → Option Version → Option Entry
@@ -56,35 +58,62 @@ children_of (Some one) = one.children
 
 -- a new node
 abbrev pub entry_made : ℕ → ℤ → Origin → ℤ → Entry
-entry_made zxid time origin owner = record { origin = origin; czxid = zxid; mzxid = zxid; pzxid = zxid; ctime = time; mtime = time; version = 0; owner = owner }
+entry_made zxid time origin owner =
+    record { origin = origin; czxid = zxid; mzxid = zxid; pzxid = zxid; ctime = time; mtime = time; version = 0; owner = owner }
 
 -- a write of the data
 abbrev pub entry_written : ℕ → ℤ → Origin → Entry → Entry
 entry_written zxid time origin e =
-    record { origin = origin; czxid = e.czxid; mzxid = zxid; pzxid = e.pzxid; ctime = e.ctime; mtime = time; version = e.version + 1; owner = e.owner }
+    record {
+      origin = origin;
+      czxid = e.czxid;
+      mzxid = zxid;
+      pzxid = e.pzxid;
+      ctime = e.ctime;
+      mtime = time;
+      version = e.version + 1;
+      owner = e.owner;
+    }
 
 -- a change of the set of children
 abbrev pub entry_regrouped : ℕ → Entry → Entry
 entry_regrouped zxid e =
-    record { origin = e.origin; czxid = e.czxid; mzxid = e.mzxid; pzxid = zxid; ctime = e.ctime; mtime = e.mtime; version = e.version; owner = e.owner }
+    record {
+      origin = e.origin;
+      czxid = e.czxid;
+      mzxid = e.mzxid;
+      pzxid = zxid;
+      ctime = e.ctime;
+      mtime = e.mtime;
+      version = e.version;
+      owner = e.owner;
+    }
 
 -- the node at path p after a change that stands at an origin
 abbrev pub entry_after : ℕ → ℤ → Origin → NodePath → Change → Option Entry → Option Entry
 entry_after zxid time origin p (Creates [] content owner) held = held
 entry_after zxid time origin p (Creates (name ∷ path) content owner) held =
-    if path_eq p (name ∷ path) then Some (entry_made zxid time origin owner) else (if path_eq p path then option_map (entry_regrouped zxid) held else held)
+    if path_eq p (name ∷ path) then Some (entry_made zxid time origin owner)
+    else (if path_eq p path then option_map (entry_regrouped zxid) held else held)
 entry_after zxid time origin p (Sets path content) held = if path_eq p path then option_map (entry_written zxid time origin) held else held
 entry_after zxid time origin p (Deletes []) held = held
-entry_after zxid time origin p (Deletes (name ∷ path)) held = if path_eq p (name ∷ path) then None else (if path_eq p path then option_map (entry_regrouped zxid) held else held)
+entry_after zxid time origin p (Deletes (name ∷ path)) held =
+    if path_eq p (name ∷ path) then None else (if path_eq p path then option_map (entry_regrouped zxid) held else held)
 
 -- the version of path p that a change makes
 abbrev pub version_after : ℕ → ℤ → Origin → NodePath → Change → Option Version → Version
 version_after zxid time origin p change held =
-    record { zxid = zxid; origin = origin; entry = entry_after zxid time origin p change (entry_of p held); children = count_after p change (children_of held) }
+    record {
+      zxid = zxid;
+      origin = origin;
+      entry = entry_after zxid time origin p change (entry_of p held);
+      children = count_after p change (children_of held);
+    }
 
 -- the versions of the path of a text, with the one that a change makes
 abbrev pub with_version : ℕ → ℤ → Origin → Text → Change → List Version → List Version
-with_version zxid time origin text change versions = versions ++ version_after zxid time origin (path_of text) change (last_version versions) ∷ []
+with_version zxid time origin text change versions =
+    versions ++ version_after zxid time origin (path_of text) change (last_version versions) ∷ []
 
 -- a path is this one, or that of its parent; the root has none
 abbrev pub is_near : NodePath → NodePath → Bool
@@ -99,7 +128,8 @@ touches p (Deletes path) = is_near p path
 
 -- the versions of the path of a text after a change
 abbrev pub versions_after : ℕ → ℤ → Origin → Text → Change → List Version → List Version
-versions_after zxid time origin text change versions = if touches (path_of text) change then with_version zxid time origin text change versions else versions
+versions_after zxid time origin text change versions =
+    if touches (path_of text) change then with_version zxid time origin text change versions else versions
 
 -- the versions before that change
 abbrev pub versions_before : Text → Change → List Version → List Version
@@ -180,7 +210,8 @@ names_by p (Some change) names = children_after p change names
 -- the same after the changes that made versions, up to a zxid
 abbrev pub names_told : HistoryView → NodePath → ℕ → List Version → Names → Names
 names_told kept p z [] names = names
-names_told kept p z (one ∷ more) names = names_told kept p z more (if nat_le one.zxid z then names_by p (change_at kept one.origin) names else names)
+names_told kept p z (one ∷ more) names =
+    names_told kept p z more (if nat_le one.zxid z then names_by p (change_at kept one.origin) names else names)
 
 -- the changes that made versions stand where these say
 abbrev pub ArePlaced : HistoryView → List Version → Type 0
@@ -189,8 +220,11 @@ ArePlaced kept (one ∷ more) = (is_some (change_at kept one.origin) ≡ true) �
 
 -- The versions of each path tell what the history has there at each zxid.
 pub record IsIndexed (kept : HistoryView) (versions : Text → List Version) : Type 0 where
-  pub nodes : (text : Text) → IsPath text → (z : ℕ) → Tells kept (entry_of (path_of text) (version_at z (versions text) None)) (tree_at (history_of kept) z (path_of text))
-  pub counts : (text : Text) → IsPath text → (z : ℕ) → children_of (version_at z (versions text) None) ≡ count_at z (path_of text) kept.transactions (count_at 0 (path_of text) kept.nodes 0)
-  pub names : (text : Text) → IsPath text → (z : ℕ) → names_told kept (path_of text) z (versions text) set.empty ≡ children_at z (path_of text) kept.transactions (children_at 0 (path_of text) kept.nodes set.empty)
+  pub nodes : (text : Text) → IsPath text → (z : ℕ)
+      → Tells kept (entry_of (path_of text) (version_at z (versions text) None)) (tree_at (history_of kept) z (path_of text))
+  pub counts : (text : Text) → IsPath text → (z : ℕ) → children_of (version_at z (versions text) None)
+      ≡ count_at z (path_of text) kept.transactions (count_at 0 (path_of text) kept.nodes 0)
+  pub names : (text : Text) → IsPath text → (z : ℕ) → names_told kept (path_of text) z (versions text) set.empty
+      ≡ children_at z (path_of text) kept.transactions (children_at 0 (path_of text) kept.nodes set.empty)
   pub placed : (text : Text) → IsPath text → ArePlaced kept (versions text)
   pub ordered : (text : Text) → IsPath text → AreOrdered 0 (versions text) (newest 0 kept.transactions)

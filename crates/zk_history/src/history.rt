@@ -1,6 +1,7 @@
 //! The history of a data tree, and what each path held at each zxid.
 
-ghost use Rattle.std.specs.Prelude.{◌≡◌, ◌≢◌, ◌≤◌, ◌<◌, ◌<ℤ◌, ◌^◌, IfErr, pos, [], ◌∷◌, map, List, IfOk, OnOk, OnErr, MatchOption, Some, None, is_some, ℤ, ℕ, Option, slice_get};
+ghost use Rattle.std.specs.Prelude.{◌≡◌, ◌≢◌, ◌≤◌, ◌<◌, ◌<ℤ◌, ◌^◌, IfErr, pos, [], ◌∷◌, map, List, IfOk, OnOk, OnErr, MatchOption, Some};
+ghost use Rattle.std.specs.Prelude.{None, is_some, ℤ, ℕ, Option, slice_get};
 ghost use Rattle.std.specs.Option.{option_map, option_copied};
 ghost use Rattle.zk_nodes.specs.Path.{path_of, Name};
 ghost use Rattle.zk_nodes.specs.History.{view as view_of, tree_at, IsHistory, newest, Creates};
@@ -8,7 +9,8 @@ ghost use Rattle.zk_nodes.specs.declared.side.Side.TheVariants.{Data as OnData, 
 ghost use Rattle.zk_nodes.specs.PathFault.{IsPath};
 ghost use Rattle.zk_nodes.specs.Names.{Names as NameSet};
 ghost use Rattle.zk_history.specs.Replay.{count_at};
-ghost use Rattle.zk_history.specs.HistoryView.{history_of, empty_kept, newest_tree, newest_count, IsAccepted, with_change, with_transaction, with_node, natural, HasChildren, IsSound};
+ghost use Rattle.zk_history.specs.HistoryView.{history_of, empty_kept, newest_tree, newest_count, IsAccepted, with_change};
+ghost use Rattle.zk_history.specs.HistoryView.{with_transaction, with_node, natural, HasChildren, IsSound};
 ghost use Rattle.zk_history.specs.Versions.{Tells, entry_of, children_of, content_at as content_told};
 ghost use Rattle.zk_history.specs.Accepting.{accepts, can_rise};
 ghost use Rattle.zk_history.specs.Refused.{ChangeRefused, NodeRefused, BeginRefused};
@@ -67,8 +69,10 @@ impl<A: Allocator + Copy> Model for History<A> {
 
     ghost view = { λ h. record { nodes = map transaction_of h.nodes.items; transactions = map transaction_of h.transactions.items } };
 
-    ghost invariant = { λ h. IsSound (record { nodes = map transaction_of h.nodes.items; transactions = map transaction_of h.transactions.items })
-        × IsIndexed (record { nodes = map transaction_of h.nodes.items; transactions = map transaction_of h.transactions.items }) (versions_of h.versions) };
+    ghost invariant = { λ h.
+        IsSound (record { nodes = map transaction_of h.nodes.items; transactions = map transaction_of h.transactions.items })
+        × IsIndexed (record { nodes = map transaction_of h.nodes.items; transactions = map transaction_of h.transactions.items })
+        (versions_of h.versions) };
 }
 
 fn natural(z: i64) -> u64
@@ -102,7 +106,8 @@ impl<A: Allocator + Copy> History<A> {
     ) -> Result<(), HistoryFault>
         ensures ok { OnOk result (self.new ≡ with_node self.old (path_of path) (option_map (λ v. v.items) bytes) time) }
         ensures placed { OnOk result (self.old.transactions ≡ []) }
-        ensures accepted { OnOk result (IsAccepted (Creates (path_of path) (option_map (λ v. v.items) bytes) (pos 0)) (newest_tree self.old)) }
+        ensures accepted { OnOk result
+            (IsAccepted (Creates (path_of path) (option_map (λ v. v.items) bytes) (pos 0)) (newest_tree self.old)) }
         ensures refused { IfErr result (NodeRefused self.old (path_of path) (option_map (λ v. v.items) bytes)) }
         ensures err { OnErr result (self.new ≡ self.old) }
     {
@@ -181,7 +186,8 @@ impl<A: Allocator + Copy> History<A> {
     fn version(&self, z: u64, at: &str) -> Option<Version>
         requires { IsPath at.now }
         ensures node { Tells self.now (entry_of (path_of at.now) result) (tree_at (history_of self.now) z (path_of at.now)) }
-        ensures count { children_of result ≡ count_at z (path_of at.now) self.now.transactions (count_at 0 (path_of at.now) self.now.nodes 0) }
+        ensures count { children_of result
+            ≡ count_at z (path_of at.now) self.now.transactions (count_at 0 (path_of at.now) self.now.nodes 0) }
         ensures sound { IsSound self.now }
     {
         last_up_to(z, versions_at(&self.versions, at))
@@ -216,7 +222,8 @@ impl<A: Allocator + Copy> History<A> {
     // How many children a path has after the transactions up to a zxid.
     fn counted(&self, z: u64, at: &str) -> u32
         requires { IsPath at.now }
-        ensures counted { (names : NameSet) → HasChildren (tree_at (history_of self.now) z) (path_of at.now) names → result ≡ set.len names }
+        ensures counted { (names : NameSet) → HasChildren (tree_at (history_of self.now) z) (path_of at.now) names
+            → result ≡ set.len names }
         ensures few { result ≤ 2147483647 }
         ensures sound { IsSound self.now }
     {
@@ -226,7 +233,8 @@ impl<A: Allocator + Copy> History<A> {
     // The names of a path's children after the transactions up to a zxid.
     fn names(&self, z: u64, at: &str) -> Result<BTreeSet<String<A>, A>, AllocError>
         requires { IsPath at.now }
-        ensures { IfOk result (λ names. (name : Name) → contains_text names name ≡ is_some (tree_at (history_of self.now) z (name ∷ path_of at.now))) }
+        ensures { IfOk result
+            (λ names. (name : Name) → contains_text names name ≡ is_some (tree_at (history_of self.now) z (name ∷ path_of at.now))) }
     {
         let mut names = BTreeSet::new(self.alloc);
         names_after_versions(
@@ -256,7 +264,8 @@ impl<A: Allocator + Copy> History<A> {
 
     /// The n-th transaction, from 0 on: its zxid, its time and its changes.
     pub fn transaction(&self, n: usize) -> Option<(i64, i64, &[Change<A>])>
-        ensures { MatchOption result (slice_get self.now.transactions n ≡ None) (λ t. slice_get self.now.transactions n ≡ Some (transaction_told t.0 t.1 t.2.now)) }
+        ensures { MatchOption result (slice_get self.now.transactions n ≡ None)
+            (λ t. slice_get self.now.transactions n ≡ Some (transaction_told t.0 t.1 t.2.now)) }
     {
         if n < self.transactions.len() {
             let transaction = &self.transactions[n];
@@ -340,7 +349,8 @@ impl<A: Allocator + Copy> History<A> {
 
     // Whether a node may be made.
     fn takes_create(&self, path: &Path<A>, bytes: &Option<Vec<u8, A>>) -> bool
-        ensures { (owner : ℤ) → result ≡ accepts (newest_tree self.now) (newest_count self.now) (Creates (path_of path.now) (option_map (λ v. v.items) bytes.now) owner) }
+        ensures { (owner : ℤ) → result ≡ accepts (newest_tree self.now) (newest_count self.now)
+            (Creates (path_of path.now) (option_map (λ v. v.items) bytes.now) owner) }
     {
         match path.parent() {
             Some(parent) => {

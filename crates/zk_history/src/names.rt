@@ -71,7 +71,8 @@ fn names_after_nth<A: Allocator + Copy>(
     names: &mut BTreeSet<String<A>, A>,
 ) -> Result<(), AllocError>
     requires { IsPath at.now }
-    ensures { OnOk result (names_of names.new ≡ names_by (path_of at.now) (nth_change (slice_get (map transaction_of transactions.now) i) j) (names_of names.old)) }
+    ensures { OnOk result (names_of names.new
+        ≡ names_by (path_of at.now) (nth_change (slice_get (map transaction_of transactions.now) i) j) (names_of names.old)) }
 {
     if let Some(transaction) = transactions.get(i) {
         if let Some(change) = transaction.changes.get(j) {
@@ -91,7 +92,10 @@ fn names_after_origin<A: Allocator + Copy>(
     names: &mut BTreeSet<String<A>, A>,
 ) -> Result<(), AllocError>
     requires { IsPath at.now }
-    ensures { OnOk result (names_of names.new ≡ names_by (path_of at.now) (change_at (record { nodes = map transaction_of nodes.now; transactions = map transaction_of transactions.now }) origin) (names_of names.old)) }
+    ensures { OnOk result (names_of names.new ≡ names_by (path_of at.now) (change_at (record {
+      nodes = map transaction_of nodes.now;
+      transactions = map transaction_of transactions.now;
+    }) origin) (names_of names.old)) }
 {
     match origin {
         Origin::Root => Ok(()),
@@ -111,7 +115,10 @@ pub(crate) fn names_after_versions<A: Allocator + Copy>(
     names: &mut BTreeSet<String<A>, A>,
 ) -> Result<(), AllocError>
     requires { IsPath at.now }
-    ensures { OnOk result (names_of names.new ≡ names_told (record { nodes = map transaction_of nodes.now; transactions = map transaction_of transactions.now }) (path_of at.now) z versions.now (names_of names.old)) }
+    ensures { OnOk result (names_of names.new ≡ names_told (record {
+      nodes = map transaction_of nodes.now;
+      transactions = map transaction_of transactions.now;
+    }) (path_of at.now) z versions.now (names_of names.old)) }
 {
     for version in versions {
         if version.zxid <= z {

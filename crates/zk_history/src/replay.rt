@@ -89,7 +89,8 @@ fn after_create<A: Allocator>(
     found: Option<Entry>,
 ) -> Option<Entry>
     requires { IsPath at.now }
-    ensures { (content : Option (List ℕ)) → result ≡ entry_after zxid time origin (path_of at.now) (Creates (path_of path.now) content owner) found }
+    ensures { (content : Option (List ℕ))
+        → result ≡ entry_after zxid time origin (path_of at.now) (Creates (path_of path.now) content owner) found }
 {
     if path.is_root() {
         found

@@ -25,7 +25,8 @@ fn push_transaction<A: Allocator>(
     transactions: &mut Vec<Transaction<A>, A>,
     transaction: Transaction<A>,
 ) -> Result<(), AllocError>
-    ensures ok { OnOk result (map transaction_of transactions.new.items ≡ map transaction_of transactions.old.items ++ transaction_of transaction ∷ []) }
+    ensures ok { OnOk result
+        (map transaction_of transactions.new.items ≡ map transaction_of transactions.old.items ++ transaction_of transaction ∷ []) }
     ensures err { OnErr result (map transaction_of transactions.new.items ≡ map transaction_of transactions.old.items) }
 {
     transactions.push(transaction)?;
@@ -39,7 +40,8 @@ pub(crate) fn push_node<A: Allocator + Copy>(
     time: i64,
     change: Change<A>,
 ) -> Result<(), AllocFailed<Change<A>>>
-    ensures ok { OnOk result (map transaction_of nodes.new.items ≡ map transaction_of nodes.old.items ++ made_transaction 0 time (change_of change ∷ []) ∷ []) }
+    ensures ok { OnOk result
+        (map transaction_of nodes.new.items ≡ map transaction_of nodes.old.items ++ made_transaction 0 time (change_of change ∷ []) ∷ []) }
     ensures err { OnErr result (map transaction_of nodes.new.items ≡ map transaction_of nodes.old.items) }
     ensures back { IfErr result (λ failed. failed.value ≡ change) }
 {
@@ -60,7 +62,8 @@ pub(crate) fn push_empty<A: Allocator + Copy>(
     time: i64,
 ) -> Result<(), AllocError>
     requires { zxid < 2 ^ 63 }
-    ensures ok { OnOk result (map transaction_of transactions.new.items ≡ map transaction_of transactions.old.items ++ made_transaction zxid time [] ∷ []) }
+    ensures ok { OnOk result
+        (map transaction_of transactions.new.items ≡ map transaction_of transactions.old.items ++ made_transaction zxid time [] ∷ []) }
     ensures err { OnErr result (map transaction_of transactions.new.items ≡ map transaction_of transactions.old.items) }
 {
     push_transaction(transactions, new_transaction(zxid, time, Vec::new(alloc)))
@@ -83,7 +86,8 @@ pub(crate) fn push_change<A: Allocator>(
     change: Change<A>,
 ) -> Result<(), AllocFailed<Change<A>>>
     requires { 0 < length transactions.old.items }
-    ensures ok { OnOk result (map transaction_of transactions.new.items ≡ last_with (map transaction_of transactions.old.items) (change_of change)) }
+    ensures ok { OnOk result
+        (map transaction_of transactions.new.items ≡ last_with (map transaction_of transactions.old.items) (change_of change)) }
     ensures err { OnErr result (map transaction_of transactions.new.items ≡ map transaction_of transactions.old.items) }
     ensures back { IfErr result (λ failed. failed.value ≡ change) }
 {
@@ -132,7 +136,8 @@ pub(crate) fn content_at<A: Allocator>(
     i: usize,
     j: usize,
 ) -> Option<&[u8]>
-    ensures { (content : Option (List ℕ)) → content_in (nth_change (slice_get (map transaction_of transactions.now) i) j) ≡ Some content → option_copied result ≡ content }
+    ensures { (content : Option (List ℕ)) → content_in (nth_change (slice_get (map transaction_of transactions.now) i) j) ≡ Some content
+        → option_copied result ≡ content }
 {
     match transactions.get(i) {
         Some(transaction) => match transaction.changes.get(j) {

@@ -4,7 +4,8 @@ ghost use Rattle.std.specs.Prelude.{◌≡◌, ◌||◌, ◌∷◌, ◌++◌, []
 ghost use Rattle.zk_nodes.specs.Path.{Text, path_of, parent_of};
 ghost use Rattle.zk_nodes.specs.PathFault.{IsPath};
 ghost use Rattle.zk_history.specs.Made.{change_of};
-ghost use Rattle.zk_history.specs.Versions.{versions_of, versions_after, versions_before, with_version, is_near, version_at, last_version, without_last, CanBeNoted, AreOrdered};
+ghost use Rattle.zk_history.specs.Versions.{versions_of, versions_after, versions_before, with_version, is_near, version_at, last_version};
+ghost use Rattle.zk_history.specs.Versions.{without_last, CanBeNoted, AreOrdered};
 
 use crate::change::Change;
 use crate::replay::version_after;
@@ -23,7 +24,8 @@ fn push_version<A: Allocator + Copy>(
     at: &str,
     version: Version,
 ) -> Result<(), AllocError>
-    ensures ok { OnOk result ((text : Text) → versions_of versions.new text ≡ (if bytes_eq at.now text then versions_of versions.old text ++ version ∷ [] else versions_of versions.old text)) }
+    ensures ok { OnOk result ((text : Text) → versions_of versions.new text
+        ≡ (if bytes_eq at.now text then versions_of versions.old text ++ version ∷ [] else versions_of versions.old text)) }
     ensures err { OnErr result ((text : Text) → versions_of versions.new text ≡ versions_of versions.old text) }
 {
     if let Some(held) = versions.get_mut(at) {
@@ -38,7 +40,8 @@ fn push_version<A: Allocator + Copy>(
 
 // Takes the last version of a text away.
 fn pop_version<A: Allocator>(versions: &mut Versions<A>, at: &str)
-    ensures { (text : Text) → versions_of versions.new text ≡ (if bytes_eq at.now text then without_last (versions_of versions.old text) else versions_of versions.old text) }
+    ensures { (text : Text) → versions_of versions.new text
+        ≡ (if bytes_eq at.now text then without_last (versions_of versions.old text) else versions_of versions.old text) }
 {
     if let Some(held) = versions.get_mut(at) {
         let _ = held.pop();
@@ -89,7 +92,8 @@ fn note_at<A: Allocator + Copy>(
 ) -> Result<(), AllocError>
     requires path { IsPath at.now }
     requires fits { CanBeNoted (path_of at.now) (change_of change.now) (last_version (versions_of versions.old at.now)) }
-    ensures ok { OnOk result ((text : Text) → versions_of versions.new text ≡ (if bytes_eq at.now text then with_version spot.zxid spot.time spot.origin text (change_of change.now) (versions_of versions.old text) else versions_of versions.old text)) }
+    ensures ok { OnOk result ((text : Text) → versions_of versions.new text ≡ (if bytes_eq at.now text then with_version spot.zxid spot.time
+        spot.origin text (change_of change.now) (versions_of versions.old text) else versions_of versions.old text)) }
     ensures err { OnErr result ((text : Text) → versions_of versions.new text ≡ versions_of versions.old text) }
 {
     let held = last_of(versions_at(versions, at));
@@ -108,8 +112,11 @@ fn note_both<A: Allocator + Copy>(
     requires path { IsPath at.now }
     requires above { IsPath parent.now }
     requires below { parent_of (path_of at.now) ≡ Some (path_of parent.now) }
-    requires fits { (text : Text) → IsPath text → CanBeNoted (path_of text) (change_of change.now) (last_version (versions_of versions.old text)) }
-    ensures ok { OnOk result ((text : Text) → versions_of versions.new text ≡ (if (bytes_eq at.now text || bytes_eq parent.now text) then with_version spot.zxid spot.time spot.origin text (change_of change.now) (versions_of versions.old text) else versions_of versions.old text)) }
+    requires fits { (text : Text) → IsPath text
+        → CanBeNoted (path_of text) (change_of change.now) (last_version (versions_of versions.old text)) }
+    ensures ok { OnOk result
+        ((text : Text) → versions_of versions.new text ≡ (if (bytes_eq at.now text || bytes_eq parent.now text) then with_version spot.zxid
+        spot.time spot.origin text (change_of change.now) (versions_of versions.old text) else versions_of versions.old text)) }
     ensures err { OnErr result ((text : Text) → versions_of versions.new text ≡ versions_of versions.old text) }
 {
     note_at(alloc, versions, spot, change, at)?;
@@ -128,8 +135,11 @@ fn note_near<A: Allocator + Copy>(
     change: &Change<A>,
     path: &Path<A>,
 ) -> Result<(), AllocError>
-    requires fits { (text : Text) → IsPath text → CanBeNoted (path_of text) (change_of change.now) (last_version (versions_of versions.old text)) }
-    ensures ok { OnOk result ((text : Text) → IsPath text → versions_of versions.new text ≡ (if is_near (path_of text) (path_of path.now) then with_version spot.zxid spot.time spot.origin text (change_of change.now) (versions_of versions.old text) else versions_of versions.old text)) }
+    requires fits { (text : Text) → IsPath text
+        → CanBeNoted (path_of text) (change_of change.now) (last_version (versions_of versions.old text)) }
+    ensures ok { OnOk result
+        ((text : Text) → IsPath text → versions_of versions.new text ≡ (if is_near (path_of text) (path_of path.now) then with_version
+        spot.zxid spot.time spot.origin text (change_of change.now) (versions_of versions.old text) else versions_of versions.old text)) }
     ensures err { OnErr result ((text : Text) → versions_of versions.new text ≡ versions_of versions.old text) }
 {
     match path.parent() {
@@ -145,8 +155,10 @@ pub(crate) fn note<A: Allocator + Copy>(
     spot: Spot,
     change: &Change<A>,
 ) -> Result<(), AllocError>
-    requires fits { (text : Text) → IsPath text → CanBeNoted (path_of text) (change_of change.now) (last_version (versions_of versions.old text)) }
-    ensures ok { OnOk result ((text : Text) → IsPath text → versions_of versions.new text ≡ versions_after spot.zxid spot.time spot.origin text (change_of change.now) (versions_of versions.old text)) }
+    requires fits { (text : Text) → IsPath text
+        → CanBeNoted (path_of text) (change_of change.now) (last_version (versions_of versions.old text)) }
+    ensures ok { OnOk result ((text : Text) → IsPath text → versions_of versions.new text
+        ≡ versions_after spot.zxid spot.time spot.origin text (change_of change.now) (versions_of versions.old text)) }
     ensures err { OnErr result ((text : Text) → versions_of versions.new text ≡ versions_of versions.old text) }
 {
     match change {
@@ -158,7 +170,8 @@ pub(crate) fn note<A: Allocator + Copy>(
 
 // Takes the versions away that the creation or the deletion of a path made last.
 fn forget_near<A: Allocator>(versions: &mut Versions<A>, path: &Path<A>)
-    ensures { (text : Text) → IsPath text → versions_of versions.new text ≡ (if is_near (path_of text) (path_of path.now) then without_last (versions_of versions.old text) else versions_of versions.old text) }
+    ensures { (text : Text) → IsPath text → versions_of versions.new text ≡ (if is_near (path_of text) (path_of path.now)
+        then without_last (versions_of versions.old text) else versions_of versions.old text) }
 {
     if let Some(parent) = path.parent() {
         pop_version(versions, path.as_str());
@@ -168,7 +181,8 @@ fn forget_near<A: Allocator>(versions: &mut Versions<A>, path: &Path<A>)
 
 // Takes the versions away that a change made last.
 pub(crate) fn forget<A: Allocator>(versions: &mut Versions<A>, change: &Change<A>)
-    ensures { (text : Text) → IsPath text → versions_of versions.new text ≡ versions_before text (change_of change.now) (versions_of versions.old text) }
+    ensures { (text : Text) → IsPath text
+        → versions_of versions.new text ≡ versions_before text (change_of change.now) (versions_of versions.old text) }
 {
     match change {
         Change::Create(path, _, _) => forget_near(versions, path),

@@ -17,7 +17,8 @@ open_phase Ended up = let e : false ≡ true = up in cc
 
 pub bench_takes : BenchTakes
 bench_takes served bytes up =
-    ap (λ requests. record (shown_of served) { requests = requests }) (sym (ap (λ phase. more_requests phase served.connection.requests bytes) (open_phase served.connection.phase up)))
+    ap (λ requests. record (shown_of served) { requests = requests })
+    (sym (ap (λ phase. more_requests phase served.connection.requests bytes) (open_phase served.connection.phase up)))
 
 pub bench_gives : BenchGives
 bench_gives served most = (sym (take-append-drop most served.connection.output), refl)
@@ -39,4 +40,5 @@ bench_processes old new payload rest up whole small history goes_on does =
     }))
 
 pub bench_ends : BenchEnds
-bench_ends served = inr (inr (record { goes_on = record { first = refl; more = []; transactions = sym (append-nil _) }; over = refl; output = refl }))
+bench_ends served =
+    inr (inr (record { goes_on = record { first = refl; more = []; transactions = sym (append-nil _) }; over = refl; output = refl }))

@@ -1,11 +1,13 @@
 -- What an agent makes of what its client takes: the connection gets what is sent, and goes where the agent lets it go.
-use Rattle.std.proofs.Common.{◌≡◌, ◌≤◌, ◌++◌, ◌∙◌, ℕ, Bool, true, false, ◌&&◌, List, [], ◌∷◌, length, map, ap, append-nil, append_assoc, refl, sym, subst}
+use Rattle.std.proofs.Common.{◌≡◌, ◌≤◌, ◌++◌, ◌∙◌, ℕ, Bool, true, false, ◌&&◌, List, [], ◌∷◌, length, map, ap, append-nil, append_assoc}
+use Rattle.std.proofs.Common.{refl, sym, subst}
 use Rattle.std.specs.Prelude.{fold, slice_index_or}
 use Rattle.std.specs.List.{flat_map, list_any, AllByRecursion, FoldsTo}
 use Rattle.std.proofs.lemmas.List.Sums.{fold-append}
 use Rattle.zk_session.specs.declared.states.State.{State}
 use Rattle.zk_conversation.specs.Calls.{Call}
-use Rattle.zk_turns.specs.Turns.{Output, Send, Answer, Report, Enters, Drop, Input, Turn, Bytes, Cut, Now, Call as Calling, Opened as Opening}
+use Rattle.zk_turns.specs.Turns.{Output, Send, Answer, Report, Enters, Drop, Input, Turn, Bytes, Cut, Now, Call as Calling}
+use Rattle.zk_turns.specs.Turns.{Opened as Opening}
 use Rattle.zk_turns.specs.View.{View}
 use Rattle.zk_turns.specs.Rule.{Rule}
 use Rattle.zk_turns.proofs.Cases.{by_cond}
@@ -27,7 +29,8 @@ use Rattle.zk_driver.specs.Driving.{carried, ChannelView}
 use Rattle.theory_serving.specs.Shown.{connected, sent_in, EndsNothing, Shown}
 use Rattle.theory_serving.specs.Wires.{is_up}
 use Rattle.zk_served.specs.Asking.{HearsFit, IsFitInput}
-use Rattle.zk_served.proofs.Turned.{bytes_kept, call_kept, cut_down, cut_kept, down_silent, ends_more, let_go, now_kept, opened_ends, opened_kept, sent_more, stays_down, stays_up, IsSilent, IsWithin, Kept, StaysUp}
+use Rattle.zk_served.proofs.Turned.{bytes_kept, call_kept, cut_down, cut_kept, down_silent, ends_more, let_go, now_kept, opened_ends}
+use Rattle.zk_served.proofs.Turned.{opened_kept, sent_more, stays_down, stays_up, IsSilent, IsWithin, Kept, StaysUp}
 use Rattle.zk_served.proofs.Unlost.{any_both, none_over, turn_unlost, IsMuteInput}
 
 -- a function, where what it is of comes before it
@@ -47,9 +50,11 @@ ended_one channel (ending.LostOf ticket) one = refl
 
 ended_all : (channel : ChannelView) (ending : Ending) (list : List Ended) → fold carried channel (map (ended_told ending) list) ≡ channel
 ended_all channel ending [] = refl
-ended_all channel ending (one ∷ more) = ap (λ c. fold carried c (map (ended_told ending) more)) (ended_one channel ending one) ∙ ended_all channel ending more
+ended_all channel ending (one ∷ more) =
+    ap (λ c. fold carried c (map (ended_told ending) more)) (ended_one channel ending one) ∙ ended_all channel ending more
 
-pub endings_keep : {A : Type 0} (channel : ChannelView) (ending : Ending) (entries : List (Entry A)) → fold carried channel (endings ending entries) ≡ channel
+pub endings_keep : {A : Type 0} (channel : ChannelView) (ending : Ending) (entries : List (Entry A))
+    → fold carried channel (endings ending entries) ≡ channel
 endings_keep channel ending entries = ended_all channel ending (map ended_of (ended ending entries))
 
 closed_all : (channel : ChannelView) (list : List Ended) → fold carried channel (map closed_told list) ≡ channel
@@ -63,16 +68,19 @@ news_keep : (channel : ChannelView) (news : List (ℕ × News)) → fold carried
 news_keep channel [] = refl
 news_keep channel (one ∷ more) = news_keep channel more
 
-two_keep : (channel : ChannelView) (first second : List Told) → fold carried channel first ≡ channel → fold carried channel second ≡ channel → fold carried channel (first ++ second) ≡ channel
+two_keep : (channel : ChannelView) (first second : List Told)
+    → fold carried channel first ≡ channel → fold carried channel second ≡ channel → fold carried channel (first ++ second) ≡ channel
 two_keep channel first second a b = fold-append carried channel first second ∙ ap (λ c. fold carried c second) a ∙ b
 
 none_sent : (channel : ChannelView) → channel ≡ sends channel []
 none_sent channel = ap (λ unsent. record channel { unsent = unsent }) (sym (append-nil channel.unsent))
 
-then_tells : (channel : ChannelView) (first rest : List Told) → fold carried channel first ≡ channel → fold carried channel (first ++ rest) ≡ fold carried channel rest
+then_tells : (channel : ChannelView) (first rest : List Told)
+    → fold carried channel first ≡ channel → fold carried channel (first ++ rest) ≡ fold carried channel rest
 then_tells channel first rest a = fold-append carried channel first rest ∙ ap (λ c. fold carried c rest) a
 
-pub tells_sent : {A : Type 0} (channel : ChannelView) (entries : List (Entry A)) (outputs : List Output) → fold carried channel (tells_all entries outputs) ≡ sends channel outputs
+pub tells_sent : {A : Type 0} (channel : ChannelView) (entries : List (Entry A)) (outputs : List Output)
+    → fold carried channel (tells_all entries outputs) ≡ sends channel outputs
 tells_sent channel entries [] = none_sent channel
 tells_sent channel entries (Send bytes ∷ outputs) =
     tells_sent (record channel { unsent = channel.unsent ++ bytes }) (hears entries (Send bytes)) outputs
@@ -80,7 +88,8 @@ tells_sent channel entries (Send bytes ∷ outputs) =
 tells_sent channel entries (Answer ticket outcome ∷ outputs) =
     then_tells channel (tells entries (Answer ticket outcome)) (tells_all (hears entries (Answer ticket outcome)) outputs)
     (two_keep channel (answers ticket outcome entries) (endings (ending.LostOf ticket) (answered ticket outcome entries))
-    (by_cond (λ told. fold carried channel told ≡ channel) (settles ticket outcome entries) (Says (Answer ticket outcome) ∷ []) [] refl refl)
+    (by_cond (λ told. fold carried channel told ≡ channel) (settles ticket outcome entries)
+    (Says (Answer ticket outcome) ∷ []) [] refl refl)
     (endings_keep channel (ending.LostOf ticket) (answered ticket outcome entries)))
     ∙ tells_sent channel (hears entries (Answer ticket outcome)) outputs
 tells_sent channel entries (Enters state ∷ outputs) =
@@ -98,7 +107,8 @@ left_by channel trail = fold carried channel trail.told
 abbrev pub At : {A : Type 0} → ChannelView → List ℕ → Shown → Trail A → Type 0
 At channel held shown trail = Kept trail.view (left_by channel trail).is_open (left_by channel trail).unsent held shown
 
-noted_phase : {A : Type 0} (timeout now : ℕ) (state : State) (ends_row : Bool) (dialler : Dialler A) → (noted timeout now state (row_after ends_row dialler)).phase ≡ dialler.phase
+noted_phase : {A : Type 0} (timeout now : ℕ) (state : State) (ends_row : Bool) (dialler : Dialler A)
+    → (noted timeout now state (row_after ends_row dialler)).phase ≡ dialler.phase
 noted_phase {A} timeout now state ends_row dialler =
     by_cond (λ (d : Dialler A). d.phase ≡ dialler.phase) (is_connected state) _ (row_after ends_row dialler) row row
   where
@@ -124,7 +134,8 @@ module _ {A : Type 0} (channel : ChannelView) (now : ℕ) (input : Input) (old n
       news : List (ℕ × News)
       news = flat_map (news_in new.view given) hears.takes.stepped
 
-  at_after : (held : List ℕ) (shown : Shown) → Kept new.view (left_by channel old).is_open ((left_by channel old).unsent ++ sent_in given) held shown → At channel held shown new
+  at_after : (held : List ℕ) (shown : Shown)
+      → Kept new.view (left_by channel old).is_open ((left_by channel old).unsent ++ sent_in given) held shown → At channel held shown new
   at_after held shown kept = by (hears.heard.is_over && is_open dialler.phase) hears.lets_go
     where
       before : Kept new.view (fold carried channel hears.told).is_open (fold carried channel hears.told).unsent held shown
@@ -133,12 +144,15 @@ module _ {A : Type 0} (channel : ChannelView) (now : ℕ) (input : Input) (old n
       dialler : Dialler A
       dialler = noted new.view.saved.session.timeout now new.view.standing.state (row_after hears.heard.ends_row old.dialler)
 
-      by : (is_there : Bool) → LetsGoWhere is_there new.view.saved.session.timeout now dialler new.dialler hears.told new.told → At channel held shown new
+      by : (is_there : Bool) → LetsGoWhere is_there new.view.saved.session.timeout now dialler new.dialler hears.told new.told
+          → At channel held shown new
       by true goes =
           subst (λ (c : ChannelView). Kept new.view c.is_open c.unsent held shown)
           (sym (ap (fold carried channel) goes.1 ∙ fold-append carried channel hears.told (HangsUp ∷ [])))
-          (let_go new.view (fold carried channel hears.told).is_open (fold carried channel hears.told).unsent held [] shown shown before refl)
-      by false goes = subst (λ told. Kept new.view (fold carried channel told).is_open (fold carried channel told).unsent held shown) (sym goes.1) before
+          (let_go new.view (fold carried channel hears.told).is_open (fold carried channel hears.told).unsent held []
+          shown shown before refl)
+      by false goes = subst (λ told. Kept new.view (fold carried channel told).is_open (fold carried channel told).unsent held shown)
+          (sym goes.1) before
 
   -- a connection that is not over is not let go
   phase_after : list_any is_over given ≡ false → new.dialler.phase ≡ old.dialler.phase
@@ -153,7 +167,9 @@ module _ {A : Type 0} (channel : ChannelView) (now : ℕ) (input : Input) (old n
       not_over : (hears.heard.is_over && is_open dialler.phase) ≡ false
       not_over = ap (λ b. b && is_open dialler.phase) (ap_at hears.heard (heard_in given) (λ h. h.is_over) hears.takes.heard ∙ over)
 
-      by : (is_there : Bool) → is_there ≡ false → LetsGoWhere is_there new.view.saved.session.timeout now dialler new.dialler hears.told new.told → new.dialler.phase ≡ dialler.phase
+      by : (is_there : Bool) → is_there ≡ false
+          → LetsGoWhere is_there new.view.saved.session.timeout now dialler new.dialler hears.told new.told
+          → new.dialler.phase ≡ dialler.phase
       by true is goes = let e : true ≡ false = is in cc
       by false is goes = ap (λ (d : Dialler A). d.phase) goes.0
 
@@ -164,45 +180,60 @@ abbrev as_call : Turn → ℕ → Call → Turn
 as_call turn ticket call = record { input = Calling ticket call; outputs = turn.outputs }
 
 -- What turns leave of a client that was kept: it is kept, and where it has a connection then, it had one and nothing was ended.
-pub record TurnsKeep (view after : View) (is_there : Bool) (unsent then_held : List ℕ) (shown : Shown) (outputs : List Output) : Type 0 where
+pub record TurnsKeep (view after : View) (is_there : Bool) (unsent then_held : List ℕ) (shown : Shown)
+    (outputs : List Output) : Type 0 where
   pub kept : Kept after is_there (unsent ++ sent_in outputs) then_held shown
   pub ups : is_up after ≡ true → StaysUp view outputs
   pub downs : is_up view ≡ false → (is_up after ≡ false) × IsSilent outputs
 
-no_turn : (view : View) (is_there : Bool) (unsent held : List ℕ) (shown : Shown) → Kept view is_there unsent held shown → TurnsKeep view view is_there unsent held shown []
+no_turn : (view : View) (is_there : Bool) (unsent held : List ℕ) (shown : Shown)
+    → Kept view is_there unsent held shown → TurnsKeep view view is_there unsent held shown []
 no_turn view is_there unsent held shown k = record {
   kept = subst (λ sent. Kept view is_there sent held shown) (sym (append-nil unsent)) k;
   ups = λ up. record { up = up; ends = tt };
   downs = λ down. (down, record { sends = refl; ends = tt });
 }
 
-turns_on : (view between after : View) (is_there : Bool) (unsent held then_held : List ℕ) (shown : Shown) (first second : List Output) → TurnsKeep view between is_there unsent held shown first
-    → TurnsKeep between after is_there (unsent ++ sent_in first) then_held shown second → TurnsKeep view after is_there unsent then_held shown (first ++ second)
+turns_on : (view between after : View) (is_there : Bool) (unsent held then_held : List ℕ) (shown : Shown) (first second : List Output)
+    → TurnsKeep view between is_there unsent held shown first
+    → TurnsKeep between after is_there (unsent ++ sent_in first) then_held shown second
+    → TurnsKeep view after is_there unsent then_held shown (first ++ second)
 turns_on view between after is_there unsent held then_held shown first second a b = record {
-  kept = subst (λ sent. Kept after is_there sent then_held shown) (append_assoc unsent (sent_in first) (sent_in second) ∙ ap (λ sent. unsent ++ sent) (sym (sent_more first second))) b.kept;
-  ups = λ up. let later = b.ups up in let earlier = a.ups later.up in record { up = earlier.up; ends = ends_more first second earlier.ends later.ends };
+  kept = subst (λ sent. Kept after is_there sent then_held shown)
+      (append_assoc unsent (sent_in first) (sent_in second) ∙ ap (λ sent. unsent ++ sent) (sym (sent_more first second))) b.kept;
+  ups = λ up. let later = b.ups up in let earlier = a.ups later.up in
+      record { up = earlier.up; ends = ends_more first second earlier.ends later.ends };
   downs = λ down.
       let earlier = a.downs down in
-      let later = b.downs earlier.0 in
-      (later.0, record { sends = sent_more first second ∙ ap (λ sent. sent ++ sent_in second) earlier.1.sends ∙ later.1.sends; ends = ends_more first second earlier.1.ends later.1.ends });
+      let later = b.downs earlier.0 in (
+        later.0,
+        record {
+          sends = sent_more first second ∙ ap (λ sent. sent ++ sent_in second) earlier.1.sends ∙ later.1.sends;
+          ends = ends_more first second earlier.1.ends later.1.ends;
+        },
+      );
 }
 
 -- one turn with which no connection begins
-one_turn_keeps : (view after : View) (is_there : Bool) (unsent held then_held : List ℕ) (shown : Shown) (input : Input) (outputs : List Output) (k : Kept view is_there unsent held shown)
-    → Rule view (record { input = input; outputs = outputs }) after → IsWithin input → Kept after is_there (unsent ++ sent_in outputs) then_held shown → TurnsKeep view after is_there unsent then_held shown outputs
+one_turn_keeps : (view after : View) (is_there : Bool) (unsent held then_held : List ℕ) (shown : Shown) (input : Input)
+    (outputs : List Output) (k : Kept view is_there unsent held shown)
+    → Rule view (record { input = input; outputs = outputs }) after → IsWithin input
+    → Kept after is_there (unsent ++ sent_in outputs) then_held shown → TurnsKeep view after is_there unsent then_held shown outputs
 one_turn_keeps view after is_there unsent held then_held shown input outputs k rule within kept = record {
   kept = kept;
   ups = λ up. stays_up view after k.met k.was input outputs rule within up;
   downs = λ down. (stays_down view after k.met k.was input outputs rule within down, down_silent view after input outputs rule within down);
 }
 
-reads_keep : {A : Type 0} (subjects : List (Subject A)) (turns : List Turn) (view after : View) (is_there : Bool) (unsent held : List ℕ) (shown : Shown) → AreReads subjects turns
+reads_keep : {A : Type 0} (subjects : List (Subject A)) (turns : List Turn) (view after : View) (is_there : Bool) (unsent held : List ℕ)
+    (shown : Shown) → AreReads subjects turns
     → AllByRecursion (λ (turn : Turn). IsFitInput turn.input) turns → FoldsTo Rule view turns after → Kept view is_there unsent held shown
     → TurnsKeep view after is_there unsent held shown (outputs_in turns)
 reads_keep subjects [] view after is_there unsent held shown reads fits same k =
     subst (λ v. TurnsKeep view v is_there unsent held shown []) same (no_turn view is_there unsent held shown k)
 reads_keep subjects (turn ∷ turns) view after is_there unsent held shown reads fits chain k =
-    turns_on view chain.0 after is_there unsent held held shown turn.outputs (outputs_in turns) one (reads_keep subjects turns chain.0 after is_there (unsent ++ sent_in turn.outputs) held shown reads.1 fits.1 chain.2 one.kept)
+    turns_on view chain.0 after is_there unsent held held shown turn.outputs (outputs_in turns) one
+    (reads_keep subjects turns chain.0 after is_there (unsent ++ sent_in turn.outputs) held shown reads.1 fits.1 chain.2 one.kept)
   where
     ticket : ℕ
     ticket = (slice_index_or subjects reads.0.0 reads.0.1).ticket
@@ -220,12 +251,14 @@ reads_keep subjects (turn ∷ turns) view after is_there unsent held shown reads
     one = one_turn_keeps view chain.0 is_there unsent held held shown (Calling ticket call) turn.outputs k rule tt
         (call_kept view chain.0 is_there unsent held shown k ticket call turn.outputs fit.0 fit.1 rule)
 
-reads_unlost : {A : Type 0} (subjects : List (Subject A)) (turns : List Turn) (view after : View) → AreReads subjects turns → FoldsTo Rule view turns after
+reads_unlost : {A : Type 0} (subjects : List (Subject A)) (turns : List Turn) (view after : View)
+    → AreReads subjects turns → FoldsTo Rule view turns after
     → list_any is_lost (outputs_in turns) ≡ false
 reads_unlost subjects [] view after reads same = refl
 reads_unlost subjects (turn ∷ turns) view after reads chain =
     any_both is_lost turn.outputs (outputs_in turns)
-    (turn_unlost view chain.0 turn.input turn.outputs chain.1 (subst IsMuteInput (sym reads.0.4.1) tt)) (reads_unlost subjects turns chain.0 after reads.1 chain.2)
+    (turn_unlost view chain.0 turn.input turn.outputs chain.1 (subst IsMuteInput (sym reads.0.4.1) tt))
+    (reads_unlost subjects turns chain.0 after reads.1 chain.2)
 
 -- ---- the client takes an input
 
@@ -234,19 +267,26 @@ abbrev pub IsHanded : Input → (held then_held : List ℕ) → Type 0
 IsHanded (Bytes bytes) held then_held = (bytes ≡ held) × (then_held ≡ [])
 IsHanded input held then_held = then_held ≡ held
 
-input_keeps : (view after : View) (is_there : Bool) (unsent held then_held : List ℕ) (shown : Shown) (input : Input) (outputs : List Output) → Kept view is_there unsent held shown
-    → Rule view (record { input = input; outputs = outputs }) after → IsWithin input → IsFitInput input → IsHanded input held then_held → Kept after is_there (unsent ++ sent_in outputs) then_held shown
+input_keeps : (view after : View) (is_there : Bool) (unsent held then_held : List ℕ) (shown : Shown) (input : Input) (outputs : List Output)
+    → Kept view is_there unsent held shown
+    → Rule view (record { input = input; outputs = outputs }) after → IsWithin input → IsFitInput input → IsHanded input held then_held
+    → Kept after is_there (unsent ++ sent_in outputs) then_held shown
 input_keeps view after is_there unsent held then_held shown Opening outputs k rule within fit is = absurd within
 input_keeps view after is_there unsent held then_held shown (Bytes bytes) outputs k rule within fit is =
     subst (λ h. Kept after is_there (unsent ++ sent_in outputs) h shown) (sym is.1)
-    (bytes_kept view after is_there unsent held shown k outputs (subst (λ b. Rule view (record { input = Bytes b; outputs = outputs }) after) is.0 rule))
-input_keeps view after is_there unsent held then_held shown Cut outputs k rule within fit is = cut_kept view after is_there unsent held shown k outputs (unsent ++ sent_in outputs) then_held rule
+    (bytes_kept view after is_there unsent held shown k outputs
+    (subst (λ b. Rule view (record { input = Bytes b; outputs = outputs }) after) is.0 rule))
+input_keeps view after is_there unsent held then_held shown Cut outputs k rule within fit is =
+    cut_kept view after is_there unsent held shown k outputs (unsent ++ sent_in outputs) then_held rule
 input_keeps view after is_there unsent held then_held shown (Now moment) outputs k rule within fit is =
-    subst (λ h. Kept after is_there (unsent ++ sent_in outputs) h shown) (sym is) (now_kept view after is_there unsent held shown k moment outputs rule)
+    subst (λ h. Kept after is_there (unsent ++ sent_in outputs) h shown) (sym is)
+    (now_kept view after is_there unsent held shown k moment outputs rule)
 input_keeps view after is_there unsent held then_held shown (Calling ticket call) outputs k rule within fit is =
-    subst (λ h. Kept after is_there (unsent ++ sent_in outputs) h shown) (sym is) (call_kept view after is_there unsent held shown k ticket call outputs fit.0 fit.1 rule)
+    subst (λ h. Kept after is_there (unsent ++ sent_in outputs) h shown) (sym is)
+    (call_kept view after is_there unsent held shown k ticket call outputs fit.0 fit.1 rule)
 
-module _ {A : Type 0} (channel : ChannelView) (now : ℕ) (input : Input) (old new : Trail A) (hears : HearsSo now input old new) (held then_held : List ℕ) (shown : Shown) (fits : HearsFit now input old new hears)
+module _ {A : Type 0} (channel : ChannelView) (now : ℕ) (input : Input) (old new : Trail A) (hears : HearsSo now input old new)
+    (held then_held : List ℕ) (shown : Shown) (fits : HearsFit now input old new hears)
     (k : At channel held shown old) where
   abbrev first : List Output
   first = hears.takes.steps.first
@@ -261,39 +301,52 @@ module _ {A : Type 0} (channel : ChannelView) (now : ℕ) (input : Input) (old n
   taken_second = hears.takes.steps.chain.2.0
 
   now_turn : TurnsKeep old.view told_first (left_by channel old).is_open (left_by channel old).unsent held shown first
-  now_turn = one_turn_keeps old.view told_first (left_by channel old).is_open (left_by channel old).unsent held held shown (Now now) first k hears.takes.steps.chain.1 tt
-      (now_kept old.view told_first (left_by channel old).is_open (left_by channel old).unsent held shown k now first hears.takes.steps.chain.1)
+  now_turn = one_turn_keeps old.view told_first (left_by channel old).is_open (left_by channel old).unsent held held shown
+      (Now now) first k hears.takes.steps.chain.1 tt
+      (now_kept old.view told_first
+      (left_by channel old).is_open (left_by channel old).unsent held shown k now first hears.takes.steps.chain.1)
 
   -- the whole, where no connection begins
-  pub within_keeps : IsWithin input → IsHanded input held then_held → TurnsKeep old.view new.view (left_by channel old).is_open (left_by channel old).unsent then_held shown hears.takes.given
+  pub within_keeps : IsWithin input → IsHanded input held then_held
+      → TurnsKeep old.view new.view (left_by channel old).is_open (left_by channel old).unsent then_held shown hears.takes.given
   within_keeps within is =
-      subst (λ given. TurnsKeep old.view new.view (left_by channel old).is_open (left_by channel old).unsent then_held shown given) (sym hears.takes.steps.said)
-      (turns_on old.view taken_second new.view (left_by channel old).is_open (left_by channel old).unsent then_held then_held shown (first ++ second) (outputs_in hears.takes.steps.calls) two
-      (reads_keep old.subjects hears.takes.steps.calls taken_second new.view (left_by channel old).is_open ((left_by channel old).unsent ++ sent_in (first ++ second)) then_held shown hears.takes.steps.reads fits.1
+      subst (λ given. TurnsKeep old.view new.view (left_by channel old).is_open (left_by channel old).unsent then_held shown given)
+      (sym hears.takes.steps.said)
+      (turns_on old.view taken_second new.view (left_by channel old).is_open (left_by channel old).unsent then_held then_held shown
+      (first ++ second) (outputs_in hears.takes.steps.calls) two
+      (reads_keep old.subjects hears.takes.steps.calls taken_second new.view (left_by channel
+      old).is_open ((left_by channel old).unsent ++ sent_in (first ++ second)) then_held shown hears.takes.steps.reads fits.1
       hears.takes.steps.chain.2.2 two.kept))
     where
-      input_turn : TurnsKeep told_first taken_second (left_by channel old).is_open ((left_by channel old).unsent ++ sent_in first) then_held shown second
-      input_turn = one_turn_keeps told_first taken_second (left_by channel old).is_open ((left_by channel old).unsent ++ sent_in first) held then_held shown input second now_turn.kept hears.takes.steps.chain.2.1 within
-          (input_keeps told_first taken_second (left_by channel old).is_open ((left_by channel old).unsent ++ sent_in first) held then_held shown input second now_turn.kept hears.takes.steps.chain.2.1 within fits.0 is)
+      input_turn : TurnsKeep told_first taken_second
+          (left_by channel old).is_open ((left_by channel old).unsent ++ sent_in first) then_held shown second
+      input_turn = one_turn_keeps told_first taken_second (left_by channel old).is_open ((left_by channel old).unsent ++ sent_in first) held
+          then_held shown input second now_turn.kept hears.takes.steps.chain.2.1 within
+          (input_keeps told_first taken_second (left_by channel old).is_open ((left_by channel old).unsent ++ sent_in first) held then_held
+          shown input second now_turn.kept hears.takes.steps.chain.2.1 within fits.0 is)
 
       two : TurnsKeep old.view taken_second (left_by channel old).is_open (left_by channel old).unsent then_held shown (first ++ second)
-      two = turns_on old.view told_first taken_second (left_by channel old).is_open (left_by channel old).unsent held then_held shown first second now_turn input_turn
+      two = turns_on old.view told_first taken_second
+          (left_by channel old).is_open (left_by channel old).unsent held then_held shown first second now_turn input_turn
 
   pub hears_at : IsWithin input → IsHanded input held then_held → At channel then_held shown new
   hears_at within is = at_after channel now input old new hears then_held shown (within_keeps within is).kept
 
   -- a connection that the client has then is there
-  pub hears_open : IsWithin input → IsHanded input held then_held → list_any is_lost hears.takes.given ≡ false → (is_up old.view ≡ true → is_open old.dialler.phase ≡ true)
+  pub hears_open : IsWithin input → IsHanded input held then_held → list_any is_lost hears.takes.given ≡ false
+      → (is_up old.view ≡ true → is_open old.dialler.phase ≡ true)
       → is_up new.view ≡ true → is_open new.dialler.phase ≡ true
   hears_open within is unlost was up =
       let stays = (within_keeps within is).ups up in
       ap is_open (phase_after channel now input old new hears (none_over hears.takes.given stays.ends unlost)) ∙ was stays.up
 
-  pub hears_down : IsWithin input → IsHanded input held then_held → is_up old.view ≡ false → (is_up new.view ≡ false) × IsSilent hears.takes.given
+  pub hears_down : IsWithin input → IsHanded input held then_held → is_up old.view ≡ false
+      → (is_up new.view ≡ false) × IsSilent hears.takes.given
   hears_down within is down = (within_keeps within is).downs down
 
   -- nothing is sent on it
-  pub hears_empty : IsSilent hears.takes.given → ((left_by channel old).is_open ≡ true → (left_by channel old).unsent ≡ []) → (left_by channel new).is_open ≡ true → (left_by channel new).unsent ≡ []
+  pub hears_empty : IsSilent hears.takes.given → ((left_by channel old).is_open ≡ true → (left_by channel old).unsent ≡ [])
+      → (left_by channel new).is_open ≡ true → (left_by channel new).unsent ≡ []
   hears_empty silent was there = by (hears.heard.is_over && is_open dialler.phase) hears.lets_go there
     where
       before : (fold carried channel hears.told).is_open ≡ true → (fold carried channel hears.told).unsent ≡ []
@@ -305,51 +358,63 @@ module _ {A : Type 0} (channel : ChannelView) (now : ℕ) (input : Input) (old n
       dialler : Dialler A
       dialler = noted new.view.saved.session.timeout now new.view.standing.state (row_after hears.heard.ends_row old.dialler)
 
-      by : (is_there : Bool) → LetsGoWhere is_there new.view.saved.session.timeout now dialler new.dialler hears.told new.told → (left_by channel new).is_open ≡ true → (left_by channel new).unsent ≡ []
+      by : (is_there : Bool) → LetsGoWhere is_there new.view.saved.session.timeout now dialler new.dialler hears.told new.told
+          → (left_by channel new).is_open ≡ true → (left_by channel new).unsent ≡ []
       by true goes is =
           let e = ap (fold carried channel) goes.1 ∙ fold-append carried channel hears.told (HangsUp ∷ []) in
           let f : false ≡ true = sym (ap (λ (c : ChannelView). c.is_open) e) ∙ is in cc
-      by false goes is = ap (λ told. (fold carried channel told).unsent) goes.1 ∙ before (sym (ap (λ told. (fold carried channel told).is_open) goes.1) ∙ is)
+      by false goes is = ap (λ told. (fold carried channel told).unsent) goes.1
+          ∙ before (sym (ap (λ told. (fold carried channel told).is_open) goes.1) ∙ is)
 
 -- after the end of a connection a client has none
-pub hears_cut : {A : Type 0} (channel : ChannelView) (now : ℕ) (old new : Trail A) (hears : HearsSo now Cut old new) (held : List ℕ) (shown : Shown) → HearsFit now Cut old new hears → At channel held shown old → is_up new.view ≡ false
+pub hears_cut : {A : Type 0} (channel : ChannelView) (now : ℕ) (old new : Trail A) (hears : HearsSo now Cut old new) (held : List ℕ)
+    (shown : Shown) → HearsFit now Cut old new hears → At channel held shown old → is_up new.view ≡ false
 hears_cut channel now old new hears held shown fits k =
     (reads.downs (by (is_up taken) refl)).0
   where
     taken : View
     taken = hears.takes.steps.chain.2.0
 
-    told : TurnsKeep old.view hears.takes.steps.chain.0 (left_by channel old).is_open (left_by channel old).unsent held shown hears.takes.steps.first
+    told : TurnsKeep old.view hears.takes.steps.chain.0
+        (left_by channel old).is_open (left_by channel old).unsent held shown hears.takes.steps.first
     told = now_turn channel now Cut old new hears held held shown fits k
 
     cut : Kept taken (left_by channel old).is_open [] held shown
-    cut = cut_kept hears.takes.steps.chain.0 taken (left_by channel old).is_open ((left_by channel old).unsent ++ sent_in hears.takes.steps.first) held shown told.kept hears.takes.steps.second [] held hears.takes.steps.chain.2.1
+    cut = cut_kept hears.takes.steps.chain.0 taken
+        (left_by channel old).is_open ((left_by channel old).unsent ++ sent_in hears.takes.steps.first) held shown told.kept
+        hears.takes.steps.second [] held hears.takes.steps.chain.2.1
 
     reads : TurnsKeep taken new.view (left_by channel old).is_open [] held shown (outputs_in hears.takes.steps.calls)
-    reads = reads_keep old.subjects hears.takes.steps.calls taken new.view (left_by channel old).is_open [] held shown hears.takes.steps.reads fits.1 hears.takes.steps.chain.2.2 cut
+    reads = reads_keep old.subjects hears.takes.steps.calls taken new.view
+        (left_by channel old).is_open [] held shown hears.takes.steps.reads fits.1 hears.takes.steps.chain.2.2 cut
 
     by : (b : Bool) → is_up taken ≡ b → b ≡ false
-    by true up = absurd (cut_down hears.takes.steps.chain.0 taken told.kept.met told.kept.was hears.takes.steps.second hears.takes.steps.chain.2.1 up)
+    by true up = absurd
+        (cut_down hears.takes.steps.chain.0 taken told.kept.met told.kept.was hears.takes.steps.second hears.takes.steps.chain.2.1 up)
     by false is = refl
 
 -- no call that is handed over, and no end of a connection, brings a reply
-pub hears_unlost : {A : Type 0} (now : ℕ) (input : Input) (old new : Trail A) (hears : HearsSo now input old new) → IsMuteInput input → list_any is_lost hears.takes.given ≡ false
+pub hears_unlost : {A : Type 0} (now : ℕ) (input : Input) (old new : Trail A) (hears : HearsSo now input old new)
+    → IsMuteInput input → list_any is_lost hears.takes.given ≡ false
 hears_unlost now input old new hears mute =
     let steps = hears.takes.steps in
     ap (list_any is_lost) steps.said
     ∙ any_both is_lost (steps.first ++ steps.second) (outputs_in steps.calls)
-    (any_both is_lost steps.first steps.second (turn_unlost old.view steps.chain.0 (Now now) steps.first steps.chain.1 tt) (turn_unlost steps.chain.0 steps.chain.2.0 input steps.second steps.chain.2.1 mute))
+    (any_both is_lost steps.first steps.second (turn_unlost old.view steps.chain.0 (Now now) steps.first steps.chain.1 tt)
+    (turn_unlost steps.chain.0 steps.chain.2.0 input steps.second steps.chain.2.1 mute))
     (reads_unlost old.subjects steps.calls steps.chain.2.0 new.view steps.reads steps.chain.2.2)
 
 -- ---- a connection begins
 
 -- of a client that had none, on a connection on which nothing is to be written, to a server at a place
-module _ {A : Type 0} (channel : ChannelView) (now : ℕ) (old new : Trail A) (hears : HearsSo now Opening old new) (shown before : Shown) (place : ℕ) (fits : HearsFit now Opening old new hears)
+module _ {A : Type 0} (channel : ChannelView) (now : ℕ) (old new : Trail A) (hears : HearsSo now Opening old new) (shown before : Shown)
+    (place : ℕ) (fits : HearsFit now Opening old new hears)
     (k : At channel [] shown old) (down : is_up old.view ≡ false) where
   abbrev opened_view : View
   opened_view = hears.takes.steps.chain.2.0
 
-  moment_turn : TurnsKeep old.view hears.takes.steps.chain.0 (left_by channel old).is_open (left_by channel old).unsent [] shown hears.takes.steps.first
+  moment_turn : TurnsKeep old.view hears.takes.steps.chain.0
+      (left_by channel old).is_open (left_by channel old).unsent [] shown hears.takes.steps.first
   moment_turn = now_turn channel now Opening old new hears [] [] shown fits k
 
   abbrev later : List Output
@@ -357,11 +422,14 @@ module _ {A : Type 0} (channel : ChannelView) (now : ℕ) (old new : Trail A) (h
 
   module _ (is : shown ≡ connected place before) (low : place ≤ length before.history.transactions) where
     began : Kept opened_view true (sent_in hears.takes.steps.second) [] shown
-    began = opened_kept hears.takes.steps.chain.0 opened_view (left_by channel old).is_open ((left_by channel old).unsent ++ sent_in hears.takes.steps.first) [] shown moment_turn.kept place before hears.takes.steps.second is low
+    began = opened_kept hears.takes.steps.chain.0 opened_view
+        (left_by channel old).is_open ((left_by channel old).unsent ++ sent_in hears.takes.steps.first) [] shown moment_turn.kept place
+        before hears.takes.steps.second is low
         hears.takes.steps.chain.2.1
 
     read : TurnsKeep opened_view new.view true (sent_in hears.takes.steps.second) [] shown later
-    read = reads_keep old.subjects hears.takes.steps.calls opened_view new.view true (sent_in hears.takes.steps.second) [] shown hears.takes.steps.reads fits.1 hears.takes.steps.chain.2.2 began
+    read = reads_keep old.subjects hears.takes.steps.calls opened_view new.view true
+        (sent_in hears.takes.steps.second) [] shown hears.takes.steps.reads fits.1 hears.takes.steps.chain.2.2 began
 
     all_sent : (unsent : List ℕ) → unsent ≡ [] → sent_in hears.takes.steps.second ++ sent_in later ≡ unsent ++ sent_in hears.takes.given
     all_sent unsent none =
@@ -375,9 +443,11 @@ module _ {A : Type 0} (channel : ChannelView) (now : ℕ) (old new : Trail A) (h
     pub opened_at : ((left_by channel old).is_open ≡ true → (left_by channel old).unsent ≡ []) → At channel [] shown new
     opened_at empty = at_after channel now Opening old new hears [] shown (by (left_by channel old).is_open refl)
       where
-        by : (there : Bool) → (left_by channel old).is_open ≡ there → Kept new.view there ((left_by channel old).unsent ++ sent_in hears.takes.given) [] shown
+        by : (there : Bool) → (left_by channel old).is_open ≡ there
+            → Kept new.view there ((left_by channel old).unsent ++ sent_in hears.takes.given) [] shown
         by true there = subst (λ sent. Kept new.view true sent [] shown) (all_sent (left_by channel old).unsent (empty there)) read.kept
-        by false there = let_go new.view true (sent_in hears.takes.steps.second ++ sent_in later) [] ((left_by channel old).unsent ++ sent_in hears.takes.given) shown shown read.kept refl
+        by false there = let_go new.view true (sent_in hears.takes.steps.second ++ sent_in later) []
+            ((left_by channel old).unsent ++ sent_in hears.takes.given) shown shown read.kept refl
 
     pub opened_open : list_any is_lost hears.takes.given ≡ false → is_up new.view ≡ true → is_open new.dialler.phase ≡ true
     opened_open unlost up =
@@ -386,5 +456,6 @@ module _ {A : Type 0} (channel : ChannelView) (now : ℕ) (old new : Trail A) (h
         subst EndsNothing (sym hears.takes.steps.said)
         (ends_more (hears.takes.steps.first ++ hears.takes.steps.second) later
         (ends_more hears.takes.steps.first hears.takes.steps.second (moment_turn.downs down).1.ends
-        (opened_ends hears.takes.steps.chain.0 opened_view moment_turn.kept.met moment_turn.kept.was hears.takes.steps.second hears.takes.steps.chain.2.1 stays.up)) stays.ends) in
+        (opened_ends hears.takes.steps.chain.0 opened_view moment_turn.kept.met moment_turn.kept.was hears.takes.steps.second
+        hears.takes.steps.chain.2.1 stays.up)) stays.ends) in
         ap is_open (phase_after channel now Opening old new hears (none_over hears.takes.given ends unlost)) ∙ hears.may

@@ -1,5 +1,6 @@
 -- What each move of an agent keeps, and all of them.
-use Rattle.std.proofs.Common.{◌≡◌, ◌≤◌, ◌<◌, ◌++◌, ◌∙◌, ℕ, ℤ, Bool, true, false, cond, List, [], ◌∷◌, Option, Some, None, length, ap, append_assoc, refl, sym, subst, arith}
+use Rattle.std.proofs.Common.{◌≡◌, ◌≤◌, ◌<◌, ◌++◌, ◌∙◌, ℕ, ℤ, Bool, true, false, cond, List, [], ◌∷◌, Option, Some, None, length, ap}
+use Rattle.std.proofs.Common.{append_assoc, refl, sym, subst, arith}
 use Rattle.std.specs.Prelude.{⊤, fold, filter, FitsSigned, pos, ◌≤ℤ◌, unsigned_abs}
 use Rattle.std.specs.List.{list_any, AllByRecursion, FoldsTo}
 use Rattle.std.specs.Int.{w64}
@@ -22,7 +23,8 @@ use Rattle.zk_dialler.specs.declared.dialler.Due.{Due}
 use Rattle.zk_dialler.specs.declared.dialler.Due.TheVariants.{Dial, GiveUp}
 use Rattle.zk_dialler.specs.Dialling.{is_open, DialsWell}
 use Rattle.zk_line.specs.declared.entry.Ending.TheVariants as ending
-use Rattle.zk_agent.specs.Agents.{is_given, Addressed, Asks, Closes, Decides, Does, Ended, Follows, GivesUp, Hands, Hears, HearsSo, HungUp, LeavesWhere, Move, Opened, Renews, Tires, Trail, Unfollows}
+use Rattle.zk_agent.specs.Agents.{is_given, Addressed, Asks, Closes, Decides, Does, Ended, Follows, GivesUp, Hands, Hears, HearsSo, HungUp}
+use Rattle.zk_agent.specs.Agents.{LeavesWhere, Move, Opened, Renews, Tires, Trail, Unfollows}
 use Rattle.zk_agent.specs.Calls.{closings, endings}
 use Rattle.zk_agent.specs.Replies.{heard_in, is_lost}
 use Rattle.zk_agent.specs.Telling.{due_told, Begins, Dials, HangsUp, Says, Told}
@@ -34,7 +36,8 @@ use Rattle.theory_serving.proofs.Views.{first_session}
 use Rattle.zk_served.specs.Asking.{HearsFit, LeavesFit, MoveFits, MovesFit}
 use Rattle.zk_served.proofs.Turned.{let_go, IsWithin, Kept}
 use Rattle.zk_served.proofs.Unlost.{IsMuteInput}
-use Rattle.zk_served.proofs.Heard.{ap_at, closings_keep, endings_keep, hears_at, hears_cut, hears_down, hears_empty, hears_open, hears_unlost, left_by, opened_at, opened_open, At, IsHanded}
+use Rattle.zk_served.proofs.Heard.{ap_at, closings_keep, endings_keep, hears_at, hears_cut, hears_down, hears_empty, hears_open}
+use Rattle.zk_served.proofs.Heard.{hears_unlost, left_by, opened_at, opened_open, At, IsHanded}
 
 -- ---- another session
 
@@ -44,13 +47,16 @@ IsLater timeout = IsResumable (new_start (unsigned_abs timeout)) × (0 < unsigne
 not_below : (zxid : ℤ) → zxid ≡ pos (from_zero zxid) → pos 0 ≤ℤ zxid
 not_below zxid e = subst (λ z. pos 0 ≤ℤ z) (sym e) (omega (arith, ints))
 
-renewed_resumable : (timeout : ℤ) (view : View) (met : Shown) (was : WasServed view met) → IsLater timeout → IsResumable (renewed_start timeout view)
+renewed_resumable : (timeout : ℤ) (view : View) (met : Shown) (was : WasServed view met)
+    → IsLater timeout → IsResumable (renewed_start timeout view)
 renewed_resumable timeout view met was later = record {
   timeout = later.0.timeout;
   session = later.0.session;
   password = later.0.password;
-  last = subst (FitsSigned w64) (sym same) (last_fits IsTyped was.start (past_of was.start was.items) was.resumable.last (items_ranged IsTyped was.start was.items was.typed));
-  counts = subst (λ z. pos 0 ≤ℤ z) (sym same) (not_below (last_of was.start (past_of was.start was.items)) (last_counted was.start (past_of was.start was.items) was.resumable));
+  last = subst (FitsSigned w64) (sym same)
+      (last_fits IsTyped was.start (past_of was.start was.items) was.resumable.last (items_ranged IsTyped was.start was.items was.typed));
+  counts = subst (λ z. pos 0 ≤ℤ z) (sym same)
+      (not_below (last_of was.start (past_of was.start was.items)) (last_counted was.start (past_of was.start was.items) was.resumable));
 }
   where
     same : view.saved.last ≡ last_of was.start (past_of was.start was.items)
@@ -100,7 +106,8 @@ module _ {A : Type 0} (channel : ChannelView) (held : List ℕ) (shown : Shown) 
       subst (λ (c : ChannelView). Kept new.view c.is_open c.unsent held shown) (sym told)
       (subst (λ v. Kept v (left_by channel old).is_open (left_by channel old).unsent held shown) (sym view) k)
 
-  told_more : (old new : Trail A) (more : List Told) → new.told ≡ old.told ++ more → left_by channel new ≡ fold carried (left_by channel old) more
+  told_more : (old new : Trail A) (more : List Told)
+      → new.told ≡ old.told ++ more → left_by channel new ≡ fold carried (left_by channel old) more
   told_more old new more is = ap (fold carried channel) is ∙ fold-append carried channel old.told more
 
   hung_here : (old new : Trail A) → new.view ≡ old.view → new.told ≡ old.told ++ HangsUp ∷ [] → Here old → Here new
@@ -112,15 +119,18 @@ module _ {A : Type 0} (channel : ChannelView) (held : List ℕ) (shown : Shown) 
   due_here : (due : Option Due) (old new : Trail A) → new.view ≡ old.view → new.told ≡ old.told ++ due_told due → Here old → Here new
   due_here None old new view told k = same_here old new view (told_more old new [] told) k
   due_here (Some (Dial place within)) old new view told k =
-      subst (λ (c : ChannelView). Kept new.view c.is_open c.unsent held shown) (sym (told_more old new (due_told (Some (Dial place within))) told))
+      subst (λ (c : ChannelView). Kept new.view c.is_open c.unsent held shown)
+      (sym (told_more old new (due_told (Some (Dial place within))) told))
       (subst (λ v. Kept v (left_by channel old).is_open (left_by channel old).unsent held shown) (sym view) k)
   due_here (Some GiveUp) old new view told k = hung_here old new view told k
 
-  leaves_here : (is_lost : Bool) (now : ℕ) (old new : Trail A) (leaves : LeavesWhere is_lost now old new) → LeavesFit is_lost now old new leaves → Here old → Here new
+  leaves_here : (is_lost : Bool) (now : ℕ) (old new : Trail A) (leaves : LeavesWhere is_lost now old new)
+      → LeavesFit is_lost now old new leaves → Here old → Here new
   leaves_here true now old new leaves fits k = hears_at channel now turns.Cut old new leaves held held shown fits k tt refl
   leaves_here false now old new same fits k = subst Here (sym same) k
 
-  hears_here : (now : ℕ) (input : Input) (old new : Trail A) (does : Does old (Hears now input) new) → MoveFits old (Hears now input) new does → IsWithin input → IsMuteInput input → Here old → Here new
+  hears_here : (now : ℕ) (input : Input) (old new : Trail A) (does : Does old (Hears now input) new)
+      → MoveFits old (Hears now input) new does → IsWithin input → IsMuteInput input → Here old → Here new
   hears_here now input old new does fits within mute k =
       leaves_here does.hears.heard.is_lost now does.between new does.leaves fits.1
       (hears_at channel now input old does.between does.hears held held shown fits.0 k within (nothing_handed input held mute))
@@ -129,7 +139,8 @@ module _ {A : Type 0} (channel : ChannelView) (held : List ℕ) (shown : Shown) 
   renews_here old new does later k = record {
     met = k.met;
     was = subst (λ v. WasServed v k.met) (sym does.view)
-        (first_session (renewed_start old.timeout old.view) (view_at (renewed_start old.timeout old.view) []) k.met (renewed_resumable old.timeout old.view k.met k.was later) later.1 (fresh (renewed_start old.timeout old.view)));
+        (first_session (renewed_start old.timeout old.view) (view_at (renewed_start old.timeout old.view) []) k.met
+        (renewed_resumable old.timeout old.view k.met k.was later) later.1 (fresh (renewed_start old.timeout old.view)));
     history = k.history;
     here = λ up there. let e : false ≡ true = sym (ap is_up does.view) ∙ up in cc;
     gone = λ up there. let e : false ≡ true = sym (ap is_up does.view) ∙ up in cc;
@@ -141,26 +152,38 @@ module _ {A : Type 0} (channel : ChannelView) (held : List ℕ) (shown : Shown) 
       (hears_at channel now turns.Cut does.between does.after does.hears held held shown fits
       (hung_here old does.between (ap (λ (t : Trail A). t.view) does.hangs) (ap (λ (t : Trail A). t.told) does.hangs) k) tt refl)
 
-  pub move_here : (move : Move) (old new : Trail A) (does : Does old move new) → MoveFits old move new does → IsPlain move → IsLater old.timeout → Here old → Here new
+  pub move_here : (move : Move) (old new : Trail A) (does : Does old move new)
+      → MoveFits old move new does → IsPlain move → IsLater old.timeout → Here old → Here new
   move_here (Hears now turns.Opened) old new does fits plain later k = absurd plain
   move_here (Hears now (turns.Bytes bytes)) old new does fits plain later k = absurd plain
   move_here (Hears now turns.Cut) old new does fits plain later k = hears_here now turns.Cut old new does fits tt tt k
   move_here (Hears now (turns.Now moment)) old new does fits plain later k = hears_here now (turns.Now moment) old new does fits tt tt k
-  move_here (Hears now (turns.Call ticket asked)) old new does fits plain later k = hears_here now (turns.Call ticket asked) old new does fits tt tt k
-  move_here (Hands now ticket asked) old new does fits plain later k = hears_at channel now (turns.Call ticket asked) old new does held held shown fits k tt refl
+  move_here (Hears now (turns.Call ticket asked)) old new does fits plain later k =
+      hears_here now (turns.Call ticket asked) old new does fits tt tt k
+  move_here (Hands now ticket asked) old new does fits plain later k =
+      hears_at channel now (turns.Call ticket asked) old new does held held shown fits k tt refl
   move_here Renews old new does fits plain later k = renews_here old new does later k
-  move_here (Follows ticket side path) old new does fits plain later k = same_here old new (ap (λ (t : Trail A). t.view) does) (ap (left_by channel) does) k
-  move_here (Unfollows ticket) old new does fits plain later k = same_here old new (ap (λ (t : Trail A). t.view) does) (ap (left_by channel) does) k
-  move_here (Asks ticket asked until) old new does fits plain later k = same_here old new (ap (λ (t : Trail A). t.view) does.last) (ap (left_by channel) does.last) k
+  move_here (Follows ticket side path) old new does fits plain later k =
+      same_here old new (ap (λ (t : Trail A). t.view) does) (ap (left_by channel) does) k
+  move_here (Unfollows ticket) old new does fits plain later k =
+      same_here old new (ap (λ (t : Trail A). t.view) does) (ap (left_by channel) does) k
+  move_here (Asks ticket asked until) old new does fits plain later k =
+      same_here old new (ap (λ (t : Trail A). t.view) does.last) (ap (left_by channel) does.last) k
   move_here (GivesUp now) old new does fits plain later k =
       same_here old new (ap (λ (t : Trail A). t.view) does)
-      (told_more old new (endings (ending.Late now) old.line) (ap (λ (t : Trail A). t.told) does) ∙ endings_keep (left_by channel old) (ending.Late now) old.line) k
+      (told_more old new (endings (ending.Late now) old.line) (ap (λ (t : Trail A). t.told) does)
+      ∙ endings_keep (left_by channel old) (ending.Late now) old.line) k
   move_here (Tires now) old new does fits plain later k = tires_here now old new does fits k
-  move_here (Opened now) old new does fits plain later k = same_here old new (ap (λ (t : Trail A). t.view) does.1) (ap (left_by channel) does.1) k
-  move_here (Ended now) old new does fits plain later k = same_here old new (ap (λ (t : Trail A). t.view) does.1) (ap (left_by channel) does.1) k
-  move_here HungUp old new does fits plain later k = hung_here old new (ap (λ (t : Trail A). t.view) does) (ap (λ (t : Trail A). t.told) does) k
-  move_here (Addressed count) old new does fits plain later k = same_here old new (ap (λ (t : Trail A). t.view) does.1) (ap (left_by channel) does.1) k
-  move_here (Decides now due) old new does fits plain later k = due_here due old new (ap (λ (t : Trail A). t.view) does.last) (ap (λ (t : Trail A). t.told) does.last) k
+  move_here (Opened now) old new does fits plain later k =
+      same_here old new (ap (λ (t : Trail A). t.view) does.1) (ap (left_by channel) does.1) k
+  move_here (Ended now) old new does fits plain later k =
+      same_here old new (ap (λ (t : Trail A). t.view) does.1) (ap (left_by channel) does.1) k
+  move_here HungUp old new does fits plain later k =
+      hung_here old new (ap (λ (t : Trail A). t.view) does) (ap (λ (t : Trail A). t.told) does) k
+  move_here (Addressed count) old new does fits plain later k =
+      same_here old new (ap (λ (t : Trail A). t.view) does.1) (ap (left_by channel) does.1) k
+  move_here (Decides now due) old new does fits plain later k =
+      due_here due old new (ap (λ (t : Trail A). t.view) does.last) (ap (λ (t : Trail A). t.told) does.last) k
   move_here Closes old new does fits plain later k =
       same_here old new (ap (λ (t : Trail A). t.view) does.last)
       (told_more old new (closings old.line) (ap (λ (t : Trail A). t.told) does.last) ∙ closings_keep (left_by channel old) old.line) k
@@ -177,35 +200,45 @@ module _ {A : Type 0} (channel : ChannelView) (held : List ℕ) (shown : Shown) 
   Idle trail = Down trail × Empty trail
 
   same_idle : (old new : Trail A) → new.view ≡ old.view → left_by channel new ≡ left_by channel old → Idle old → Idle new
-  same_idle old new view told idle = (ap is_up view ∙ idle.0, subst (λ (c : ChannelView). c.is_open ≡ true → c.unsent ≡ []) (sym told) idle.1)
+  same_idle old new view told idle =
+      (ap is_up view ∙ idle.0, subst (λ (c : ChannelView). c.is_open ≡ true → c.unsent ≡ []) (sym told) idle.1)
 
   hung_idle : (old new : Trail A) → new.view ≡ old.view → new.told ≡ old.told ++ HangsUp ∷ [] → Idle old → Idle new
-  hung_idle old new view told idle =
-      (ap is_up view ∙ idle.0, subst (λ (c : ChannelView). c.is_open ≡ true → c.unsent ≡ []) (sym (told_more old new (HangsUp ∷ []) told)) (λ there. refl))
+  hung_idle old new view told idle = (
+    ap is_up view ∙ idle.0,
+    subst (λ (c : ChannelView). c.is_open ≡ true → c.unsent ≡ []) (sym (told_more old new (HangsUp ∷ []) told)) (λ there. refl),
+  )
 
   due_idle : (due : Option Due) (old new : Trail A) → new.view ≡ old.view → new.told ≡ old.told ++ due_told due → Idle old → Idle new
   due_idle None old new view told idle = same_idle old new view (told_more old new [] told) idle
-  due_idle (Some (Dial place within)) old new view told idle =
-      (ap is_up view ∙ idle.0, subst (λ (c : ChannelView). c.is_open ≡ true → c.unsent ≡ []) (sym (told_more old new (due_told (Some (Dial place within))) told)) idle.1)
+  due_idle (Some (Dial place within)) old new view told idle = (
+    ap is_up view ∙ idle.0,
+    subst (λ (c : ChannelView). c.is_open ≡ true → c.unsent ≡ [])
+        (sym (told_more old new (due_told (Some (Dial place within))) told)) idle.1,
+  )
   due_idle (Some GiveUp) old new view told idle = hung_idle old new view told idle
 
-  hears_idle : (now : ℕ) (input : Input) (old new : Trail A) (hears : HearsSo now input old new) → HearsFit now input old new hears → IsWithin input → (then_held : List ℕ) → IsHanded input held then_held
+  hears_idle : (now : ℕ) (input : Input) (old new : Trail A) (hears : HearsSo now input old new)
+      → HearsFit now input old new hears → IsWithin input → (then_held : List ℕ) → IsHanded input held then_held
       → Here old → Idle old → Idle new
   hears_idle now input old new hears fits within then_held is k idle =
       let down = hears_down channel now input old new hears held then_held shown fits k within is idle.0 in
       (down.0, hears_empty channel now input old new hears held then_held shown fits k down.1 idle.1)
 
-  leaves_idle : (is_lost : Bool) (now : ℕ) (old new : Trail A) (leaves : LeavesWhere is_lost now old new) → LeavesFit is_lost now old new leaves → Here old → Idle old → Idle new
+  leaves_idle : (is_lost : Bool) (now : ℕ) (old new : Trail A) (leaves : LeavesWhere is_lost now old new)
+      → LeavesFit is_lost now old new leaves → Here old → Idle old → Idle new
   leaves_idle true now old new leaves fits k idle = hears_idle now turns.Cut old new leaves fits tt held refl k idle
   leaves_idle false now old new same fits k idle = subst Idle (sym same) idle
 
-  hears_on_idle : (now : ℕ) (input : Input) (old new : Trail A) (does : Does old (Hears now input) new) → MoveFits old (Hears now input) new does → IsWithin input → IsMuteInput input → Here old → Idle old → Idle new
+  hears_on_idle : (now : ℕ) (input : Input) (old new : Trail A) (does : Does old (Hears now input) new)
+      → MoveFits old (Hears now input) new does → IsWithin input → IsMuteInput input → Here old → Idle old → Idle new
   hears_on_idle now input old new does fits within mute k idle =
       leaves_idle does.hears.heard.is_lost now does.between new does.leaves fits.1
       (hears_at channel now input old does.between does.hears held held shown fits.0 k within (nothing_handed input held mute))
       (hears_idle now input old does.between does.hears fits.0 within held (nothing_handed input held mute) k idle)
 
-  tires_idle : (now : ℕ) (old new : Trail A) (does : Does old (Tires now) new) → MoveFits old (Tires now) new does → Here old → Idle old → Idle new
+  tires_idle : (now : ℕ) (old new : Trail A) (does : Does old (Tires now) new)
+      → MoveFits old (Tires now) new does → Here old → Idle old → Idle new
   tires_idle now old new does fits k idle =
       same_idle does.after new (ap (λ (t : Trail A). t.view) does.last) (ap (left_by channel) does.last)
       (hears_idle now turns.Cut does.between does.after does.hears fits tt held refl
@@ -216,30 +249,45 @@ module _ {A : Type 0} (channel : ChannelView) (held : List ℕ) (shown : Shown) 
   begun_idle old new does idle = (
     ap is_up does.view,
     subst (λ (c : ChannelView). c.is_open ≡ true → c.unsent ≡ [])
-        (sym (told_more old new (endings ending.Expired old.line ++ Begins ∷ []) (does.told ∙ append_assoc old.told (endings ending.Expired old.line) (Begins ∷ []))
-        ∙ fold-append carried (left_by channel old) (endings ending.Expired old.line) (Begins ∷ []) ∙ ap (λ c. fold carried c (Begins ∷ [])) (endings_keep (left_by channel old) ending.Expired old.line))) idle.1,
+        (sym (told_more old new (endings ending.Expired old.line ++ Begins ∷ [])
+        (does.told ∙ append_assoc old.told (endings ending.Expired old.line) (Begins ∷ []))
+        ∙ fold-append carried (left_by channel old) (endings ending.Expired old.line) (Begins ∷ [])
+        ∙ ap (λ c. fold carried c (Begins ∷ [])) (endings_keep (left_by channel old) ending.Expired old.line))) idle.1,
   )
 
-  pub move_idle : (move : Move) (old new : Trail A) (does : Does old move new) → MoveFits old move new does → IsPlain move → Here old → Idle old → Idle new
+  pub move_idle : (move : Move) (old new : Trail A) (does : Does old move new)
+      → MoveFits old move new does → IsPlain move → Here old → Idle old → Idle new
   move_idle (Hears now turns.Opened) old new does fits plain k idle = absurd plain
   move_idle (Hears now (turns.Bytes bytes)) old new does fits plain k idle = absurd plain
   move_idle (Hears now turns.Cut) old new does fits plain k idle = hears_on_idle now turns.Cut old new does fits tt tt k idle
-  move_idle (Hears now (turns.Now moment)) old new does fits plain k idle = hears_on_idle now (turns.Now moment) old new does fits tt tt k idle
-  move_idle (Hears now (turns.Call ticket asked)) old new does fits plain k idle = hears_on_idle now (turns.Call ticket asked) old new does fits tt tt k idle
-  move_idle (Hands now ticket asked) old new does fits plain k idle = hears_idle now (turns.Call ticket asked) old new does fits tt held refl k idle
+  move_idle (Hears now (turns.Now moment)) old new does fits plain k idle =
+      hears_on_idle now (turns.Now moment) old new does fits tt tt k idle
+  move_idle (Hears now (turns.Call ticket asked)) old new does fits plain k idle =
+      hears_on_idle now (turns.Call ticket asked) old new does fits tt tt k idle
+  move_idle (Hands now ticket asked) old new does fits plain k idle =
+      hears_idle now (turns.Call ticket asked) old new does fits tt held refl k idle
   move_idle Renews old new does fits plain k idle = begun_idle old new does idle
-  move_idle (Follows ticket side path) old new does fits plain k idle = same_idle old new (ap (λ (t : Trail A). t.view) does) (ap (left_by channel) does) idle
-  move_idle (Unfollows ticket) old new does fits plain k idle = same_idle old new (ap (λ (t : Trail A). t.view) does) (ap (left_by channel) does) idle
-  move_idle (Asks ticket asked until) old new does fits plain k idle = same_idle old new (ap (λ (t : Trail A). t.view) does.last) (ap (left_by channel) does.last) idle
+  move_idle (Follows ticket side path) old new does fits plain k idle =
+      same_idle old new (ap (λ (t : Trail A). t.view) does) (ap (left_by channel) does) idle
+  move_idle (Unfollows ticket) old new does fits plain k idle =
+      same_idle old new (ap (λ (t : Trail A). t.view) does) (ap (left_by channel) does) idle
+  move_idle (Asks ticket asked until) old new does fits plain k idle =
+      same_idle old new (ap (λ (t : Trail A). t.view) does.last) (ap (left_by channel) does.last) idle
   move_idle (GivesUp now) old new does fits plain k idle =
       same_idle old new (ap (λ (t : Trail A). t.view) does)
-      (told_more old new (endings (ending.Late now) old.line) (ap (λ (t : Trail A). t.told) does) ∙ endings_keep (left_by channel old) (ending.Late now) old.line) idle
+      (told_more old new (endings (ending.Late now) old.line) (ap (λ (t : Trail A). t.told) does)
+      ∙ endings_keep (left_by channel old) (ending.Late now) old.line) idle
   move_idle (Tires now) old new does fits plain k idle = tires_idle now old new does fits k idle
-  move_idle (Opened now) old new does fits plain k idle = same_idle old new (ap (λ (t : Trail A). t.view) does.1) (ap (left_by channel) does.1) idle
-  move_idle (Ended now) old new does fits plain k idle = same_idle old new (ap (λ (t : Trail A). t.view) does.1) (ap (left_by channel) does.1) idle
-  move_idle HungUp old new does fits plain k idle = hung_idle old new (ap (λ (t : Trail A). t.view) does) (ap (λ (t : Trail A). t.told) does) idle
-  move_idle (Addressed count) old new does fits plain k idle = same_idle old new (ap (λ (t : Trail A). t.view) does.1) (ap (left_by channel) does.1) idle
-  move_idle (Decides now due) old new does fits plain k idle = due_idle due old new (ap (λ (t : Trail A). t.view) does.last) (ap (λ (t : Trail A). t.told) does.last) idle
+  move_idle (Opened now) old new does fits plain k idle =
+      same_idle old new (ap (λ (t : Trail A). t.view) does.1) (ap (left_by channel) does.1) idle
+  move_idle (Ended now) old new does fits plain k idle =
+      same_idle old new (ap (λ (t : Trail A). t.view) does.1) (ap (left_by channel) does.1) idle
+  move_idle HungUp old new does fits plain k idle =
+      hung_idle old new (ap (λ (t : Trail A). t.view) does) (ap (λ (t : Trail A). t.told) does) idle
+  move_idle (Addressed count) old new does fits plain k idle =
+      same_idle old new (ap (λ (t : Trail A). t.view) does.1) (ap (left_by channel) does.1) idle
+  move_idle (Decides now due) old new does fits plain k idle =
+      due_idle due old new (ap (λ (t : Trail A). t.view) does.last) (ap (λ (t : Trail A). t.told) does.last) idle
   move_idle Closes old new does fits plain k idle =
       same_idle old new (ap (λ (t : Trail A). t.view) does.last)
       (told_more old new (closings old.line) (ap (λ (t : Trail A). t.told) does.last) ∙ closings_keep (left_by channel old) old.line) idle
@@ -256,49 +304,65 @@ module _ {A : Type 0} (channel : ChannelView) (held : List ℕ) (shown : Shown) 
   same_tied old new view phase tied up = ap is_open phase ∙ tied (sym (ap is_up view) ∙ up)
 
   -- by what a server said of the session
-  leaves_tied : (is_lost : Bool) (now : ℕ) (old new : Trail A) (leaves : LeavesWhere is_lost now old new) → LeavesFit is_lost now old new leaves → Here old → (is_lost ≡ false → Tied old) → Tied new
+  leaves_tied : (is_lost : Bool) (now : ℕ) (old new : Trail A) (leaves : LeavesWhere is_lost now old new)
+      → LeavesFit is_lost now old new leaves → Here old → (is_lost ≡ false → Tied old) → Tied new
   leaves_tied true now old new leaves fits k tied = down_tied new (hears_cut channel now old new leaves held shown fits k)
   leaves_tied false now old new same fits k tied = subst Tied (sym same) (tied refl)
 
-  unlost : (now : ℕ) (input : Input) (old new : Trail A) (hears : HearsSo now input old new) → hears.heard.is_lost ≡ false → list_any is_lost hears.takes.given ≡ false
+  unlost : (now : ℕ) (input : Input) (old new : Trail A) (hears : HearsSo now input old new)
+      → hears.heard.is_lost ≡ false → list_any is_lost hears.takes.given ≡ false
   unlost now input old new hears is = sym (ap_at hears.heard (heard_in hears.takes.given) (λ h. h.is_lost) hears.takes.heard) ∙ is
 
-  hears_tied : (now : ℕ) (input : Input) (old new : Trail A) (does : Does old (Hears now input) new) → MoveFits old (Hears now input) new does → IsWithin input → IsMuteInput input → Here old → Tied old → Tied new
+  hears_tied : (now : ℕ) (input : Input) (old new : Trail A) (does : Does old (Hears now input) new)
+      → MoveFits old (Hears now input) new does → IsWithin input → IsMuteInput input → Here old → Tied old → Tied new
   hears_tied now input old new does fits within mute k tied =
       leaves_tied does.hears.heard.is_lost now does.between new does.leaves fits.1
       (hears_at channel now input old does.between does.hears held held shown fits.0 k within (nothing_handed input held mute))
-      (λ is. hears_open channel now input old does.between does.hears held held shown fits.0 k within (nothing_handed input held mute) (unlost now input old does.between does.hears is) tied)
+      (λ is. hears_open channel now input old does.between does.hears held held shown fits.0 k within (nothing_handed input held mute)
+      (unlost now input old does.between does.hears is) tied)
 
-  due_tied : (due : Option Due) (timeout now : ℕ) (old new : Trail A) → DialsWell timeout now old.dialler new.dialler due → new.view ≡ old.view → Tied old → Tied new
+  due_tied : (due : Option Due) (timeout now : ℕ) (old new : Trail A)
+      → DialsWell timeout now old.dialler new.dialler due → new.view ≡ old.view → Tied old → Tied new
   due_tied None timeout now old new dials view tied = same_tied old new view (ap (λ (d : Dialler A). d.phase) dials) tied
   due_tied (Some (Dial place within)) timeout now old new dials view tied = λ up.
       let e : false ≡ true = sym (ap is_open dials.waiting) ∙ tied (sym (ap is_up view) ∙ up) in cc
   due_tied (Some GiveUp) timeout now old new dials view tied = λ up.
       let e : false ≡ true = sym (ap is_open dials.dialling) ∙ tied (sym (ap is_up view) ∙ up) in cc
 
-  pub move_tied : (move : Move) (old new : Trail A) (does : Does old move new) → MoveFits old move new does → IsFree move → Here old → Tied old → Tied new
+  pub move_tied : (move : Move) (old new : Trail A) (does : Does old move new)
+      → MoveFits old move new does → IsFree move → Here old → Tied old → Tied new
   move_tied (Hears now turns.Opened) old new does fits free k tied = absurd free
   move_tied (Hears now (turns.Bytes bytes)) old new does fits free k tied = absurd free
   move_tied (Hears now turns.Cut) old new does fits free k tied = hears_tied now turns.Cut old new does fits tt tt k tied
   move_tied (Hears now (turns.Now moment)) old new does fits free k tied = hears_tied now (turns.Now moment) old new does fits tt tt k tied
-  move_tied (Hears now (turns.Call ticket asked)) old new does fits free k tied = hears_tied now (turns.Call ticket asked) old new does fits tt tt k tied
+  move_tied (Hears now (turns.Call ticket asked)) old new does fits free k tied =
+      hears_tied now (turns.Call ticket asked) old new does fits tt tt k tied
   move_tied (Hands now ticket asked) old new does fits free k tied =
-      hears_open channel now (turns.Call ticket asked) old new does held held shown fits k tt refl (hears_unlost now (turns.Call ticket asked) old new does tt) tied
+      hears_open channel now (turns.Call ticket asked) old new does held held shown fits k tt refl
+      (hears_unlost now (turns.Call ticket asked) old new does tt) tied
   move_tied Renews old new does fits free k tied = down_tied new (ap is_up does.view)
-  move_tied (Follows ticket side path) old new does fits free k tied = same_tied old new (ap (λ (t : Trail A). t.view) does) (ap (λ (t : Trail A). t.dialler.phase) does) tied
-  move_tied (Unfollows ticket) old new does fits free k tied = same_tied old new (ap (λ (t : Trail A). t.view) does) (ap (λ (t : Trail A). t.dialler.phase) does) tied
-  move_tied (Asks ticket asked until) old new does fits free k tied = same_tied old new (ap (λ (t : Trail A). t.view) does.last) (ap (λ (t : Trail A). t.dialler.phase) does.last) tied
-  move_tied (GivesUp now) old new does fits free k tied = same_tied old new (ap (λ (t : Trail A). t.view) does) (ap (λ (t : Trail A). t.dialler.phase) does) tied
+  move_tied (Follows ticket side path) old new does fits free k tied =
+      same_tied old new (ap (λ (t : Trail A). t.view) does) (ap (λ (t : Trail A). t.dialler.phase) does) tied
+  move_tied (Unfollows ticket) old new does fits free k tied =
+      same_tied old new (ap (λ (t : Trail A). t.view) does) (ap (λ (t : Trail A). t.dialler.phase) does) tied
+  move_tied (Asks ticket asked until) old new does fits free k tied =
+      same_tied old new (ap (λ (t : Trail A). t.view) does.last) (ap (λ (t : Trail A). t.dialler.phase) does.last) tied
+  move_tied (GivesUp now) old new does fits free k tied =
+      same_tied old new (ap (λ (t : Trail A). t.view) does) (ap (λ (t : Trail A). t.dialler.phase) does) tied
   move_tied (Tires now) old new does fits free k tied =
       down_tied new (ap (λ (t : Trail A). is_up t.view) does.last
-      ∙ hears_cut channel now does.between does.after does.hears held shown fits (hung_here old does.between (ap (λ (t : Trail A). t.view) does.hangs) (ap (λ (t : Trail A). t.told) does.hangs) k))
-  move_tied (Opened now) old new does fits free k tied = λ up. ours_is_open old.view.saved.session.timeout now old.dialler new.dialler true does.0 refl
+      ∙ hears_cut channel now does.between does.after does.hears held shown fits
+      (hung_here old does.between (ap (λ (t : Trail A). t.view) does.hangs) (ap (λ (t : Trail A). t.told) does.hangs) k))
+  move_tied (Opened now) old new does fits free k tied =
+      λ up. ours_is_open old.view.saved.session.timeout now old.dialler new.dialler true does.0 refl
   move_tied (Ended now) old new does fits free k tied = absurd free
-  move_tied HungUp old new does fits free k tied = same_tied old new (ap (λ (t : Trail A). t.view) does) (ap (λ (t : Trail A). t.dialler.phase) does) tied
+  move_tied HungUp old new does fits free k tied =
+      same_tied old new (ap (λ (t : Trail A). t.view) does) (ap (λ (t : Trail A). t.dialler.phase) does) tied
   move_tied (Addressed count) old new does fits free k tied = same_tied old new (ap (λ (t : Trail A). t.view) does.1) does.0.phase tied
   move_tied (Decides now due) old new does fits free k tied =
       due_tied due old.view.saved.session.timeout now old new does.dials (ap (λ (t : Trail A). t.view) does.last) tied
-  move_tied Closes old new does fits free k tied = same_tied old new (ap (λ (t : Trail A). t.view) does.last) (ap (λ (t : Trail A). t.dialler.phase) does.last) tied
+  move_tied Closes old new does fits free k tied =
+      same_tied old new (ap (λ (t : Trail A). t.view) does.last) (ap (λ (t : Trail A). t.dialler.phase) does.last) tied
 
 -- ---- the timeout of later sessions stays
 
@@ -314,7 +378,8 @@ stays_by {A} (Follows ticket side path) old new does = ap (λ (t : Trail A). t.t
 stays_by {A} (Unfollows ticket) old new does = ap (λ (t : Trail A). t.timeout) does
 stays_by {A} (Asks ticket asked until) old new does = ap (λ (t : Trail A). t.timeout) does.last
 stays_by {A} (GivesUp now) old new does = ap (λ (t : Trail A). t.timeout) does
-stays_by {A} (Tires now) old new does = ap (λ (t : Trail A). t.timeout) does.last ∙ does.hears.timeout ∙ ap (λ (t : Trail A). t.timeout) does.hangs
+stays_by {A} (Tires now) old new does =
+    ap (λ (t : Trail A). t.timeout) does.last ∙ does.hears.timeout ∙ ap (λ (t : Trail A). t.timeout) does.hangs
 stays_by {A} (Opened now) old new does = ap (λ (t : Trail A). t.timeout) does.1
 stays_by {A} (Ended now) old new does = ap (λ (t : Trail A). t.timeout) does.1
 stays_by {A} HungUp old new does = ap (λ (t : Trail A). t.timeout) does
@@ -354,14 +419,18 @@ first_of first given more rest e = ap (head_or first) e
 rest_of : (first given : Move) (more rest : List Move) → first ∷ more ≡ given ∷ rest → more ≡ rest
 rest_of first given more rest e = ap tail_of e
 
-split : {A : Type 0} (moves : List Move) (first : Move) (more : List Move) (old new : Trail A) (does : FoldsTo Does old moves new) → filter is_given moves ≡ first ∷ more → MovesFit moves old new does → Split first more old new
+split : {A : Type 0} (moves : List Move) (first : Move) (more : List Move) (old new : Trail A) (does : FoldsTo Does old moves new)
+    → filter is_given moves ≡ first ∷ more → MovesFit moves old new does → Split first more old new
 split [] first more old new does comes fits = let e : [] ≡ first ∷ more = comes in cc
-split {A} (move ∷ moves) first more old new does comes fits = by (is_given move) refl comes (λ e. split moves first more does.0 new does.2 e fits.1)
+split {A} (move ∷ moves) first more old new does comes fits =
+    by (is_given move) refl comes (λ e. split moves first more does.0 new does.2 e fits.1)
   where
-    by : (b : Bool) → is_given move ≡ b → cond b (move ∷ filter is_given moves) (filter is_given moves) ≡ first ∷ more → (filter is_given moves ≡ first ∷ more → Split first more does.0 new) → Split first more old new
+    by : (b : Bool) → is_given move ≡ b → cond b (move ∷ filter is_given moves) (filter is_given moves) ≡ first ∷ more
+        → (filter is_given moves ≡ first ∷ more → Split first more does.0 new) → Split first more old new
     by true is e rest =
         let moved : (d : Does old first does.0) × MoveFits old first does.0 d =
-        subst (λ m. (d : Does old m does.0) × MoveFits old m does.0 d) (first_of move first (filter is_given moves) more e) (does.1, fits.0) in
+        subst (λ m. (d : Does old m does.0) × MoveFits old m does.0 d)
+        (first_of move first (filter is_given moves) more e) (does.1, fits.0) in
         record {
           before = old;
           own = record { moves = []; does = refl; comes = refl; fits = tt };
@@ -394,13 +463,16 @@ own_free (Hears now input) own = let e : true ≡ false = own in cc
 own_free (Ended now) own = let e : true ≡ false = own in cc
 own_free _ own = tt
 
-module _ {A : Type 0} (P : Trail A → Type 0) (step : (move : Move) (old new : Trail A) (does : Does old move new) → MoveFits old move new does → IsFree move → P old → P new) where
-  own_through : (moves : List Move) (old new : Trail A) (does : FoldsTo Does old moves new) → filter is_given moves ≡ [] → MovesFit moves old new does → P old → P new
+module _ {A : Type 0} (P : Trail A → Type 0)
+    (step : (move : Move) (old new : Trail A) (does : Does old move new) → MoveFits old move new does → IsFree move → P old → P new) where
+  own_through : (moves : List Move) (old new : Trail A) (does : FoldsTo Does old moves new)
+      → filter is_given moves ≡ [] → MovesFit moves old new does → P old → P new
   own_through [] old new same comes fits p = subst P same p
   own_through (move ∷ moves) old new does comes fits p =
       by (is_given move) refl comes (λ e between. own_through moves does.0 new does.2 e fits.1 between)
     where
-      by : (b : Bool) → is_given move ≡ b → cond b (move ∷ filter is_given moves) (filter is_given moves) ≡ [] → (filter is_given moves ≡ [] → P does.0 → P new) → P new
+      by : (b : Bool) → is_given move ≡ b → cond b (move ∷ filter is_given moves) (filter is_given moves) ≡ []
+          → (filter is_given moves ≡ [] → P does.0 → P new) → P new
       by true is e rest = let f : move ∷ filter is_given moves ≡ [] = e in cc
       by false is e rest = rest e (step move old does.0 does.1 fits.0 (own_free move is) p)
 
@@ -428,50 +500,66 @@ module _ {A : Type 0} (channel : ChannelView) (held : List ℕ) (shown : Shown) 
   later_on : (move : Move) (old new : Trail A) → Does old move new → IsLater old.timeout → IsLater new.timeout
   later_on move old new does later = subst IsLater (sym (stays_by move old new does)) later
 
-  loose_step : (move : Move) (old new : Trail A) (does : Does old move new) → MoveFits old move new does → IsPlain move → Loose channel held shown old → Loose channel held shown new
-  loose_step move old new does fits plain p = record { here = move_here channel held shown move old new does fits plain p.later p.here; later = later_on move old new does p.later }
+  loose_step : (move : Move) (old new : Trail A) (does : Does old move new)
+      → MoveFits old move new does → IsPlain move → Loose channel held shown old → Loose channel held shown new
+  loose_step move old new does fits plain p =
+      record { here = move_here channel held shown move old new does fits plain p.later p.here; later = later_on move old new does p.later }
 
-  ready_step : (move : Move) (old new : Trail A) (does : Does old move new) → MoveFits old move new does → IsFree move → Ready channel held shown old → Ready channel held shown new
+  ready_step : (move : Move) (old new : Trail A) (does : Does old move new)
+      → MoveFits old move new does → IsFree move → Ready channel held shown old → Ready channel held shown new
   ready_step move old new does fits free p = record {
     here = move_here channel held shown move old new does fits (free_plain move free) p.later p.here;
     tied = move_tied channel held shown move old new does fits free p.here p.tied;
     later = later_on move old new does p.later;
   }
 
-  apart_step : (move : Move) (old new : Trail A) (does : Does old move new) → MoveFits old move new does → IsPlain move → Apart channel held shown old → Apart channel held shown new
+  apart_step : (move : Move) (old new : Trail A) (does : Does old move new)
+      → MoveFits old move new does → IsPlain move → Apart channel held shown old → Apart channel held shown new
   apart_step move old new does fits plain p =
       let idle = move_idle channel held shown move old new does fits plain p.here (p.down, p.empty) in
-      record { here = move_here channel held shown move old new does fits plain p.later p.here; down = idle.0; empty = idle.1; later = later_on move old new does p.later }
+      record {
+        here = move_here channel held shown move old new does fits plain p.later p.here;
+        down = idle.0;
+        empty = idle.1;
+        later = later_on move old new does p.later;
+      }
 
   own_loose : (old new : Trail A) → Given [] old new → Loose channel held shown old → Loose channel held shown new
-  own_loose = own_all (Loose channel held shown) (λ move old new does fits free p. loose_step move old new does fits (free_plain move free) p)
+  own_loose =
+      own_all (Loose channel held shown) (λ move old new does fits free p. loose_step move old new does fits (free_plain move free) p)
 
   own_ready : (old new : Trail A) → Given [] old new → Ready channel held shown old → Ready channel held shown new
   own_ready = own_all (Ready channel held shown) ready_step
 
   own_apart : (old new : Trail A) → Given [] old new → Apart channel held shown old → Apart channel held shown new
-  own_apart = own_all (Apart channel held shown) (λ move old new does fits free p. apart_step move old new does fits (free_plain move free) p)
+  own_apart =
+      own_all (Apart channel held shown) (λ move old new does fits free p. apart_step move old new does fits (free_plain move free) p)
 
   -- moves after which no connection is over
-  pub all_ready : (given : List Move) (old new : Trail A) → AllByRecursion IsFree given → Given given old new → Ready channel held shown old → Ready channel held shown new
+  pub all_ready : (given : List Move) (old new : Trail A)
+      → AllByRecursion IsFree given → Given given old new → Ready channel held shown old → Ready channel held shown new
   all_ready [] old new free moves p = own_ready old new moves p
   all_ready (first ∷ more) old new free moves p =
       let s = first_given first more old new moves in
       all_ready more s.after new free.1 s.rest (ready_step first s.before s.after s.does s.fits free.0 (own_ready old s.before s.own p))
 
   -- and those of a client that has none
-  pub all_apart : (given : List Move) (old new : Trail A) → AllByRecursion IsFree given → Given given old new → Apart channel held shown old → Apart channel held shown new
+  pub all_apart : (given : List Move) (old new : Trail A)
+      → AllByRecursion IsFree given → Given given old new → Apart channel held shown old → Apart channel held shown new
   all_apart [] old new free moves p = own_apart old new moves p
   all_apart (first ∷ more) old new free moves p =
       let s = first_given first more old new moves in
-      all_apart more s.after new free.1 s.rest (apart_step first s.before s.after s.does s.fits (free_plain first free.0) (own_apart old s.before s.own p))
+      all_apart more s.after new free.1 s.rest
+      (apart_step first s.before s.after s.does s.fits (free_plain first free.0) (own_apart old s.before s.own p))
 
   -- all that is held is handed over
-  bytes_ready : (now : ℕ) (old new : Trail A) (does : Does old (Hears now (turns.Bytes held)) new) → MoveFits old (Hears now (turns.Bytes held)) new does → Ready channel held shown old → Ready channel [] shown new
+  bytes_ready : (now : ℕ) (old new : Trail A) (does : Does old (Hears now (turns.Bytes held)) new)
+      → MoveFits old (Hears now (turns.Bytes held)) new does → Ready channel held shown old → Ready channel [] shown new
   bytes_ready now old new does fits p = record {
     here = leaves_here channel [] shown does.hears.heard.is_lost now does.between new does.leaves fits.1 between;
     tied = leaves_tied channel [] shown does.hears.heard.is_lost now does.between new does.leaves fits.1 between
-        (λ is. hears_open channel now (turns.Bytes held) old does.between does.hears held [] shown fits.0 p.here tt (refl, refl) (unlost channel [] shown now (turns.Bytes held) old does.between does.hears is) p.tied);
+        (λ is. hears_open channel now (turns.Bytes held) old does.between does.hears held [] shown fits.0 p.here tt (refl, refl)
+        (unlost channel [] shown now (turns.Bytes held) old does.between does.hears is) p.tied);
     later = later_on (Hears now (turns.Bytes held)) old new does p.later;
   }
     where
@@ -491,28 +579,33 @@ closed_on channel (one ∷ more) shut = closed_on (carried channel one) more (by
     by _ = shut
 
 module _ {A : Type 0} (channel : ChannelView) (shown : Shown) where
-  pub bytes_noted : (now : ℕ) (held : List ℕ) (old new : Trail A) → Given (Hears now (turns.Bytes held) ∷ []) old new → Ready channel held shown old → Ready channel [] shown new
+  pub bytes_noted : (now : ℕ) (held : List ℕ) (old new : Trail A)
+      → Given (Hears now (turns.Bytes held) ∷ []) old new → Ready channel held shown old → Ready channel [] shown new
   bytes_noted now held old new given p =
       let s = first_given (Hears now (turns.Bytes held)) [] old new given in
-      own_ready channel [] shown s.after new s.rest (bytes_ready channel held shown now s.before s.after s.does s.fits (own_ready channel held shown old s.before s.own p))
+      own_ready channel [] shown s.after new s.rest
+      (bytes_ready channel held shown now s.before s.after s.does s.fits (own_ready channel held shown old s.before s.own p))
 
   -- a connection is over, or could not be made: it is closed here
   module _ (shut : channel.is_open ≡ false) where
     empty_shut : (trail : Trail A) → (left_by channel trail).is_open ≡ true → (left_by channel trail).unsent ≡ []
     empty_shut trail there = let e : true ≡ false = sym there ∙ closed_on channel trail.told shut in cc
 
-    cut_apart : (now : ℕ) (old new : Trail A) (does : Does old (Hears now turns.Cut) new) → MoveFits old (Hears now turns.Cut) new does → Loose channel [] shown old → Apart channel [] shown new
+    cut_apart : (now : ℕ) (old new : Trail A) (does : Does old (Hears now turns.Cut) new)
+        → MoveFits old (Hears now turns.Cut) new does → Loose channel [] shown old → Apart channel [] shown new
     cut_apart now old new does fits p =
         let between = hears_at channel now turns.Cut old does.between does.hears [] [] shown fits.0 p.here tt refl in
         let down = hears_cut channel now old does.between does.hears [] shown fits.0 p.here in
         record {
           here = leaves_here channel [] shown does.hears.heard.is_lost now does.between new does.leaves fits.1 between;
-          down = (leaves_idle channel [] shown does.hears.heard.is_lost now does.between new does.leaves fits.1 between (down, empty_shut does.between)).0;
+          down = (leaves_idle channel [] shown does.hears.heard.is_lost now does.between new does.leaves fits.1 between
+              (down, empty_shut does.between)).0;
           empty = empty_shut new;
           later = subst IsLater (sym (stays_by (Hears now turns.Cut) old new does)) p.later;
         }
 
-    pub over_noted : (now : ℕ) (old new : Trail A) → Given (Ended now ∷ Hears now turns.Cut ∷ []) old new → Loose channel [] shown old → Apart channel [] shown new
+    pub over_noted : (now : ℕ) (old new : Trail A)
+        → Given (Ended now ∷ Hears now turns.Cut ∷ []) old new → Loose channel [] shown old → Apart channel [] shown new
     over_noted now old new given p =
         let s = first_given (Ended now) (Hears now turns.Cut ∷ []) old new given in
         let t = first_given (Hears now turns.Cut) [] s.after new s.rest in
@@ -521,24 +614,29 @@ module _ {A : Type 0} (channel : ChannelView) (shown : Shown) where
         (own_loose channel [] shown s.after t.before t.own
         (loose_step channel [] shown (Ended now) s.before s.after s.does s.fits tt (own_loose channel [] shown old s.before s.own p))))
 
-    pub late_noted : (now : ℕ) (old new : Trail A) → Given (HungUp ∷ Ended now ∷ Hears now turns.Cut ∷ []) old new → Loose channel [] shown old → Apart channel [] shown new
+    pub late_noted : (now : ℕ) (old new : Trail A)
+        → Given (HungUp ∷ Ended now ∷ Hears now turns.Cut ∷ []) old new → Loose channel [] shown old → Apart channel [] shown new
     late_noted now old new given p =
         let s = first_given HungUp (Ended now ∷ Hears now turns.Cut ∷ []) old new given in
-        over_noted now s.after new s.rest (loose_step channel [] shown HungUp s.before s.after s.does s.fits tt (own_loose channel [] shown old s.before s.own p))
+        over_noted now s.after new s.rest
+        (loose_step channel [] shown HungUp s.before s.after s.does s.fits tt (own_loose channel [] shown old s.before s.own p))
 
   -- one begins, to a server at a place
   module _ (place : ℕ) (before : Shown) (is : shown ≡ connected place before) (low : place ≤ length before.history.transactions) where
-    opened_ready : (now : ℕ) (old new : Trail A) (does : Does old (Hears now turns.Opened) new) → MoveFits old (Hears now turns.Opened) new does → Apart channel [] shown old → Ready channel [] shown new
+    opened_ready : (now : ℕ) (old new : Trail A) (does : Does old (Hears now turns.Opened) new)
+        → MoveFits old (Hears now turns.Opened) new does → Apart channel [] shown old → Ready channel [] shown new
     opened_ready now old new does fits p =
         let between = opened_at channel now old does.between does.hears shown before place fits.0 p.here p.down is low p.empty in
         record {
           here = leaves_here channel [] shown does.hears.heard.is_lost now does.between new does.leaves fits.1 between;
           tied = leaves_tied channel [] shown does.hears.heard.is_lost now does.between new does.leaves fits.1 between
-              (λ kept. opened_open channel now old does.between does.hears shown before place fits.0 p.here p.down is low (unlost channel [] shown now turns.Opened old does.between does.hears kept));
+              (λ kept. opened_open channel now old does.between does.hears shown before place fits.0 p.here p.down is low
+              (unlost channel [] shown now turns.Opened old does.between does.hears kept));
           later = subst IsLater (sym (stays_by (Hears now turns.Opened) old new does)) p.later;
         }
 
-    pub opened_noted : (now : ℕ) (old new : Trail A) → Given (Opened now ∷ Hears now turns.Opened ∷ []) old new → Apart channel [] shown old → Ready channel [] shown new
+    pub opened_noted : (now : ℕ) (old new : Trail A)
+        → Given (Opened now ∷ Hears now turns.Opened ∷ []) old new → Apart channel [] shown old → Ready channel [] shown new
     opened_noted now old new given p =
         let s = first_given (Opened now) (Hears now turns.Opened ∷ []) old new given in
         let t = first_given (Hears now turns.Opened) [] s.after new s.rest in

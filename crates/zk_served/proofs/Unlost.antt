@@ -9,7 +9,9 @@ use Rattle.zk_session.specs.declared.states.State.TheVariants.{Idle, Connecting,
 use Rattle.zk_conversation.specs.Calls.{Call, call_payload}
 use Rattle.zk_conversation.specs.Questions.{question_of, watched_side}
 use Rattle.zk_conversation.specs.Pending.{Pending, Waiting, Part_waits, Call_waits, calls_pending, is_close_pending}
-use Rattle.zk_turns.specs.Turns.{Output, Answer, Enters, Input, Bytes, Cut, Now, Outcome, Replied, SessionExpired, SessionClosed, NotConnected, TooManyWatches, TooLarge, TooManyPending, Call as Calling, Opened as Opening, Signal, Opens, Comes, Cuts, Ticks, Calls, Forget, Halt, signals_of, ends_connection}
+use Rattle.zk_turns.specs.Turns.{Output, Answer, Enters, Input, Bytes, Cut, Now, Outcome, Replied, SessionExpired, SessionClosed}
+use Rattle.zk_turns.specs.Turns.{NotConnected, TooManyWatches, TooLarge, TooManyPending, Call as Calling, Opened as Opening, Signal, Opens}
+use Rattle.zk_turns.specs.Turns.{Comes, Cuts, Ticks, Calls, Forget, Halt, signals_of, ends_connection}
 use Rattle.zk_turns.specs.View.{View}
 use Rattle.zk_turns.specs.Past.{Happening, Began, Took, Dropped, Lost, Asked, Denied, Pinged, Ticked, Came, Forgot, Halted}
 use Rattle.zk_turns.specs.Taken.{caused, happenings, opens, refusal, refusal_when_connected, is_full_on}
@@ -40,7 +42,13 @@ of_connected view call =
 of_refusal : (view : View) (call : Call) → OfWhy (refusal view call)
 of_refusal view call = by view.standing.state
   where
-    by : (state : State) → OfWhy (elim state [ Connected ↦ refusal_when_connected view call | Expired ↦ Some SessionExpired | Closed ↦ Some SessionClosed | _ ↦ Some NotConnected ])
+    by : (state : State) → OfWhy (elim state [
+      | Connected ↦ refusal_when_connected view call
+      | Expired ↦ Some SessionExpired
+      | Closed ↦
+          Some SessionClosed
+      | _ ↦ Some NotConnected
+    ])
     by Connected = of_connected view call
     by Idle = tt
     by Connecting = tt
@@ -75,7 +83,8 @@ caused_unlost : (view : View) (signal : Signal) → IsMute signal → AreUnlost 
 caused_unlost view Opens mute = opens_unlost view.standing.state
 caused_unlost view (Comes byte) mute = absurd mute
 caused_unlost view Cuts mute = by_open AreUnlost view.standing.state (Lost ∷ []) tt (tt, tt)
-caused_unlost view (Ticks moment) mute = (tt, by_open AreUnlost view.standing.state _ tt (by_due AreUnlost view (max moment view.moments.now) (tt, tt) (tt, tt) tt))
+caused_unlost view (Ticks moment) mute =
+    (tt, by_open AreUnlost view.standing.state _ tt (by_due AreUnlost view (max moment view.moments.now) (tt, tt) (tt, tt) tt))
 caused_unlost view (Calls ticket call) mute = call_unlost ticket call (refusal view call) (of_refusal view call)
 caused_unlost view Forget mute = (tt, tt)
 caused_unlost view Halt mute = (tt, tt)
@@ -86,10 +95,13 @@ happened_unlost view Halt mute = (tt, tt)
 happened_unlost view (Comes byte) mute = absurd mute
 happened_unlost view Opens mute = by_cond AreUnlost view.standing.halted [] (caused view Opens) tt (caused_unlost view Opens mute)
 happened_unlost view Cuts mute = by_cond AreUnlost view.standing.halted [] (caused view Cuts) tt (caused_unlost view Cuts mute)
-happened_unlost view (Ticks moment) mute = by_cond AreUnlost view.standing.halted [] (caused view (Ticks moment)) tt (caused_unlost view (Ticks moment) mute)
-happened_unlost view (Calls ticket call) mute = by_cond AreUnlost view.standing.halted [] (caused view (Calls ticket call)) tt (caused_unlost view (Calls ticket call) mute)
+happened_unlost view (Ticks moment) mute =
+    by_cond AreUnlost view.standing.halted [] (caused view (Ticks moment)) tt (caused_unlost view (Ticks moment) mute)
+happened_unlost view (Calls ticket call) mute =
+    by_cond AreUnlost view.standing.halted [] (caused view (Calls ticket call)) tt (caused_unlost view (Calls ticket call) mute)
 
-pub any_both : (test : Output → Bool) (first second : List Output) → list_any test first ≡ false → list_any test second ≡ false → list_any test (first ++ second) ≡ false
+pub any_both : (test : Output → Bool) (first second : List Output)
+    → list_any test first ≡ false → list_any test second ≡ false → list_any test (first ++ second) ≡ false
 any_both test first second a b = list_any-append test first second ∙ ap (λ c. c || list_any test second) a ∙ b
 
 loss_unlost : (pending : Pending) → list_any is_lost (loss pending) ≡ false
@@ -126,13 +138,16 @@ says_unlost view Halted unlost = refl
 all_unlost : (happened : List Happening) (view : View) → AreUnlost happened → list_any is_lost (says_all view happened) ≡ false
 all_unlost [] view unlost = refl
 all_unlost (happening ∷ more) view unlost =
-    any_both is_lost (says view happening) (says_all (next view happening) more) (says_unlost view happening unlost.0) (all_unlost more (next view happening) unlost.1)
+    any_both is_lost (says view happening) (says_all (next view happening) more) (says_unlost view happening unlost.0)
+    (all_unlost more (next view happening) unlost.1)
 
-signals_unlost : (signals : List Signal) (view : View) → AllByRecursion IsMute signals → list_any is_lost (says_signals view signals) ≡ false
+signals_unlost : (signals : List Signal) (view : View)
+    → AllByRecursion IsMute signals → list_any is_lost (says_signals view signals) ≡ false
 signals_unlost [] view mute = refl
 signals_unlost (signal ∷ more) view mute =
     let then_view : View = after_all view (happenings view signal) in
-    any_both is_lost (says_all view (happenings view signal)) (says_signals then_view more) (all_unlost (happenings view signal) view (happened_unlost view signal mute.0))
+    any_both is_lost (says_all view (happenings view signal)) (says_signals then_view more)
+    (all_unlost (happenings view signal) view (happened_unlost view signal mute.0))
     (signals_unlost more then_view mute.1)
 
 -- an input without bytes
@@ -147,16 +162,19 @@ mute_all Cut mute = (tt, tt)
 mute_all (Now moment) mute = (tt, tt)
 mute_all (Calling ticket asked) mute = (tt, tt)
 
-pub turn_unlost : (view after : View) (input : Input) (outputs : List Output) → Rule view (record { input = input; outputs = outputs }) after → IsMuteInput input → list_any is_lost outputs ≡ false
+pub turn_unlost : (view after : View) (input : Input) (outputs : List Output)
+    → Rule view (record { input = input; outputs = outputs }) after → IsMuteInput input → list_any is_lost outputs ≡ false
 turn_unlost view after input outputs rule mute =
     ap (list_any is_lost) rule.outputs ∙ signals_unlost (signals_of input) view (mute_all input mute)
 
 -- where nothing is lost, and nothing is ended, no connection is over
 pub none_over : (outputs : List Output) → EndsNothing outputs → list_any is_lost outputs ≡ false → list_any is_over outputs ≡ false
 none_over [] ends unlost = refl
-none_over (output ∷ outputs) ends unlost = by (ends_connection output) ends.0 (is_lost output) unlost (λ rest. none_over outputs ends.1 rest)
+none_over (output ∷ outputs) ends unlost =
+    by (ends_connection output) ends.0 (is_lost output) unlost (λ rest. none_over outputs ends.1 rest)
   where
-    by : (e : Bool) → e ≡ false → (l : Bool) → (l || list_any is_lost outputs) ≡ false → (list_any is_lost outputs ≡ false → list_any is_over outputs ≡ false)
+    by : (e : Bool) → e ≡ false → (l : Bool)
+        → (l || list_any is_lost outputs) ≡ false → (list_any is_lost outputs ≡ false → list_any is_over outputs ≡ false)
         → ((e || l) || list_any is_over outputs) ≡ false
     by true is l un then_rest = let f : true ≡ false = is in cc
     by false is true un then_rest = let f : true ≡ false = un in cc

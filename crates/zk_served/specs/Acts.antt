@@ -19,7 +19,8 @@ pub record ProcessesNext (old new : Shown) : Type 0 where
   pub rest : List ℕ
   pub whole : old.requests ≡ frame payload ++ rest
   pub small : length payload < 2 ^ 31
-  pub does : (request : Request) (xid : ℤ) (payload rest : List ℕ) → StandsFirst request xid payload rest old.requests → IsFor request old.server.stage
+  pub does : (request : Request) (xid : ℤ) (payload rest : List ℕ)
+      → StandsFirst request xid payload rest old.requests → IsFor request old.server.stage
       → (steps : List Step) × Processes request xid payload steps old new
 
 -- It takes transactions, of which there may be more then.
@@ -37,7 +38,8 @@ pub data Act : Type 0 where
   Takes Gives : List ℕ → Act
   Serves : Act
 
--- What a stream takes the connected server has then. What it gives this server had sent, and none of it is given before what was sent earlier.
+-- What a stream takes the connected server has then. What it gives this server had sent, and none of it is given before what was sent
+-- earlier.
 abbrev pub Happens : Shown → Act → Shown → Type 0
 Happens old (Takes bytes) new = new ≡ record old { requests = more_requests old.phase old.requests bytes }
 Happens old (Gives bytes) new = (old.output ≡ bytes ++ new.output) × (new ≡ record old { output = new.output })

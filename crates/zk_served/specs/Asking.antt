@@ -34,9 +34,11 @@ MovesFit (move ∷ moves) old new does = MoveFits old move does.0 does.1 × Move
 
 abbrev pub DeedFits : {A : Type 0} → (old : Flow A) → (deed : Deed A) → (new : Flow A) → Carries old deed new → Type 0
 DeedFits old (Made (Noted now input)) new carries =
-    MovesFit carries.0.2.comes.moves (agents.trail_of old.course.agent []) (agents.trail_of new.course.agent carries.0.2.actions) carries.0.2.comes.does
+    MovesFit carries.0.2.comes.moves (agents.trail_of old.course.agent [])
+    (agents.trail_of new.course.agent carries.0.2.actions) carries.0.2.comes.does
 DeedFits old (Asked now input) new carries =
-    MovesFit carries.0.comes.moves (agents.trail_of old.course.agent []) (agents.trail_of new.course.agent carries.0.actions) carries.0.comes.does
+    MovesFit carries.0.comes.moves (agents.trail_of old.course.agent [])
+    (agents.trail_of new.course.agent carries.0.actions) carries.0.comes.does
 DeedFits old deed new carries = ⊤
 
 abbrev pub StepsFit : {A : Type 0} → (steps : List (Option (Deed A))) → (old new : Flow A) → FoldsTo Passes old steps new → Type 0

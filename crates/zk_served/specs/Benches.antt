@@ -12,22 +12,27 @@ use Rattle.zk_served.specs.Acts.{Gives, Happens, Serves, Takes}
 
 -- bytes come to the connected server (`ok` of `Bench::receive`)
 abbrev pub BenchTakes : Type 0
-BenchTakes = (served : Served) (bytes : List ℕ) → is_open served.connection.phase ≡ true → Happens (shown_of served) (Takes bytes) (shown_of (with_requests served bytes))
+BenchTakes = (served : Served) (bytes : List ℕ) → is_open served.connection.phase ≡ true
+    → Happens (shown_of served) (Takes bytes) (shown_of (with_requests served bytes))
 
 -- the first bytes that it sent are taken out (`bytes`, `rest` of `Bench::output`)
 abbrev pub BenchGives : Type 0
-BenchGives = (served : Served) (most : ℕ) → Happens (shown_of served) (Gives (take most served.connection.output)) (shown_of (without_output served most))
+BenchGives = (served : Served) (most : ℕ)
+    → Happens (shown_of served) (Gives (take most served.connection.output)) (shown_of (without_output served most))
 
 -- it takes a transaction (`advances` of `Bench::take`)
 abbrev pub BenchAdvances : Type 0
-BenchAdvances = (old new : Served) → is_open old.connection.phase ≡ true → TakesSome (shown_of old) (shown_of new) → Happens (shown_of old) Serves (shown_of new)
+BenchAdvances = (old new : Served) → is_open old.connection.phase ≡ true → TakesSome (shown_of old) (shown_of new)
+    → Happens (shown_of old) Serves (shown_of new)
 
 -- it processes the request whose frame stands first (`serves`, `history` of `Bench::process`)
 abbrev pub BenchProcesses : Type 0
 BenchProcesses =
-    (old new : Served) (payload rest : List ℕ) → is_open old.connection.phase ≡ true → old.connection.requests ≡ frame payload ++ rest → length payload < 2 ^ 31
+    (old new : Served) (payload rest : List ℕ) → is_open old.connection.phase ≡ true → old.connection.requests ≡ frame payload ++ rest
+    → length payload < 2 ^ 31
     → IsHistory (history_of old.history) → GoesOn (history_of old.history) (history_of new.history)
-    → ((request : Request) (xid : ℤ) (payload rest : List ℕ) → StandsFirst request xid payload rest old.connection.requests → IsFor request (shown_of old).server.stage
+    → ((request : Request) (xid : ℤ) (payload rest : List ℕ) → StandsFirst request xid payload rest old.connection.requests
+    → IsFor request (shown_of old).server.stage
     → ProcessesFirst request xid payload (shown_of old) (shown_of new))
     → Happens (shown_of old) Serves (shown_of new)
 

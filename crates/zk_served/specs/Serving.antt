@@ -12,8 +12,8 @@ use Rattle.zk_driver.specs.Flowing.{Flow, Runs}
 use Rattle.zk_served.specs.Asking.{StepsFit}
 use Rattle.zk_served.specs.Worlds.{ByDriver, ByStream, Meets}
 
--- A driver begins: no connection is there, and its client has gone through nothing. The session to begin with is in range, and so are the later
--- ones, which ask for a timeout above 0.
+-- A driver begins: no connection is there, and its client has gone through nothing. The session to begin with is in range, and so are the
+-- later ones, which ask for a timeout above 0.
 pub record Begins {A : Type 0} (flow : Flow A) : Type 0 where
   pub apart : flow.course.channel.is_open ≡ false
   pub start : Start
@@ -34,12 +34,15 @@ pub record MeetsServers {A : Type 0} (By : List ℕ → List ℕ → Flow A → 
 
 -- Where streams know their bytes: what they took the servers had, and what they gave the servers had sent.
 abbrev pub StreamsServe : Type 0 → Type 0
-StreamsServe A = (old new : Flow A) (after : Shown) → MeetsServers ByStream old new after → IsServedFrom after.history (view_of new.course.agent.asker.follower.client)
+StreamsServe A = (old new : Flow A) (after : Shown) → MeetsServers ByStream old new after
+    → IsServedFrom after.history (view_of new.course.agent.asker.follower.client)
 
 -- and where nothing is known of streams: what was written the servers had, and what was read they had sent
 abbrev pub BytesServe : Type 0 → Type 0
-BytesServe A = (old new : Flow A) (after : Shown) → MeetsServers ByDriver old new after → IsServedFrom after.history (view_of new.course.agent.asker.follower.client)
+BytesServe A = (old new : Flow A) (after : Shown) → MeetsServers ByDriver old new after
+    → IsServedFrom after.history (view_of new.course.agent.asker.follower.client)
 
 -- So each good answer is the history's at the last seen zxid.
 abbrev pub StreamsCohere : Type 0 → Type 0
-StreamsCohere A = (old new : Flow A) (after : Shown) → MeetsServers ByStream old new after → IsCoherentWith after.history (view_of new.course.agent.asker.follower.client)
+StreamsCohere A = (old new : Flow A) (after : Shown) → MeetsServers ByStream old new after
+    → IsCoherentWith after.history (view_of new.course.agent.asker.follower.client)

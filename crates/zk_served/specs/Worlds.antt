@@ -36,11 +36,13 @@ module _ {A : Type 0} (By : List ℕ → List ℕ → Flow A → Flow A → Type
   abbrev pub Befalls : (old : Flow A) → Deed A → (new : Flow A) → (before after : Shown) → Type 0
   Befalls old (Made Written) new before after = Meanwhile old.course.channel.is_open old new before after
   Befalls old (Made (Looked look)) new before after = Meanwhile old.course.channel.is_open old new before after
-  Befalls old (Made (Noted now happens.Opened)) new before after = (place : ℕ) × (place ≤ length before.history.transactions) × (after ≡ connected place before)
+  Befalls old (Made (Noted now happens.Opened)) new before after =
+      (place : ℕ) × (place ≤ length before.history.transactions) × (after ≡ connected place before)
   Befalls old deed new before after = after ≡ before
 
   -- step after step
   abbrev pub Meets : (steps : List (Option (Deed A))) → (old new : Flow A) → FoldsTo Passes old steps new → (before after : Shown) → Type 0
   Meets [] old new passes before after = after ≡ before
-  Meets (Some deed ∷ steps) old new passes before after = (between : Shown) × Befalls old deed passes.0 before between × Meets steps passes.0 new passes.2 between after
+  Meets (Some deed ∷ steps) old new passes before after =
+      (between : Shown) × Befalls old deed passes.0 before between × Meets steps passes.0 new passes.2 between after
   Meets (None ∷ steps) old new passes before after = Meets steps passes.0 new passes.2 before after

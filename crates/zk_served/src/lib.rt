@@ -7,8 +7,8 @@ ghost use Rattle.zk_served.specs.Serving.{BytesServe, StreamsCohere, StreamsServ
 
 use std::alloc::Allocator;
 
-/// Over streams that know their bytes: where what each took was what a server of the model had, and what it gave was what this server had sent,
-/// the client within was served from the history (`IsServedFrom`). So all that is said of such a client holds.
+/// Over streams that know their bytes: where what each took was what a server of the model had, and what it gave was what this server had
+/// sent, the client within was served from the history (`IsServedFrom`). So all that is said of such a client holds.
 pub fn streams_serve<A: Allocator>()
     ensures { StreamsServe A }
 {}
@@ -23,8 +23,8 @@ pub fn bytes_serve<A: Allocator>()
     ensures { BytesServe A }
 {}
 
-/// What befalls a connection is what servers in memory do, by the clauses of `zk_bench::Bench`: bytes come to the connected server, the first
-/// bytes that it sent are taken out, it takes a transaction, it processes a request, it ends the connection.
+/// What befalls a connection is what servers in memory do, by the clauses of `zk_bench::Bench`: bytes come to the connected server, the
+/// first bytes that it sent are taken out, it takes a transaction, it processes a request, it ends the connection.
 pub fn benches_act()
     ensures takes { BenchTakes }
     ensures gives { BenchGives }

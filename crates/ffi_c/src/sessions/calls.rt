@@ -13,8 +13,8 @@ use crate::sessions::handle::DwSession;
 use crate::sessions::taking::drive;
 use std::alloc::Global;
 
-/// Asks whether there is a node, and what is known of it. As each call it waits until this moment at most, and without a limit at the last one
-/// of all.
+/// Asks whether there is a node, and what is known of it. As each call it waits until this moment at most, and without a limit at the last
+/// one of all.
 #[unsafe(no_mangle)]
 pub extern "C" fn dw_session_exists(
     alloc: Global,
@@ -26,7 +26,8 @@ pub extern "C" fn dw_session_exists(
     watch: bool,
 ) -> i32
     ensures closed { handle.old.slot.held ≡ None → IsClosed result handle.new.slot.held }
-    ensures steps { (d : AgentDevice) → handle.old.slot.held ≡ Some d → Holds handle.new.slot.held (Steps (RefusesPath path.now) now_ms (Calls ticket (Exists path.now watch) (limit_of until_ms)) d result) }
+    ensures steps { (d : AgentDevice) → handle.old.slot.held ≡ Some d → Holds handle.new.slot.held
+        (Steps (RefusesPath path.now) now_ms (Calls ticket (Exists path.now watch) (limit_of until_ms)) d result) }
 {
     drive(alloc, handle, |session| {
         session.exists_at(alloc, now_ms, ticket, until_ms, path, watch)
@@ -45,7 +46,8 @@ pub extern "C" fn dw_session_get_data(
     watch: bool,
 ) -> i32
     ensures closed { handle.old.slot.held ≡ None → IsClosed result handle.new.slot.held }
-    ensures steps { (d : AgentDevice) → handle.old.slot.held ≡ Some d → Holds handle.new.slot.held (Steps (RefusesPath path.now) now_ms (Calls ticket (GetData path.now watch) (limit_of until_ms)) d result) }
+    ensures steps { (d : AgentDevice) → handle.old.slot.held ≡ Some d → Holds handle.new.slot.held
+        (Steps (RefusesPath path.now) now_ms (Calls ticket (GetData path.now watch) (limit_of until_ms)) d result) }
 {
     drive(alloc, handle, |session| {
         session.get_data_at(alloc, now_ms, ticket, until_ms, path, watch)
@@ -64,7 +66,8 @@ pub extern "C" fn dw_session_get_children(
     watch: bool,
 ) -> i32
     ensures closed { handle.old.slot.held ≡ None → IsClosed result handle.new.slot.held }
-    ensures steps { (d : AgentDevice) → handle.old.slot.held ≡ Some d → Holds handle.new.slot.held (Steps (RefusesPath path.now) now_ms (Calls ticket (GetChildren path.now watch) (limit_of until_ms)) d result) }
+    ensures steps { (d : AgentDevice) → handle.old.slot.held ≡ Some d → Holds handle.new.slot.held
+        (Steps (RefusesPath path.now) now_ms (Calls ticket (GetChildren path.now watch) (limit_of until_ms)) d result) }
 {
     drive(alloc, handle, |session| {
         session.get_children_at(alloc, now_ms, ticket, until_ms, path, watch)
@@ -85,7 +88,8 @@ pub extern "C" fn dw_session_set_data(
     version: i32,
 ) -> i32
     ensures closed { handle.old.slot.held ≡ None → IsClosed result handle.new.slot.held }
-    ensures steps { (d : AgentDevice) → handle.old.slot.held ≡ Some d → Holds handle.new.slot.held (Steps (RefusesPath path.now) now_ms (Calls ticket (SetData path.now (if is_null then None else Some bytes.now) version) (limit_of until_ms)) d result) }
+    ensures steps { (d : AgentDevice) → handle.old.slot.held ≡ Some d → Holds handle.new.slot.held (Steps (RefusesPath path.now) now_ms
+        (Calls ticket (SetData path.now (if is_null then None else Some bytes.now) version) (limit_of until_ms)) d result) }
 {
     drive(alloc, handle, |session| {
         let data = data_of(bytes, is_null);
@@ -107,7 +111,8 @@ pub extern "C" fn dw_session_create(
     mode: u32,
 ) -> i32
     ensures closed { handle.old.slot.held ≡ None → IsClosed result handle.new.slot.held }
-    ensures steps { (d : AgentDevice) → handle.old.slot.held ≡ Some d → Holds handle.new.slot.held (Steps (RefusesCreate path.now mode) now_ms (Calls ticket (Create path.now (if is_null then None else Some bytes.now) mode) (limit_of until_ms)) d result) }
+    ensures steps { (d : AgentDevice) → handle.old.slot.held ≡ Some d → Holds handle.new.slot.held (Steps (RefusesCreate path.now mode)
+        now_ms (Calls ticket (Create path.now (if is_null then None else Some bytes.now) mode) (limit_of until_ms)) d result) }
 {
     drive(alloc, handle, |session| {
         let data = data_of(bytes, is_null);
@@ -127,7 +132,8 @@ pub extern "C" fn dw_session_delete(
     version: i32,
 ) -> i32
     ensures closed { handle.old.slot.held ≡ None → IsClosed result handle.new.slot.held }
-    ensures steps { (d : AgentDevice) → handle.old.slot.held ≡ Some d → Holds handle.new.slot.held (Steps (RefusesPath path.now) now_ms (Calls ticket (Delete path.now version) (limit_of until_ms)) d result) }
+    ensures steps { (d : AgentDevice) → handle.old.slot.held ≡ Some d → Holds handle.new.slot.held
+        (Steps (RefusesPath path.now) now_ms (Calls ticket (Delete path.now version) (limit_of until_ms)) d result) }
 {
     drive(alloc, handle, |session| {
         session.delete_at(alloc, now_ms, ticket, until_ms, path, version)
@@ -144,7 +150,8 @@ pub extern "C" fn dw_session_close(
     until_ms: u64,
 ) -> i32
     ensures closed { handle.old.slot.held ≡ None → IsClosed result handle.new.slot.held }
-    ensures steps { (d : AgentDevice) → handle.old.slot.held ≡ Some d → Holds handle.new.slot.held (Steps RefusesNothing now_ms (Calls ticket Close (limit_of until_ms)) d result) }
+    ensures steps { (d : AgentDevice) → handle.old.slot.held ≡ Some d
+        → Holds handle.new.slot.held (Steps RefusesNothing now_ms (Calls ticket Close (limit_of until_ms)) d result) }
 {
     drive(alloc, handle, |session| {
         session.close_session_at(now_ms, ticket, until_ms)

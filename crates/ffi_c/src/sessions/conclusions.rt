@@ -31,7 +31,10 @@ pub extern "C" fn dw_session_subtree(
     count: &mut usize,
 ) -> i32
     ensures closed { handle.old.slot.held ≡ None → LeavesRoom result out.old out.new count.new }
-    ensures finds { (d : AgentDevice) → handle.old.slot.held ≡ Some d → FindsText (RefusesNodes (¬ (IsWholeBelow (view_of d.agent.asker.follower.client).cache path.now)) (HasMoreNodes (view_of d.agent.asker.follower.client).cache path.now most) path.now) (WritesText (IsSubtreeText (view_of d.agent.asker.follower.client) path.now most)) result out.old out.new count.new }
+    ensures finds { (d : AgentDevice) → handle.old.slot.held ≡ Some d
+        → FindsText (RefusesNodes (¬ (IsWholeBelow (view_of d.agent.asker.follower.client).cache path.now))
+        (HasMoreNodes (view_of d.agent.asker.follower.client).cache path.now most) path.now)
+        (WritesText (IsSubtreeText (view_of d.agent.asker.follower.client) path.now most)) result out.old out.new count.new }
     ensures same { handle.new.slot.held ≡ handle.old.slot.held }
 {
     *count = 0;
@@ -61,7 +64,10 @@ pub extern "C" fn dw_session_lacking(
     count: &mut usize,
 ) -> i32
     ensures closed { handle.old.slot.held ≡ None → LeavesRoom result out.old out.new count.new }
-    ensures finds { (d : AgentDevice) → handle.old.slot.held ≡ Some d → FindsText (RefusesNodes (HasNoPath (view_of d.agent.asker.follower.client).cache path.now) (HasMoreNodes (view_of d.agent.asker.follower.client).cache path.now most) path.now) (WritesText (IsLackingText (view_of d.agent.asker.follower.client).cache path.now most)) result out.old out.new count.new }
+    ensures finds { (d : AgentDevice) → handle.old.slot.held ≡ Some d
+        → FindsText (RefusesNodes (HasNoPath (view_of d.agent.asker.follower.client).cache path.now)
+        (HasMoreNodes (view_of d.agent.asker.follower.client).cache path.now most) path.now)
+        (WritesText (IsLackingText (view_of d.agent.asker.follower.client).cache path.now most)) result out.old out.new count.new }
     ensures same { handle.new.slot.held ≡ handle.old.slot.held }
 {
     *count = 0;
@@ -79,8 +85,8 @@ pub extern "C" fn dw_session_lacking(
     }
 }
 
-/// Copies what is kept of the nodes of the first paths, and of the names below the second ones, where all of it is good, as many bytes of it
-/// as there is room for, and writes how many there are.
+/// Copies what is kept of the nodes of the first paths, and of the names below the second ones, where all of it is good, as many bytes of
+/// it as there is room for, and writes how many there are.
 #[unsafe(no_mangle)]
 pub extern "C" fn dw_session_snapshot(
     alloc: Global,
@@ -91,7 +97,9 @@ pub extern "C" fn dw_session_snapshot(
     count: &mut usize,
 ) -> i32
     ensures closed { handle.old.slot.held ≡ None → LeavesRoom result out.old out.new count.new }
-    ensures finds { (d : AgentDevice) → handle.old.slot.held ≡ Some d → FindsText (RefusesSnapshot (view_of d.agent.asker.follower.client).cache nodes.now parents.now) (WritesText (IsSnapshotText (view_of d.agent.asker.follower.client) nodes.now parents.now)) result out.old out.new count.new }
+    ensures finds { (d : AgentDevice) → handle.old.slot.held ≡ Some d
+        → FindsText (RefusesSnapshot (view_of d.agent.asker.follower.client).cache nodes.now parents.now)
+        (WritesText (IsSnapshotText (view_of d.agent.asker.follower.client) nodes.now parents.now)) result out.old out.new count.new }
     ensures same { handle.new.slot.held ≡ handle.old.slot.held }
 {
     *count = 0;
@@ -144,7 +152,8 @@ pub extern "C" fn dw_session_standing(
     count: &mut usize,
 ) -> i32
     ensures closed { handle.old.slot.held ≡ None → LeavesRoom result out.old out.new count.new × (token.new ≡ pos 0) }
-    ensures stands { (d : AgentDevice) → handle.old.slot.held ≡ Some d → FindsStanding (view_of d.agent.asker.follower.client) directory.now name.now names.now listed markers.now result token.new out.old out.new count.new }
+    ensures stands { (d : AgentDevice) → handle.old.slot.held ≡ Some d → FindsStanding (view_of d.agent.asker.follower.client) directory.now
+        name.now names.now listed markers.now result token.new out.old out.new count.new }
     ensures same { handle.new.slot.held ≡ handle.old.slot.held }
 {
     (*token, *count) = (0, 0);
@@ -163,8 +172,8 @@ pub extern "C" fn dw_session_standing(
     write_stands(stands, token, count)
 }
 
-/// Tells whether the session holds the first place of the names in a directory that begin with a prefix, by its node of this path: writes its
-/// token where it does.
+/// Tells whether the session holds the first place of the names in a directory that begin with a prefix, by its node of this path: writes
+/// its token where it does.
 #[unsafe(no_mangle)]
 pub extern "C" fn dw_session_holder(
     alloc: Global,
@@ -175,7 +184,8 @@ pub extern "C" fn dw_session_holder(
     token: &mut i64,
 ) -> i32
     ensures closed { handle.old.slot.held ≡ None → (result ≡ negsuc 2) × (token.new ≡ pos 0) }
-    ensures finds { (d : AgentDevice) → handle.old.slot.held ≡ Some d → FindsHolder (view_of d.agent.asker.follower.client) directory.now prefix.now path.now result token.new }
+    ensures finds { (d : AgentDevice) → handle.old.slot.held ≡ Some d
+        → FindsHolder (view_of d.agent.asker.follower.client) directory.now prefix.now path.now result token.new }
     ensures same { handle.new.slot.held ≡ handle.old.slot.held }
 {
     *token = 0;

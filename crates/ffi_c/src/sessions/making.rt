@@ -16,7 +16,8 @@ use std::alloc::Global;
 
 /// Has a handle hold this session. Where there is no memory for it, the handle is left as it was.
 fn hold(alloc: Global, handle: &mut DwSession, session: AgentDevice) -> i32
-    ensures { ((result ≡ pos 0) × (handle.new.slot.held ≡ Some session)) ⊎ ((result ≡ negsuc 1) × (handle.new.slot.held ≡ handle.old.slot.held)) }
+    ensures { ((result ≡ pos 0) × (handle.new.slot.held ≡ Some session))
+        ⊎ ((result ≡ negsuc 1) × (handle.new.slot.held ≡ handle.old.slot.held)) }
 {
     match Box::new(alloc, session) {
         Ok(held) => {
@@ -30,8 +31,8 @@ fn hold(alloc: Global, handle: &mut DwSession, session: AgentDevice) -> i32
     }
 }
 
-/// Makes a session of no server yet, which asks for this timeout in milliseconds and has this many addresses, in an order that is random by the
-/// seed. What the handle held is freed first.
+/// Makes a session of no server yet, which asks for this timeout in milliseconds and has this many addresses, in an order that is random by
+/// the seed. What the handle held is freed first.
 #[unsafe(no_mangle)]
 pub extern "C" fn dw_session_open(
     alloc: Global,
@@ -59,9 +60,11 @@ pub extern "C" fn dw_session_resume(
     seed: u64,
     saved: &[u8],
 ) -> i32
-    ensures makes { (put : PutAway) → bytes_read saved.now ≡ Ok put → Makes (RefusesTimeout timeout_ms) (put_start timeout_ms put) result handle.new.slot.held }
+    ensures makes { (put : PutAway) → bytes_read saved.now ≡ Ok put
+        → Makes (RefusesTimeout timeout_ms) (put_start timeout_ms put) result handle.new.slot.held }
     ensures broken { (fault : SavedFault) → bytes_read saved.now ≡ Err fault → (result ≢ pos 0) × (handle.new.slot.held ≡ None) }
-    ensures unread { (fault : SavedFault) → bytes_read saved.now ≡ Err fault → fault ≢ saved_faults.Memory → pos 0 <ℤ timeout_ms → result ≡ negsuc 7 }
+    ensures unread { (fault : SavedFault) → bytes_read saved.now ≡ Err fault → fault ≢ saved_faults.Memory
+        → pos 0 <ℤ timeout_ms → result ≡ negsuc 7 }
 {
     *handle = DwSession::closed(alloc);
     match AgentDevice::resume(alloc, timeout_ms, addresses, seed, saved) {

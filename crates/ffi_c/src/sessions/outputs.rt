@@ -47,7 +47,8 @@ pub extern "C" fn dw_session_copy(
 ) -> usize
     ensures closed { handle.old.slot.held ≡ None → (result ≡ 0) × (out.new ≡ out.old) }
     ensures count { (d : AgentDevice) → handle.old.slot.held ≡ Some d → result ≡ length (drop from (told_text d.said.items d.read)) }
-    ensures copied { (d : AgentDevice) → handle.old.slot.held ≡ Some d → out.new ≡ take (length out.old) (drop from (told_text d.said.items d.read)) ++ drop (length (drop from (told_text d.said.items d.read))) out.old }
+    ensures copied { (d : AgentDevice) → handle.old.slot.held ≡ Some d → out.new ≡ take (length out.old)
+        (drop from (told_text d.said.items d.read)) ++ drop (length (drop from (told_text d.said.items d.read))) out.old }
     ensures same { handle.new.slot.held ≡ handle.old.slot.held }
 {
     let Some(session) = take_device(alloc, handle) else {
@@ -69,7 +70,8 @@ pub extern "C" fn dw_session_name(
 ) -> usize
     ensures closed { handle.old.slot.held ≡ None → (result ≡ 0) × (out.new ≡ out.old) }
     ensures count { (d : AgentDevice) → handle.old.slot.held ≡ Some d → result ≡ length (told_name index d.said.items d.read) }
-    ensures copied { (d : AgentDevice) → handle.old.slot.held ≡ Some d → out.new ≡ take (length out.old) (told_name index d.said.items d.read) ++ drop (length (told_name index d.said.items d.read)) out.old }
+    ensures copied { (d : AgentDevice) → handle.old.slot.held ≡ Some d → out.new
+        ≡ take (length out.old) (told_name index d.said.items d.read) ++ drop (length (told_name index d.said.items d.read)) out.old }
     ensures same { handle.new.slot.held ≡ handle.old.slot.held }
 {
     let Some(session) = take_device(alloc, handle) else {
@@ -90,7 +92,8 @@ pub extern "C" fn dw_session_names(
     count: &mut usize,
 ) -> i32
     ensures closed { handle.old.slot.held ≡ None → LeavesRoom result out.old out.new count.new }
-    ensures names { (d : AgentDevice) → handle.old.slot.held ≡ Some d → FindsText RefusesMemory (WritesText (AreTexts (told_names d.said.items d.read))) result out.old out.new count.new }
+    ensures names { (d : AgentDevice) → handle.old.slot.held ≡ Some d
+        → FindsText RefusesMemory (WritesText (AreTexts (told_names d.said.items d.read))) result out.old out.new count.new }
     ensures same { handle.new.slot.held ≡ handle.old.slot.held }
 {
     *count = 0;
@@ -117,7 +120,8 @@ pub extern "C" fn dw_session_words(
     count: &mut usize,
 ) -> i32
     ensures closed { handle.old.slot.held ≡ None → LeavesRoom result out.old out.new count.new }
-    ensures words { (d : AgentDevice) → handle.old.slot.held ≡ Some d → Writes (told_words d.said.items d.read) result out.old out.new count.new }
+    ensures words { (d : AgentDevice) → handle.old.slot.held ≡ Some d
+        → Writes (told_words d.said.items d.read) result out.old out.new count.new }
     ensures same { handle.new.slot.held ≡ handle.old.slot.held }
 {
     *count = 0;

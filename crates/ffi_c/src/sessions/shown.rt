@@ -18,7 +18,8 @@ use std::alloc::Global;
 #[unsafe(no_mangle)]
 pub extern "C" fn dw_session_state(alloc: Global, handle: &mut DwSession) -> i32
     ensures closed { handle.old.slot.held ≡ None → result ≡ negsuc 2 }
-    ensures state { (d : AgentDevice) → handle.old.slot.held ≡ Some d → result ≡ pos (state_number (view_of d.agent.asker.follower.client).standing.state) }
+    ensures state { (d : AgentDevice) → handle.old.slot.held ≡ Some d
+        → result ≡ pos (state_number (view_of d.agent.asker.follower.client).standing.state) }
     ensures same { handle.new.slot.held ≡ handle.old.slot.held }
 {
     let Some(session) = take_device(alloc, handle) else {
@@ -64,7 +65,8 @@ pub extern "C" fn dw_session_revision(alloc: Global, handle: &mut DwSession) -> 
 #[unsafe(no_mangle)]
 pub extern "C" fn dw_session_timeout_ms(alloc: Global, handle: &mut DwSession) -> i64
     ensures closed { handle.old.slot.held ≡ None → result ≡ negsuc 2 }
-    ensures timeout { (d : AgentDevice) → handle.old.slot.held ≡ Some d → result ≡ pos (view_of d.agent.asker.follower.client).saved.session.timeout }
+    ensures timeout { (d : AgentDevice) → handle.old.slot.held ≡ Some d
+        → result ≡ pos (view_of d.agent.asker.follower.client).saved.session.timeout }
     ensures same { handle.new.slot.held ≡ handle.old.slot.held }
 {
     let Some(session) = take_device(alloc, handle) else {
@@ -137,7 +139,8 @@ pub extern "C" fn dw_session_saved(
     count: &mut usize,
 ) -> i32
     ensures closed { handle.old.slot.held ≡ None → LeavesRoom result out.old out.new count.new }
-    ensures saved { (d : AgentDevice) → handle.old.slot.held ≡ Some d → Writes (saved_bytes (put_of (view_of d.agent.asker.follower.client).saved)) result out.old out.new count.new }
+    ensures saved { (d : AgentDevice) → handle.old.slot.held ≡ Some d
+        → Writes (saved_bytes (put_of (view_of d.agent.asker.follower.client).saved)) result out.old out.new count.new }
     ensures same { handle.new.slot.held ≡ handle.old.slot.held }
 {
     *count = 0;

@@ -14,7 +14,8 @@ use std::alloc::Global;
 #[unsafe(no_mangle)]
 pub extern "C" fn dw_session_opened(alloc: Global, handle: &mut DwSession, now_ms: u64) -> i32
     ensures closed { handle.old.slot.held ≡ None → IsClosed result handle.new.slot.held }
-    ensures steps { (d : AgentDevice) → handle.old.slot.held ≡ Some d → Holds handle.new.slot.held (Steps RefusesNothing now_ms Opened d result) }
+    ensures steps { (d : AgentDevice) → handle.old.slot.held ≡ Some d
+        → Holds handle.new.slot.held (Steps RefusesNothing now_ms Opened d result) }
 {
     drive(alloc, handle, |session| session.opened_at(now_ms))
 }
@@ -23,7 +24,8 @@ pub extern "C" fn dw_session_opened(alloc: Global, handle: &mut DwSession, now_m
 #[unsafe(no_mangle)]
 pub extern "C" fn dw_session_failed(alloc: Global, handle: &mut DwSession, now_ms: u64) -> i32
     ensures closed { handle.old.slot.held ≡ None → IsClosed result handle.new.slot.held }
-    ensures steps { (d : AgentDevice) → handle.old.slot.held ≡ Some d → Holds handle.new.slot.held (Steps RefusesNothing now_ms Failed d result) }
+    ensures steps { (d : AgentDevice) → handle.old.slot.held ≡ Some d
+        → Holds handle.new.slot.held (Steps RefusesNothing now_ms Failed d result) }
 {
     drive(alloc, handle, |session| session.failed_at(now_ms))
 }
@@ -37,7 +39,8 @@ pub extern "C" fn dw_session_bytes(
     bytes: &[u8],
 ) -> i32
     ensures closed { handle.old.slot.held ≡ None → IsClosed result handle.new.slot.held }
-    ensures steps { (d : AgentDevice) → handle.old.slot.held ≡ Some d → Holds handle.new.slot.held (Steps RefusesMemory now_ms (Bytes bytes.now) d result) }
+    ensures steps { (d : AgentDevice) → handle.old.slot.held ≡ Some d
+        → Holds handle.new.slot.held (Steps RefusesMemory now_ms (Bytes bytes.now) d result) }
 {
     drive(
         alloc,
@@ -50,7 +53,8 @@ pub extern "C" fn dw_session_bytes(
 #[unsafe(no_mangle)]
 pub extern "C" fn dw_session_cut(alloc: Global, handle: &mut DwSession, now_ms: u64) -> i32
     ensures closed { handle.old.slot.held ≡ None → IsClosed result handle.new.slot.held }
-    ensures steps { (d : AgentDevice) → handle.old.slot.held ≡ Some d → Holds handle.new.slot.held (Steps RefusesNothing now_ms Cut d result) }
+    ensures steps { (d : AgentDevice) → handle.old.slot.held ≡ Some d
+        → Holds handle.new.slot.held (Steps RefusesNothing now_ms Cut d result) }
 {
     drive(alloc, handle, |session| session.cut_at(now_ms))
 }
@@ -59,7 +63,8 @@ pub extern "C" fn dw_session_cut(alloc: Global, handle: &mut DwSession, now_ms: 
 #[unsafe(no_mangle)]
 pub extern "C" fn dw_session_moment(alloc: Global, handle: &mut DwSession, now_ms: u64) -> i32
     ensures closed { handle.old.slot.held ≡ None → IsClosed result handle.new.slot.held }
-    ensures steps { (d : AgentDevice) → handle.old.slot.held ≡ Some d → Holds handle.new.slot.held (Steps RefusesNothing now_ms Moment d result) }
+    ensures steps { (d : AgentDevice) → handle.old.slot.held ≡ Some d
+        → Holds handle.new.slot.held (Steps RefusesNothing now_ms Moment d result) }
 {
     drive(alloc, handle, |session| session.tick(now_ms))
 }
@@ -73,7 +78,8 @@ pub extern "C" fn dw_session_addresses(
     count: usize,
 ) -> i32
     ensures closed { handle.old.slot.held ≡ None → IsClosed result handle.new.slot.held }
-    ensures steps { (d : AgentDevice) → handle.old.slot.held ≡ Some d → Holds handle.new.slot.held (Steps RefusesNothing now_ms (Addressed count) d result) }
+    ensures steps { (d : AgentDevice) → handle.old.slot.held ≡ Some d
+        → Holds handle.new.slot.held (Steps RefusesNothing now_ms (Addressed count) d result) }
 {
     drive(alloc, handle, |session| session.addresses_at(now_ms, count))
 }

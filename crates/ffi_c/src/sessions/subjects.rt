@@ -21,7 +21,8 @@ pub extern "C" fn dw_session_follow_data(
     path: &[u8],
 ) -> i32
     ensures closed { handle.old.slot.held ≡ None → IsClosed result handle.new.slot.held }
-    ensures steps { (d : AgentDevice) → handle.old.slot.held ≡ Some d → Holds handle.new.slot.held (Steps (RefusesPath path.now) now_ms (Follows ticket Data path.now) d result) }
+    ensures steps { (d : AgentDevice) → handle.old.slot.held ≡ Some d
+        → Holds handle.new.slot.held (Steps (RefusesPath path.now) now_ms (Follows ticket Data path.now) d result) }
 {
     drive(
         alloc,
@@ -40,7 +41,8 @@ pub extern "C" fn dw_session_follow_names(
     path: &[u8],
 ) -> i32
     ensures closed { handle.old.slot.held ≡ None → IsClosed result handle.new.slot.held }
-    ensures steps { (d : AgentDevice) → handle.old.slot.held ≡ Some d → Holds handle.new.slot.held (Steps (RefusesPath path.now) now_ms (Follows ticket Child path.now) d result) }
+    ensures steps { (d : AgentDevice) → handle.old.slot.held ≡ Some d
+        → Holds handle.new.slot.held (Steps (RefusesPath path.now) now_ms (Follows ticket Child path.now) d result) }
 {
     drive(
         alloc,
@@ -58,7 +60,8 @@ pub extern "C" fn dw_session_unfollow(
     ticket: u64,
 ) -> i32
     ensures closed { handle.old.slot.held ≡ None → IsClosed result handle.new.slot.held }
-    ensures steps { (d : AgentDevice) → handle.old.slot.held ≡ Some d → Holds handle.new.slot.held (Steps RefusesNothing now_ms (Unfollows ticket) d result) }
+    ensures steps { (d : AgentDevice) → handle.old.slot.held ≡ Some d
+        → Holds handle.new.slot.held (Steps RefusesNothing now_ms (Unfollows ticket) d result) }
 {
     drive(alloc, handle, |session| session.unfollow_at(now_ms, ticket))
 }

@@ -399,8 +399,8 @@ impl<'t> World<'t> {
         Ok(None)
     }
 
-    /// Whether what is followed is good and what the server has, and no more than this many connections were made, and another one where one
-    /// was cut.
+    /// Whether what is followed is good and what the server has, and no more than this many connections were made, and another one where
+    /// one was cut.
     pub fn is_well(&self, connections: u32) -> Result<bool> {
         let (client, history) = (self.device.agent.client(), self.bench.history());
         let (node, parent) = (

@@ -115,8 +115,8 @@ fn history(alloc: Global) -> Result<History<Global>> {
 }
 
 impl World {
-    /// A world in which this many transactions have happened. A read brings this many bytes at most. This many attempts to connect are refused.
-    /// On the first connection the data of /config are refused with this code, unless it is 0.
+    /// A world in which this many transactions have happened. A read brings this many bytes at most. This many attempts to connect are
+    /// refused. On the first connection the data of /config are refused with this code, unless it is 0.
     pub fn new(
         alloc: Global,
         events: &'static [Event],

@@ -4,7 +4,8 @@ use Rattle.theory_local.proofs.Following.{more_told, other_event, nothing_told}
 use Rattle.theory_local.proofs.elsewhere_is_free.Goals as goal
 
 pub returns-clause-answers : goal.returns-clause-answers
-returns-clause-answers c paths h server requests call result serving next code elsewhere = (serving, next, (code, λ about. absurd (elsewhere about)))
+returns-clause-answers c paths h server requests call result serving next code elsewhere =
+    (serving, next, (code, λ about. absurd (elsewhere about)))
 
 pub returns-clause-silence : goal.returns-clause-silence
 returns-clause-silence c paths event path elsewhere = nothing_told (IsOf paths) event path elsewhere
@@ -19,8 +20,15 @@ pub returns-clause-tells : goal.returns-clause-tells
 returns-clause-tells c paths h start sent payloads past wire going serving told = record { going = going; serving = serving; told = told }
 
 pub returns-clause-denials : goal.returns-clause-denials
-returns-clause-denials c paths h start call n code payload behind past wire going serving next short other headed = record { going = going; serving = serving; next = next; short = short; error = (negsuc n, code, behind, refl, other, headed) }
+returns-clause-denials c paths h start call n code payload behind past wire going serving next short other headed =
+    record { going = going; serving = serving; next = next; short = short; error = (negsuc n, code, behind, refl, other, headed) }
 
 pub returns-clause-errors : goal.returns-clause-errors
 returns-clause-errors c paths h start is_last relative part zxid code payload behind rest past wire going serving next short other headed =
-    record { going = going; serving = serving; next = (is_last, relative, part, next); short = short; error = (zxid, code, behind, other, headed) }
+    record {
+      going = going;
+      serving = serving;
+      next = (is_last, relative, part, next);
+      short = short;
+      error = (zxid, code, behind, other, headed);
+    }

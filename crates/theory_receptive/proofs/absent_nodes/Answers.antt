@@ -8,4 +8,5 @@ pub returns-clause-absent_data : goal.returns-clause-absent_data
 returns-clause-absent_data c h start entries path watch xid behind a none can = absent_data h start entries path watch xid behind a none can
 
 pub returns-clause-absent_children : goal.returns-clause-absent_children
-returns-clause-absent_children c h start entries path watch xid behind a none can = absent_children h start entries path watch xid behind a none can
+returns-clause-absent_children c h start entries path watch xid behind a none can =
+    absent_children h start entries path watch xid behind a none can

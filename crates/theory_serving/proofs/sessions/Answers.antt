@@ -1,4 +1,6 @@
-use Rattle.theory_serving.proofs.Views.{first_session, good_session, opened_session, received_session, cut_session, told_session, asked_session, forget_session, there_session, takes_session, rests_session, waits_session, processes_session, answers_session}
+use Rattle.theory_serving.proofs.Views.{first_session, good_session, opened_session, received_session, cut_session, told_session}
+use Rattle.theory_serving.proofs.Views.{asked_session, forget_session, there_session, takes_session, rests_session, waits_session}
+use Rattle.theory_serving.proofs.Views.{processes_session, answers_session}
 use Rattle.theory_serving.proofs.sessions.Goals as goal
 
 pub returns-clause-begins : goal.returns-clause-begins
@@ -8,7 +10,8 @@ pub returns-clause-opened : goal.returns-clause-opened
 returns-clause-opened c view after place outputs old new s rule low hears = opened_session view old s place outputs after new rule low hears
 
 pub returns-clause-received : goal.returns-clause-received
-returns-clause-received c view after bytes rest outputs old new s rule e hears = received_session view old s bytes rest outputs after new rule e hears
+returns-clause-received c view after bytes rest outputs old new s rule e hears =
+    received_session view old s bytes rest outputs after new rule e hears
 
 pub returns-clause-cut : goal.returns-clause-cut
 returns-clause-cut c view after outputs old new s rule same = cut_session view old s outputs after new rule same
@@ -17,7 +20,8 @@ pub returns-clause-told : goal.returns-clause-told
 returns-clause-told c view after moment outputs old new s rule hears = told_session view old s moment outputs after new rule hears
 
 pub returns-clause-asked : goal.returns-clause-asked
-returns-clause-asked c view after ticket call outputs old new s typed path rule hears = asked_session view old s ticket call outputs after new typed path rule hears
+returns-clause-asked c view after ticket call outputs old new s typed path rule hears =
+    asked_session view old s ticket call outputs after new typed path rule hears
 
 pub returns-clause-forgets : goal.returns-clause-forgets
 returns-clause-forgets c view after shown s stands = forget_session view shown s after stands

@@ -13,8 +13,11 @@ use Rattle.ffi_c.proofs.conclusions.dw_subtree.Goals as goal
 pub returns-in-Err-clause-finds : goal.returns-in-Err-clause-finds
 returns-in-Err-clause-finds c d held =
     let path = c.args.path.now in
-    let Refuses = λ (device : Device). RefusesNodes (IsWholeBelow (view_of device.client).cache path → ⊥) (HasMoreNodes (view_of device.client).cache path c.args.most) path in
+    let Refuses = λ (device : Device). RefusesNodes (IsWholeBelow (view_of device.client).cache path → ⊥)
+    (HasMoreNodes (view_of device.client).cache path c.args.most) path in
     let Writes = λ (device : Device). WritesText (IsSubtreeText (view_of device.client) path c.args.most) in
     let same : c.deref.result.now ≡ d = c.deref.ensures ∙ ap (λ held. unwrap_or held d) (sym c.in-Some.ensures.some ∙ held) in
-    subst (λ device. FindsText (Refuses device) (Writes device) (to_z w32 (of_z w32 c.code.result)) c.args.out.now c.subtree-found.new.room 0) same
-    (told_refused (Refuses c.deref.result.now) (Writes c.deref.result.now) c.args.out.now c.subtree-found.new.room c.in-Err.refusal c.code.result c.code.ensures c.in-Err.ensures.refused c.in-Err.ensures.same)
+    subst (λ device. FindsText (Refuses device) (Writes device)
+    (to_z w32 (of_z w32 c.code.result)) c.args.out.now c.subtree-found.new.room 0) same
+    (told_refused (Refuses c.deref.result.now) (Writes c.deref.result.now) c.args.out.now c.subtree-found.new.room c.in-Err.refusal
+    c.code.result c.code.ensures c.in-Err.ensures.refused c.in-Err.ensures.same)

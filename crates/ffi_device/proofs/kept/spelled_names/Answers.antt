@@ -11,5 +11,6 @@ use Rattle.ffi_device.proofs.kept.spelled_names.Goals as goal
 pub returns : goal.returns
 returns c =
     let ordered : IsOrdered string_cmp c.args.names.now.names = search rules in
-    let all : c.loop-name.text.items ≡ flat_map (λ name. spelling ustring (Some name)) (map string_bytes c.args.names.now.names.keys) = grind (arith, common_steps) in
+    let all : c.loop-name.text.items ≡ flat_map (λ name. spelling ustring (Some name)) (map string_bytes c.args.names.now.names.keys) =
+    grind (arith, common_steps) in
     are_spelled c.args.names.now.names c.loop-name.text.items ordered (c.loop-name.invariant.fits (rw c.in-None.ensures.steps.0 tt)) all

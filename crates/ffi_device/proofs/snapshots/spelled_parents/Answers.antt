@@ -10,9 +10,11 @@ loop-path-preserved c =
     let i = c.loop-path.path-index in
     let path = c.path-item.result in
     let low : i < length paths = omega (arith, c.loop-path-test.true, c.loop-path.auto.path-index-end) in
-    written_one (view_of c.args.client.now).cache path (drop i paths) (drop (i + 1) paths) paths c.loop-path.text.items c.write_names.new.text.items c.in-Ok.ensures.0
+    written_one (view_of c.args.client.now).cache path (drop i paths)
+    (drop (i + 1) paths) paths c.loop-path.text.items c.write_names.new.text.items c.in-Ok.ensures.0
     (next_left paths i path low c.path-item.is) c.loop-path.invariant c.in-Ok.ensures.1 c.in-Ok.ensures.2
 
 pub returns : goal.returns
-returns c = written_all (view_of c.args.client.now).cache (drop c.loop-path.path-index c.args.paths.now) c.args.paths.now c.loop-path.text.items
+returns c =
+    written_all (view_of c.args.client.now).cache (drop c.loop-path.path-index c.args.paths.now) c.args.paths.now c.loop-path.text.items
     (drop_all c.loop-path.path-index c.args.paths.now c.loop-path-test.false) c.loop-path.invariant

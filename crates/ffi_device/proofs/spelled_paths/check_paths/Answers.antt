@@ -13,11 +13,13 @@ returns-in-None-clause-refused c =
     read_no_more c.args.spelled.now (bytes_left c.loop-at.at) c.loop-at.are_paths c.loop-at.invariant some (c.in-None.ensures.none refl)
 
 pub loop-at-smaller-then-is_path : goal.loop-at-smaller-then-is_path
-loop-at-smaller-then-is_path c = shorter c.in-Some.text.now (bytes_left c.loop-at.at) (bytes_left c.next_text.new.at) c.in-Some.ensures.some.1
+loop-at-smaller-then-is_path c =
+    shorter c.in-Some.text.now (bytes_left c.loop-at.at) (bytes_left c.next_text.new.at) c.in-Some.ensures.some.1
 
 pub loop-at-preserved-then-is_path : goal.loop-at-preserved-then-is_path
 loop-at-preserved-then-is_path c =
-    read_path c.args.spelled.now (bytes_left c.loop-at.at) (bytes_left c.next_text.new.at) c.in-Some.text.now c.loop-at.are_paths c.loop-at.invariant
+    read_path c.args.spelled.now (bytes_left c.loop-at.at)
+    (bytes_left c.next_text.new.at) c.in-Some.text.now c.loop-at.are_paths c.loop-at.invariant
     c.in-Some.ensures.some.0 c.in-Some.ensures.some.1 (c.is_path.ensures.path c.if-is_path.true)
 
 pub loop-at-smaller : goal.loop-at-smaller
@@ -25,5 +27,6 @@ loop-at-smaller c = shorter c.in-Some.text.now (bytes_left c.loop-at.at) (bytes_
 
 pub loop-at-preserved : goal.loop-at-preserved
 loop-at-preserved c =
-    read_fault c.args.spelled.now (bytes_left c.loop-at.at) (bytes_left c.next_text.new.at) c.in-Some.text.now c.loop-at.are_paths c.is_path.result c.loop-at.invariant
+    read_fault c.args.spelled.now (bytes_left c.loop-at.at)
+    (bytes_left c.next_text.new.at) c.in-Some.text.now c.loop-at.are_paths c.is_path.result c.loop-at.invariant
     c.in-Some.ensures.some.0 c.in-Some.ensures.some.1 c.if-is_path.false (c.is_path.ensures.fault c.if-is_path.false)

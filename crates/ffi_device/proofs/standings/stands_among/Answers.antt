@@ -10,7 +10,8 @@ returns-in_err-markers-clause-refused c =
     let contender = c.args.contender.now in
     on_refused c.from_residual-in_err-markers.result c.in_err-markers.field-0.0
     (λ refusal. RefusesStanding c.args.directory.now c.args.name.now contender.names.now contender.markers.now (refusal_code refusal))
-    c.from_residual-in_err-markers.ensures.1 (refuses_markers c.args.directory.now c.args.name.now contender.names.now contender.markers.now c.in_err-markers.field-0.0 c.in_err-markers.ensures.refused)
+    c.from_residual-in_err-markers.ensures.1 (refuses_markers c.args.directory.now c.args.name.now contender.names.now contender.markers.now
+    c.in_err-markers.field-0.0 c.in_err-markers.ensures.refused)
 
 pub returns-in-None-clause-refused : goal.returns-in-None-clause-refused
 returns-in-None-clause-refused c =

@@ -8,7 +8,8 @@ pub returns-in-None-predecessor : goal.returns-in-None-predecessor
 returns-in-None-predecessor c =
     let listing = c.args.listing.now in (
       record {
-        unshown = subst (λ path. (token : ℤ) → ShowsStanding (view_of c.args.client.now) listing.directory.now (kind_of c.args.kind.now) (map string_bytes listing.names.now) listing.zxid path token → ⊥) c.requires (c.in-None.ensures.none refl);
+        unshown = subst (λ path. (token : ℤ) → ShowsStanding (view_of c.args.client.now) listing.directory.now (kind_of c.args.kind.now)
+            (map string_bytes listing.names.now) listing.zxid path token → ⊥) c.requires (c.in-None.ensures.none refl);
         first = c.in-None-predecessor.ensures.none refl;
       },
       refl,

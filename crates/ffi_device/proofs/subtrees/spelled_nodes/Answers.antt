@@ -8,8 +8,11 @@ use Rattle.ffi_device.proofs.subtrees.spelled_nodes.Goals as goal
 
 pub returns : goal.returns
 returns c =
-    let none : drop c.loop-path.path-index c.args.paths.now ≡ [] = drop_all c.loop-path.path-index c.args.paths.now c.loop-path-test.false in
+    let none : drop c.loop-path.path-index c.args.paths.now ≡ [] =
+    drop_all c.loop-path.path-index c.args.paths.now c.loop-path-test.false in
     record {
-      fits = c.loop-path.invariant.fits (subst (AllByRecursion (λ path. Fits node_layout (node_kept (view_of c.args.client.now).cache path))) (sym none) tt);
-      is = sym (append-nil c.loop-path.text.items) ∙ ap (λ rest. c.loop-path.text.items ++ flat_map (λ path. spelling node_layout (node_kept (view_of c.args.client.now).cache path)) rest) (sym none) ∙ c.loop-path.invariant.whole;
+      fits = c.loop-path.invariant.fits
+          (subst (AllByRecursion (λ path. Fits node_layout (node_kept (view_of c.args.client.now).cache path))) (sym none) tt);
+      is = sym (append-nil c.loop-path.text.items) ∙ ap (λ rest. c.loop-path.text.items ++ flat_map
+          (λ path. spelling node_layout (node_kept (view_of c.args.client.now).cache path)) rest) (sym none) ∙ c.loop-path.invariant.whole;
     }

@@ -8,6 +8,8 @@ pub returns-in_err-text-clause-refused : goal.returns-in_err-text-clause-refused
 returns-in_err-text-clause-refused c =
     let cache = (view_of c.args.client.now).cache in
     let why = c.in_err-text.field-0.0 in
-    handed_on c.from_residual-in_err-text.result why (IsWholeBelow cache c.args.path.now → ⊥) (HasMoreNodes cache c.args.path.now c.args.most) c.args.path.now
+    handed_on c.from_residual-in_err-text.result why (IsWholeBelow cache c.args.path.now → ⊥)
+    (HasMoreNodes cache c.args.path.now c.args.most) c.args.path.now
     c.from_residual-in_err-text.ensures.1 c.in_ok-path.ensures.accepted
-    (subst (λ path. Says why (IsWholeBelow cache path → ⊥) (HasMoreNodes cache path c.args.most)) c.in_ok-path.ensures.path c.in_err-text.ensures.refused)
+    (subst (λ path. Says why (IsWholeBelow cache path → ⊥) (HasMoreNodes cache path c.args.most)) c.in_ok-path.ensures.path
+    c.in_err-text.ensures.refused)

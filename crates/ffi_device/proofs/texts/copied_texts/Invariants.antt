@@ -3,4 +3,5 @@ use Rattle.ffi_device.proofs.texts.copied_texts.Given as goal
 
 -- what was copied, with what is left
 abbrev pub invariant-loop-text : goal.invariant-loop-text
-invariant-loop-text l = map string_bytes l.copies.items ++ map (λ text. text.now) (drop l.text-index l.texts) ≡ map (λ text. text.now) l.texts
+invariant-loop-text l = map string_bytes l.copies.items ++ map (λ text. text.now) (drop l.text-index l.texts)
+    ≡ map (λ text. text.now) l.texts

@@ -9,4 +9,5 @@ returns-clause-ok g c =
     (filter_same _ _ _ (λ x b f' k. search rules) _ _ c.retain.ensures.filtered) c.append.ensures.items
 
 pub returns-clause-err : goal.returns-clause-err
-returns-clause-err g c = keeps c.append.result c.args.outputs.now.items c.retain.new.self.items c.append.new.self.items c.append.ensures.items
+returns-clause-err g c =
+    keeps c.append.result c.args.outputs.now.items c.retain.new.self.items c.append.new.self.items c.append.ensures.items

@@ -14,10 +14,12 @@ returns-clause-ok g c =
     let new = (trail_of c.step.new.self c.step.new.outputs.items) in
     let told = c.in_ok-push_told.ensures in
     let tells : TellsEach (said c.step.new.outputs.items) told.0 = rw (← c.as_slice.ensures.value) told.1 in
-    heard old new (input_view c.args.input) (string_bytes c.args.text.now) told.0 (string_bytes c.push_told.new.text) (ap said c.new-outputs.ensures.items)
+    heard old new (input_view c.args.input) (string_bytes c.args.text.now) told.0 (string_bytes c.push_told.new.text)
+    (ap said c.new-outputs.ensures.items)
     c.in-Ok.ensures.ok tells told.2
 
 pub returns-clause-flows : goal.returns-clause-flows
 returns-clause-flows g c =
     let know = flow_of g.S.Read.remaining g.S.Write.contents in
-    flow_heard (input_view c.args.input) (said c.new-outputs.result.items) (said c.step.new.outputs.items) (know c.args.joint.now) (know c.step.new.self) c.in-Ok.ensures.flows
+    flow_heard (input_view c.args.input) (said c.new-outputs.result.items) (said c.step.new.outputs.items) (know c.args.joint.now)
+    (know c.step.new.self) c.in-Ok.ensures.flows

@@ -29,4 +29,5 @@ returns-in-Err g c = λ begin first made.
     let stop = c.in-Err.stop in
     rw (c.nothing.ensures.end, c.end_at.ensures)
     (unlived lines (string_bytes c.nothing.result.text) (end_at 0 stop) c.nothing.ensures.text
-    (want lines begin (view_of c.args.session.now.link.joint.client) (view_of c.act.new.self.link.joint.client) 0 stop first made c.in-Err.ensures.err c.in-Err.ensures.halt))
+    (want lines begin (view_of c.args.session.now.link.joint.client)
+    (view_of c.act.new.self.link.joint.client) 0 stop first made c.in-Err.ensures.err c.in-Err.ensures.halt))

@@ -5,21 +5,28 @@ use Rattle.zk_link.proofs.Streaming.{keeps_on, keeps_same, left_of, sends_front,
 use Rattle.script_live.proofs.send.send.Goals as goal
 
 pub loop-init : goal.loop-init
-loop-init g c = record { left = (0, refl); sends = sends_none c.args.unsent.now.items (g.S.Write.contents c.args.stream.now); gives = keeps_same (g.S.Read.remaining c.args.stream.now) }
+loop-init g c = record {
+  left = (0, refl);
+  sends = sends_none c.args.unsent.now.items (g.S.Write.contents c.args.stream.now);
+  gives = keeps_same (g.S.Read.remaining c.args.stream.now);
+}
 
 pub loop-preserved : goal.loop-preserved
 loop-preserved g c =
     let first = g.S.Write.contents c.args.stream.now in
     let before = g.S.Write.contents c.loop.stream in
     let after = g.S.Write.contents c.write_some.new.stream in
-    let front = sends_front c.in-Some.count c.min-piece.result c.as_slice.result.now before after c.in-Some.ensures.most c.in-Some.ensures.takes in
+    let front =
+    sends_front c.in-Some.count c.min-piece.result c.as_slice.result.now before after c.in-Some.ensures.most c.in-Some.ensures.takes in
     let piece = subst (λ unsent. Sends unsent (drop c.in-Some.count unsent) before after) c.as_slice.ensures.value front in
     let step = subst (λ rest. Sends c.loop.unsent.items rest before after) (sym c.forget_front.ensures) piece in
-    let all = sends_on c.args.unsent.now.items c.loop.unsent.items c.forget_front.new.unsent.items first before after c.loop.invariant.sends step in
+    let all = sends_on c.args.unsent.now.items c.loop.unsent.items c.forget_front.new.unsent.items first before after
+    c.loop.invariant.sends step in
     record {
       left = left_of c.args.unsent.now.items c.forget_front.new.unsent.items first after all;
       sends = all;
-      gives = keeps_on (g.S.Read.remaining c.args.stream.now) (g.S.Read.remaining c.loop.stream) (g.S.Read.remaining c.write_some.new.stream)
+      gives =
+          keeps_on (g.S.Read.remaining c.args.stream.now) (g.S.Read.remaining c.loop.stream) (g.S.Read.remaining c.write_some.new.stream)
           c.loop.invariant.gives c.write_some.ensures.left;
     }
 

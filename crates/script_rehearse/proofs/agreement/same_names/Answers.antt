@@ -3,5 +3,6 @@ use Rattle.script_rehearse.proofs.agreement.same_names.Goals as goal
 
 pub returns : goal.returns
 returns g c =
-    none_differs c.args.kept.now c.args.told.now c.symmetric_difference.result c.next.new.self c.next.result c.is_none.result c.symmetric_difference.ensures.members
+    none_differs c.args.kept.now c.args.told.now c.symmetric_difference.result c.next.new.self c.next.result c.is_none.result
+    c.symmetric_difference.ensures.members
     c.next.ensures.steps c.is_none.ensures

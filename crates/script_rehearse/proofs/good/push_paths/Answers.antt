@@ -11,12 +11,14 @@ use Rattle.script_rehearse.proofs.good.push_paths.Goals as goal
 -- what is told of one path more
 one_more : (client : View) (history : HistoryView) (path : Text) (paths all : List Text) (so_far one : List ℕ)
     → ((rest : List ℕ) → TellsPaths client history (path ∷ paths) rest → TellsPaths client history all (so_far ++ rest))
-    → TellsPath client history path one → (rest : List ℕ) → TellsPaths client history paths rest → TellsPaths client history all ((so_far ++ one) ++ rest)
+    → TellsPath client history path one → (rest : List ℕ) → TellsPaths client history paths rest
+    → TellsPaths client history all ((so_far ++ one) ++ rest)
 one_more client history path paths all so_far one before tells rest behind =
     subst (TellsPaths client history all) (sym (append_assoc so_far one rest)) (before (one ++ rest) (one, rest, tells, behind, refl))
 
 pub loop-path-init : goal.loop-path-init
-loop-path-init g c = ([], rw c.into_iter-path-iterator.ensures.into_iter_gives.0 (λ rest tells. tells), sym (append-nil (string_bytes c.args.text.now)))
+loop-path-init g c =
+    ([], rw c.into_iter-path-iterator.ensures.into_iter_gives.0 (λ rest tells. tells), sym (append-nil (string_bytes c.args.text.now)))
 
 pub loop-path-preserved : goal.loop-path-preserved
 loop-path-preserved g c =
@@ -26,7 +28,8 @@ loop-path-preserved g c =
     let one = c.in_ok-push_path.ensures in
     let all = map string_bytes c.args.paths.now.keys in
     let before =
-    subst (λ paths. (rest : List ℕ) → TellsPaths client history (map string_bytes paths) rest → TellsPaths client history all (so_far.0 ++ rest))
+    subst (λ paths. (rest : List ℕ) → TellsPaths client history (map string_bytes paths) rest
+    → TellsPaths client history all (so_far.0 ++ rest))
     c.in-Some.ensures.steps so_far.1 in
     let tells = subst (λ path. TellsPath client history path one.0) c.as_str.ensures.value one.1 in (
       so_far.0 ++ one.0,

@@ -8,4 +8,5 @@ use Rattle.script_rehearse.proofs.good.push_paths.Given as goal
 abbrev pub invariant-loop-path : goal.invariant-loop-path
 invariant-loop-path g l =
     (told : List ℕ) × ((rest : List ℕ) → TellsPaths (view_of l.client) l.history (map string_bytes l.path-iterator) rest
-    → TellsPaths (view_of l.client) l.history (map string_bytes l.paths.keys) (told ++ rest)) × (string_bytes l.text ≡ string_bytes l.initial.text ++ told)
+    → TellsPaths (view_of l.client) l.history (map string_bytes l.paths.keys) (told ++ rest))
+    × (string_bytes l.text ≡ string_bytes l.initial.text ++ told)

@@ -5,5 +5,6 @@ use Rattle.script_rehearse.proofs.good.push_verdicts.Goals as goal
 
 pub returns : goal.returns
 returns g c =
-    both_sides c.push_answer-2.result (view_of c.args.client.now) c.args.history.now c.args.path.now (string_bytes c.args.text.now) (string_bytes c.push_answer.new.text)
+    both_sides c.push_answer-2.result (view_of c.args.client.now) c.args.history.now c.args.path.now (string_bytes c.args.text.now)
+    (string_bytes c.push_answer.new.text)
     (string_bytes c.push_answer-2.new.text) c.in_ok-push_answer.ensures c.push_answer-2.ensures

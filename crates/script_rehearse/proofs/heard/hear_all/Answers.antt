@@ -11,4 +11,5 @@ loop-output-preserved g c =
     let index = c.loop-output.output-index in
     let item = c.output-item.result in
     rw (map_more output_view outputs index item c.loop-output-test.true, ← c.output-item.is)
-    (c.in_ok-pass_on_output.ensures ∙ ap (heard (output_view item)) c.loop-output.invariant ∙ sym (one_more (said (take index outputs)) (output_view item) c.args.bench.now))
+    (c.in_ok-pass_on_output.ensures ∙ ap (heard (output_view item)) c.loop-output.invariant
+    ∙ sym (one_more (said (take index outputs)) (output_view item) c.args.bench.now))

@@ -6,5 +6,6 @@ use Rattle.script_replay.proofs.outputs.outputs_text.Goals as goal
 
 pub loop-output-preserved : goal.loop-output-preserved
 loop-output-preserved g c =
-    next_told TellsOutput output_view c.args.outputs.now c.loop-output.output-index c.output-item.result (string_bytes c.loop-output.text) (string_bytes c.push_output.new.text)
+    next_told TellsOutput output_view c.args.outputs.now c.loop-output.output-index c.output-item.result (string_bytes c.loop-output.text)
+    (string_bytes c.push_output.new.text)
     c.loop-output-test.true c.output-item.is c.loop-output.invariant c.in_ok-push_output.ensures

@@ -12,6 +12,10 @@ returns-in-Some g c =
     let told = c.push_found.ensures in
     rw c.in-Some.is (both c.push_found.result (λ line ordered. (
       names_line (map string_bytes keys) c.in-Some.found.pzxid,
-      (map string_bytes keys, record { ascending = sorted_map string_bytes (slice_cmp nat_cmp) keys ordered; same = same_names keys }, refl),
+      (
+        map string_bytes keys,
+        record { ascending = sorted_map string_bytes (slice_cmp nat_cmp) keys ordered; same = same_names keys },
+        refl,
+      ),
       line,
     )) told.line told.ordered)

@@ -14,8 +14,11 @@ returns g c =
     let end = payload_len c.args.at.now in
     let bytes = bytes_left c.args.at.now in
     let is : topic ≡ topic_of c.args.asked.now header.xid = search rules in
-    let behind : OnOk c.push_behind.result (string_bytes c.push_behind.new.text ≡ string_bytes c.push_header.new.text ++ behind_told topic header.err end bytes) = search rules in
+    let behind : OnOk c.push_behind.result
+    (string_bytes c.push_behind.new.text ≡ string_bytes c.push_header.new.text ++ behind_told topic header.err end bytes) =
+    search rules in
     on_ok_weaker c.push_behind.result
-    (λ told. answered c.args.asked.now header topic end bytes (string_bytes c.args.text.now) (string_bytes c.push_header.new.text) (string_bytes c.push_behind.new.text) is
+    (λ told. answered c.args.asked.now header topic end bytes (string_bytes c.args.text.now) (string_bytes c.push_header.new.text)
+    (string_bytes c.push_behind.new.text) is
     c.in_ok-push_header.ensures told)
     behind

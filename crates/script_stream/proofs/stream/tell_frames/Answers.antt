@@ -13,6 +13,7 @@ frames-preserved g c =
     let does = c.in_ok-place-in-Ok-Some.ensures in
     record {
       clean = gives.reads;
-      so_far = one_more c.args.way c.args.reader.now.bytes begun here next c.frames.reader.bytes c.in-Ok-Some.payload.now c.next_frame.follows.lender-at-none.bytes
+      so_far = one_more c.args.way c.args.reader.now.bytes begun here next c.frames.reader.bytes c.in-Ok-Some.payload.now
+          c.next_frame.follows.lender-at-none.bytes
           c.frames.invariant.so_far gives.was (rw (does.line, does.asked, does.place) refl);
     }

@@ -7,7 +7,8 @@ use Rattle.script_stream.proofs.stream.tell_frames.Given as goal
 abbrev pub invariant-frames : goal.invariant-frames
 invariant-frames g l = record {
   clean : l.reader.fault ≡ None;
-  so_far : SoFar l.way l.initial.reader.bytes (telling l.from l.initial.asked.items (string_bytes l.initial.text)) l.reader.bytes (telling l.place l.asked.items (string_bytes l.text));
+  so_far : SoFar l.way l.initial.reader.bytes (telling l.from l.initial.asked.items (string_bytes l.initial.text)) l.reader.bytes
+      (telling l.place l.asked.items (string_bytes l.text));
 }
 
 abbrev pub decreases-frames : goal.decreases-frames

@@ -8,5 +8,6 @@ use Rattle.script_words.proofs.script.read_lines.Given as goal
 abbrev pub invariant-loop-index : goal.invariant-loop-index
 invariant-loop-index g l =
     (first : g.R.LineReader.Position) → g.R.LineReader.stands l.initial.reader first
-    → (here : g.R.LineReader.Position) × FoldsTo (Goes g.R.LineReader.rules) (progress first (string_bytes l.initial.text)) (map (λ p. p.now) (take l.index l.lines)) (progress here (string_bytes l.text))
+    → (here : g.R.LineReader.Position) × FoldsTo (Goes g.R.LineReader.rules) (progress first (string_bytes l.initial.text))
+    (map (λ p. p.now) (take l.index l.lines)) (progress here (string_bytes l.text))
     × g.R.LineReader.stands l.reader here

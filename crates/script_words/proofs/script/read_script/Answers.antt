@@ -3,4 +3,5 @@ use Rattle.script_words.proofs.ScriptLemmas.{none_yet}
 use Rattle.script_words.proofs.script.read_script.Goals as goal
 
 pub returns-in-Err : goal.returns-in-Err
-returns-in-Err g c = λ first stands. rw (c.nothing.ensures.end, c.nothing.ensures.text) (none_yet g.R.LineReader.rules first (lines_of c.args.script.now))
+returns-in-Err g c = λ first stands.
+    rw (c.nothing.ensures.end, c.nothing.ensures.text) (none_yet g.R.LineReader.rules first (lines_of c.args.script.now))

@@ -5,4 +5,5 @@ use Rattle.script_words.proofs.values.push_numbers.Given as goal
 
 -- what is written, and what the numbers that are left will add, is all that was to be added
 abbrev pub invariant-loop-number : goal.invariant-loop-number
-invariant-loop-number g l = string_bytes l.text ++ numbers_text (drop l.number-index l.numbers) ≡ string_bytes l.initial.text ++ numbers_text l.numbers
+invariant-loop-number g l =
+    string_bytes l.text ++ numbers_text (drop l.number-index l.numbers) ≡ string_bytes l.initial.text ++ numbers_text l.numbers

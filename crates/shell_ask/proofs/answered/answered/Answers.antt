@@ -19,4 +19,5 @@ returns-clause-heard g c =
 pub returns-clause-runs : goal.returns-clause-runs
 returns-clause-runs g c =
     let know = flow_of g.D.Stream.Read.remaining g.D.Stream.Write.contents in
-    ok_asked_runs c.wait_for_answer.result (know c.args.driver.now.engine None) (know c.ask.new.self.engine None) (know c.wait_for_answer.new.driver.engine None) c.in_ok-ask.ensures.flows c.wait_for_answer.ensures.runs
+    ok_asked_runs c.wait_for_answer.result (know c.args.driver.now.engine None) (know c.ask.new.self.engine None)
+    (know c.wait_for_answer.new.driver.engine None) c.in_ok-ask.ensures.flows c.wait_for_answer.ensures.runs

@@ -21,8 +21,10 @@ returns-in-Ok-came g c =
       begins = c.in-Ok.ensures.client;
       parted = c.in-Ok.ensures.channel;
       untold = ap told_by c.in-Ok.ensures.waiting;
-      heard = subst (λ (e : Engine g.row.A.Denot g.row.D-Stream.Denot). Heard (call_view c.args.call) until (course_of e None) (came_view c.in-Ok-came.came) last) c.now.ensures.engine c.in-Ok-came.ensures.heard;
+      heard = subst (λ (e : Engine g.row.A.Denot g.row.D-Stream.Denot). Heard (call_view c.args.call) until (course_of e None)
+          (came_view c.in-Ok-came.came) last) c.now.ensures.engine c.in-Ok-came.ensures.heard;
       before = (flow_of remaining contents c.in-Ok.driver.engine None).known;
       after = (flow_of remaining contents c.answered-came.new.driver.engine None).known;
-      runs = subst (λ (e : Engine g.row.A.Denot g.row.D-Stream.Denot). Runs (flow_of remaining contents e None) (flow_of remaining contents c.answered-came.new.driver.engine None)) c.now.ensures.engine c.in-Ok-came.ensures.runs;
+      runs = subst (λ (e : Engine g.row.A.Denot g.row.D-Stream.Denot). Runs (flow_of remaining contents e None)
+          (flow_of remaining contents c.answered-came.new.driver.engine None)) c.now.ensures.engine c.in-Ok-came.ensures.runs;
     }

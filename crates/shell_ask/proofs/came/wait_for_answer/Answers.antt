@@ -14,7 +14,8 @@ returns-in-Some-Answer-clause-hears g c =
     let same : c.in-Some-Answer.its ≡ c.args.ticket = search rules in
     let is : c.in_ok-its.field-0 ≡ Some (action.Answer c.args.ticket c.in-Some-Answer.outcome) = search rules in
     c.loop.invariant.hears new (Answered (outcome_view c.in-Some-Answer.outcome))
-    (answered c.args.ticket c.args.until (course_of c.loop.driver.engine None) c.next.new.self.engine c.in_ok-its.field-0 c.in-Some-Answer.outcome c.in_ok-its.ensures.goes is)
+    (answered c.args.ticket c.args.until (course_of c.loop.driver.engine None) c.next.new.self.engine c.in_ok-its.field-0
+    c.in-Some-Answer.outcome c.in_ok-its.ensures.goes is)
 
 pub returns-in-Some-TimedOut-clause-hears : goal.returns-in-Some-TimedOut-clause-hears
 returns-in-Some-TimedOut-clause-hears g c =
@@ -24,7 +25,8 @@ returns-in-Some-TimedOut-clause-hears g c =
     let heard : c.is_some-was_heard.result ≡ is_some c.next.new.self.engine.agent.heard_at = search rules in
     rw heard
     (c.loop.invariant.hears new (Late c.in-Some-TimedOut.was_sent (is_some c.next.new.self.engine.agent.heard_at))
-    (late c.args.ticket c.args.until (course_of c.loop.driver.engine None) c.next.new.self.engine c.in_ok-its.field-0 c.in-Some-TimedOut.was_sent c.in_ok-its.ensures.goes is))
+    (late c.args.ticket c.args.until (course_of c.loop.driver.engine None) c.next.new.self.engine c.in_ok-its.field-0
+    c.in-Some-TimedOut.was_sent c.in_ok-its.ensures.goes is))
 
 pub returns-in-None-clause-hears : goal.returns-in-None-clause-hears
 returns-in-None-clause-hears g c =
@@ -44,22 +46,27 @@ pub loop-preserved : goal.loop-preserved
 loop-preserved g c = record {
   hears = λ new coming hears.
       c.loop.invariant.hears new coming
-      (later c.args.ticket c.args.until (course_of c.loop.driver.engine None) c.next.new.self.engine c.in_ok-its.field-0 new coming c.in_ok-its.ensures.goes hears);
-  runs = next_run g.D.Stream.Read.remaining g.D.Stream.Write.contents c.args.driver.now.engine c.loop.driver.engine c.next.new.self.engine c.in_ok-its.field-0
+      (later c.args.ticket c.args.until
+      (course_of c.loop.driver.engine None) c.next.new.self.engine c.in_ok-its.field-0 new coming c.in_ok-its.ensures.goes hears);
+  runs = next_run g.D.Stream.Read.remaining g.D.Stream.Write.contents c.args.driver.now.engine c.loop.driver.engine
+      c.next.new.self.engine c.in_ok-its.field-0
       c.loop.invariant.runs c.in_ok-its.ensures.flows;
 }
 
 pub returns-in-Some-Answer-clause-runs : goal.returns-in-Some-Answer-clause-runs
 returns-in-Some-Answer-clause-runs g c =
-    next_run g.D.Stream.Read.remaining g.D.Stream.Write.contents c.args.driver.now.engine c.loop.driver.engine c.next.new.self.engine c.in_ok-its.field-0
+    next_run g.D.Stream.Read.remaining g.D.Stream.Write.contents c.args.driver.now.engine c.loop.driver.engine
+    c.next.new.self.engine c.in_ok-its.field-0
     c.loop.invariant.runs c.in_ok-its.ensures.flows
 
 pub returns-in-Some-TimedOut-clause-runs : goal.returns-in-Some-TimedOut-clause-runs
 returns-in-Some-TimedOut-clause-runs g c =
-    next_run g.D.Stream.Read.remaining g.D.Stream.Write.contents c.args.driver.now.engine c.loop.driver.engine c.next.new.self.engine c.in_ok-its.field-0
+    next_run g.D.Stream.Read.remaining g.D.Stream.Write.contents c.args.driver.now.engine c.loop.driver.engine
+    c.next.new.self.engine c.in_ok-its.field-0
     c.loop.invariant.runs c.in_ok-its.ensures.flows
 
 pub returns-in-None-clause-runs : goal.returns-in-None-clause-runs
 returns-in-None-clause-runs g c =
-    next_run g.D.Stream.Read.remaining g.D.Stream.Write.contents c.args.driver.now.engine c.loop.driver.engine c.next.new.self.engine c.in_ok-its.field-0
+    next_run g.D.Stream.Read.remaining g.D.Stream.Write.contents c.args.driver.now.engine c.loop.driver.engine
+    c.next.new.self.engine c.in_ok-its.field-0
     c.loop.invariant.runs c.in_ok-its.ensures.flows

@@ -13,5 +13,6 @@ returns c =
     let cversion : to_z w64 (of_z w64 (to_z w32 (of_z w32 c.args.stat.now.cversion))) ≡ c.args.stat.now.cversion = search rules in
     let aversion : to_z w64 (of_z w64 (to_z w32 (of_z w32 c.args.stat.now.aversion))) ≡ c.args.stat.now.aversion = search rules in
     let data_length : to_z w64 (of_z w64 (to_z w32 (of_z w32 c.args.stat.now.data_length))) ≡ c.args.stat.now.data_length = search rules in
-    let num_children : to_z w64 (of_z w64 (to_z w32 (of_z w32 c.args.stat.now.num_children))) ≡ c.args.stat.now.num_children = search rules in
+    let num_children : to_z w64 (of_z w64 (to_z w32 (of_z w32 c.args.stat.now.num_children)))
+    ≡ c.args.stat.now.num_children = search rules in
     rw (czxid, mzxid, ctime, mtime, owner, pzxid, version, cversion, aversion, data_length, num_children) refl

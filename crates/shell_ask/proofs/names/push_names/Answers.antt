@@ -17,7 +17,10 @@ returns g c =
       flat_map name_line each,
       record {
         each = each;
-        are = record { ascending = sorted_map string_bytes (slice_cmp nat_cmp) set.keys ordered; same = rw (← c.in_ok-set.ensures) (same_members set) };
+        are = record {
+          ascending = sorted_map string_bytes (slice_cmp nat_cmp) set.keys ordered;
+          same = rw (← c.in_ok-set.ensures) (same_members set);
+        };
         printed = refl;
       },
       lines,

@@ -6,4 +6,5 @@ use Rattle.shell_ask.proofs.names.push_set.Given as goal
 
 -- what is written, and the lines of the names that are left, are all that was to be written
 abbrev pub invariant-loop-name : goal.invariant-loop-name
-invariant-loop-name g l = string_bytes l.text ++ flat_map name_line (map string_bytes l.name-iterator) ≡ string_bytes l.initial.text ++ flat_map name_line (map string_bytes l.names.keys)
+invariant-loop-name g l = string_bytes l.text ++ flat_map name_line (map string_bytes l.name-iterator)
+    ≡ string_bytes l.initial.text ++ flat_map name_line (map string_bytes l.names.keys)

@@ -18,10 +18,12 @@ returns g c =
     let each = map string_bytes found.keys in
     let names = name_set (map string_bytes c.args.names.now) in
     let same : (name : Text) → list_any (bytes_eq name) each ≡ set.contains names name
-    = subst (λ (s : NameSet). (name : Text) → list_any (bytes_eq name) each ≡ set.contains s name) c.in_ok-set.ensures (same_members found) in
+    = subst (λ (s : NameSet). (name : Text) → list_any (bytes_eq name) each ≡ set.contains s name)
+    c.in_ok-set.ensures (same_members found) in
     let are : AreInOrder each (map string_bytes c.args.names.now)
     = record { ascending = sorted_map string_bytes (slice_cmp nat_cmp) found.keys c.spots_of.ensures.ordered; same = same } in
     record {
       ok = IfOk-weaker c.spots_of.result _ _ (λ spots made. (each, are, made)) c.spots_of.ensures.ok;
-      err = IfErr-weaker c.spots_of.result _ _ (λ fault missing is. let why = missing is in (each, why.0, are, why.1, why.2)) c.spots_of.ensures.err;
+      err = IfErr-weaker c.spots_of.result _ _
+          (λ fault missing is. let why = missing is in (each, why.0, are, why.1, why.2)) c.spots_of.ensures.err;
     }

@@ -7,6 +7,7 @@ use Rattle.shell_ask.proofs.spots.spots_of.Given as goal
 -- the nodes so far, and those of the names that are left, are all; and the names that are left are among them
 abbrev pub invariant-loop-name : goal.invariant-loop-name
 invariant-loop-name g l = record {
-  made : map spot_view l.spots.items ++ map (child_of (spot_view l.spot)) (map string_bytes l.name-iterator) ≡ map (child_of (spot_view l.spot)) (map string_bytes l.names.keys);
+  made : map spot_view l.spots.items ++ map (child_of (spot_view l.spot))
+      (map string_bytes l.name-iterator) ≡ map (child_of (spot_view l.spot)) (map string_bytes l.names.keys);
   within : (name : Text) → Contains (map string_bytes l.name-iterator) name → Contains (map string_bytes l.names.keys) name;
 }

@@ -13,7 +13,8 @@ returns-in-Ok-tour-clause-tours g c =
     let start = course_of c.in-Ok.driver.engine None in
     let until = c.saturating_add-until.result in
     let first : WalksFrom start until scope (ending_view tour.ending) tour.printed.items
-    = subst (λ (e : Engine g.row.A.Denot g.row.D-Stream.Denot). WalksFrom (course_of e None) until scope (ending_view tour.ending) tour.printed.items) c.now.ensures.engine c.in-Ok-tour.ensures in
+    = subst (λ (e : Engine g.row.A.Denot g.row.D-Stream.Denot).
+    WalksFrom (course_of e None) until scope (ending_view tour.ending) tour.printed.items) c.now.ensures.engine c.in-Ok-tour.ensures in
     record {
       timeout = 10000;
       start = start;

@@ -22,7 +22,8 @@ is_unread s (inr (inl e)) undone = absurd (subst IsUndone e undone)
 is_unread s (inr (inr e)) undone = absurd (subst IsUndone e undone)
 
 -- the name of the file that is named
-its_name : (from : Option (Bor Text)) (default : Bor Text) (name : Text) → option_map (λ f. f.now) from ≡ Some name → (unwrap_or from default).now ≡ name
+its_name : (from : Option (Bor Text)) (default : Bor Text) (name : Text)
+    → option_map (λ f. f.now) from ≡ Some name → (unwrap_or from default).now ≡ name
 its_name (Some file) default name is = ap (λ (o : Option Text). unwrap_or o []) is
 its_name None default name is = absurd (let bad : None ≡ Some name = is in cc)
 

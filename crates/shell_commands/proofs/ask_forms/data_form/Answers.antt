@@ -11,4 +11,5 @@ returns c =
     let one = c.in_ok-form-2.ensures.shape bytes_local ∙ ap₂ with_rule c.in_ok-form.ensures bytes in
     let two = c.in_ok-form-3.ensures.shape c.flag_arg.ensures.local ∙ ap₂ with_rule one c.flag_arg.ensures.rule in
     let three = c.in_ok-form-4.ensures.shape c.flag_arg-2.ensures.local ∙ ap₂ with_rule two c.flag_arg-2.ensures.rule in
-    IfOk-weaker c.arg-4.result _ _ (λ form adds. adds.shape c.from_arg.ensures.local ∙ ap₂ with_rule three c.from_arg.ensures.rule) c.arg-4.ensures
+    IfOk-weaker c.arg-4.result _ _
+    (λ form adds. adds.shape c.from_arg.ensures.local ∙ ap₂ with_rule three c.from_arg.ensures.rule) c.arg-4.ensures

@@ -5,4 +5,5 @@ use Rattle.shell_commands.proofs.ask_forms.json_form.Goals as goal
 
 pub returns : goal.returns
 returns c =
-    IfOk-weaker c.arg.result _ _ (λ form adds. adds.shape c.flag_arg.ensures.local ∙ ap₂ with_rule c.in_ok-form.ensures c.flag_arg.ensures.rule) c.arg.ensures
+    IfOk-weaker c.arg.result _ _
+    (λ form adds. adds.shape c.flag_arg.ensures.local ∙ ap₂ with_rule c.in_ok-form.ensures c.flag_arg.ensures.rule) c.arg.ensures

@@ -8,4 +8,5 @@ returns c =
     let new : app_of c.after_help.result ≡ new_app c.args.name.now = search rules in
     let one = c.in_ok-form.ensures.shape c.servers_arg.ensures.local ∙ ap₂ with_rule new c.servers_arg.ensures.rule in
     let two = c.in_ok-form-2.ensures.shape c.node_arg.ensures.local ∙ ap₂ with_rule one c.node_arg.ensures.rule in
-    IfOk-weaker c.arg-3.result _ _ (λ form adds. adds.shape c.wait_arg.ensures.local ∙ ap₂ with_rule two c.wait_arg.ensures.rule) c.arg-3.ensures
+    IfOk-weaker c.arg-3.result _ _
+    (λ form adds. adds.shape c.wait_arg.ensures.local ∙ ap₂ with_rule two c.wait_arg.ensures.rule) c.arg-3.ensures

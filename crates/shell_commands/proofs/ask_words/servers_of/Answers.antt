@@ -50,7 +50,8 @@ returns-in_err-chroot-clause-err c =
     let is = first_value-rows found (codes "SERVERS") in
     let some : first_of (codes "SERVERS") (rows_of found) ≡ Some c.in-Some.word.now = search rules in
     let parts : Text × Text = (c.parted.result.0.now, c.parted.result.1.now) in
-    tells_on _ _ c.from_residual-in_err-chroot.result c.in_err-chroot.field-0.0 c.from_residual-in_err-chroot.ensures.1 c.in_err-chroot.ensures.err
+    tells_on _ _ c.from_residual-in_err-chroot.result c.in_err-chroot.field-0.0 c.from_residual-in_err-chroot.ensures.1
+    c.in_err-chroot.ensures.err
     (λ refused. no_root (rows_of found) c.in-Some.word.now parts some c.parted.ensures refused)
 
 pub returns-clause-ok : goal.returns-clause-ok

@@ -26,4 +26,5 @@ returns-in-None-clause-err c =
     let found = found_of c.args.matches.now in
     let is = first_value-rows found (codes "wait") in
     let some : first_of (codes "wait") (rows_of found) ≡ Some c.in-Some.word.now = search rules in
-    tells _ c.no_wait.result c.no_wait.ensures (ap (option_and_then wait_at) some ∙ ap (option_map (λ seconds. 1000 * seconds)) (sym c.in-None.ensures.value))
+    tells _ c.no_wait.result c.no_wait.ensures
+    (ap (option_and_then wait_at) some ∙ ap (option_map (λ seconds. 1000 * seconds)) (sym c.in-None.ensures.value))

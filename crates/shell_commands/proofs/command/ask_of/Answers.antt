@@ -12,8 +12,10 @@ use Rattle.shell_commands.proofs.AddressLemmas.{one_chroot, tells, tells_on}
 use Rattle.shell_commands.proofs.command.ask_of.Goals as goal
 
 -- The node's path is refused, so nothing is asked.
-no_node : (rows : List Row) (name chroot text : Text) (addresses : List Text) → first_of (codes "PATH") rows ≡ Some name → AreServers addresses chroot rows
-    → text ≡ chroot → is_below text name ≡ false → (verb : Verb) (others : List Text) (other called : Text) (call : Call) (from : Option Text) (form : Form)
+no_node : (rows : List Row) (name chroot text : Text) (addresses : List Text)
+    → first_of (codes "PATH") rows ≡ Some name → AreServers addresses chroot rows
+    → text ≡ chroot → is_below text name ≡ false
+    → (verb : Verb) (others : List Text) (other called : Text) (call : Call) (from : Option Text) (form : Form)
     (wait_ms : ℕ) → IsAsked verb others other called call from form wait_ms rows → ⊥
 no_node rows name chroot text addresses some servers at refused verb others other called call from form wait_ms asked =
     let same : called ≡ name = ap (λ o. unwrap_or o []) (sym asked.1.given ∙ some) in
@@ -22,7 +24,8 @@ no_node rows name chroot text addresses some servers at refused verb others othe
 
 -- The call at the node's path is refused, so nothing is asked.
 no_call : (verb : Verb) (rows : List Row) (name chroot text path : Text) (addresses : List Text) → first_of (codes "PATH") rows ≡ Some name
-    → AreServers addresses chroot rows → text ≡ chroot → path ≡ absolute text name → call_for verb path rows ≡ None → (others : List Text) (other called : Text)
+    → AreServers addresses chroot rows → text ≡ chroot → path ≡ absolute text name → call_for verb path rows ≡ None
+    → (others : List Text) (other called : Text)
     (call : Call) (from : Option Text) (form : Form) (wait_ms : ℕ) → IsAsked verb others other called call from form wait_ms rows → ⊥
 no_call verb rows name chroot text path addresses some servers at is none others other called call from form wait_ms asked =
     let same : called ≡ name = ap (λ o. unwrap_or o []) (sym asked.1.given ∙ some) in
@@ -36,11 +39,13 @@ returns-in_default-clause-err c =
     let found = found_of c.args.matches.now in
     let is = first_value-rows found (codes "PATH") in
     let none : None ≡ first_of (codes "PATH") (rows_of found) = search rules in
-    tells _ c.no_command.result c.no_command.ensures (λ addresses chroot name call from form wait_ms asked. let bad = none ∙ asked.1.given in cc)
+    tells _ c.no_command.result c.no_command.ensures
+    (λ addresses chroot name call from form wait_ms asked. let bad = none ∙ asked.1.given in cc)
 
 pub returns-in_err-addresses-clause-err : goal.returns-in_err-addresses-clause-err
 returns-in_err-addresses-clause-err c =
-    tells_on _ _ c.from_residual-in_err-addresses.result c.in_err-addresses.field-0.0 c.from_residual-in_err-addresses.ensures.1 c.in_err-addresses.ensures.err
+    tells_on _ _ c.from_residual-in_err-addresses.result c.in_err-addresses.field-0.0 c.from_residual-in_err-addresses.ensures.1
+    c.in_err-addresses.ensures.err
     (λ none addresses chroot name call from form wait_ms asked. none addresses chroot asked.0)
 
 pub returns-in_err-path-clause-err : goal.returns-in_err-path-clause-err
@@ -49,7 +54,8 @@ returns-in_err-path-clause-err c =
     let is = first_value-rows found (codes "PATH") in
     let some : first_of (codes "PATH") (rows_of found) ≡ Some c.in-Some.name.now = search rules in
     tells_on _ _ c.from_residual-in_err-path.result c.in_err-path.field-0.0 c.from_residual-in_err-path.ensures.1 c.in_err-path.ensures.err
-    (λ refused. no_node (rows_of found) c.in-Some.name.now (string_bytes c.in_ok-addresses.chroot) c.as_str.result.now _ some c.in_ok-addresses.ensures.ok c.as_str.ensures.value refused c.args.verb)
+    (λ refused. no_node (rows_of found) c.in-Some.name.now (string_bytes c.in_ok-addresses.chroot) c.as_str.result.now _ some
+    c.in_ok-addresses.ensures.ok c.as_str.ensures.value refused c.args.verb)
 
 pub returns-in_err-call-clause-err : goal.returns-in_err-call-clause-err
 returns-in_err-call-clause-err c =
@@ -57,7 +63,8 @@ returns-in_err-call-clause-err c =
     let is = first_value-rows found (codes "PATH") in
     let some : first_of (codes "PATH") (rows_of found) ≡ Some c.in-Some.name.now = search rules in
     tells_on _ _ c.from_residual-in_err-call.result c.in_err-call.field-0.0 c.from_residual-in_err-call.ensures.1 c.in_err-call.ensures.err
-    (λ none. no_call c.args.verb (rows_of found) c.in-Some.name.now (string_bytes c.in_ok-addresses.chroot) c.as_str.result.now c.in_ok-path.path _ some c.in_ok-addresses.ensures.ok
+    (λ none. no_call c.args.verb (rows_of found) c.in-Some.name.now
+    (string_bytes c.in_ok-addresses.chroot) c.as_str.result.now c.in_ok-path.path _ some c.in_ok-addresses.ensures.ok
     c.as_str.ensures.value c.in_ok-path.ensures.ok none)
 
 pub returns-clause-ok : goal.returns-clause-ok
@@ -68,7 +75,8 @@ returns-clause-ok c =
     let some : first_of (codes "PATH") (rows_of found) ≡ Some c.in-Some.name.now = search rules in
     let name = c.in-Some.name.now in
     let at = c.as_str.ensures.value in
-    let from : option_map (λ f. f.now) c.get_str-2.result ≡ first_of (codes "from") rows = c.get_str-2.ensures ∙ first_value-rows found (codes "from") in
+    let from : option_map (λ f. f.now) c.get_str-2.result ≡ first_of (codes "from") rows =
+    c.get_str-2.ensures ∙ first_value-rows found (codes "from") in
     let place = c.in_ok-path.ensures.ok ∙ ap (λ (t : Text). absolute t name) at in (
       record {
         addresses = c.in_ok-addresses.addresses;

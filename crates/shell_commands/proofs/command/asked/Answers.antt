@@ -9,7 +9,8 @@ use Rattle.shell_commands.specs.declared.command.Command.{Command}
 use Rattle.shell_commands.specs.declared.command.Command.TheVariants.{Show, History, Replay, Rehearse, Live, Watch, Ask, Tree}
 use Rattle.shell_commands.specs.declared.kind.Kind.{Kind}
 use Rattle.shell_commands.specs.Kinds.{kind_word}
-use Rattle.shell_commands.specs.CommandLine.{AreAddresses, AsksForNone, AsksQuestion, AsksTour, IsAsked, IsTree, IsFound, IsWatch, Sights, sights_of}
+use Rattle.shell_commands.specs.CommandLine.{AreAddresses, AsksForNone, AsksQuestion, AsksTour, IsAsked, IsTree, IsFound, IsWatch, Sights}
+use Rattle.shell_commands.specs.CommandLine.{sights_of}
 use Rattle.shell_ask.specs.declared.plan.Form.{Form}
 use Rattle.zk_conversation.specs.Calls.{Call}
 use Rattle.zk_conversation.specs.Views.{call_view}
@@ -66,7 +67,8 @@ without_addresses found rows is absent (Ask question) f = apart f.2 is (is_new f
 
 -- where `watch` was found without what it is to be given, the words ask for no command
 without_watch : (found : Option (Text × List Row)) (rows : List Row) → found ≡ Some (codes "watch", rows)
-    → ((addresses : List Text) (chroot : Text) (sights : Sights) (timeout_ms : ℤ) (for_ms : Option ℕ) (style : Style) → IsWatch addresses chroot sights timeout_ms for_ms style rows → ⊥)
+    → ((addresses : List Text) (chroot : Text) (sights : Sights) (timeout_ms : ℤ) (for_ms : Option ℕ) (style : Style)
+    → IsWatch addresses chroot sights timeout_ms for_ms style rows → ⊥)
     → AsksForNone found
 without_watch found rows is absent (Show kind hex) f = apart is f.1 refl
 without_watch found rows is absent History f = apart is f.1 refl
@@ -97,7 +99,8 @@ without_tree found rows is absent (Ask question) f = apart f.2 is (is_new f.0).t
 
 -- where a verb was found without what it is to be given, the words ask for no command
 without_ask : (verb : Verb) (found : Option (Text × List Row)) (rows : List Row) → found ≡ Some (verb_word verb, rows)
-    → ((addresses : List Text) (chroot name : Text) (call : Call) (from : Option Text) (form : Form) (wait_ms : ℕ) → IsAsked verb addresses chroot name call from form wait_ms rows → ⊥)
+    → ((addresses : List Text) (chroot name : Text) (call : Call) (from : Option Text) (form : Form) (wait_ms : ℕ)
+    → IsAsked verb addresses chroot name call from form wait_ms rows → ⊥)
     → AsksForNone found
 without_ask verb found rows is absent (Show kind hex) f = apart is f.1 (is_new verb).shows
 without_ask verb found rows is absent History f = apart is f.1 (is_new verb).tells
@@ -141,7 +144,8 @@ returns-in-Some-named-clause-err c =
     let found = found_of c.in-Some.inner.now in
     let named : subcommand_rows_of c.args.matches.now ≡ Some (c.in-Some.word.now, rows_of found) = search rules in
     let is = named ∙ ap (λ (w : Text). Some (w, rows_of found)) c.in-Some-named.ensures.some in
-    IfErr-weaker c.ask_of.result _ _ (λ fault told. tells_more _ _ fault (without_ask c.in-Some-named.verb _ (rows_of found) is) told) c.ask_of.ensures.err
+    IfErr-weaker c.ask_of.result _ _
+    (λ fault told. tells_more _ _ fault (without_ask c.in-Some-named.verb _ (rows_of found) is) told) c.ask_of.ensures.err
 
 pub returns-in-Some-tree-default-clause-err : goal.returns-in-Some-tree-default-clause-err
 returns-in-Some-tree-default-clause-err c =

@@ -20,8 +20,10 @@ simple names = refl
 -- what is told of an error of `clap` is due
 told_is_due : (words : List Text) (names : Bor (List (Bor Text))) (kind : ErrorKind) (fault : LineFault) → AreKinds names
     → (kind ≡ kinds.OutOfMemory) ⊎ IsAmong kind (fault_of (shell_app names) words) → Tells kind fault → IsDue words fault
-told_is_due words names kind (Help text) are (inl memory) (inl told) = absurd (let bad : kinds.DisplayHelp ≡ kinds.OutOfMemory = sym told ∙ memory in cc)
-told_is_due words names kind (Help text) are (inl memory) (inr told) = absurd (let bad : kinds.DisplayVersion ≡ kinds.OutOfMemory = sym told ∙ memory in cc)
+told_is_due words names kind (Help text) are (inl memory) (inl told) =
+    absurd (let bad : kinds.DisplayHelp ≡ kinds.OutOfMemory = sym told ∙ memory in cc)
+told_is_due words names kind (Help text) are (inl memory) (inr told) =
+    absurd (let bad : kinds.DisplayVersion ≡ kinds.OutOfMemory = sym told ∙ memory in cc)
 told_is_due words names kind (Help text) are (inr among) told = (names, are, (kind, told, among))
 told_is_due words names kind (Refused text) are (inl memory) told = absurd (told.2 memory)
 told_is_due words names kind (Refused text) are (inr among) told = (names, are, inl (kind, told.0, told.1, among))
@@ -44,7 +46,8 @@ returns-in-Err-clause-err c =
     (subst (λ (a : App). (kind ≡ kinds.OutOfMemory) ⊎ IsAmong kind (fault_of a words)) form.2 has) c.told_of.ensures
 
 -- the rows of the matches are what is found of the words
-rows_found : (c : In-Ok) → subcommand_rows_of c.in-Ok.matches ≡ subcommand_of (shell_app c.in_ok-form.ensures.0) (map (λ w. w.now) c.args.words.now)
+rows_found : (c : In-Ok)
+    → subcommand_rows_of c.in-Ok.matches ≡ subcommand_of (shell_app c.in_ok-form.ensures.0) (map (λ w. w.now) c.args.words.now)
 rows_found c =
     let form = c.in_ok-form.ensures in
     let words : List Text = map (λ w. w.now) c.args.words.now in
@@ -54,7 +57,8 @@ pub returns-in-Ok-clause-err : goal.returns-in-Ok-clause-err
 returns-in-Ok-clause-err c =
     let form = c.in_ok-form.ensures in
     let found = rows_found (goal.at.returns-in-Ok-clause-err c).In-Ok in
-    IfErr-weaker c.asked.result _ _ (λ fault told. nothing_is_due (map (λ w. w.now) c.args.words.now) form.0 fault form.1 (subst (λ rows. TellsIf (AsksForNone rows) fault) found told)) c.asked.ensures.err
+    IfErr-weaker c.asked.result _ _ (λ fault told. nothing_is_due (map (λ w. w.now) c.args.words.now) form.0 fault form.1
+    (subst (λ rows. TellsIf (AsksForNone rows) fault) found told)) c.asked.ensures.err
 
 pub returns-in-Ok-clause-ok : goal.returns-in-Ok-clause-ok
 returns-in-Ok-clause-ok c =

@@ -14,7 +14,8 @@ with_sessions a = with_subcommand (with_subcommand a live_app.top) watch_app.top
 pub returns : goal.returns
 returns c =
     let show = c.in_ok-show.ensures in
-    let shown = c.in_ok-shown.ensures (ap (λ (a : App). a.top.is_plain) show.2) ∙ ap (λ (a : App). with_subcommand shell_top a.top) show.2 in
+    let shown = c.in_ok-shown.ensures (ap (λ (a : App). a.top.is_plain) show.2)
+    ∙ ap (λ (a : App). with_subcommand shell_top a.top) show.2 in
     let driven = c.in_ok-driven.ensures ∙ ap with_scripts shown in
     let joined = c.in_ok-joined.ensures ∙ ap with_sessions driven in
     let reading = c.in_ok-reading.ensures ∙ ap with_reads joined in

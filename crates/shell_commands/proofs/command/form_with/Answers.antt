@@ -10,5 +10,6 @@ returns c =
     let command = c.args.command in
     let is : app_of c.subcommand_required.result ≡ shell_top = search rules in
     IfOk-weaker c.subcommand.result _ _
-    (λ form adds plain. added c.subcommand_required.result command form (app_of command) refl plain adds ∙ ap (λ (a : App). with_subcommand a (app_of command).top) is)
+    (λ form adds plain. added c.subcommand_required.result command form (app_of command) refl plain adds
+    ∙ ap (λ (a : App). with_subcommand a (app_of command).top) is)
     c.subcommand.ensures

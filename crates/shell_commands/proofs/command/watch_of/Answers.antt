@@ -17,13 +17,16 @@ no_sights rows chroot text addresses servers at none others other sights timeout
 
 pub returns-in_err-addresses-clause-err : goal.returns-in_err-addresses-clause-err
 returns-in_err-addresses-clause-err c =
-    tells_on _ _ c.from_residual-in_err-addresses.result c.in_err-addresses.field-0.0 c.from_residual-in_err-addresses.ensures.1 c.in_err-addresses.ensures.err
+    tells_on _ _ c.from_residual-in_err-addresses.result c.in_err-addresses.field-0.0 c.from_residual-in_err-addresses.ensures.1
+    c.in_err-addresses.ensures.err
     (λ none addresses chroot sights timeout_ms for_ms style watched. none addresses chroot watched.0)
 
 pub returns-in_err-scope-clause-err : goal.returns-in_err-scope-clause-err
 returns-in_err-scope-clause-err c =
-    tells_on _ _ c.from_residual-in_err-scope.result c.in_err-scope.field-0.0 c.from_residual-in_err-scope.ensures.1 c.in_err-scope.ensures.err
-    (no_sights (rows_of (found_of c.args.matches.now)) (string_bytes c.in_ok-addresses.chroot) c.as_str.result.now _ c.in_ok-addresses.ensures.ok
+    tells_on _ _ c.from_residual-in_err-scope.result c.in_err-scope.field-0.0 c.from_residual-in_err-scope.ensures.1
+    c.in_err-scope.ensures.err
+    (no_sights (rows_of (found_of c.args.matches.now))
+    (string_bytes c.in_ok-addresses.chroot) c.as_str.result.now _ c.in_ok-addresses.ensures.ok
     c.as_str.ensures.value)
 
 pub returns-clause-ok : goal.returns-clause-ok
@@ -37,5 +40,11 @@ returns-clause-ok c =
       c.style_of.result,
       refl,
       string_bytes c.in_ok-addresses.chroot,
-      (c.in_ok-addresses.ensures.ok, rw c.as_str.ensures.value at c.in_ok-scope.ensures.ok, rw same c.in_ok-timeout_ms.ensures.ok, c.in_ok-for_ms.ensures.ok, c.style_of.ensures),
+      (
+        c.in_ok-addresses.ensures.ok,
+        rw c.as_str.ensures.value at c.in_ok-scope.ensures.ok,
+        rw same c.in_ok-timeout_ms.ensures.ok,
+        c.in_ok-for_ms.ensures.ok,
+        c.style_of.ensures,
+      ),
     )

@@ -7,4 +7,5 @@ use Rattle.shell_commands.proofs.command.with_script.Goals as goal
 pub returns : goal.returns
 returns c =
     let script : app_of c.after_help-script.result ≡ new_app c.args.name.now = search rules in
-    IfOk-weaker c.subcommand.result _ _ (λ form adds. added c.args.form c.after_help-script.result form (new_app c.args.name.now) script refl adds) c.subcommand.ensures
+    IfOk-weaker c.subcommand.result _ _
+    (λ form adds. added c.args.form c.after_help-script.result form (new_app c.args.name.now) script refl adds) c.subcommand.ensures

@@ -9,5 +9,6 @@ pub returns : goal.returns
 returns c =
     let live = added c.args.form c.in_ok-live.live c.in_ok-form.form live_app c.in_ok-live.ensures refl c.in_ok-form.ensures in
     IfOk-weaker c.subcommand-2.result _ _
-    (λ form adds. added c.in_ok-form.form c.in_ok-watch.watch form watch_app c.in_ok-watch.ensures refl adds ∙ ap (λ (a : App). with_subcommand a watch_app.top) live)
+    (λ form adds. added c.in_ok-form.form c.in_ok-watch.watch form watch_app c.in_ok-watch.ensures refl adds
+    ∙ ap (λ (a : App). with_subcommand a watch_app.top) live)
     c.subcommand-2.ensures

@@ -8,7 +8,8 @@ use Rattle.shell_commands.proofs.AddressLemmas.{tells_more}
 use Rattle.shell_commands.proofs.data_words.data_of.Goals as goal
 
 -- the data by what was given
-given_by : (rows : List Row) (file word : Option Text) (is_null is_hex : Bool) → first_of (codes "from") rows ≡ file → first_of (codes "DATA") rows ≡ word
+given_by : (rows : List Row) (file word : Option Text) (is_null is_hex : Bool)
+    → first_of (codes "from") rows ≡ file → first_of (codes "DATA") rows ≡ word
     → flag (codes "null") rows ≡ is_null → flag (codes "hex") rows ≡ is_hex → data_in rows ≡ data_with file word is_null is_hex
 given_by rows file word is_null is_hex zero one two three =
     ap (λ (o : Option Text). data_with o (first_of (codes "DATA") rows) (flag (codes "null") rows) (flag (codes "hex") rows)) zero
@@ -20,7 +21,8 @@ returns-clause-ok c =
     let found = found_of c.args.matches.now in
     let word = sym (first_value-rows found (codes "DATA")) ∙ sym c.get_str-word.ensures in
     let file = sym (first_value-rows found (codes "from")) ∙ sym c.get_str-file.ensures in
-    let means = given_by (rows_of found) _ _ c.flag-is_null.result c.flag-is_hex.result file word (sym c.flag-is_null.ensures) (sym c.flag-is_hex.ensures) in
+    let means = given_by (rows_of found) _ _ c.flag-is_null.result c.flag-is_hex.result file word (sym c.flag-is_null.ensures)
+    (sym c.flag-is_hex.ensures) in
     IfOk-weaker c.data_with.result _ _ (λ bytes read. means ∙ read) c.data_with.ensures.ok
 
 pub returns-clause-err : goal.returns-clause-err
@@ -28,5 +30,6 @@ returns-clause-err c =
     let found = found_of c.args.matches.now in
     let word = sym (first_value-rows found (codes "DATA")) ∙ sym c.get_str-word.ensures in
     let file = sym (first_value-rows found (codes "from")) ∙ sym c.get_str-file.ensures in
-    let means = given_by (rows_of found) _ _ c.flag-is_null.result c.flag-is_hex.result file word (sym c.flag-is_null.ensures) (sym c.flag-is_hex.ensures) in
+    let means = given_by (rows_of found) _ _ c.flag-is_null.result c.flag-is_hex.result file word (sym c.flag-is_null.ensures)
+    (sym c.flag-is_hex.ensures) in
     IfErr-weaker c.data_with.result _ _ (λ fault told. tells_more _ _ fault (λ unread. means ∙ unread) told) c.data_with.ensures.err

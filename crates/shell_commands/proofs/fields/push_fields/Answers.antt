@@ -7,5 +7,6 @@ use Rattle.shell_commands.proofs.fields.push_fields.Goals as goal
 
 pub returns : goal.returns
 returns g c =
-    let all : string_bytes c.loop-name.text ≡ string_bytes c.args.text.now ++ flat_map line_of c.args.fields.now = grind (arith, common_steps) in
+    let all : string_bytes c.loop-name.text ≡ string_bytes c.args.text.now ++ flat_map line_of c.args.fields.now =
+    grind (arith, common_steps) in
     rw (one_by_one c.args.fields.now) all

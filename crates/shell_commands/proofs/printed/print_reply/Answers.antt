@@ -14,5 +14,6 @@ returns-clause-prints g c =
       ignored = rest;
       value = record { value = reply; fits = c.in_ok-reply.ensures.found.0; spells = refl; shows = refl };
       begins = sym c.new-at.ensures.left ∙ c.in_ok-reply.ensures.found.1 ∙ ap (λ (x : List ℕ). spelled ++ x) (sym c.rest.ensures);
-      printed = rw (c.as_slice.ensures.value, c.in_ok-spelled.ensures, c.in_ok-push_reply.ensures, c.new-text.ensures.bytes) at (c.in_ok-push_end.ensures rest refl);
+      printed = rw (c.as_slice.ensures.value, c.in_ok-spelled.ensures, c.in_ok-push_reply.ensures, c.new-text.ensures.bytes) at
+          (c.in_ok-push_end.ensures rest refl);
     }

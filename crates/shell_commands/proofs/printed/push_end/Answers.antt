@@ -10,6 +10,16 @@ use Rattle.shell_commands.proofs.printed.push_end.Goals as goal
 pub returns : goal.returns
 returns g c =
     on_ok_weaker c.push_line.result
-    (λ (written : string_bytes c.push_line.new.text ≡ string_bytes c.push_shown.new.text ++ line (codes "frame") c.as_str.result.now) rest len. rw (written, c.in_ok-push_shown.ensures, len, c.as_str.ensures.value, c.in_ok-word.ensures, c.as_slice.ensures.value, c.in_ok-frame.ensures)
-    (append_assoc (string_bytes c.args.text.now) (line (codes "ignored") (decimal c.args.ignored)) (line (codes "frame") (encode_lower (frame_of c.args.spelled.now)))))
+    (λ (written : string_bytes c.push_line.new.text ≡ string_bytes c.push_shown.new.text ++ line (codes "frame") c.as_str.result.now) rest
+    len. rw (
+      written,
+      c.in_ok-push_shown.ensures,
+      len,
+      c.as_str.ensures.value,
+      c.in_ok-word.ensures,
+      c.as_slice.ensures.value,
+      c.in_ok-frame.ensures,
+    )
+    (append_assoc (string_bytes c.args.text.now) (line (codes "ignored") (decimal c.args.ignored))
+    (line (codes "frame") (encode_lower (frame_of c.args.spelled.now)))))
     c.push_line.ensures

@@ -33,8 +33,13 @@ returns-in-History-clause-done g c = λ is words asked.
 
 pub returns-in-History-clause-fault : goal.returns-in-History-clause-fault
 returns-in-History-clause-fault g c = λ is words asked.
-    let told = c.script_over.ensures.fault is in
-    (told.1, refusal_text told.2 told.3, stopped History told.0 told.2 told.3 (rw c.in-History.is at asked) told.4 told.5 refl, told.6, told.7)
+    let told = c.script_over.ensures.fault is in (
+      told.1,
+      refusal_text told.2 told.3,
+      stopped History told.0 told.2 told.3 (rw c.in-History.is at asked) told.4 told.5 refl,
+      told.6,
+      told.7,
+    )
 
 pub returns-in-History-clause-memory : goal.returns-in-History-clause-memory
 returns-in-History-clause-memory g c = λ is words asked.
@@ -52,8 +57,13 @@ returns-in-Replay-clause-done g c = λ is words asked.
 
 pub returns-in-Replay-clause-fault : goal.returns-in-Replay-clause-fault
 returns-in-Replay-clause-fault g c = λ is words asked.
-    let told = c.script_over-in-Replay.ensures.fault is in
-    (told.1, refusal_text told.2 told.3, stopped Replay told.0 told.2 told.3 (rw c.in-Replay.is at asked) told.4 told.5 refl, told.6, told.7)
+    let told = c.script_over-in-Replay.ensures.fault is in (
+      told.1,
+      refusal_text told.2 told.3,
+      stopped Replay told.0 told.2 told.3 (rw c.in-Replay.is at asked) told.4 told.5 refl,
+      told.6,
+      told.7,
+    )
 
 pub returns-in-Replay-clause-memory : goal.returns-in-Replay-clause-memory
 returns-in-Replay-clause-memory g c = λ is words asked.
@@ -71,8 +81,13 @@ returns-in-Rehearse-clause-done g c = λ is words asked.
 
 pub returns-in-Rehearse-clause-fault : goal.returns-in-Rehearse-clause-fault
 returns-in-Rehearse-clause-fault g c = λ is words asked.
-    let told = c.script_over-in-Rehearse.ensures.fault is in
-    (told.1, refusal_text told.2 told.3, stopped Rehearse told.0 told.2 told.3 (rw c.in-Rehearse.is at asked) told.4 told.5 refl, told.6, told.7)
+    let told = c.script_over-in-Rehearse.ensures.fault is in (
+      told.1,
+      refusal_text told.2 told.3,
+      stopped Rehearse told.0 told.2 told.3 (rw c.in-Rehearse.is at asked) told.4 told.5 refl,
+      told.6,
+      told.7,
+    )
 
 pub returns-in-Rehearse-clause-memory : goal.returns-in-Rehearse-clause-memory
 returns-in-Rehearse-clause-memory g c = λ is words asked.
@@ -85,13 +100,22 @@ returns-in-Rehearse-clause-memory g c = λ is words asked.
 
 pub returns-in-Live-clause-done : goal.returns-in-Live-clause-done
 returns-in-Live-clause-done g c = λ is words asked.
-    let told = c.script_over-in-Live.ensures.done is in
-    (told.1, plays (Live c.in-Live.addresses) told.0 (rw c.in-Live.is at asked) told.2 told.3, told.4, c.script_over-in-Live.ensures.silent (inl is))
+    let told = c.script_over-in-Live.ensures.done is in (
+      told.1,
+      plays (Live c.in-Live.addresses) told.0 (rw c.in-Live.is at asked) told.2 told.3,
+      told.4,
+      c.script_over-in-Live.ensures.silent (inl is),
+    )
 
 pub returns-in-Live-clause-fault : goal.returns-in-Live-clause-fault
 returns-in-Live-clause-fault g c = λ is words asked.
-    let told = c.script_over-in-Live.ensures.fault is in
-    (told.1, refusal_text told.2 told.3, stopped (Live c.in-Live.addresses) told.0 told.2 told.3 (rw c.in-Live.is at asked) told.4 told.5 refl, told.6, told.7)
+    let told = c.script_over-in-Live.ensures.fault is in (
+      told.1,
+      refusal_text told.2 told.3,
+      stopped (Live c.in-Live.addresses) told.0 told.2 told.3 (rw c.in-Live.is at asked) told.4 told.5 refl,
+      told.6,
+      told.7,
+    )
 
 pub returns-in-Live-clause-memory : goal.returns-in-Live-clause-memory
 returns-in-Live-clause-memory g c = λ is words asked.
@@ -104,18 +128,27 @@ returns-in-Live-clause-memory g c = λ is words asked.
 
 pub returns-in-Watch-clause-done : goal.returns-in-Watch-clause-done
 returns-in-Watch-clause-done g c = λ is words asked.
-    let told = rw (c.plan_of-plan.ensures.subjects, c.plan_of-plan.ensures.trees, c.plan_of-plan.ensures.most, c.plan_of-plan.ensures.for_ms, c.plan_of-plan.ensures.style) at (c.watch_over.ensures.done is) in (
+    let told = rw (
+      c.plan_of-plan.ensures.subjects,
+      c.plan_of-plan.ensures.trees,
+      c.plan_of-plan.ensures.most,
+      c.plan_of-plan.ensures.for_ms,
+      c.plan_of-plan.ensures.style,
+    ) at (c.watch_over.ensures.done is) in (
       told.0,
-      watches c.in-Watch.addresses c.in-Watch.scope c.in-Watch.timeout_ms c.in-Watch.for_ms c.in-Watch.style (rw c.in-Watch.is at asked) told.1,
+      watches c.in-Watch.addresses c.in-Watch.scope c.in-Watch.timeout_ms c.in-Watch.for_ms c.in-Watch.style
+          (rw c.in-Watch.is at asked) told.1,
       told.2,
       refl,
     )
 
 pub returns-in-Watch-clause-memory : goal.returns-in-Watch-clause-memory
 returns-in-Watch-clause-memory g c = λ is words asked.
-    let told = rw (c.plan_of-plan.ensures.subjects, c.plan_of-plan.ensures.trees, c.plan_of-plan.ensures.most, c.plan_of-plan.ensures.style) at (c.watch_over.ensures.memory is) in (
+    let told = rw (c.plan_of-plan.ensures.subjects, c.plan_of-plan.ensures.trees, c.plan_of-plan.ensures.most, c.plan_of-plan.ensures.style)
+    at (c.watch_over.ensures.memory is) in (
       told.0 ++ told.1,
-      ceases c.in-Watch.addresses c.in-Watch.scope c.in-Watch.timeout_ms c.in-Watch.for_ms c.in-Watch.style told.0 told.1 (rw c.in-Watch.is at asked) told.2 told.3 refl,
+      ceases c.in-Watch.addresses c.in-Watch.scope c.in-Watch.timeout_ms c.in-Watch.for_ms c.in-Watch.style told.0 told.1
+          (rw c.in-Watch.is at asked) told.2 told.3 refl,
       told.4,
       refl,
     )
@@ -173,7 +206,13 @@ returns-in-Ask-clause-never g c = λ is words asked. absurd (c.ask_with.ensures.
 
 pub returns-in-Watch-clause-never : goal.returns-in-Watch-clause-never
 returns-in-Watch-clause-never g c = λ is words asked.
-    let told = rw (c.plan_of-plan.ensures.subjects, c.plan_of-plan.ensures.trees, c.plan_of-plan.ensures.most, c.plan_of-plan.ensures.for_ms, c.plan_of-plan.ensures.style) at (c.watch_over.ensures.never is) in (
+    let told = rw (
+      c.plan_of-plan.ensures.subjects,
+      c.plan_of-plan.ensures.trees,
+      c.plan_of-plan.ensures.most,
+      c.plan_of-plan.ensures.for_ms,
+      c.plan_of-plan.ensures.style,
+    ) at (c.watch_over.ensures.never is) in (
       told.0,
       record {
         addresses = c.in-Watch.addresses;

@@ -10,12 +10,14 @@ use Rattle.shell_commands.specs.Show.{IsHexOf, IsPayloadFault, IsFault, PrintsAg
 use Rattle.shell_commands.proofs.show.print_frame.Goals as goal
 
 -- a payload's fault is the frame's
-passed_on : (kind : Kind) (hex frame payload : List ℕ) (fault : ShowFault) → IsHexOf frame hex → payload_of frame ≡ Ok payload → (fault ≡ Memory) ⊎ IsPayloadFault kind payload fault → (fault ≡ Memory) ⊎ IsFault kind hex fault
+passed_on : (kind : Kind) (hex frame payload : List ℕ) (fault : ShowFault) → IsHexOf frame hex → payload_of frame ≡ Ok payload
+    → (fault ≡ Memory) ⊎ IsPayloadFault kind payload fault → (fault ≡ Memory) ⊎ IsFault kind hex fault
 passed_on kind hex frame payload fault decoded whole (inl memory) = inl memory
 passed_on kind hex frame payload fault decoded whole (inr found) = inr (no_payload frame payload decoded whole found)
 
 -- the frame of a payload with nothing after what is spelled is the frame of what is spelled
-printed_again : (frame payload spelled ignored : List ℕ) → frame ≡ frame_of payload → payload ≡ spelled ++ ignored → PrintsAgain frame spelled ignored
+printed_again : (frame payload spelled ignored : List ℕ)
+    → frame ≡ frame_of payload → payload ≡ spelled ++ ignored → PrintsAgain frame spelled ignored
 printed_again frame payload spelled ignored whole begins = λ none.
     let same : payload ≡ spelled = begins ∙ ap (λ (x : List ℕ). spelled ++ x) none ∙ append-nil spelled in
     sym (whole ∙ ap frame_of same)

@@ -25,4 +25,5 @@ returns-in-None-clause-err c =
     let found = found_of c.args.matches.now in
     let is = first_value-rows found (codes "depth") in
     let some : first_of (codes "depth") (rows_of found) ≡ Some c.in-Some.word.now = search rules in
-    tells _ c.no_depth.result c.no_depth.ensures (ap depth_read some ∙ ap (natural_of 4294967295) (sym c.as_bytes.ensures.value) ∙ sym c.in-None.ensures.value)
+    tells _ c.no_depth.result c.no_depth.ensures
+    (ap depth_read some ∙ ap (natural_of 4294967295) (sym c.as_bytes.ensures.value) ∙ sym c.in-None.ensures.value)

@@ -10,8 +10,10 @@ use Rattle.shell_commands.proofs.AddressLemmas.{one_chroot, tells, tells_on}
 use Rattle.shell_commands.proofs.tree_words.tree_of.Goals as goal
 
 -- The root's path is refused, so no tree is asked for.
-no_root : (rows : List Row) (word chroot text : Text) (addresses : List Text) → first_of (codes "PATH") rows ≡ Some word → AreServers addresses chroot rows
-    → text ≡ chroot → is_below text word ≡ false → (others : List Text) (other path name : Text) (deepest most : ℕ) (form : Form) (wait_ms : ℕ)
+no_root : (rows : List Row) (word chroot text : Text) (addresses : List Text)
+    → first_of (codes "PATH") rows ≡ Some word → AreServers addresses chroot rows
+    → text ≡ chroot → is_below text word ≡ false
+    → (others : List Text) (other path name : Text) (deepest most : ℕ) (form : Form) (wait_ms : ℕ)
     → IsTree others other path name deepest most form wait_ms rows → ⊥
 no_root rows word chroot text addresses some servers at refused others other path name deepest most form wait_ms asked =
     let same : name ≡ word = ap (λ o. unwrap_or o []) (sym asked.1.given ∙ some) in
@@ -23,11 +25,13 @@ returns-in_default-clause-err c =
     let found = found_of c.args.matches.now in
     let is = first_value-rows found (codes "PATH") in
     let none : None ≡ first_of (codes "PATH") (rows_of found) = search rules in
-    tells _ c.no_command.result c.no_command.ensures (λ addresses chroot path name deepest most form wait_ms asked. let bad = none ∙ asked.1.given in cc)
+    tells _ c.no_command.result c.no_command.ensures
+    (λ addresses chroot path name deepest most form wait_ms asked. let bad = none ∙ asked.1.given in cc)
 
 pub returns-in_err-addresses-clause-err : goal.returns-in_err-addresses-clause-err
 returns-in_err-addresses-clause-err c =
-    tells_on _ _ c.from_residual-in_err-addresses.result c.in_err-addresses.field-0.0 c.from_residual-in_err-addresses.ensures.1 c.in_err-addresses.ensures.err
+    tells_on _ _ c.from_residual-in_err-addresses.result c.in_err-addresses.field-0.0 c.from_residual-in_err-addresses.ensures.1
+    c.in_err-addresses.ensures.err
     (λ none addresses chroot path name deepest most form wait_ms asked. none addresses chroot asked.0)
 
 pub returns-in_err-path-clause-err : goal.returns-in_err-path-clause-err
@@ -36,7 +40,8 @@ returns-in_err-path-clause-err c =
     let is = first_value-rows found (codes "PATH") in
     let some : first_of (codes "PATH") (rows_of found) ≡ Some c.in-Some.word.now = search rules in
     tells_on _ _ c.from_residual-in_err-path.result c.in_err-path.field-0.0 c.from_residual-in_err-path.ensures.1 c.in_err-path.ensures.err
-    (λ refused. no_root (rows_of found) c.in-Some.word.now (string_bytes c.in_ok-addresses.chroot) c.as_str.result.now _ some c.in_ok-addresses.ensures.ok c.as_str.ensures.value refused)
+    (λ refused. no_root (rows_of found) c.in-Some.word.now
+    (string_bytes c.in_ok-addresses.chroot) c.as_str.result.now _ some c.in_ok-addresses.ensures.ok c.as_str.ensures.value refused)
 
 pub returns-clause-ok : goal.returns-clause-ok
 returns-clause-ok c =

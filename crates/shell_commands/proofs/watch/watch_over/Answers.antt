@@ -7,7 +7,8 @@ pub returns-in-Halted-clause-memory : goal.returns-in-Halted-clause-memory
 returns-in-Halted-clause-memory g c = λ is.
     let contents = g.O.Write.contents in
     let printed = c.in-Halted.ensures.printed (λ same. cc) in
-    let both = Appends-trans (contents c.args.out.now) (contents c.watch.new.out) (contents c.halt.new.out) printed.0 (codes "halt\n") printed.2 (c.halt.ensures.written is) in
+    let both = Appends-trans (contents c.args.out.now) (contents c.watch.new.out) (contents c.halt.new.out) printed.0
+    (codes "halt\n") printed.2 (c.halt.ensures.written is) in
     (printed.0, codes "halt\n", printed.1, inr refl, both)
 
 pub returns-in-Memory-clause-memory : goal.returns-in-Memory-clause-memory

@@ -6,7 +6,8 @@ use Rattle.shell_watch.specs.Watching.{aims_of}
 use Rattle.shell_commands.proofs.watch_words.add_given.Goals as goal
 
 -- the words that the option was given
-some_given : (c : goal.After-add_subjects) → given c.args.id.now (rows_of (found_of c.args.matches.now)) ≡ map (λ w. w.now) c.in-Some.words.now
+some_given : (c : goal.After-add_subjects)
+    → given c.args.id.now (rows_of (found_of c.args.matches.now)) ≡ map (λ w. w.now) c.in-Some.words.now
 some_given c =
     let found = found_of c.args.matches.now in
     let is = raw_values-rows found c.args.id.now in

@@ -25,4 +25,5 @@ returns-in-None-clause-err c =
     let found = found_of c.args.matches.now in
     let is = first_value-rows found (codes "for") in
     let some : first_of (codes "for") (rows_of found) ≡ Some c.in-Some.word.now = search rules in
-    tells _ c.no_duration.result c.no_duration.ensures (ap duration_read some ∙ ap (option_map (λ seconds. Some (1000 * seconds))) (sym c.in-None.ensures.value))
+    tells _ c.no_duration.result c.no_duration.ensures
+    (ap duration_read some ∙ ap (option_map (λ seconds. Some (1000 * seconds))) (sym c.in-None.ensures.value))

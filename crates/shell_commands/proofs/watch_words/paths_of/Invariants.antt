@@ -7,6 +7,8 @@ use Rattle.shell_commands.proofs.watch_words.paths_of.Given as goal
 -- what was added, and the paths that are left, are all; and all are paths below the chroot where those left are
 abbrev pub invariant-loop-word : goal.invariant-loop-word
 invariant-loop-word l = record {
-  added : l.paths.items ++ map (λ p. absolute l.chroot p) (map (λ w. w.now) (drop l.word-index l.words)) ≡ map (λ p. absolute l.chroot p) (map (λ w. w.now) l.words);
-  same : list_all (is_below l.chroot) (map (λ w. w.now) (drop l.word-index l.words)) ≡ list_all (is_below l.chroot) (map (λ w. w.now) l.words);
+  added : l.paths.items ++ map (λ p. absolute l.chroot p) (map (λ w. w.now) (drop l.word-index l.words)) ≡ map (λ p. absolute l.chroot p)
+      (map (λ w. w.now) l.words);
+  same : list_all (is_below l.chroot) (map (λ w. w.now) (drop l.word-index l.words)) ≡ list_all (is_below l.chroot)
+      (map (λ w. w.now) l.words);
 }

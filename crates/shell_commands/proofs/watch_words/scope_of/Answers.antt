@@ -9,12 +9,14 @@ returns-in_err-most-clause-err c =
 
 pub returns-in_err-subjects-clause-err : goal.returns-in_err-subjects-clause-err
 returns-in_err-subjects-clause-err c =
-    tells_on _ _ c.from_residual-in_err-subjects.result c.in_err-subjects.field-0.0 c.from_residual-in_err-subjects.ensures.1 c.in_err-subjects.ensures.err
+    tells_on _ _ c.from_residual-in_err-subjects.result c.in_err-subjects.field-0.0 c.from_residual-in_err-subjects.ensures.1
+    c.in_err-subjects.ensures.err
     (λ none sights are. none sights.aims are.0)
 
 pub returns-in_err-trees-clause-err : goal.returns-in_err-trees-clause-err
 returns-in_err-trees-clause-err c =
-    tells_on _ _ c.from_residual-in_err-trees.result c.in_err-trees.field-0.0 c.from_residual-in_err-trees.ensures.1 c.in_err-trees.ensures.err
+    tells_on _ _ c.from_residual-in_err-trees.result c.in_err-trees.field-0.0 c.from_residual-in_err-trees.ensures.1
+    c.in_err-trees.ensures.err
     (λ none sights are. none sights.roots are.1)
 
 pub returns-clause-ok : goal.returns-clause-ok

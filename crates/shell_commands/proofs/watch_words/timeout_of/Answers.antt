@@ -29,4 +29,5 @@ returns-in-None-clause-err c =
     let found = found_of c.args.matches.now in
     let is = first_value-rows found (codes "timeout") in
     let some : first_of (codes "timeout") (rows_of found) ≡ Some c.in-Some.word.now = search rules in
-    tells _ c.no_timeout.result c.no_timeout.ensures (ap (option_and_then timeout_at) some ∙ ap (option_map pos) (sym c.in-None.ensures.value))
+    tells _ c.no_timeout.result c.no_timeout.ensures
+    (ap (option_and_then timeout_at) some ∙ ap (option_map pos) (sym c.in-None.ensures.value))

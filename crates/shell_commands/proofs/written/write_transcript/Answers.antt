@@ -9,5 +9,6 @@ returns-in-Halted-clause-memory g c = λ is.
     let contents = g.O.Write.contents in
     let text : List ℕ = string_bytes c.args.transcript.now.text in
     let written : Appends (contents c.args.out.now) (contents c.write_all.new.self) text = search rules in
-    let both = Appends-trans (contents c.args.out.now) (contents c.write_all.new.self) (contents c.halt.new.out) text (codes "halt\n") written (c.halt.ensures.written is) in
+    let both = Appends-trans (contents c.args.out.now) (contents c.write_all.new.self) (contents c.halt.new.out) text
+    (codes "halt\n") written (c.halt.ensures.written is) in
     (codes "halt\n", rw c.in-Halted.is refl, both)

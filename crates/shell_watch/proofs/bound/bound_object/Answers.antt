@@ -13,4 +13,5 @@ returns g c =
     let some : codes "bound" ≢ [] = λ none. absurd cc in
     IfOk-weaker c.ended.result _ _ (λ line is.
     line_is c.args.ms (codes "bound") members c.put_count.new.writer.tokens c.put_count.new.writer.before (string_bytes line) some
-    (put.0 ∙ c.in_ok-writer.ensures.before) (put.1 ∙ ap (λ (t : List json.Token). t ++ members) c.in_ok-writer.ensures.tokens) is) c.ended.ensures
+    (put.0 ∙ c.in_ok-writer.ensures.before) (put.1 ∙ ap (λ (t : List json.Token). t ++ members) c.in_ok-writer.ensures.tokens) is)
+    c.ended.ensures

@@ -7,4 +7,5 @@ use Rattle.shell_watch.proofs.kept_object.put_each.Given as goal
 abbrev pub invariant-loop-text : goal.invariant-loop-text
 invariant-loop-text g l =
     (l.writer.before ≡ l.initial.writer.before)
-    × (l.writer.tokens ++ map json.string (map string_bytes l.text-iterator) ≡ l.initial.writer.tokens ++ map json.string (map string_bytes l.texts.keys))
+    × (l.writer.tokens ++ map json.string (map string_bytes l.text-iterator)
+    ≡ l.initial.writer.tokens ++ map json.string (map string_bytes l.texts.keys))

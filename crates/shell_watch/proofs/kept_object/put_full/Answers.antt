@@ -9,4 +9,5 @@ returns g c =
     let between = c.put_data.new.writer in
     let new = c.put_stat.new.writer in
     two_puts c.put_stat.result old.before between.before new.before old.tokens between.tokens new.tokens
-    (data_members (option_map (λ v. v.items) c.args.bytes.now)) (stat_members c.args.stat.now) c.in_ok-put_data.ensures.0 c.in_ok-put_data.ensures.1 c.put_stat.ensures
+    (data_members (option_map (λ v. v.items) c.args.bytes.now))
+    (stat_members c.args.stat.now) c.in_ok-put_data.ensures.0 c.in_ok-put_data.ensures.1 c.put_stat.ensures

@@ -11,5 +11,6 @@ returns g c =
     let new = c.put_number.new.writer in
     let view = view_of c.args.client.now in
     let same : to_z w64 (of_z w64 c.last_zxid.result) ≡ view.saved.last = search rules in
-    kept_then (AreMembers c.args.subject.now.side c.args.subject.now.path view) c.put_number.result old.before between.before new.before old.tokens between.tokens new.tokens
+    kept_then (AreMembers c.args.subject.now.side c.args.subject.now.path view) c.put_number.result old.before between.before new.before
+    old.tokens between.tokens new.tokens
     (number_members (codes "last") view.saved.last) c.in_ok-put_kept.ensures (rw same at c.put_number.ensures)

@@ -13,7 +13,11 @@ returns g c =
     let each = map string_bytes found.names.keys in
     both c.put_found.result (λ put ordered. (
       array_members (codes "names") each ++ (number_members (codes "pzxid") found.pzxid ++ mark_members c.args.mark),
-      (each, record { ascending = sorted_map string_bytes (slice_cmp nat_cmp) found.names.keys ordered; same = same_members found.names }, refl),
+      (
+        each,
+        record { ascending = sorted_map string_bytes (slice_cmp nat_cmp) found.names.keys ordered; same = same_members found.names },
+        refl,
+      ),
       put.0,
       put.1,
     )) c.put_found.ensures.written c.put_found.ensures.ordered

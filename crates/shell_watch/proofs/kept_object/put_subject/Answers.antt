@@ -11,6 +11,8 @@ returns g c =
     let new = c.put_known.new.writer in
     let view = view_of c.args.client.now in
     let subject = c.args.subject.now in
-    then_kept (AreMembers subject.side subject.path view) c.put_known.result old.before between.before new.before old.tokens between.tokens new.tokens
-    (text_members (codes "path") subject.path ++ text_members (codes "side") (side_name subject.side)) (number_members (codes "last") view.saved.last)
+    then_kept (AreMembers subject.side subject.path view) c.put_known.result old.before between.before new.before old.tokens
+    between.tokens new.tokens
+    (text_members (codes "path") subject.path ++ text_members (codes "side") (side_name subject.side))
+    (number_members (codes "last") view.saved.last)
     c.in_ok-put_aim.ensures.0 c.in_ok-put_aim.ensures.1 c.put_known.ensures

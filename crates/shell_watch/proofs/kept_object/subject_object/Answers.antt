@@ -18,6 +18,7 @@ returns g c =
     IfOk-weaker c.ended.result _ _ (λ line is. (
       put.0,
       put.1,
-      line_is c.args.ms (kind_of side path view) members c.put_subject.new.writer.tokens c.put_subject.new.writer.before (string_bytes line) (kind_some side path view)
+      line_is c.args.ms (kind_of side path view) members c.put_subject.new.writer.tokens c.put_subject.new.writer.before (string_bytes line)
+          (kind_some side path view)
           (put.2 ∙ c.in_ok-writer.ensures.before) (put.3 ∙ ap (λ (t : List json.Token). t ++ members) begins) is,
     )) c.ended.ensures

@@ -15,4 +15,5 @@ returns-in-Some g c =
     let found : DoesClient line view view (c.in-Some.words.now ++ 10 ∷ []) =
     subst (λ (t : List ℕ). DoesClient line view view t) (sym c.as_str.ensures.value ∙ c.in-Some.ensures) c.in_ok-line.ensures in
     rw (sym c.is_missing.ensures ∙ c.if-is_missing.false)
-    (IfOk-weaker c.from_str-in-Some.result _ _ (λ text is. subst (λ (t : List ℕ). DoesClient line view view (t ++ 10 ∷ [])) (sym is) found) c.from_str-in-Some.ensures.ok)
+    (IfOk-weaker c.from_str-in-Some.result _ _
+    (λ text is. subst (λ (t : List ℕ). DoesClient line view view (t ++ 10 ∷ [])) (sym is) found) c.from_str-in-Some.ensures.ok)

@@ -7,7 +7,8 @@ use Rattle.shell_watch.proofs.planned.watch.Goals as goal
 
 pub returns-clause-over : goal.returns-clause-over
 returns-clause-over g c = λ is.
-    let first = stand_of g.D.Stream.Read.remaining g.D.Stream.Write.contents c.in-Ok-begin.driver.engine c.new.result.items false c.args.plan.style (record { roots = c.args.plan.trees; most = c.args.plan.most; is_bounded = false; ticket = 1 }) in
+    let first = stand_of g.D.Stream.Read.remaining g.D.Stream.Write.contents c.in-Ok-begin.driver.engine c.new.result.items false
+    c.args.plan.style (record { roots = c.args.plan.trees; most = c.args.plan.most; is_bounded = false; ticket = 1 }) in
     let begun : IsBegun c.args.plan.style c.args.plan.trees.items c.args.plan.most first = record {
       timeout = unsigned_abs (to_z w32 (of_z w32 c.max.result));
       client = c.in-Ok-begin.ensures.client;
@@ -19,12 +20,17 @@ returns-clause-over g c = λ is.
       prints = refl;
       growth = refl;
     } in
-    let told = rw (c.as_slice-2.ensures.value, c.in-Ok.ensures, c.as_slice.ensures.value) at (c.watch_for-end.ensures.over is) in
-    (told.0, watched c.args.plan.style (aims_of c.args.plan.subjects.items) c.args.plan.trees.items c.args.plan.most first told.0 c.args.plan.for_ms true begun told.1, told.2)
+    let told = rw (c.as_slice-2.ensures.value, c.in-Ok.ensures, c.as_slice.ensures.value) at (c.watch_for-end.ensures.over is) in (
+      told.0,
+      watched c.args.plan.style (aims_of c.args.plan.subjects.items) c.args.plan.trees.items c.args.plan.most first told.0
+          c.args.plan.for_ms true begun told.1,
+      told.2,
+    )
 
 pub returns-clause-never : goal.returns-clause-never
 returns-clause-never g c = λ is.
-    let first = stand_of g.D.Stream.Read.remaining g.D.Stream.Write.contents c.in-Ok-begin.driver.engine c.new.result.items false c.args.plan.style (record { roots = c.args.plan.trees; most = c.args.plan.most; is_bounded = false; ticket = 1 }) in
+    let first = stand_of g.D.Stream.Read.remaining g.D.Stream.Write.contents c.in-Ok-begin.driver.engine c.new.result.items false
+    c.args.plan.style (record { roots = c.args.plan.trees; most = c.args.plan.most; is_bounded = false; ticket = 1 }) in
     let begun : IsBegun c.args.plan.style c.args.plan.trees.items c.args.plan.most first = record {
       timeout = unsigned_abs (to_z w32 (of_z w32 c.max.result));
       client = c.in-Ok-begin.ensures.client;
@@ -36,12 +42,17 @@ returns-clause-never g c = λ is.
       prints = refl;
       growth = refl;
     } in
-    let told = rw (c.as_slice-2.ensures.value, c.in-Ok.ensures, c.as_slice.ensures.value) at (c.watch_for-end.ensures.never is) in
-    (told.0, watched c.args.plan.style (aims_of c.args.plan.subjects.items) c.args.plan.trees.items c.args.plan.most first told.0 c.args.plan.for_ms false begun told.1, told.2)
+    let told = rw (c.as_slice-2.ensures.value, c.in-Ok.ensures, c.as_slice.ensures.value) at (c.watch_for-end.ensures.never is) in (
+      told.0,
+      watched c.args.plan.style (aims_of c.args.plan.subjects.items) c.args.plan.trees.items c.args.plan.most first told.0
+          c.args.plan.for_ms false begun told.1,
+      told.2,
+    )
 
 pub returns-clause-printed : goal.returns-clause-printed
 returns-clause-printed g c = λ is.
-    let first = stand_of g.D.Stream.Read.remaining g.D.Stream.Write.contents c.in-Ok-begin.driver.engine c.new.result.items false c.args.plan.style (record { roots = c.args.plan.trees; most = c.args.plan.most; is_bounded = false; ticket = 1 }) in
+    let first = stand_of g.D.Stream.Read.remaining g.D.Stream.Write.contents c.in-Ok-begin.driver.engine c.new.result.items false
+    c.args.plan.style (record { roots = c.args.plan.trees; most = c.args.plan.most; is_bounded = false; ticket = 1 }) in
     let begun : IsBegun c.args.plan.style c.args.plan.trees.items c.args.plan.most first = record {
       timeout = unsigned_abs (to_z w32 (of_z w32 c.max.result));
       client = c.in-Ok-begin.ensures.client;
@@ -53,5 +64,9 @@ returns-clause-printed g c = λ is.
       prints = refl;
       growth = refl;
     } in
-    let told = rw (c.as_slice-2.ensures.value, c.in-Ok.ensures, c.as_slice.ensures.value) at (c.watch_for-end.ensures.printed is) in
-    (told.0, printed c.args.plan.style (aims_of c.args.plan.subjects.items) c.args.plan.trees.items c.args.plan.most first told.0 begun told.1, told.2)
+    let told = rw (c.as_slice-2.ensures.value, c.in-Ok.ensures, c.as_slice.ensures.value) at (c.watch_for-end.ensures.printed is) in (
+      told.0,
+      printed c.args.plan.style
+          (aims_of c.args.plan.subjects.items) c.args.plan.trees.items c.args.plan.most first told.0 begun told.1,
+      told.2,
+    )

@@ -8,10 +8,12 @@ pub loop-one-preserved : goal.loop-one-preserved
 loop-one-preserved g c =
     let within : c.loop-one.one-index < length c.args.watched.now = omega (arith, c.loop-one-test.true) in
     let added = c.in_ok-show.ensures in
-    shown_more c.args.style c.args.ms (view_of c.args.client.now) c.args.watched.now c.loop-one.one-index c.loop-one.watched (string_bytes c.args.text.now) (string_bytes c.loop-one.text)
+    shown_more c.args.style c.args.ms (view_of c.args.client.now) c.args.watched.now c.loop-one.one-index c.loop-one.watched
+    (string_bytes c.args.text.now) (string_bytes c.loop-one.text)
     c.one-item.result c.show.new.one added.0 (string_bytes c.show.new.text) within c.loop-one.invariant added.1 added.2
 
 pub returns : goal.returns
 returns g c =
     let past : length c.args.watched.now ≤ c.loop-one.one-index = omega (arith, c.loop-one-test.false) in
-    shown_all c.args.style c.args.ms (view_of c.args.client.now) c.args.watched.now c.loop-one.one-index c.loop-one.watched (string_bytes c.args.text.now) (string_bytes c.loop-one.text) past c.loop-one.invariant
+    shown_all c.args.style c.args.ms (view_of c.args.client.now) c.args.watched.now c.loop-one.one-index c.loop-one.watched
+    (string_bytes c.args.text.now) (string_bytes c.loop-one.text) past c.loop-one.invariant

@@ -5,4 +5,5 @@ use Rattle.shell_watch.proofs.shown.show_all.Given as goal
 
 -- those before were shown
 abbrev pub invariant-loop-one : goal.invariant-loop-one
-invariant-loop-one g l = Shown l.style l.ms (view_of l.client) l.fn.watched l.one-index l.watched (string_bytes l.fn.text) (string_bytes l.text)
+invariant-loop-one g l =
+    Shown l.style l.ms (view_of l.client) l.fn.watched l.one-index l.watched (string_bytes l.fn.text) (string_bytes l.text)

@@ -16,4 +16,5 @@ returns g c =
     let timeout : c.from.result ≡ own.timeout = search rules in
     let put = rw session at c.in_ok-put_number.ensures in
     two_puts c.put_count.result old.before between.before new.before old.tokens between.tokens new.tokens
-    (number_members (codes "session") own.session) (number_members (codes "timeout") (pos own.timeout)) put.0 put.1 (rw timeout at c.put_count.ensures)
+    (number_members (codes "session") own.session) (number_members (codes "timeout") (pos own.timeout)) put.0 put.1
+    (rw timeout at c.put_count.ensures)

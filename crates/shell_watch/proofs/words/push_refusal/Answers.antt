@@ -13,17 +13,24 @@ returns-in_ok-push_word-in-Code g c =
     let after = string_bytes c.push_spaced.new.text in
     let name = codes " refused code" in
     let same : to_z w32 (of_z w32 c.in-Code.code) ≡ c.in-Code.code = search rules in
-    let first : amid ≡ (before ++ name) ++ spaced (signed_decimal c.in-Code.code) = subst (λ (z : ℤ). amid ≡ (before ++ name) ++ spaced (signed_decimal z)) same
-    (c.in_ok-push_word-in-Code.ensures ∙ ap (λ (l : List ℕ). l ++ spaced (signed_decimal (to_z w32 (of_z w32 c.in-Code.code)))) c.in_ok-push_str-in-Code.ensures.bytes) in
+    let first : amid ≡ (before ++ name) ++ spaced (signed_decimal c.in-Code.code) =
+    subst (λ (z : ℤ). amid ≡ (before ++ name) ++ spaced (signed_decimal z)) same
+    (c.in_ok-push_word-in-Code.ensures
+    ∙ ap (λ (l : List ℕ). l ++ spaced (signed_decimal (to_z w32 (of_z w32 c.in-Code.code)))) c.in_ok-push_str-in-Code.ensures.bytes) in
     let last : OnOk c.push_spaced.result (after ≡ amid ++ spaced (code_words c.in-Code.code)) =
-    subst (λ (w : List ℕ). OnOk c.push_spaced.result (after ≡ amid ++ spaced w)) (c.code_words.ensures ∙ ap code_words same) c.push_spaced.ensures in
-    rw c.in-Code.is (three_pieces c.push_spaced.result before name (spaced (signed_decimal c.in-Code.code)) (spaced (code_words c.in-Code.code)) amid after first last)
+    subst (λ (w : List ℕ). OnOk c.push_spaced.result (after ≡ amid ++ spaced w))
+    (c.code_words.ensures ∙ ap code_words same) c.push_spaced.ensures in
+    rw c.in-Code.is (three_pieces c.push_spaced.result before name (spaced (signed_decimal c.in-Code.code))
+    (spaced (code_words c.in-Code.code)) amid after first last)
 
 pub returns-in-TooManyWatches : goal.returns-in-TooManyWatches
-returns-in-TooManyWatches g c = one_piece c.push_str-in-TooManyWatches.result (string_bytes c.args.text.now) (why_text c.args.why) (string_bytes c.push_str-in-TooManyWatches.new.self) (rw c.in-TooManyWatches.is c.push_str-in-TooManyWatches.ensures.bytes)
+returns-in-TooManyWatches g c = one_piece c.push_str-in-TooManyWatches.result (string_bytes c.args.text.now) (why_text c.args.why)
+    (string_bytes c.push_str-in-TooManyWatches.new.self) (rw c.in-TooManyWatches.is c.push_str-in-TooManyWatches.ensures.bytes)
 
 pub returns-in-TooLarge : goal.returns-in-TooLarge
-returns-in-TooLarge g c = one_piece c.push_str-in-TooLarge.result (string_bytes c.args.text.now) (why_text c.args.why) (string_bytes c.push_str-in-TooLarge.new.self) (rw c.in-TooLarge.is c.push_str-in-TooLarge.ensures.bytes)
+returns-in-TooLarge g c = one_piece c.push_str-in-TooLarge.result (string_bytes c.args.text.now) (why_text c.args.why)
+    (string_bytes c.push_str-in-TooLarge.new.self) (rw c.in-TooLarge.is c.push_str-in-TooLarge.ensures.bytes)
 
 pub returns-in-SessionClosed : goal.returns-in-SessionClosed
-returns-in-SessionClosed g c = one_piece c.push_str-in-SessionClosed.result (string_bytes c.args.text.now) (why_text c.args.why) (string_bytes c.push_str-in-SessionClosed.new.self) (rw c.in-SessionClosed.is c.push_str-in-SessionClosed.ensures.bytes)
+returns-in-SessionClosed g c = one_piece c.push_str-in-SessionClosed.result (string_bytes c.args.text.now) (why_text c.args.why)
+    (string_bytes c.push_str-in-SessionClosed.new.self) (rw c.in-SessionClosed.is c.push_str-in-SessionClosed.ensures.bytes)

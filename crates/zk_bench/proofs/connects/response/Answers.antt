@@ -6,5 +6,9 @@ use Rattle.zk_bench.proofs.connects.response.Goals as goal
 pub returns : goal.returns
 returns g c =
     let timeout : to_z w32 (of_z w32 c.args.time_out) ≡ c.args.time_out = search rules in
-    let session : to_z w64 (of_z w64 c.args.session_id) ≡ c.args.session_id = search rules in
-    (timeout, refl, response_fits _ _ _ _ (subst (FitsSigned w32) (sym timeout) c.ranges.time_out) (subst (FitsSigned w64) (sym session) c.ranges.session_id) c.new.ensures (ap (length {A = ℕ}) c.in_ok-passwd.ensures.items))
+    let session : to_z w64 (of_z w64 c.args.session_id) ≡ c.args.session_id = search rules in (
+      timeout,
+      refl,
+      response_fits _ _ _ _ (subst (FitsSigned w32) (sym timeout) c.ranges.time_out)
+          (subst (FitsSigned w64) (sym session) c.ranges.session_id) c.new.ensures (ap (length {A = ℕ}) c.in_ok-passwd.ensures.items),
+    )

@@ -7,5 +7,6 @@ use Rattle.zk_bench.proofs.connects.send_accepted.Goals as goal
 pub returns-clause-sends : goal.returns-clause-sends
 returns-clause-sends g c = λ up.
     let same : to_z w32 (of_z w32 c.args.time_out) ≡ c.args.time_out = search rules in
-    accepts_so (response_of c.in_ok-response.response) c.args.out.now.items c.send_response.new.out.items c.in_ok-send_response.ensures.sends c.in_ok-response.ensures.1
+    accepts_so (response_of c.in_ok-response.response) c.args.out.now.items c.send_response.new.out.items
+    c.in_ok-send_response.ensures.sends c.in_ok-response.ensures.1
     (ap (int_lt (pos 0)) (c.in_ok-response.ensures.0 ∙ same) ∙ up)

@@ -6,4 +6,5 @@ use Rattle.zk_bench.proofs.connects.send_expired.Goals as goal
 
 pub returns-clause-sends : goal.returns-clause-sends
 returns-clause-sends g c =
-    expires_so (response_of c.in_ok-response.response) c.args.out.now.items c.send_response.new.out.items c.in_ok-send_response.ensures.sends c.in_ok-response.ensures.1 (ap (int_lt (pos 0)) c.in_ok-response.ensures.0)
+    expires_so (response_of c.in_ok-response.response) c.args.out.now.items c.send_response.new.out.items
+    c.in_ok-send_response.ensures.sends c.in_ok-response.ensures.1 (ap (int_lt (pos 0)) c.in_ok-response.ensures.0)

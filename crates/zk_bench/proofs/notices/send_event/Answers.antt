@@ -11,7 +11,8 @@ returns-in_ok-send_notice-clause-left g c = c.fire.ensures.left c.requires
 
 pub returns-in_ok-send_notice-clause-tells : goal.returns-in_ok-send_notice-clause-tells
 returns-in_ok-send_notice-clause-tells g c =
-    tells_event c.args.event c.args.path.now (watched c.args.connection.now.watches) c.args.connection.now.output.items c.send_notice.new.out.items c.requires
+    tells_event c.args.event c.args.path.now
+    (watched c.args.connection.now.watches) c.args.connection.now.output.items c.send_notice.new.out.items c.requires
     (sym (c.fire.ensures.told c.requires) ∙ c.if-fire.true) c.in_ok-send_notice.ensures.sends
 
 pub returns-else-fire-clause-left : goal.returns-else-fire-clause-left
@@ -19,5 +20,6 @@ returns-else-fire-clause-left g c = c.fire.ensures.left c.requires
 
 pub returns-else-fire-clause-tells : goal.returns-else-fire-clause-tells
 returns-else-fire-clause-tells g c =
-    tells_no_event c.args.event c.args.path.now (watched c.args.connection.now.watches) c.args.connection.now.output.items c.args.connection.now.output.items
+    tells_no_event c.args.event c.args.path.now
+    (watched c.args.connection.now.watches) c.args.connection.now.output.items c.args.connection.now.output.items
     (sym (c.fire.ensures.told c.requires) ∙ c.if-fire.false) refl

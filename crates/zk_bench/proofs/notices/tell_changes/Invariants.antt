@@ -9,8 +9,10 @@ abbrev pub invariant-loop-change : goal.invariant-loop-change
 invariant-loop-change g l = record {
   fired : List Notice;
   tells : Tells fired l.initial.connection.output.items l.connection.output.items;
-  all : fires_all (map change_of l.changes) (watched l.initial.connection.watches) ≡ fired ++ fires_all (map change_of (drop l.change-index l.changes)) (watched l.connection.watches);
-  left : leaves_set_all (map change_of l.changes) (watched l.initial.connection.watches) ≡ leaves_set_all (map change_of (drop l.change-index l.changes)) (watched l.connection.watches);
+  all : fires_all (map change_of l.changes) (watched l.initial.connection.watches)
+      ≡ fired ++ fires_all (map change_of (drop l.change-index l.changes)) (watched l.connection.watches);
+  left : leaves_set_all (map change_of l.changes) (watched l.initial.connection.watches)
+      ≡ leaves_set_all (map change_of (drop l.change-index l.changes)) (watched l.connection.watches);
   rest : l.connection ≡ record l.initial.connection { watches = l.connection.watches; output = l.connection.output };
   begun : take (length l.initial.connection.output.items) l.connection.output.items ≡ l.initial.connection.output.items;
 }

@@ -11,16 +11,20 @@ use Rattle.zk_bench.proofs.payloads.next_request.Goals as goal
 pub returns-in_err-request-clause-read : goal.returns-in_err-request-clause-read
 returns-in_err-request-clause-read g c = λ asked read.
     let payload = first c.args.length (drop 4 c.args.bytes.now) in
-    let left : bytes_left c.new.result ≡ payload = c.new.ensures.left ∙ ap (λ (n : ℕ). first n (drop 4 c.args.bytes.now)) (behind_four c.args.length) in
-    let spelled = record_spelled (request_layout asked.operation) (asked_value asked) payload (subst IsBytes left c.new.result.bytes) read in
+    let left : bytes_left c.new.result ≡ payload =
+    c.new.ensures.left ∙ ap (λ (n : ℕ). first n (drop 4 c.args.bytes.now)) (behind_four c.args.length) in
+    let spelled =
+    record_spelled (request_layout asked.operation) (asked_value asked) payload (subst IsBytes left c.new.result.bytes) read in
     let only = c.in_err-request.ensures.only asked [] spelled.0 (left ∙ spelled.1) in
     errs_match c.from_residual.result _ _ _ c.from_residual.ensures.1 (λ stop is. is ∙ ap stop_of_request only)
 
 pub returns-clause-read : goal.returns-clause-read
 returns-clause-read g c = λ asked read.
     let payload = first c.args.length (drop 4 c.args.bytes.now) in
-    let left : bytes_left c.new.result ≡ payload = c.new.ensures.left ∙ ap (λ (n : ℕ). first n (drop 4 c.args.bytes.now)) (behind_four c.args.length) in
-    let spelled = record_spelled (request_layout asked.operation) (asked_value asked) payload (subst IsBytes left c.new.result.bytes) read in
+    let left : bytes_left c.new.result ≡ payload =
+    c.new.ensures.left ∙ ap (λ (n : ℕ). first n (drop 4 c.args.bytes.now)) (behind_four c.args.length) in
+    let spelled =
+    record_spelled (request_layout asked.operation) (asked_value asked) payload (subst IsBytes left c.new.result.bytes) read in
     (c.in_ok-request.ensures.only asked [] spelled.0 (left ∙ spelled.1)).0
 
 pub returns-clause-fits : goal.returns-clause-fits

@@ -15,9 +15,11 @@ returns-in_default-clause-misses g c = λ is code.
 pub returns-clause-found : goal.returns-clause-found
 returns-clause-found g c = λ is.
     let tree = tree_at (history_of c.args.tree.now.history.now) (natural c.args.tree.now.zxid) in
-    lists tree (path_of c.args.text.now) c.in-Some.names.names c.in-Some.names.pzxid _ (ap names_told (sym c.in-Some.is) ∙ c.in_ok-names.ensures is) c.in_ok-children.ensures.is
+    lists tree (path_of c.args.text.now) c.in-Some.names.names c.in-Some.names.pzxid _
+    (ap names_told (sym c.in-Some.is) ∙ c.in_ok-names.ensures is) c.in_ok-children.ensures.is
 
 pub returns-clause-fits : goal.returns-clause-fits
 returns-clause-fits g c = λ names is children small.
     let tree = tree_at (history_of c.args.tree.now.history.now) (natural c.args.tree.now.zxid) in
-    list_fits tree (path_of c.args.text.now) c.in-Some.names.names c.in-Some.names.pzxid names _ (ap names_told (sym c.in-Some.is) ∙ c.in_ok-names.ensures is) c.in_ok-children.ensures.is c.in_ok-children.ensures.ordered children small
+    list_fits tree (path_of c.args.text.now) c.in-Some.names.names c.in-Some.names.pzxid names _ (ap names_told (sym c.in-Some.is)
+    ∙ c.in_ok-names.ensures is) c.in_ok-children.ensures.is c.in_ok-children.ensures.ordered children small

@@ -27,14 +27,17 @@ returns-in_default-clause-refuses g c = λ text zxid is path at code.
     let counted : IsStat tree (path_of text) None =
     subst (λ t. IsStat tree (path_of t) None) same
     (subst (λ z. IsStat (tree_at h (natural z)) (path_of c.text_of-text.result.now) None) at
-    (subst (λ o. IsStat (tree_at h (natural c.args.tree.now.zxid)) (path_of c.text_of-text.result.now) o) c.in_default.is (c.in_ok-stat.ensures found))) in (
+    (subst (λ o. IsStat (tree_at h (natural c.args.tree.now.zxid)) (path_of c.text_of-text.result.now) o) c.in_default.is
+    (c.in_ok-stat.ensures found))) in (
       refl,
       record {
         reads = none_told tree (path_of text) counted;
         output = refl;
         left = ap (λ nodes. watches_of nodes (names_of c.args.connection.now.watches.child))
-            (c.in_ok-add_where.ensures ∙ ap (λ t. cond c.args.request.now.watch (set.insert (names_of c.args.connection.now.watches.«data») t) (names_of c.args.connection.now.watches.«data»)) same)
-            ∙ absence_left (names_of c.args.connection.now.watches.«data») (names_of c.args.connection.now.watches.child) text c.args.request.now.watch (IsPath-absolute text is);
+            (c.in_ok-add_where.ensures ∙ ap (λ t. cond c.args.request.now.watch
+            (set.insert (names_of c.args.connection.now.watches.«data») t) (names_of c.args.connection.now.watches.«data»)) same)
+            ∙ absence_left (names_of c.args.connection.now.watches.«data»)
+            (names_of c.args.connection.now.watches.child) text c.args.request.now.watch (IsPath-absolute text is);
         rest = refl;
       },
     )
@@ -49,7 +52,8 @@ returns-clause-answers g c = λ text zxid is path at.
     let counted : IsStat tree (path_of text) (Some told) =
     subst (λ t. IsStat tree (path_of t) (Some told)) same
     (subst (λ z. IsStat (tree_at h (natural z)) (path_of c.text_of-text.result.now) (Some told)) at
-    (subst (λ o. IsStat (tree_at h (natural c.args.tree.now.zxid)) (path_of c.text_of-text.result.now) o) c.in-Some.is (c.in_ok-stat.ensures found))) in
+    (subst (λ o. IsStat (tree_at h (natural c.args.tree.now.zxid)) (path_of c.text_of-text.result.now) o) c.in-Some.is
+    (c.in_ok-stat.ensures found))) in
     let value : Value stat = numbers_of told in
     let xid : to_z w32 (of_z w32 c.args.xid) ≡ c.args.xid = search rules in
     let ranged : to_z w64 (of_z w64 c.args.tree.now.zxid) ≡ c.args.tree.now.zxid = search rules in
@@ -64,8 +68,10 @@ returns-clause-answers g c = λ text zxid is path at.
       spelled = stat_payload c.args.xid zxid text c.args.request.now.watch told value _ _ sends refl;
       output = sends.output;
       left = ap (λ nodes. watches_of nodes (names_of c.args.connection.now.watches.child))
-          (c.in_ok-add_where.ensures ∙ ap (λ t. cond c.args.request.now.watch (set.insert (names_of c.args.connection.now.watches.«data») t) (names_of c.args.connection.now.watches.«data»)) same)
-          ∙ exists_left (names_of c.args.connection.now.watches.«data») (names_of c.args.connection.now.watches.child) text c.args.request.now.watch told (IsPath-absolute text is);
+          (c.in_ok-add_where.ensures ∙ ap (λ t. cond c.args.request.now.watch (set.insert (names_of c.args.connection.now.watches.«data») t)
+          (names_of c.args.connection.now.watches.«data»)) same)
+          ∙ exists_left (names_of c.args.connection.now.watches.«data»)
+          (names_of c.args.connection.now.watches.child) text c.args.request.now.watch told (IsPath-absolute text is);
       rest = refl;
     }
 

@@ -18,24 +18,32 @@ returns-in-Exists-clause-answers g c = λ asked zxid is at.
     let tree = tree_at (history_of c.args.tree.now.history.now) zxid in
     let xid : to_z w32 (of_z w32 c.args.xid) ≡ c.args.xid = search rules in
     let r = c.in-Exists.r in
-    read_exists (λ a. OnOk c.exists.result (AnswersRead tree zxid c.args.xid a c.args.connection.now c.exists.new.connection)) r asked (subst (λ q. IsReadOf q asked) c.in-Exists.is is)
-    (λ text path e. subst (λ x. OnOk c.exists.result (AnswersRead tree zxid x (call.Exists text r.watch) c.args.connection.now c.exists.new.connection)) xid (c.exists.ensures.answers text zxid path e at))
+    read_exists (λ a. OnOk c.exists.result (AnswersRead tree zxid c.args.xid a c.args.connection.now c.exists.new.connection)) r asked
+    (subst (λ q. IsReadOf q asked) c.in-Exists.is is)
+    (λ text path e.
+    subst (λ x. OnOk c.exists.result (AnswersRead tree zxid x (call.Exists text r.watch) c.args.connection.now c.exists.new.connection))
+    xid (c.exists.ensures.answers text zxid path e at))
 
 pub returns-in-GetData-clause-answers : goal.returns-in-GetData-clause-answers
 returns-in-GetData-clause-answers g c = λ asked zxid is at.
     let tree = tree_at (history_of c.args.tree.now.history.now) zxid in
     let xid : to_z w32 (of_z w32 c.args.xid) ≡ c.args.xid = search rules in
     let r = c.in-GetData.r in
-    read_data (λ a. OnOk c.get_data.result (AnswersRead tree zxid c.args.xid a c.args.connection.now c.get_data.new.connection)) r asked (subst (λ q. IsReadOf q asked) c.in-GetData.is is)
-    (λ text path e. subst (λ x. OnOk c.get_data.result (AnswersRead tree zxid x (call.GetData text r.watch) c.args.connection.now c.get_data.new.connection)) xid (c.get_data.ensures.answers text zxid path e at))
+    read_data (λ a. OnOk c.get_data.result (AnswersRead tree zxid c.args.xid a c.args.connection.now c.get_data.new.connection)) r asked
+    (subst (λ q. IsReadOf q asked) c.in-GetData.is is)
+    (λ text path e. subst (λ x. OnOk c.get_data.result (AnswersRead tree zxid x
+    (call.GetData text r.watch) c.args.connection.now c.get_data.new.connection)) xid (c.get_data.ensures.answers text zxid path e at))
 
 pub returns-in-GetChildren2-clause-answers : goal.returns-in-GetChildren2-clause-answers
 returns-in-GetChildren2-clause-answers g c = λ asked zxid is at.
     let tree = tree_at (history_of c.args.tree.now.history.now) zxid in
     let xid : to_z w32 (of_z w32 c.args.xid) ≡ c.args.xid = search rules in
     let r = c.in-GetChildren2.r in
-    read_children (λ a. OnOk c.get_children_2.result (AnswersRead tree zxid c.args.xid a c.args.connection.now c.get_children_2.new.connection)) r asked (subst (λ q. IsReadOf q asked) c.in-GetChildren2.is is)
-    (λ text path e. subst (λ x. OnOk c.get_children_2.result (AnswersRead tree zxid x (call.GetChildren text r.watch) c.args.connection.now c.get_children_2.new.connection)) xid (c.get_children_2.ensures.answers text zxid path e at))
+    read_children
+    (λ a. OnOk c.get_children_2.result (AnswersRead tree zxid c.args.xid a c.args.connection.now c.get_children_2.new.connection)) r
+    asked (subst (λ q. IsReadOf q asked) c.in-GetChildren2.is is)
+    (λ text path e. subst (λ x. OnOk c.get_children_2.result (AnswersRead tree zxid x (call.GetChildren text r.watch) c.args.connection.now
+    c.get_children_2.new.connection)) xid (c.get_children_2.ensures.answers text zxid path e at))
 
 pub returns-in_ok-set_watches-in-SetWatches-clause-restores :
     goal.returns-in_ok-set_watches-in-SetWatches-clause-restores
@@ -43,19 +51,23 @@ returns-in_ok-set_watches-in-SetWatches-clause-restores g c = λ since zxid part
     let tree = tree_at (history_of c.args.tree.now.history.now) zxid in
     let xid : to_z w32 (of_z w32 c.args.xid) ≡ c.args.xid = search rules in
     let asked : IsPart c.in-SetWatches.r since part × ArePaths part = subst (λ q. IsRestoring q since part) c.in-SetWatches.is is in
-    subst (λ x. RestoresPart tree zxid x since part c.args.connection.now c.set_watches.new.connection) xid (c.in_ok-set_watches-in-SetWatches.ensures.restores since zxid part asked.0 asked.1 at)
+    subst (λ x. RestoresPart tree zxid x since part c.args.connection.now c.set_watches.new.connection) xid
+    (c.in_ok-set_watches-in-SetWatches.ensures.restores since zxid part asked.0 asked.1 at)
 
 pub returns-in-GetData-clause-stays : goal.returns-in-GetData-clause-stays
 returns-in-GetData-clause-stays g c = λ asked zxid is at fits.
     let tree = λ (z : ℤ). tree_at (history_of c.args.tree.now.history.now) (natural z) in
-    read_data (λ a. AnswerFits (tree (pos zxid)) a → ¬ IsErrOf c.get_data.result (refusals.Stop stops.End)) c.in-GetData.r asked (subst (λ q. IsReadOf q asked) c.in-GetData.is is)
+    read_data (λ a. AnswerFits (tree (pos zxid)) a → ¬ IsErrOf c.get_data.result (refusals.Stop stops.End)) c.in-GetData.r asked
+    (subst (λ q. IsReadOf q asked) c.in-GetData.is is)
     (λ text path e small. c.get_data.ensures.stays text path e (subst (λ z. DataFit (tree z (path_of text))) (sym at) small)) fits
 
 pub returns-in-GetChildren2-clause-stays : goal.returns-in-GetChildren2-clause-stays
 returns-in-GetChildren2-clause-stays g c = λ asked zxid is at fits.
     let tree = λ (z : ℤ). tree_at (history_of c.args.tree.now.history.now) (natural z) in
-    read_children (λ a. AnswerFits (tree (pos zxid)) a → ¬ IsErrOf c.get_children_2.result (refusals.Stop stops.End)) c.in-GetChildren2.r asked (subst (λ q. IsReadOf q asked) c.in-GetChildren2.is is)
-    (λ text path e small. c.get_children_2.ensures.stays text path e (subst (λ z. NamesFit (tree z) (path_of text) (tree z (path_of text))) (sym at) small)) fits
+    read_children (λ a. AnswerFits (tree (pos zxid)) a → ¬ IsErrOf c.get_children_2.result (refusals.Stop stops.End)) c.in-GetChildren2.r
+    asked (subst (λ q. IsReadOf q asked) c.in-GetChildren2.is is)
+    (λ text path e small. c.get_children_2.ensures.stays text path e
+    (subst (λ z. NamesFit (tree z) (path_of text) (tree z (path_of text))) (sym at) small)) fits
 
 pub returns-in_err-set_watches-in-SetWatches-clause-holds : goal.returns-in_err-set_watches-in-SetWatches-clause-holds
 returns-in_err-set_watches-in-SetWatches-clause-holds g c = λ since part is.

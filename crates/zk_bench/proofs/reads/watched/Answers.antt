@@ -12,12 +12,17 @@ pub returns-in_default-clause-misses : goal.returns-in_default-clause-misses
 returns-in_default-clause-misses g c = λ text is path code.
     let tree = tree_at (history_of c.args.tree.now.history.now) (natural c.args.tree.now.zxid) in
     let same : c.text_of-text.result.now ≡ text = c.text_of-text.ensures ∙ ap or_empty path in
-    let found : IsPath c.text_of-text.result.now = subst IsPath (sym same) is in
-    (refl, subst (λ t. IsStat tree (path_of t) None) same (subst (λ (o : Option Stat). IsStat tree (path_of c.text_of-text.result.now) o) c.in_default.is (c.in_ok-stat.ensures found)), refl)
+    let found : IsPath c.text_of-text.result.now = subst IsPath (sym same) is in (
+      refl,
+      subst (λ t. IsStat tree (path_of t) None) same
+          (subst (λ (o : Option Stat). IsStat tree (path_of c.text_of-text.result.now) o) c.in_default.is (c.in_ok-stat.ensures found)),
+      refl,
+    )
 
 pub returns-clause-found : goal.returns-clause-found
 returns-clause-found g c = λ text is path.
     let tree = tree_at (history_of c.args.tree.now.history.now) (natural c.args.tree.now.zxid) in
     let same : c.text_of-text.result.now ≡ text = c.text_of-text.ensures ∙ ap or_empty path in
     let found : IsPath c.text_of-text.result.now = subst IsPath (sym same) is in
-    subst (λ t. IsStat tree (path_of t) (Some c.in-Some.stat)) same (subst (λ (o : Option Stat). IsStat tree (path_of c.text_of-text.result.now) o) c.in-Some.is (c.in_ok-stat.ensures found))
+    subst (λ t. IsStat tree (path_of t) (Some c.in-Some.stat)) same
+    (subst (λ (o : Option Stat). IsStat tree (path_of c.text_of-text.result.now) o) c.in-Some.is (c.in_ok-stat.ensures found))

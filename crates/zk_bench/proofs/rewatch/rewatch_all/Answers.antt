@@ -16,7 +16,8 @@ pub loop-path-init : goal.loop-path-init
 loop-path-init g c =
     let old = c.args.connection.now.output.items in
     record {
-      rewatches = λ since e all. no_path c.args.list since (tree_at (history_of c.args.tree.now.history.now) (natural c.args.tree.now.zxid)) (watched c.args.connection.now.watches) old;
+      rewatches = λ since e all. no_path c.args.list since (tree_at (history_of c.args.tree.now.history.now) (natural c.args.tree.now.zxid))
+          (watched c.args.connection.now.watches) old;
       rest = refl;
       begun = take-length old;
     }
@@ -49,17 +50,21 @@ loop-path-preserved g c =
     }
 
 pub returns-in_err-rewatch-clause-rest : goal.returns-in_err-rewatch-clause-rest
-returns-in_err-rewatch-clause-rest g c = rest-more c.args.connection.now c.loop-path.connection c.rewatch.new.connection c.loop-path.invariant.rest c.rewatch.ensures.rest
+returns-in_err-rewatch-clause-rest g c =
+    rest-more c.args.connection.now c.loop-path.connection c.rewatch.new.connection c.loop-path.invariant.rest c.rewatch.ensures.rest
 
 pub returns-in_err-rewatch-clause-begun : goal.returns-in_err-rewatch-clause-begun
-returns-in_err-rewatch-clause-begun g c = begun-more c.args.connection.now.output.items c.loop-path.connection.output.items c.rewatch.new.connection.output.items c.loop-path.invariant.begun c.rewatch.ensures.begun
+returns-in_err-rewatch-clause-begun g c = begun-more c.args.connection.now.output.items c.loop-path.connection.output.items
+    c.rewatch.new.connection.output.items c.loop-path.invariant.begun c.rewatch.ensures.begun
 
 pub returns-clause-rewatches : goal.returns-clause-rewatches
 returns-clause-rewatches g c = λ since e all.
     let ranged : to_z w64 (of_z w64 c.args.relative) ≡ c.args.relative = search rules in
     let tree = tree_at (history_of c.args.tree.now.history.now) (natural c.args.tree.now.zxid) in
-    subst (λ ts. Rewatches c.args.list since tree ts (watched c.args.connection.now.watches) (watched c.loop-path.connection.watches) c.args.connection.now.output.items c.loop-path.connection.output.items)
-    (texts_whole c.args.paths.now c.loop-path.path-index (omega (arith, c.loop-path-test.false, c.loop-path.auto.path-index-end))) (c.loop-path.invariant.rewatches since (ranged ∙ e) all)
+    subst (λ ts. Rewatches c.args.list since tree ts (watched c.args.connection.now.watches)
+    (watched c.loop-path.connection.watches) c.args.connection.now.output.items c.loop-path.connection.output.items)
+    (texts_whole c.args.paths.now c.loop-path.path-index (omega (arith, c.loop-path-test.false, c.loop-path.auto.path-index-end)))
+    (c.loop-path.invariant.rewatches since (ranged ∙ e) all)
 
 pub returns-in_err-rewatch-clause-stays : goal.returns-in_err-rewatch-clause-stays
 returns-in_err-rewatch-clause-stays g c = λ all.
@@ -67,4 +72,5 @@ returns-in_err-rewatch-clause-stays g c = λ all.
     let i = c.loop-path.path-index in
     let low : i < length paths = omega (arith, c.loop-path-test.true, c.loop-path.auto.path-index-end) in
     handed_on c.from_residual.result _ _ c.from_residual.ensures.1
-    (λ over. c.in_err-rewatch.ensures.stays (subst IsPath (sym c.text_of.ensures) (text_has IsPath paths i c.path-item.result all low c.path-item.is)) (ap Err over))
+    (λ over. c.in_err-rewatch.ensures.stays
+    (subst IsPath (sym c.text_of.ensures) (text_has IsPath paths i c.path-item.result all low c.path-item.is)) (ap Err over))

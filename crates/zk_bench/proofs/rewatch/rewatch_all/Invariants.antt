@@ -11,7 +11,8 @@ use Rattle.zk_bench.proofs.rewatch.rewatch_all.Given as goal
 abbrev pub invariant-loop-path : goal.invariant-loop-path
 invariant-loop-path g l = record {
   rewatches : (since : ℕ) → l.fn.relative ≡ pos since → AllByRecursion IsPath (texts_in l.paths)
-      → Rewatches l.fn.list since (tree_at (history_of l.fn.tree.history.now) (natural l.fn.tree.zxid)) (texts_in (take l.path-index l.paths))
+      → Rewatches l.fn.list since (tree_at (history_of l.fn.tree.history.now) (natural l.fn.tree.zxid))
+      (texts_in (take l.path-index l.paths))
       (watched l.initial.connection.watches) (watched l.connection.watches) l.initial.connection.output.items l.connection.output.items;
   rest : l.connection ≡ record l.initial.connection { watches = l.connection.watches; output = l.connection.output };
   begun : take (length l.initial.connection.output.items) l.connection.output.items ≡ l.initial.connection.output.items;

@@ -14,8 +14,10 @@ use Rattle.zk_bench.proofs.rewatch.rewatch_lists.Goals as goal
 
 -- what the three lists tell, and the watches that they set
 gone_through : (g : _) (c : goal.In_ok-rewatch_all-3 g) (since : ℕ) (part : Lists) → IsPart c.args.request.now since part → ArePaths part
-    → Tells (part_tells since (tree_at (history_of c.args.tree.now.history.now) (natural c.args.tree.now.zxid)) part) c.args.connection.now.output.items c.rewatch_all-3.new.connection.output.items
-    × (watched c.rewatch_all-3.new.connection.watches ≡ both (watched c.args.connection.now.watches) (part_sets since (tree_at (history_of c.args.tree.now.history.now) (natural c.args.tree.now.zxid)) part))
+    → Tells (part_tells since (tree_at (history_of c.args.tree.now.history.now) (natural c.args.tree.now.zxid)) part)
+    c.args.connection.now.output.items c.rewatch_all-3.new.connection.output.items
+    × (watched c.rewatch_all-3.new.connection.watches ≡ both (watched c.args.connection.now.watches)
+    (part_sets since (tree_at (history_of c.args.tree.now.history.now) (natural c.args.tree.now.zxid)) part))
 gone_through g c since part is paths =
     let ranged : to_z w64 (of_z w64 c.args.request.now.relative_zxid) ≡ c.args.request.now.relative_zxid = search rules in
     let at = ranged ∙ is.relative in
@@ -28,9 +30,12 @@ gone_through g c since part is paths =
     let one = c.rewatch_all.new.connection.output.items in
     let two = c.rewatch_all-2.new.connection.output.items in
     let new = c.rewatch_all-3.new.connection.output.items in
-    let d = of_texts (λ ts. Rewatches Data since tree ts w0 w1 old one) _ _ part.data_watches c.or_empty-data.ensures is.data_watches paths.data_watches (c.in_ok-rewatch_all.ensures.rewatches since at) in
-    let e = of_texts (λ ts. Rewatches Exist since tree ts w1 w2 one two) _ _ part.exist_watches c.or_empty-exist.ensures is.exist_watches paths.exist_watches (c.in_ok-rewatch_all-2.ensures.rewatches since at) in
-    let k = of_texts (λ ts. Rewatches Child since tree ts w2 w3 two new) _ _ part.child_watches c.or_empty-child.ensures is.child_watches paths.child_watches (c.in_ok-rewatch_all-3.ensures.rewatches since at) in
+    let d = of_texts (λ ts. Rewatches Data since tree ts w0 w1 old one) _ _ part.data_watches c.or_empty-data.ensures is.data_watches
+    paths.data_watches (c.in_ok-rewatch_all.ensures.rewatches since at) in
+    let e = of_texts (λ ts. Rewatches Exist since tree ts w1 w2 one two) _ _ part.exist_watches c.or_empty-exist.ensures is.exist_watches
+    paths.exist_watches (c.in_ok-rewatch_all-2.ensures.rewatches since at) in
+    let k = of_texts (λ ts. Rewatches Child since tree ts w2 w3 two new) _ _ part.child_watches c.or_empty-child.ensures is.child_watches
+    paths.child_watches (c.in_ok-rewatch_all-3.ensures.rewatches since at) in
     (part_told since tree part old one two new d.tells e.tells k.tells, part_left since tree part w0 w1 w2 w3 d.left e.left k.left)
 
 pub returns-clause-tells : goal.returns-clause-tells
@@ -41,15 +46,20 @@ returns-clause-left g c = λ since part is paths. (gone_through g c since part i
 
 pub returns-in_err-rewatch_all-clause-stays : goal.returns-in_err-rewatch_all-clause-stays
 returns-in_err-rewatch_all-clause-stays g c = λ since part is paths.
-    of_texts (λ ts. ¬ IsErrOf c.from_residual.result stops.End) _ _ part.data_watches c.or_empty-data.ensures is.data_watches paths.data_watches
+    of_texts (λ ts. ¬ IsErrOf c.from_residual.result stops.End) _ _ part.data_watches c.or_empty-data.ensures
+    is.data_watches paths.data_watches
     (λ all. handed_on c.from_residual.result _ _ c.from_residual.ensures.1 (λ over. c.in_err-rewatch_all.ensures.stays all (ap Err over)))
 
 pub returns-in_err-rewatch_all-2-clause-stays : goal.returns-in_err-rewatch_all-2-clause-stays
 returns-in_err-rewatch_all-2-clause-stays g c = λ since part is paths.
-    of_texts (λ ts. ¬ IsErrOf c.from_residual-in_err-rewatch_all-2.result stops.End) _ _ part.exist_watches c.or_empty-exist.ensures is.exist_watches paths.exist_watches
-    (λ all. handed_on c.from_residual-in_err-rewatch_all-2.result _ _ c.from_residual-in_err-rewatch_all-2.ensures.1 (λ over. c.in_err-rewatch_all-2.ensures.stays all (ap Err over)))
+    of_texts (λ ts. ¬ IsErrOf c.from_residual-in_err-rewatch_all-2.result stops.End) _ _ part.exist_watches c.or_empty-exist.ensures
+    is.exist_watches paths.exist_watches
+    (λ all. handed_on c.from_residual-in_err-rewatch_all-2.result _ _ c.from_residual-in_err-rewatch_all-2.ensures.1
+    (λ over. c.in_err-rewatch_all-2.ensures.stays all (ap Err over)))
 
 pub returns-in_err-rewatch_all-3-clause-stays : goal.returns-in_err-rewatch_all-3-clause-stays
 returns-in_err-rewatch_all-3-clause-stays g c = λ since part is paths.
-    of_texts (λ ts. ¬ IsErrOf c.from_residual-in_err-rewatch_all-3.result stops.End) _ _ part.child_watches c.or_empty-child.ensures is.child_watches paths.child_watches
-    (λ all. handed_on c.from_residual-in_err-rewatch_all-3.result _ _ c.from_residual-in_err-rewatch_all-3.ensures.1 (λ over. c.in_err-rewatch_all-3.ensures.stays all (ap Err over)))
+    of_texts (λ ts. ¬ IsErrOf c.from_residual-in_err-rewatch_all-3.result stops.End) _ _ part.child_watches c.or_empty-child.ensures
+    is.child_watches paths.child_watches
+    (λ all. handed_on c.from_residual-in_err-rewatch_all-3.result _ _ c.from_residual-in_err-rewatch_all-3.ensures.1
+    (λ over. c.in_err-rewatch_all-3.ensures.stays all (ap Err over)))

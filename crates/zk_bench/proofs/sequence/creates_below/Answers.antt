@@ -14,7 +14,8 @@ loop-n-preserved g c =
     let more = counted_more parent ts c.loop-n.n _ _ change_of c.in-Some.changes.now c.in-Some.ensures in
     record {
       within = omega (arith, room);
-      counted = saturated _ _ _ _ _ _ c.loop-n.invariant.counted (c.saturating_add-count.ensures ∙ ap (λ (x : ℕ). min (c.loop-n.count + x) 18446744073709551615) c.creates_in.ensures) more;
+      counted = saturated _ _ _ _ _ _ c.loop-n.invariant.counted
+          (c.saturating_add-count.ensures ∙ ap (λ (x : ℕ). min (c.loop-n.count + x) 18446744073709551615) c.creates_in.ensures) more;
     }
 
 pub returns-in_default : goal.returns-in_default
@@ -25,4 +26,5 @@ returns-in_default g c =
 pub returns-after-loop-n : goal.returns-after-loop-n
 returns-after-loop-n g c =
     let few = short 0 c.args.history.now.transactions (omega arith) c.last_zxid-last.ensures.history.rising in
-    counted_all (path_of c.args.parent.now) c.args.history.now.transactions c.loop-n.n c.loop-n.count (omega (arith, few, c.loop-n-test.false)) c.loop-n.invariant.counted
+    counted_all (path_of c.args.parent.now) c.args.history.now.transactions c.loop-n.n c.loop-n.count
+    (omega (arith, few, c.loop-n-test.false)) c.loop-n.invariant.counted

@@ -8,12 +8,15 @@ use Rattle.zk_bench.proofs.sequence.creates_in.Goals.{then-is_made_below, else-i
 
 pub loop-change-preserved : goal.loop-change-preserved
 loop-change-preserved g c =
-    let here = ap (λ change. makes_below (path_of c.args.parent.now) (change_of change)) (sym c.change-item.is) ∙ sym c.is_made_below.ensures in
+    let here = ap (λ change. makes_below (path_of c.args.parent.now) (change_of change)) (sym c.change-item.is)
+    ∙ sym c.is_made_below.ensures in
     elim c.if-is_made_below.branch [
       | then-is_made_below w ↦
           w.count-is ∙ ap (λ (n : ℕ). n + 1) c.loop-change.invariant
-          ∙ sym (count_by_more_yes (λ change. makes_below (path_of c.args.parent.now) (change_of change)) c.args.changes.now c.loop-change.change-index c.change-item.result c.loop-change-test.true (here ∙ w.if-is_made_below.true))
+          ∙ sym (count_by_more_yes (λ change. makes_below (path_of c.args.parent.now) (change_of change)) c.args.changes.now
+          c.loop-change.change-index c.change-item.result c.loop-change-test.true (here ∙ w.if-is_made_below.true))
       | else-is_made_below w ↦
           w.count-is ∙ c.loop-change.invariant
-          ∙ sym (count_by_more_no (λ change. makes_below (path_of c.args.parent.now) (change_of change)) c.args.changes.now c.loop-change.change-index c.change-item.result c.loop-change-test.true (here ∙ w.if-is_made_below.false))
+          ∙ sym (count_by_more_no (λ change. makes_below (path_of c.args.parent.now) (change_of change)) c.args.changes.now
+          c.loop-change.change-index c.change-item.result c.loop-change-test.true (here ∙ w.if-is_made_below.false))
     ]

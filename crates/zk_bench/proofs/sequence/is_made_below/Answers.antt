@@ -3,4 +3,5 @@ use Rattle.zk_bench.proofs.sequence.is_made_below.Goals as goal
 
 pub returns-in-Some : goal.returns-in-Some
 returns-in-Some g c =
-    rw c.in-Create.is (is_below-text c.in-Create.path c.args.parent.now _ c.requires c.in-Some.ensures.path c.in-Some.ensures.names _ c.eq.ensures)
+    rw c.in-Create.is
+    (is_below-text c.in-Create.path c.args.parent.now _ c.requires c.in-Some.ensures.path c.in-Some.ensures.names _ c.eq.ensures)

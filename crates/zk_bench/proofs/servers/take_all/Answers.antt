@@ -14,7 +14,9 @@ loop-changes-preserved g c =
     let new = c.tell_changes.new.connection in
     record {
       goes = λ accepted low.
-          takes_one (history_of c.args.history.now) c.args.taken.now old c.loop-changes.taken mid new (map change_of c.in-Some.changes.now) (before.goes accepted low)
-          (ap (λ k. k.phase) before.rest ∙ accepted) c.in-Some.ensures.room c.in-Some.ensures.changes after.left after.tells (ap (λ k. k.phase) after.rest);
+          takes_one (history_of c.args.history.now) c.args.taken.now old c.loop-changes.taken mid new (map change_of c.in-Some.changes.now)
+          (before.goes accepted low)
+          (ap (λ k. k.phase) before.rest ∙ accepted) c.in-Some.ensures.room c.in-Some.ensures.changes after.left after.tells
+          (ap (λ k. k.phase) after.rest);
       rest = rest-more old mid new before.rest after.rest;
     }

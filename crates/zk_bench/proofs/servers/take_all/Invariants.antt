@@ -7,7 +7,8 @@ use Rattle.zk_bench.proofs.servers.take_all.Given as goal
 -- so far it has taken transactions, each of which was told
 abbrev pub invariant-loop-changes : goal.invariant-loop-changes
 invariant-loop-changes g l = record {
-  goes : l.fn.connection.phase ≡ Accepted → l.fn.taken ≤ length l.history.transactions → CatchesUp (history_of l.history) l.fn.taken l.fn.connection l.taken l.connection;
+  goes : l.fn.connection.phase ≡ Accepted → l.fn.taken ≤ length l.history.transactions
+      → CatchesUp (history_of l.history) l.fn.taken l.fn.connection l.taken l.connection;
   rest : l.connection ≡ record l.fn.connection { watches = l.connection.watches; output = l.connection.output };
 }
 

@@ -7,11 +7,15 @@ use Rattle.zk_bench.proofs.Written.{append_told, append_accepted, room_left}
 use Rattle.zk_bench.proofs.writes.append.Goals as goal
 
 pub returns-clause-accepted : goal.returns-clause-accepted
-returns-clause-accepted g c = append_accepted c.change.result c.args.history.now _ _ _ (change_of c.args.change) c.in_default.ensures.ok c.change.ensures.accepted
+returns-clause-accepted g c =
+    append_accepted c.change.result c.args.history.now _ _ _ (change_of c.args.change) c.in_default.ensures.ok c.change.ensures.accepted
 
 pub returns-clause-told : goal.returns-clause-told
 returns-clause-told g c =
-    let low : newest 0 c.args.history.now.transactions < 9223372036854775807 = let v = c.last_zxid-last.ensures.value in let n = c.if-last-eq9223372036854775807.false in omega (arith, ints) in
+    let low : newest 0 c.args.history.now.transactions < 9223372036854775807 = let v = c.last_zxid-last.ensures.value in
+    let n = c.if-last-eq9223372036854775807.false in omega (arith, ints) in
     let early : c.args.time ≤ 9223372036854775807 = omega arith in
-    let room : is_over c.args.history.now c.args.time ≡ false = room_left (newest 0 c.args.history.now.transactions) c.args.time low early in
-    append_told c.change.result c.args.history.now _ _ c.args.time _ (change_of c.args.change) c.in_default.ensures.ok room c.change.ensures.refused
+    let room : is_over c.args.history.now c.args.time ≡ false =
+    room_left (newest 0 c.args.history.now.transactions) c.args.time low early in
+    append_told c.change.result c.args.history.now _ _ c.args.time _
+    (change_of c.args.change) c.in_default.ensures.ok room c.change.ensures.refused

@@ -6,4 +6,5 @@ use Rattle.zk_bench.proofs.writes.created_path.Goals as goal
 
 pub returns-in-None-clause-beside : goal.returns-in-None-clause-beside
 returns-in-None-clause-beside g c =
-    subst (λ (text : Text). (names : Names) × AreBeside (tree_of c.args.tree.now.history.now c.args.tree.now.zxid) (path_of text) names) c.in_ok-asked.ensures.path c.in-Ok.ensures.beside
+    subst (λ (text : Text). (names : Names) × AreBeside (tree_of c.args.tree.now.history.now c.args.tree.now.zxid) (path_of text) names)
+    c.in_ok-asked.ensures.path c.in-Ok.ensures.beside

@@ -13,4 +13,5 @@ returns-clause-allowed g c = λ small.
     let beside = made.beside in
     let owner = to_z w64 c.if-mode.owner-bits in
     subst (λ (content : Option (List ℕ)). IsAccepted (Creates (path_of c.in-Ok.path) content owner) tree) (sym c.into_inner.ensures)
-    (create_allowed tree c.args.mode.sequential c.args.text.now c.in-Ok.path _ beside.0 c.args.bytes owner beside.1 made.text (made.accepted beside.0 beside.1) small)
+    (create_allowed tree c.args.mode.sequential c.args.text.now c.in-Ok.path _ beside.0 c.args.bytes owner beside.1 made.text
+    (made.accepted beside.0 beside.1) small)

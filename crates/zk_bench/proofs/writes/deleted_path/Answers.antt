@@ -10,13 +10,15 @@ use Rattle.zk_bench.proofs.writes.deleted_path.Goals as goal
 pub returns-in-Some-clause-told : goal.returns-in-Some-clause-told
 returns-in-Some-clause-told g c = λ names children.
     let asked : to_z w32 (of_z w32 c.args.request.now.version) ≡ c.args.request.now.version = search rules in
-    kept-at (tree_of c.args.tree.now.history.now c.args.tree.now.zxid) (or_empty c.args.request.now.path) c.text_of-text.result.now c.in_ok-path.stat names c.args.request.now.version
+    kept-at (tree_of c.args.tree.now.history.now c.args.tree.now.zxid)
+    (or_empty c.args.request.now.path) c.text_of-text.result.now c.in_ok-path.stat names c.args.request.now.version
     _ _ children c.text_of-text.ensures c.in_ok-path.ensures.found (sym c.eq.ensures ∙ c.if-eq.false) asked c.in-Some.ensures.is
 
 pub returns-in-None-clause-accepted : goal.returns-in-None-clause-accepted
 returns-in-None-clause-accepted g c = λ names children.
     let asked : to_z w32 (of_z w32 c.args.request.now.version) ≡ c.args.request.now.version = search rules in
-    kept-at (tree_of c.args.tree.now.history.now c.args.tree.now.zxid) (or_empty c.args.request.now.path) c.text_of-text.result.now c.in_ok-path.stat names c.args.request.now.version
+    kept-at (tree_of c.args.tree.now.history.now c.args.tree.now.zxid)
+    (or_empty c.args.request.now.path) c.text_of-text.result.now c.in_ok-path.stat names c.args.request.now.version
     _ _ children c.text_of-text.ensures c.in_ok-path.ensures.found (sym c.eq.ensures ∙ c.if-eq.false) asked c.in-None.ensures.is
 
 pub returns-in-None-clause-allowed : goal.returns-in-None-clause-allowed
@@ -27,4 +29,5 @@ returns-in-None-clause-allowed g c =
     let found = c.in_ok-path.ensures.found in
     let children = subst (λ (t : Text). HasChildren tree (path_of t) found.0) c.text_of-text.ensures found.1 in
     delete_allowed tree text found.0 c.args.request.now.version children
-    (kept-at tree text c.text_of-text.result.now c.in_ok-path.stat found.0 c.args.request.now.version _ _ children c.text_of-text.ensures found (sym c.eq.ensures ∙ c.if-eq.false) asked c.in-None.ensures.is)
+    (kept-at tree text c.text_of-text.result.now c.in_ok-path.stat found.0 c.args.request.now.version _ _ children c.text_of-text.ensures
+    found (sym c.eq.ensures ∙ c.if-eq.false) asked c.in-None.ensures.is)

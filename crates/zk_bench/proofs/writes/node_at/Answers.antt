@@ -9,5 +9,7 @@ pub returns-in-Some-stat_at-clause-found : goal.returns-in-Some-stat_at-clause-f
 returns-in-Some-stat_at-clause-found g c =
     let kept = c.args.tree.now.history.now in
     let same : to_z w64 (of_z w64 c.args.tree.now.zxid) ≡ c.args.tree.now.zxid = search rules in
-    let seen = subst (λ (z : ℤ). IsStat (tree_of kept z) (path_of c.in-Some.path) (Some c.in-Some-stat_at.stat)) same c.in-Some-stat_at.ensures.told in
-    stat-at (tree_of kept c.args.tree.now.zxid) c.args.text.now c.in-Some.path (Some c.in-Some-stat_at.stat) (sym c.in_ok-path.ensures.told ∙ c.in-Some.is) seen
+    let seen = subst (λ (z : ℤ). IsStat (tree_of kept z) (path_of c.in-Some.path) (Some c.in-Some-stat_at.stat)) same
+    c.in-Some-stat_at.ensures.told in
+    stat-at (tree_of kept c.args.tree.now.zxid) c.args.text.now c.in-Some.path (Some c.in-Some-stat_at.stat)
+    (sym c.in_ok-path.ensures.told ∙ c.in-Some.is) seen

@@ -15,7 +15,8 @@ use Rattle.zk_history.proofs.names.names_after_versions.Goals.{then-version-z+in
 
 pub loop-version-preserved : goal.loop-version-preserved
 loop-version-preserved g c =
-    let kept : HistoryView = record { nodes = map transaction_of c.args.nodes.now; transactions = map transaction_of c.args.transactions.now } in
+    let kept : HistoryView =
+    record { nodes = map transaction_of c.args.nodes.now; transactions = map transaction_of c.args.transactions.now } in
     let p = path_of c.args.at.now in
     let vs = c.args.versions.now in
     let i = c.loop-version.version-index in

@@ -9,4 +9,5 @@ use Rattle.zk_history.proofs.names.names_after_versions.Given as goal
 abbrev pub invariant-loop-version : goal.invariant-loop-version
 invariant-loop-version g l =
     let kept : HistoryView = record { nodes = map transaction_of l.nodes; transactions = map transaction_of l.transactions } in
-    names_told kept (path_of l.at) l.z (drop l.version-index l.versions) (names_of l.names) ≡ names_told kept (path_of l.at) l.z l.versions (names_of l.fn.names)
+    names_told kept (path_of l.at) l.z (drop l.version-index l.versions) (names_of l.names)
+    ≡ names_told kept (path_of l.at) l.z l.versions (names_of l.fn.names)

@@ -19,14 +19,20 @@ returns g c =
     elim c.match-change.branch [
       | in-Create w ↦
           w.entry-is ∙ w.after_create-entry.ensures (option_map (λ v. v.items) w.in-Create.field-1)
-          ∙ ap (λ (time : ℤ). entry_after s.zxid time s.origin p (Creates (path_of w.in-Create.path) (option_map (λ v. v.items) w.in-Create.field-1) (to_z w64 (of_z w64 w.in-Create.owner))) c.entry_of-before.result) t
-          ∙ ap (λ (owner : ℤ). entry_after s.zxid s.time s.origin p (Creates (path_of w.in-Create.path) (option_map (λ v. v.items) w.in-Create.field-1) owner) c.entry_of-before.result) (let o : to_z w64 (of_z w64 w.in-Create.owner) ≡ w.in-Create.owner = omega (arith, ints) in o)
-          ∙ ap (entry_after s.zxid s.time s.origin p (Creates (path_of w.in-Create.path) (option_map (λ v. v.items) w.in-Create.field-1) w.in-Create.owner)) c.entry_of-before.ensures
+          ∙ ap (λ (time : ℤ). entry_after s.zxid time s.origin p (Creates (path_of w.in-Create.path)
+          (option_map (λ v. v.items) w.in-Create.field-1) (to_z w64 (of_z w64 w.in-Create.owner))) c.entry_of-before.result) t
+          ∙ ap (λ (owner : ℤ). entry_after s.zxid s.time s.origin p
+          (Creates (path_of w.in-Create.path) (option_map (λ v. v.items) w.in-Create.field-1) owner) c.entry_of-before.result)
+          (let o : to_z w64 (of_z w64 w.in-Create.owner) ≡ w.in-Create.owner = omega (arith, ints) in o)
+          ∙ ap (entry_after s.zxid s.time s.origin p (Creates (path_of w.in-Create.path)
+          (option_map (λ v. v.items) w.in-Create.field-1) w.in-Create.owner)) c.entry_of-before.ensures
           ∙ ap (λ change. entry_after s.zxid s.time s.origin p (change_of change) (entry_of p c.args.held)) (sym w.in-Create.is)
       | in-Set w ↦
           w.entry-is ∙ w.after_set-entry.ensures (option_map (λ v. v.items) w.in-Set.field-1)
-          ∙ ap (λ (time : ℤ). entry_after s.zxid time s.origin p (Sets (path_of w.in-Set.path) (option_map (λ v. v.items) w.in-Set.field-1)) c.entry_of-before.result) t
-          ∙ ap (entry_after s.zxid s.time s.origin p (Sets (path_of w.in-Set.path) (option_map (λ v. v.items) w.in-Set.field-1))) c.entry_of-before.ensures
+          ∙ ap (λ (time : ℤ). entry_after s.zxid time s.origin p
+          (Sets (path_of w.in-Set.path) (option_map (λ v. v.items) w.in-Set.field-1)) c.entry_of-before.result) t
+          ∙ ap (entry_after s.zxid s.time s.origin p (Sets (path_of w.in-Set.path) (option_map (λ v. v.items) w.in-Set.field-1)))
+          c.entry_of-before.ensures
           ∙ ap (λ change. entry_after s.zxid s.time s.origin p (change_of change) (entry_of p c.args.held)) (sym w.in-Set.is)
       | in-Delete w ↦
           w.entry-is ∙ w.after_delete-entry.ensures s.time s.origin
@@ -36,4 +42,5 @@ returns g c =
     let n : c.counted_after-children.result ≡ count_after p (change_of c.args.change.now) (children_of c.args.held) =
     c.counted_after-children.ensures ∙ ap (count_after p (change_of c.args.change.now)) c.children_of.ensures in
     let made : Option Entry → ℕ → Version = λ e n. record { zxid = s.zxid; origin = s.origin; entry = e; children = n } in
-    ap (λ e. made e c.counted_after-children.result) same ∙ ap (made (entry_after s.zxid s.time s.origin p (change_of c.args.change.now) (entry_of p c.args.held))) n
+    ap (λ e. made e c.counted_after-children.result) same
+    ∙ ap (made (entry_after s.zxid s.time s.origin p (change_of c.args.change.now) (entry_of p c.args.held))) n

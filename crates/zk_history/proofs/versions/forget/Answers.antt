@@ -11,5 +11,6 @@ returns-in-Set g c = λ text is.
     let at = c.as_str.result.now in
     let old = versions_of c.args.versions.now text in
     c.pop_version.ensures text
-    ∙ ap (λ b. cond b (without_last old) old) (same_path at text (subst IsPath (sym c.as_str.ensures.text) c.as_str.ensures.path) is ∙ ap (λ t. path_eq (path_of text) (path_of t)) c.as_str.ensures.text)
+    ∙ ap (λ b. cond b (without_last old) old) (same_path at text (subst IsPath (sym c.as_str.ensures.text) c.as_str.ensures.path) is
+    ∙ ap (λ t. path_eq (path_of text) (path_of t)) c.as_str.ensures.text)
     ∙ ap (λ change. versions_before text (change_of change) old) (sym c.in-Set.is)

@@ -9,8 +9,11 @@ pub returns-in-Some : goal.returns-in-Some
 returns-in-Some g c = λ text is.
     let at = c.as_str.result.now in
     let parent = c.in-Some.parent.now in
-    let below : parent_of (path_of at) ≡ Some (path_of parent) = ap (λ t. parent_of (path_of t)) c.as_str.ensures.text ∙ sym c.in-Some.ensures.names in
-    both_written at parent text without_last (versions_of c.args.versions.now text) (versions_of c.pop_version.new.versions text) (versions_of c.pop_version-in-Some.new.versions text)
+    let below : parent_of (path_of at) ≡ Some (path_of parent) =
+    ap (λ t. parent_of (path_of t)) c.as_str.ensures.text ∙ sym c.in-Some.ensures.names in
+    both_written at parent text without_last (versions_of c.args.versions.now text) (versions_of c.pop_version.new.versions text)
+    (versions_of c.pop_version-in-Some.new.versions text)
     (parent_differs at parent below) (c.pop_version.ensures text) (c.pop_version-in-Some.ensures text)
     ∙ ap (λ b. cond b (without_last (versions_of c.args.versions.now text)) (versions_of c.args.versions.now text))
-    (near_text at parent text (subst IsPath (sym c.as_str.ensures.text) c.as_str.ensures.path) c.in-Some.ensures.path is below ∙ ap (λ t. is_near (path_of text) (path_of t)) c.as_str.ensures.text)
+    (near_text at parent text (subst IsPath (sym c.as_str.ensures.text) c.as_str.ensures.path) c.in-Some.ensures.path is below
+    ∙ ap (λ t. is_near (path_of text) (path_of t)) c.as_str.ensures.text)

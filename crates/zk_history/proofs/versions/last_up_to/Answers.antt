@@ -9,7 +9,8 @@ pub returns-then-count-eq0 : goal.returns-then-count-eq0
 returns-then-count-eq0 c =
     let vs = c.args.versions.now in
     let none : c.partition_point-count.result ≡ 0 = grind (arith, nat_tests) in
-    let point = c.partition_point-count.ensures.partitioned (λ (v : Version). nat_le v.zxid c.args.z) (always_returns_same _ _ _ (λ a r f k. search (rules, of_calls)))
+    let point = c.partition_point-count.ensures.partitioned (λ (v : Version). nat_le v.zxid c.args.z)
+    (always_returns_same _ _ _ (λ a r f k. search (rules, of_calls)))
     (λ i j d l m up. lower_passes 0 c.requires.0 c.args.z vs i j d c.requires.1 l m up) in
     sym (version_at-none c.args.z vs None (λ i d l. point.1 i d (omega (arith, none)) l))
 
@@ -19,6 +20,8 @@ returns-else-count-eq0 c =
     let k = c.partition_point-count.result - 1 in
     let some : (c.partition_point-count.result - 1) + 1 ≡ c.partition_point-count.result = grind (arith, nat_tests) in
     let bound = c.partition_point-count.ensures.bound in
-    let point = c.partition_point-count.ensures.partitioned (λ (v : Version). nat_le v.zxid c.args.z) (always_returns_same _ _ _ (λ a r f k. search (rules, of_calls)))
+    let point = c.partition_point-count.ensures.partitioned (λ (v : Version). nat_le v.zxid c.args.z)
+    (always_returns_same _ _ _ (λ a r f k. search (rules, of_calls)))
     (λ i j d l m up. lower_passes 0 c.requires.0 c.args.z vs i j d c.requires.1 l m up) in
-    sym (version_at-point c.args.z k vs None _ (omega (arith, some, bound)) (λ i d l. point.0 i d (omega arith) (omega (arith, some, l))) (λ i d l m. point.1 i d (omega (arith, some, l)) m))
+    sym (version_at-point c.args.z k vs None _ (omega (arith, some, bound)) (λ i d l. point.0 i d (omega arith) (omega (arith, some, l)))
+    (λ i d l m. point.1 i d (omega (arith, some, l)) m))

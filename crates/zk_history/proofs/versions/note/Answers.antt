@@ -16,6 +16,7 @@ returns-in-Set-clause-ok g c =
     let old = versions_of c.args.versions.now text in
     noted text
     ∙ ap (λ b. cond b (with_version s.zxid s.time s.origin text (change_of c.args.change.now) old) old)
-    (same_path at text (subst IsPath (sym c.as_str.ensures.text) c.as_str.ensures.path) is ∙ ap (λ t. path_eq (path_of text) (path_of t)) c.as_str.ensures.text
+    (same_path at text (subst IsPath (sym c.as_str.ensures.text) c.as_str.ensures.path) is
+    ∙ ap (λ t. path_eq (path_of text) (path_of t)) c.as_str.ensures.text
     ∙ ap (λ change. touches (path_of text) (change_of change)) (sym c.in-Set.is)))
     c.note_at.ensures.ok

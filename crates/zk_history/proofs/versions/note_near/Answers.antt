@@ -15,15 +15,18 @@ returns-in-Some-clause-ok g c =
     let parent = c.in-Some.parent.now in
     let s = c.args.spot in
     let old = versions_of c.args.versions.now text in
-    let below : parent_of (path_of at) ≡ Some (path_of parent) = ap (λ t. parent_of (path_of t)) c.as_str.ensures.text ∙ sym c.in-Some.ensures.names in
+    let below : parent_of (path_of at) ≡ Some (path_of parent) =
+    ap (λ t. parent_of (path_of t)) c.as_str.ensures.text ∙ sym c.in-Some.ensures.names in
     noted text
     ∙ ap (λ b. cond b (with_version s.zxid s.time s.origin text (change_of c.args.change.now) old) old)
-    (near_text at parent text (subst IsPath (sym c.as_str.ensures.text) c.as_str.ensures.path) c.in-Some.ensures.path is below ∙ ap (λ t. is_near (path_of text) (path_of t)) c.as_str.ensures.text))
+    (near_text at parent text (subst IsPath (sym c.as_str.ensures.text) c.as_str.ensures.path) c.in-Some.ensures.path is below
+    ∙ ap (λ t. is_near (path_of text) (path_of t)) c.as_str.ensures.text))
     c.note_both.ensures.ok
 
 pub returns-in-None-clause-ok : goal.returns-in-None-clause-ok
 returns-in-None-clause-ok g c = λ text is.
     let s = c.args.spot in
     let old = versions_of c.args.versions.now text in
-    let far : is_near (path_of text) (path_of c.args.path.now) ≡ false = none_near (path_of text) (path_of c.args.path.now) (sym c.in-None.ensures.names) in
+    let far : is_near (path_of text) (path_of c.args.path.now) ≡ false =
+    none_near (path_of text) (path_of c.args.path.now) (sym c.in-None.ensures.names) in
     ap (λ b. cond b (with_version s.zxid s.time s.origin text (change_of c.args.change.now) old) old) (sym far)

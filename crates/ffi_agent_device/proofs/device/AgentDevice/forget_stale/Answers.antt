@@ -10,7 +10,8 @@ returns g =
     record {
       view = gone.view;
       led = gone.led;
-      followed = λ all. subst (λ now. All (IsFollowed now (view_of g.forget_stale.new.self.asker.follower.client)) g.forget_stale.new.self.asker.follower.subjects.items)
+      followed = λ all. subst (λ now. All
+          (IsFollowed now (view_of g.forget_stale.new.self.asker.follower.client)) g.forget_stale.new.self.asker.follower.subjects.items)
           (sym gone.latest) (gone.followed g.args.self.now.agent.latest all);
       subjects = gone.subjects;
       calls = gone.calls;

@@ -10,7 +10,8 @@ pub returns-clause-begins : goal.returns-clause-begins
 returns-clause-begins c put reads =
     let asked : to_z w32 (of_z w32 c.args.timeout_ms) ≡ c.args.timeout_ms = search rules in
     begins_with c.of.result (view_of c.in_ok-client.field-0.client) (view_at (put_start c.args.timeout_ms put) []) c.args.timeout_ms
-    ((c.in_ok-client.ensures.begins put reads).view ∙ ap (λ ms. view_at (put_start ms put) []) asked) (subst (λ ms. pos 0 <ℤ ms) asked c.in_ok-client.ensures.accepted)
+    ((c.in_ok-client.ensures.begins put reads).view ∙ ap (λ ms. view_at (put_start ms put) []) asked)
+    (subst (λ ms. pos 0 <ℤ ms) asked c.in_ok-client.ensures.accepted)
     c.of.ensures.begins c.of.ensures.refused
 
 pub returns-clause-unread : goal.returns-clause-unread

@@ -16,5 +16,7 @@ returns-in-Ok-None-clause-finds c d held =
     let none : c.in-Ok-None.field-0 ≡ None = search rules in
     let told : Tells None = subst Tells none (subst (λ found. IfOk found Tells) c.in-Ok-None.is c.holder-found.ensures.tells) in
     let place : ArePlace directory prefix path = search rules in
-    let same : view_of c.client.result.now ≡ view_of d.agent.asker.follower.client = c.client.ensures ∙ ap (λ (s : AgentDevice). view_of s.agent.asker.follower.client) (c.deref.ensures ∙ ap (λ held. unwrap_or held d) (sym c.in-Some.ensures.some ∙ held)) in
+    let same : view_of c.client.result.now ≡ view_of d.agent.asker.follower.client =
+    c.client.ensures ∙ ap (λ (s : AgentDevice). view_of s.agent.asker.follower.client)
+    (c.deref.ensures ∙ ap (λ held. unwrap_or held d) (sym c.in-Some.ensures.some ∙ held)) in
     (subst (λ (v : View). (other : ℤ) → ShowsHolder v directory prefix path other → ⊥) same told, place, refl)

@@ -13,10 +13,13 @@ use Rattle.ffi_c.proofs.sessions.conclusions.dw_session_subtree.Goals as goal
 
 pub returns-in-Err-clause-finds : goal.returns-in-Err-clause-finds
 returns-in-Err-clause-finds c d held =
-    let same : view_of c.client.result.now ≡ view_of d.agent.asker.follower.client = c.client.ensures ∙ ap (λ (s : AgentDevice). view_of s.agent.asker.follower.client) (c.deref.ensures ∙ ap (λ held. unwrap_or held d) (sym c.in-Some.ensures.some ∙ held)) in
+    let same : view_of c.client.result.now ≡ view_of d.agent.asker.follower.client =
+    c.client.ensures ∙ ap (λ (s : AgentDevice). view_of s.agent.asker.follower.client)
+    (c.deref.ensures ∙ ap (λ held. unwrap_or held d) (sym c.in-Some.ensures.some ∙ held)) in
     let path = c.args.path.now in
     let Refuses = λ (v : View). RefusesNodes (IsWholeBelow v.cache path → ⊥) (HasMoreNodes v.cache path c.args.most) path in
     let Writes = λ (v : View). WritesText (IsSubtreeText v path c.args.most) in
     let there = view_of c.client.result.now in
     subst (λ v. FindsText (Refuses v) (Writes v) (to_z w32 (of_z w32 c.code.result)) c.args.out.now c.subtree-found.new.room 0) same
-    (told_refused (Refuses there) (Writes there) c.args.out.now c.subtree-found.new.room c.in-Err.refusal c.code.result c.code.ensures c.in-Err.ensures.refused c.in-Err.ensures.same)
+    (told_refused (Refuses there) (Writes there) c.args.out.now c.subtree-found.new.room c.in-Err.refusal c.code.result c.code.ensures
+    c.in-Err.ensures.refused c.in-Err.ensures.same)

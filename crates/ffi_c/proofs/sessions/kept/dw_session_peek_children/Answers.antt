@@ -8,5 +8,7 @@ use Rattle.ffi_c.proofs.sessions.kept.dw_session_peek_children.Goals as goal
 
 pub returns-in-Ok-clause-finds : goal.returns-in-Ok-clause-finds
 returns-in-Ok-clause-finds c d held =
-    let same : view_of c.client.result.now ≡ view_of d.agent.asker.follower.client = c.client.ensures ∙ ap (λ (s : AgentDevice). view_of s.agent.asker.follower.client) (c.deref.ensures ∙ ap (λ held. unwrap_or held d) (sym c.in-Some.ensures.some ∙ held)) in
+    let same : view_of c.client.result.now ≡ view_of d.agent.asker.follower.client =
+    c.client.ensures ∙ ap (λ (s : AgentDevice). view_of s.agent.asker.follower.client)
+    (c.deref.ensures ∙ ap (λ held. unwrap_or held d) (sym c.in-Some.ensures.some ∙ held)) in
     subst (λ (v : View). TellsNames (v.cache.children c.args.path.now) c.in-Ok.found) same c.in-Ok.ensures.found

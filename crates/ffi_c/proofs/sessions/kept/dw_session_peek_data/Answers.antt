@@ -9,8 +9,11 @@ use Rattle.ffi_c.proofs.sessions.kept.dw_session_peek_data.Goals as goal
 
 pub returns-in-Ok-clause-finds : goal.returns-in-Ok-clause-finds
 returns-in-Ok-clause-finds c d held =
-    let same : view_of c.client.result.now ≡ view_of d.agent.asker.follower.client = c.client.ensures ∙ ap (λ (s : AgentDevice). view_of s.agent.asker.follower.client) (c.deref.ensures ∙ ap (λ held. unwrap_or held d) (sym c.in-Some.ensures.some ∙ held)) in
+    let same : view_of c.client.result.now ≡ view_of d.agent.asker.follower.client =
+    c.client.ensures ∙ ap (λ (s : AgentDevice). view_of s.agent.asker.follower.client)
+    (c.deref.ensures ∙ ap (λ held. unwrap_or held d) (sym c.in-Some.ensures.some ∙ held)) in
     let path = c.args.path.now in
     let room = c.args.out.now in
-    subst (λ (v : View). (c.in-Ok.found ≡ data_flat (v.cache.nodes path)) × (c.peek_data-found.new.room ≡ take (length room) (data_text (v.cache.nodes path)) ++ drop (length (data_text (v.cache.nodes path))) room)) same
+    subst (λ (v : View). (c.in-Ok.found ≡ data_flat (v.cache.nodes path)) × (c.peek_data-found.new.room
+    ≡ take (length room) (data_text (v.cache.nodes path)) ++ drop (length (data_text (v.cache.nodes path))) room)) same
     (c.in-Ok.ensures.found, c.in-Ok.ensures.copied)

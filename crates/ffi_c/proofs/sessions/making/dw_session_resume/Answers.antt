@@ -4,4 +4,5 @@ use Rattle.ffi_c.proofs.Saved.{not_memory}
 use Rattle.ffi_c.proofs.sessions.making.dw_session_resume.Goals as goal
 
 pub returns-in-Ok-clause-broken : goal.returns-in-Ok-clause-broken
-returns-in-Ok-clause-broken c fault reads = absurd (true≢false (ap is_ok (c.in-Ok.ensures.unread fault reads (not_memory c.args.saved.now fault reads) c.in-Ok.ensures.accepted)))
+returns-in-Ok-clause-broken c fault reads =
+    absurd (true≢false (ap is_ok (c.in-Ok.ensures.unread fault reads (not_memory c.args.saved.now fault reads) c.in-Ok.ensures.accepted)))

@@ -18,7 +18,8 @@ returns-then-not-send-clause-whole g c =
     let rest = c.send.new.unsent.items in
     let new : Known = record { left = g.S.Read.remaining c.send.new.stream; took = g.S.Write.contents c.send.new.stream } in
     subst (λ stream. Exchanges unsent rest (know stream) new []) (sym c.in-Some.is)
-    (exchanges_none unsent rest (record { left = g.S.Read.remaining c.in-Some.stream; took = g.S.Write.contents c.in-Some.stream }) new c.send.ensures.sends
+    (exchanges_none unsent rest
+    (record { left = g.S.Read.remaining c.in-Some.stream; took = g.S.Write.contents c.in-Some.stream }) new c.send.ensures.sends
     c.send.ensures.gives)
 
 pub returns-clause-whole : goal.returns-clause-whole
@@ -29,5 +30,6 @@ returns-clause-whole g c =
     let wrote : Known = record { left = g.S.Read.remaining c.send.new.stream; took = g.S.Write.contents c.send.new.stream } in
     let new : Known = record { left = g.S.Read.remaining c.bring.new.stream; took = g.S.Write.contents c.bring.new.stream } in
     subst (λ stream. IfOk c.bring.result (λ brought. Exchanges unsent rest (know stream) new (piece_in brought))) (sym c.in-Some.is)
-    (exchanged c.bring.result piece_in unsent rest (record { left = g.S.Read.remaining c.in-Some.stream; took = g.S.Write.contents c.in-Some.stream }) wrote new
+    (exchanged c.bring.result piece_in unsent rest
+    (record { left = g.S.Read.remaining c.in-Some.stream; took = g.S.Write.contents c.in-Some.stream }) wrote new
     c.send.ensures.sends c.send.ensures.gives c.bring.ensures.took c.bring.ensures.whole)

@@ -11,7 +11,8 @@ returns-in_default g c =
     let old = c.args.self.now in
     let here = c.loop.self in
     let new = c.exchange.new.self in
-    let whole = exchanges_on old.unsent.items here.unsent.items new.unsent.items (know old.stream) (know here.stream) (know new.stream) (piece_in c.in_ok-brought.brought)
+    let whole = exchanges_on old.unsent.items here.unsent.items new.unsent.items (know old.stream) (know here.stream) (know new.stream)
+    (piece_in c.in_ok-brought.brought)
     c.loop.invariant.whole c.in_ok-brought.ensures.whole in
     record {
       trail = c.exchange.ensures.trail ∙ c.loop.invariant.trail;
@@ -26,8 +27,10 @@ loop-preserved g c =
     let old = c.args.self.now in
     let here = c.loop.self in
     let new = c.exchange.new.self in
-    let nothing = subst (λ b. Exchanges here.unsent.items new.unsent.items (know here.stream) (know new.stream) (piece_in b)) c.in-Nothing.is c.in_ok-brought.ensures.whole in
-    let whole = exchanges_on old.unsent.items here.unsent.items new.unsent.items (know old.stream) (know here.stream) (know new.stream) [] c.loop.invariant.whole nothing in
+    let nothing = subst (λ b. Exchanges here.unsent.items new.unsent.items (know here.stream) (know new.stream) (piece_in b))
+    c.in-Nothing.is c.in_ok-brought.ensures.whole in
+    let whole = exchanges_on old.unsent.items here.unsent.items new.unsent.items (know old.stream) (know here.stream)
+    (know new.stream) [] c.loop.invariant.whole nothing in
     record {
       trail = c.exchange.ensures.trail ∙ c.loop.invariant.trail;
       unsent = left_of old.unsent.items new.unsent.items (know old.stream).took (know new.stream).took whole.sends;
@@ -40,4 +43,5 @@ returns-clause-whole g c =
     let old = c.args.self.now in
     let here = c.loop.self in
     let new = c.exchange-2.new.self in
-    ok_exchanges_on c.exchange-2.result piece_in old.unsent.items here.unsent.items new.unsent.items (know old.stream) (know here.stream) (know new.stream) c.loop.invariant.whole c.exchange-2.ensures.whole
+    ok_exchanges_on c.exchange-2.result piece_in old.unsent.items here.unsent.items new.unsent.items (know old.stream) (know here.stream)
+    (know new.stream) c.loop.invariant.whole c.exchange-2.ensures.whole

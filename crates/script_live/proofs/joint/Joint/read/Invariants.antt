@@ -9,5 +9,6 @@ abbrev pub invariant-loop : goal.invariant-loop
 invariant-loop g l = record {
   trail : bare_of l.self ≡ bare_of l.fn.self;
   unsent : IsLeftOf l.fn.self.unsent.items l.self.unsent.items;
-  whole : Exchanges l.fn.self.unsent.items l.self.unsent.items (known_of g.S.Read.remaining g.S.Write.contents l.fn.self.stream) (known_of g.S.Read.remaining g.S.Write.contents l.self.stream) [];
+  whole : Exchanges l.fn.self.unsent.items l.self.unsent.items (known_of g.S.Read.remaining g.S.Write.contents l.fn.self.stream)
+      (known_of g.S.Read.remaining g.S.Write.contents l.self.stream) [];
 }

@@ -18,4 +18,5 @@ returns-in_ok-queue-in-Some-clause-sends g c = λ there.
     let old : Known = record { left = g.S.Read.remaining c.in-Some.stream; took = g.S.Write.contents c.in-Some.stream } in
     let new : Known = record { left = g.S.Read.remaining c.send.new.stream; took = g.S.Write.contents c.send.new.stream } in
     let sends = subst (λ l. Sends l rest old.took new.took) c.in_ok-queue-in-Some.ensures c.send.ensures.sends in
-    subst (λ stream. Exchanges unsent rest (know stream) new []) (sym c.in-Some.is) (exchanges_none unsent rest old new sends c.send.ensures.gives)
+    subst (λ stream. Exchanges unsent rest (know stream) new []) (sym c.in-Some.is)
+    (exchanges_none unsent rest old new sends c.send.ensures.gives)

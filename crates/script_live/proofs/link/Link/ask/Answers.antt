@@ -12,14 +12,17 @@ pub returns-clause-ok : goal.returns-clause-ok
 returns-clause-ok g c =
     let sent = c.step.new in
     let new = c.wait.new in
-    asks (tape (view_of c.args.self.now.joint.client) (string_bytes c.args.text.now)) (tape (view_of sent.self.joint.client) (string_bytes sent.text))
-    (tape (view_of new.self.joint.client) (string_bytes new.text)) (Call c.args.asked.ticket (call_view c.args.asked.call)) c.in_ok-outputs.ensures.ok
+    asks (tape (view_of c.args.self.now.joint.client) (string_bytes c.args.text.now))
+    (tape (view_of sent.self.joint.client) (string_bytes sent.text))
+    (tape (view_of new.self.joint.client) (string_bytes new.text))
+    (Call c.args.asked.ticket (call_view c.args.asked.call)) c.in_ok-outputs.ensures.ok
     c.in_ok-wait.ensures.ok
 
 pub returns-in_err-outputs-clause-halt : goal.returns-in_err-outputs-clause-halt
 returns-in_err-outputs-clause-halt g c =
     let new = c.step.new in
-    let halted = halts_asked (tape (view_of c.args.self.now.joint.client) (string_bytes c.args.text.now)) (tape (view_of new.self.joint.client) (string_bytes new.text))
+    let halted = halts_asked (tape (view_of c.args.self.now.joint.client) (string_bytes c.args.text.now))
+    (tape (view_of new.self.joint.client) (string_bytes new.text))
     (Call c.args.asked.ticket (call_view c.args.asked.call)) c.in_err-outputs.field-0.0 c.in_err-outputs.ensures.halt in
     search rules
 
@@ -27,8 +30,10 @@ pub returns-in_err-wait-clause-halt : goal.returns-in_err-wait-clause-halt
 returns-in_err-wait-clause-halt g c =
     let sent = c.step.new in
     let new = c.wait.new in
-    let halted = halts_awaiting (tape (view_of c.args.self.now.joint.client) (string_bytes c.args.text.now)) (tape (view_of sent.self.joint.client) (string_bytes sent.text))
-    (tape (view_of new.self.joint.client) (string_bytes new.text)) (Call c.args.asked.ticket (call_view c.args.asked.call)) c.in_err-wait.field-0.0
+    let halted = halts_awaiting (tape (view_of c.args.self.now.joint.client) (string_bytes c.args.text.now))
+    (tape (view_of sent.self.joint.client) (string_bytes sent.text))
+    (tape (view_of new.self.joint.client) (string_bytes new.text))
+    (Call c.args.asked.ticket (call_view c.args.asked.call)) c.in_err-wait.field-0.0
     c.in_ok-outputs.ensures.ok c.in_err-wait.ensures.halt in
     search rules
 

@@ -12,38 +12,44 @@ pub returns-in_ok-outputs-in-Some-clause-ok : goal.returns-in_ok-outputs-in-Some
 returns-in_ok-outputs-in-Some-clause-ok g c =
     let new = c.step.new in
     rw (← c.next_piece.ensures.view)
-    (piece (tape (view_of c.next_piece.new.self.joint.client) (string_bytes c.args.text.now)) (tape (view_of new.self.joint.client) (string_bytes new.text))
+    (piece (tape (view_of c.next_piece.new.self.joint.client) (string_bytes c.args.text.now))
+    (tape (view_of new.self.joint.client) (string_bytes new.text))
     c.in-Some.bytes.items c.in_ok-outputs-in-Some.ensures.ok)
 
 pub returns-in_ok-cut-in-None-clause-ok : goal.returns-in_ok-cut-in-None-clause-ok
 returns-in_ok-cut-in-None-clause-ok g c =
     let new = c.cut.new in
     rw (← c.next_piece.ensures.view)
-    (one (tape (view_of c.next_piece.new.self.joint.client) (string_bytes c.args.text.now)) (tape (view_of new.self.joint.client) (string_bytes new.text))
+    (one (tape (view_of c.next_piece.new.self.joint.client) (string_bytes c.args.text.now))
+    (tape (view_of new.self.joint.client) (string_bytes new.text))
     Cut tt c.in_ok-cut-in-None.ensures.ok)
 
 pub returns-in_err-outputs-in-Some-clause-halt : goal.returns-in_err-outputs-in-Some-clause-halt
 returns-in_err-outputs-in-Some-clause-halt g c =
     let new = c.step.new in
-    let halted = halts_piece (tape (view_of c.next_piece.new.self.joint.client) (string_bytes c.args.text.now)) (tape (view_of new.self.joint.client) (string_bytes new.text))
+    let halted = halts_piece (tape (view_of c.next_piece.new.self.joint.client) (string_bytes c.args.text.now))
+    (tape (view_of new.self.joint.client) (string_bytes new.text))
     c.in-Some.bytes.items c.in_err-outputs-in-Some.field-0.0 c.in_err-outputs-in-Some.ensures.halt in
     search rules
 
 pub returns-in_err-cut-in-None-clause-halt : goal.returns-in_err-cut-in-None-clause-halt
 returns-in_err-cut-in-None-clause-halt g c =
     let new = c.cut.new in
-    let halted = halts_cut (tape (view_of c.next_piece.new.self.joint.client) (string_bytes c.args.text.now)) (tape (view_of new.self.joint.client) (string_bytes new.text))
+    let halted = halts_cut (tape (view_of c.next_piece.new.self.joint.client) (string_bytes c.args.text.now))
+    (tape (view_of new.self.joint.client) (string_bytes new.text))
     c.in_err-cut-in-None.field-0.0 c.in_err-cut-in-None.ensures.halt in
     search rules
 
 pub returns-in_ok-outputs-in-Some-clause-flows : goal.returns-in_ok-outputs-in-Some-clause-flows
 returns-in_ok-outputs-in-Some-clause-flows g c =
     let know = flow_of g.S.Read.remaining g.S.Write.contents in
-    let read = subst (λ (p : Option (Vec ℕ g.row.A.Denot)). Flows (know c.args.self.now.joint) (holding (piece_bytes p) (know c.next_piece.new.self.joint))) c.in-Some.is c.in_ok-bytes.ensures.flows in
+    let read = subst (λ (p : Option (Vec ℕ g.row.A.Denot)). Flows (know c.args.self.now.joint)
+    (holding (piece_bytes p) (know c.next_piece.new.self.joint))) c.in-Some.is c.in_ok-bytes.ensures.flows in
     flow_after _ _ _ read c.in_ok-outputs-in-Some.ensures.flows
 
 pub returns-in_ok-cut-in-None-clause-flows : goal.returns-in_ok-cut-in-None-clause-flows
 returns-in_ok-cut-in-None-clause-flows g c =
     let know = flow_of g.S.Read.remaining g.S.Write.contents in
-    let read = subst (λ (p : Option (Vec ℕ g.row.A.Denot)). Flows (know c.args.self.now.joint) (holding (piece_bytes p) (know c.next_piece.new.self.joint))) c.in-None.is c.in_ok-bytes.ensures.flows in
+    let read = subst (λ (p : Option (Vec ℕ g.row.A.Denot)). Flows (know c.args.self.now.joint)
+    (holding (piece_bytes p) (know c.next_piece.new.self.joint))) c.in-None.is c.in_ok-bytes.ensures.flows in
     flow_after _ _ _ read c.in_ok-cut-in-None.ensures.flows

@@ -17,7 +17,8 @@ returns-clause-ok g c =
     let new = c.settle.new in
     let after = (tape (view_of began.self.joint.client) (string_bytes began.text)) in
     let same : view_of c.hold.new.self.client ≡ view_of ended.self.joint.client = ap (λ (t : Trail). t.view) c.hold.ensures.trail in
-    connects (tape (view_of c.args.self.now.joint.client) (string_bytes c.args.text.now)) (tape (view_of ended.self.joint.client) (string_bytes ended.text)) after
+    connects (tape (view_of c.args.self.now.joint.client) (string_bytes c.args.text.now))
+    (tape (view_of ended.self.joint.client) (string_bytes ended.text)) after
     (tape (view_of new.self.joint.client) (string_bytes new.text)) c.in_ok-end_if.ensures.ok
     (subst (λ (v : View). Takes (tape v (string_bytes ended.text)) Opened after) same c.in_ok-step.ensures.ok) c.in_ok-settle.ensures.ok
     c.in_ok-settle.ensures.settled
@@ -29,9 +30,11 @@ returns-in_err-step-clause-halt g c =
     let stop = c.in_err-step.field-0.0 in
     let after = (tape (view_of new.self.joint.client) (string_bytes new.text)) in
     let same : view_of c.hold.new.self.client ≡ view_of ended.self.joint.client = ap (λ (t : Trail). t.view) c.hold.ensures.trail in
-    let halted = halts_opened (tape (view_of c.args.self.now.joint.client) (string_bytes c.args.text.now)) (tape (view_of ended.self.joint.client) (string_bytes ended.text))
+    let halted = halts_opened (tape (view_of c.args.self.now.joint.client) (string_bytes c.args.text.now))
+    (tape (view_of ended.self.joint.client) (string_bytes ended.text))
     after stop c.in_ok-end_if.ensures.ok
-    (subst (λ (v : View). IfHalted (HaltsAmong (tape v (string_bytes ended.text)) (Opened ∷ Cut ∷ []) after) stop) same c.in_err-step.ensures.halt) in
+    (subst (λ (v : View). IfHalted (HaltsAmong (tape v (string_bytes ended.text)) (Opened ∷ Cut ∷ []) after) stop) same
+    c.in_err-step.ensures.halt) in
     search rules
 
 pub returns-in_err-settle-clause-halt : goal.returns-in_err-settle-clause-halt
@@ -41,11 +44,14 @@ returns-in_err-settle-clause-halt g c =
     let new = c.settle.new in
     let between = (tape (view_of began.self.joint.client) (string_bytes began.text)) in
     let same : view_of c.hold.new.self.client ≡ view_of ended.self.joint.client = ap (λ (t : Trail). t.view) c.hold.ensures.trail in
-    let halted = halts_settling (tape (view_of c.args.self.now.joint.client) (string_bytes c.args.text.now)) (tape (view_of ended.self.joint.client) (string_bytes ended.text))
+    let halted = halts_settling (tape (view_of c.args.self.now.joint.client) (string_bytes c.args.text.now))
+    (tape (view_of ended.self.joint.client) (string_bytes ended.text))
     between (tape (view_of new.self.joint.client) (string_bytes new.text)) c.in_err-settle.field-0.0 c.in_ok-end_if.ensures.ok
-    (subst (λ (v : View). Takes (tape v (string_bytes ended.text)) Opened between) same c.in_ok-step.ensures.ok) c.in_err-settle.ensures.halt in
+    (subst (λ (v : View). Takes (tape v (string_bytes ended.text)) Opened between) same c.in_ok-step.ensures.ok)
+    c.in_err-settle.ensures.halt in
     search rules
 
 pub returns-clause-flows : goal.returns-clause-flows
 returns-clause-flows g c =
-    flow_after _ _ _ c.in_ok-end_if.ensures.flows (flow_after _ _ _ c.hold.ensures.flows (flow_after _ _ _ c.in_ok-step.ensures.flows c.in_ok-settle.ensures.flows))
+    flow_after _ _ _ c.in_ok-end_if.ensures.flows
+    (flow_after _ _ _ c.hold.ensures.flows (flow_after _ _ _ c.in_ok-step.ensures.flows c.in_ok-settle.ensures.flows))

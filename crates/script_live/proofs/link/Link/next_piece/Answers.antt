@@ -10,5 +10,7 @@ returns-clause-view g c = ap (λ (t : Trail). t.view) c.read-brought.ensures.tra
 pub returns-clause-flows : goal.returns-clause-flows
 returns-clause-flows g c =
     let know = flow_of g.S.Read.remaining g.S.Write.contents in
-    ok_read c.piece_of.result c.read-brought.result (know c.args.self.now.joint) (know c.read-brought.new.self) refl (ap (λ (t : Trail). t.view) c.read-brought.ensures.trail)
-    (ap (λ (t : Trail). t.is_open) c.read-brought.ensures.trail) c.piece_of.ensures c.read-brought.ensures.whole c.read-brought.ensures.apart
+    ok_read c.piece_of.result c.read-brought.result (know c.args.self.now.joint) (know c.read-brought.new.self) refl
+    (ap (λ (t : Trail). t.view) c.read-brought.ensures.trail)
+    (ap (λ (t : Trail). t.is_open) c.read-brought.ensures.trail) c.piece_of.ensures c.read-brought.ensures.whole
+    c.read-brought.ensures.apart

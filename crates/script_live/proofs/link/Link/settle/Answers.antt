@@ -4,7 +4,10 @@ use Rattle.script_live.proofs.HeardLemmas.{behind, cut_settles, ended, halts_beh
 use Rattle.script_live.proofs.link.Link.settle.Goals as goal
 
 pub loop-preserved : goal.loop-preserved
-loop-preserved g c = record { brings = behind _ _ _ c.loop.invariant.brings c.in_ok-bring.ensures.ok; flows = flow_after _ _ _ c.loop.invariant.flows c.in_ok-bring.ensures.flows }
+loop-preserved g c = record {
+  brings = behind _ _ _ c.loop.invariant.brings c.in_ok-bring.ensures.ok;
+  flows = flow_after _ _ _ c.loop.invariant.flows c.in_ok-bring.ensures.flows;
+}
 
 pub returns-clause-ok : goal.returns-clause-ok
 returns-clause-ok g c = ended _ _ _ c.loop.invariant.brings c.in_ok-cut.ensures.ok

@@ -7,6 +7,8 @@ use Rattle.script_live.proofs.link.Link.settle.Given as goal
 -- what the connection has brought so far
 abbrev pub invariant-loop : goal.invariant-loop
 invariant-loop g l = record {
-  brings : Brings (tape (view_of l.initial.self.joint.client) (string_bytes l.initial.text)) (tape (view_of l.self.joint.client) (string_bytes l.text));
-  flows : Flows (flow_of g.S.Read.remaining g.S.Write.contents l.initial.self.joint) (flow_of g.S.Read.remaining g.S.Write.contents l.self.joint);
+  brings : Brings (tape (view_of l.initial.self.joint.client) (string_bytes l.initial.text))
+      (tape (view_of l.self.joint.client) (string_bytes l.text));
+  flows : Flows (flow_of g.S.Read.remaining g.S.Write.contents l.initial.self.joint)
+      (flow_of g.S.Read.remaining g.S.Write.contents l.self.joint);
 }

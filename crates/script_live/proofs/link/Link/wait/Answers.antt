@@ -4,7 +4,10 @@ use Rattle.script_live.proofs.HeardLemmas.{behind, ended, halts_behind, halts_en
 use Rattle.script_live.proofs.link.Link.wait.Goals as goal
 
 pub loop-preserved : goal.loop-preserved
-loop-preserved g c = record { brings = behind _ _ _ c.loop.invariant.brings c.in_ok-outputs.ensures.ok; flows = flow_after _ _ _ c.loop.invariant.flows c.in_ok-outputs.ensures.flows }
+loop-preserved g c = record {
+  brings = behind _ _ _ c.loop.invariant.brings c.in_ok-outputs.ensures.ok;
+  flows = flow_after _ _ _ c.loop.invariant.flows c.in_ok-outputs.ensures.flows;
+}
 
 pub returns-clause-ok : goal.returns-clause-ok
 returns-clause-ok g c = ended _ _ _ c.loop.invariant.brings c.in_ok-cut.ensures.ok

@@ -14,6 +14,8 @@ returns g c =
     let old = c.args.self.now in
     let history = c.replace-history in
     let asked : to_z w32 (of_z w32 c.args.timeout) ≡ c.args.timeout = omega (arith, ints) in
-    let made = made_so (scene_of c.new-rig.result) (to_z w32 (of_z w32 c.args.timeout)) c.args.timeout history.result old.story.history c.new-rig.ensures.first asked history.ensures.value in
+    let made = made_so (scene_of c.new-rig.result) (to_z w32 (of_z w32 c.args.timeout)) c.args.timeout history.result old.story.history
+    c.new-rig.ensures.first asked history.ensures.value in
     let resumable = subst (λ (timeout : ℤ). IsResumable (new_start (unsigned_abs timeout))) asked c.new-rig.ensures.resumable in
-    rw c.replace.ensures.after (begins c.args.timeout (story.position_of old.story) (option_map scene_of old.rig) (scene_of c.new-rig.result) c.requires.first c.requires.above resumable made)
+    rw c.replace.ensures.after (begins c.args.timeout (story.position_of old.story) (option_map scene_of old.rig)
+    (scene_of c.new-rig.result) c.requires.first c.requires.above resumable made)

@@ -9,7 +9,8 @@ pub returns-clause-ok : goal.returns-clause-ok
 returns-clause-ok g c =
     let old = c.args.self.now in
     let at = story.position_of old.story in
-    told c.args.line.now at (story.position_of c.read.new.self) (option_map scene_of old.rig) c.read.result c.requires (c.read.ensures.ok at refl)
+    told c.args.line.now at (story.position_of c.read.new.self) (option_map scene_of old.rig) c.read.result c.requires
+    (c.read.ensures.ok at refl)
 
 pub returns-clause-err : goal.returns-clause-err
 returns-clause-err g c =

@@ -16,10 +16,14 @@ returns g c =
     let told = c.in_ok-push_paths.ensures.told in
     record {
       each = map string_bytes rig.called.keys;
-      are = record { ascending = sorted_map string_bytes (slice_cmp nat_cmp) rig.called.keys c.in_ok-push_paths.ensures.ordered; same = same_members rig.called };
+      are = record {
+        ascending = sorted_map string_bytes (slice_cmp nat_cmp) rig.called.keys c.in_ok-push_paths.ensures.ordered;
+        same = same_members rig.called;
+      };
       told =
           subst (λ text. TellsPaths (view_of rig.client) rig.bench.history (map string_bytes rig.called.keys) text)
           (sym (told.2 ∙ ap (λ text. text ++ told.0) c.new-text.ensures.bytes))
-          (subst (λ history. TellsPaths (view_of rig.client) history (map string_bytes rig.called.keys) told.0) c.history-history.ensures told.1);
+          (subst (λ history. TellsPaths (view_of rig.client) history (map string_bytes rig.called.keys) told.0)
+          c.history-history.ensures told.1);
       history = subst (λ history. IsHistory (history_of history)) c.history-history.ensures c.last_zxid-last.ensures.history;
     }

@@ -16,7 +16,8 @@ returns-clause-ok g c =
     let gone : c.disconnect.new.self ≡ disconnected old.bench = search rules in
     let made = subst (λ timeout. view_of client ≡ view_at (saved_start timeout c.saved.result) []) asked c.in_ok-client.ensures.view in
     let resumable = subst (λ timeout. IsResumable (saved_start timeout c.saved.result)) asked c.in_ok-client.ensures.resumable in (
-      (rw c.replace.ensures.after (rejoins (scene_of old) (view_of client) c.disconnect.new.self c.saved.result c.saved.ensures.tells made gone)),
+      (rw c.replace.ensures.after
+          (rejoins (scene_of old) (view_of client) c.disconnect.new.self c.saved.result c.saved.ensures.tells made gone)),
       c.new.ensures.bytes,
       (resumes old.timeout (view_of old.client) c.saved.result c.saved.ensures.tells resumable),
     )

@@ -11,5 +11,6 @@ returns-clause-ok g c =
     let none : view_of_player c.args.self.now ≡ None = nothing_seen view_of c.args.self.now.client absent in
     let client = c.in_ok-make_client.field-0 in
     rw c.new.ensures.bytes
-    (made c.args.word (map (λ w. w.now) c.args.words.now) (view_of_player c.args.self.now) (Some (view_of client)) (begin_value_of c.in_ok-line.line) (view_of client)
+    (made c.args.word (map (λ w. w.now) c.args.words.now) (view_of_player c.args.self.now) (Some (view_of client))
+    (begin_value_of c.in_ok-line.line) (view_of client)
     none refl c.in_ok-line.ensures.value c.in_ok-make_client.ensures)

@@ -6,7 +6,8 @@ use Rattle.script_replay.proofs.player.PlayerLineReader.read.Goals as goal
 pub returns-in-Ok-clause-ok : goal.returns-in-Ok-clause-ok
 returns-in-Ok-clause-ok g c = λ old at.
     let told = c.in-Ok.ensures in
-    moved c.args.line.now old (view_of_player c.args.self.now) (view_of_player c.read_line.new.self) (string_bytes c.in-Ok.text) told.ok told.stands at.0 at.1
+    moved c.args.line.now old (view_of_player c.args.self.now) (view_of_player c.read_line.new.self)
+    (string_bytes c.in-Ok.text) told.ok told.stands at.0 at.1
 
 pub returns-in-Err-clause-err : goal.returns-in-Err-clause-err
 returns-in-Err-clause-err g c = λ old at.

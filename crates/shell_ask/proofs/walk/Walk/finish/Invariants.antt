@@ -5,4 +5,5 @@ use Rattle.shell_ask.proofs.walk.Walk.finish.Given as goal
 
 -- it has come here from its beginning
 abbrev pub invariant-loop-ticket : goal.invariant-loop-ticket
-invariant-loop-ticket g l = Reaches l.bounds (stage_of (course_of l.fn.driver.engine None) l.fn.self) (stage_of (course_of l.driver.engine None) l.self)
+invariant-loop-ticket g l =
+    Reaches l.bounds (stage_of (course_of l.fn.driver.engine None) l.fn.self) (stage_of (course_of l.driver.engine None) l.self)

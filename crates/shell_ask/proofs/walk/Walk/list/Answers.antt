@@ -17,7 +17,8 @@ returns-then-is_done-clause-some g c =
     let heard = heard_of bounds old spot coming last c.requires.room c.requires.listed c.in_ok-came.ensures in
     let done = c.is_done.ensures.done c.if-is_done.true in
     IfOk-weaker c.open.result _ _
-    (λ ending found. IfSome_then ending found (λ e m. (misnamed bounds old spot coming last m.0 m.1 (ending_view e) heard done m.2 m.3 m.4 m.5, m.6))) c.open.ensures.some
+    (λ ending found. IfSome_then ending found
+    (λ e m. (misnamed bounds old spot coming last m.0 m.1 (ending_view e) heard done m.2 m.3 m.4 m.5, m.6))) c.open.ensures.some
 
 pub returns-then-is_done-clause-none : goal.returns-then-is_done-clause-none
 returns-then-is_done-clause-none g c =
@@ -29,7 +30,8 @@ returns-then-is_done-clause-none g c =
     let heard = heard_of bounds old spot coming last c.requires.room c.requires.listed c.in_ok-came.ensures in
     let done = c.is_done.ensures.done c.if-is_done.true in
     IfOk-weaker c.open.result _ _
-    (λ ending found. if_none ending found (λ m. prints_node spot old.waiting coming last m.0 heard done m.1 (refl, m.2, m.3))) c.open.ensures.none
+    (λ ending found. if_none ending found (λ m. prints_node spot old.waiting coming last m.0 heard done m.1 (refl, m.2, m.3)))
+    c.open.ensures.none
 
 pub returns-then-is_gone-clause-none : goal.returns-then-is_gone-clause-none
 returns-then-is_gone-clause-none g c =
@@ -37,7 +39,8 @@ returns-then-is_gone-clause-none g c =
     let spot = spot_view c.args.spot in
     let coming = came_view c.in_ok-came.came in
     let last = course_of c.listed.new.driver.engine None in
-    leaves_out spot old.waiting coming last (heard_of c.args.bounds old spot coming last c.requires.room c.requires.listed c.in_ok-came.ensures)
+    leaves_out spot old.waiting coming last
+    (heard_of c.args.bounds old spot coming last c.requires.room c.requires.listed c.in_ok-came.ensures)
     (c.is_gone.ensures.gone c.if-is_gone.true) (refl, refl, refl)
 
 pub returns-clause-some : goal.returns-clause-some
@@ -46,7 +49,8 @@ returns-clause-some g c =
     let spot = spot_view c.args.spot in
     let coming = came_view c.in_ok-came.came in
     let last = course_of c.listed.new.driver.engine None in (
-      stopped c.args.bounds old spot coming last (heard_of c.args.bounds old spot coming last c.requires.room c.requires.listed c.in_ok-came.ensures)
+      stopped c.args.bounds old spot coming last
+          (heard_of c.args.bounds old spot coming last c.requires.room c.requires.listed c.in_ok-came.ensures)
           (c.is_done.ensures.undone c.if-is_done.false) (c.is_gone.ensures.stays c.if-is_gone.false),
       refl,
     )

@@ -15,7 +15,10 @@ returns g c =
     let olds = old.watched.items in
     let one = c.in-Ok-watched_of.one in
     let more : c.push.new.self.items ≡ olds ++ one ∷ [] = search rules in
-    ok_follows g.D.Stream.Read.remaining g.D.Stream.Write.contents c.follow.result c.args.is_found (aim_of c.args.subject.now) first last olds c.push.new.self.items one old.is_accepted old.style old.trees c.in-Some.next
-    c.in-Ok-watched_of.ensures.aim c.in-Ok-watched_of.ensures.words c.in-Ok-watched_of.ensures.ticket c.in-Ok-watched_of.ensures.found more c.in-Some.ensures.1
-    (subst (λ (p : Text). OnOk c.follow.result (Hands (happens.Follow old.trees.ticket c.args.subject.now.side p) (course_of first None) (course_of last None))) c.in-Ok.ensures c.follow.ensures.hands)
+    ok_follows g.D.Stream.Read.remaining g.D.Stream.Write.contents c.follow.result c.args.is_found
+    (aim_of c.args.subject.now) first last olds c.push.new.self.items one old.is_accepted old.style old.trees c.in-Some.next
+    c.in-Ok-watched_of.ensures.aim c.in-Ok-watched_of.ensures.words c.in-Ok-watched_of.ensures.ticket c.in-Ok-watched_of.ensures.found
+    more c.in-Some.ensures.1
+    (subst (λ (p : Text). OnOk c.follow.result (Hands (happens.Follow old.trees.ticket c.args.subject.now.side p) (course_of first None)
+    (course_of last None))) c.in-Ok.ensures c.follow.ensures.hands)
     c.follow.ensures.flows

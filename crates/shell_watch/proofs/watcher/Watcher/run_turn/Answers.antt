@@ -19,14 +19,23 @@ returns-clause-ok g c =
     let noted = c.note.new.self in
     let style = c.args.self.now.style in
     let same : noted.style ≡ style = c.note.ensures.style ∙ c.printed_turn.ensures.style ∙ c.elapsed-ms.ensures.style in
-    let tells : TellsTurn style turn (view_of stamped.driver.engine.agent.asker.follower.client) (told_by stamped.driver.engine.waiting.items) stamped.watched.items told.watched.items text =
+    let tells : TellsTurn style turn (view_of stamped.driver.engine.agent.asker.follower.client)
+    (told_by stamped.driver.engine.waiting.items) stamped.watched.items told.watched.items text =
     rw c.elapsed-ms.ensures.style at c.in_ok-text.ensures.tells in
     let trees = c.args.self.now.trees in
     let grown : noted.trees ≡ trees = c.note.ensures.trees ∙ c.printed_turn.ensures.trees ∙ c.elapsed-ms.ensures.trees in
-    subst (λ (t : Trees g.row.A.Denot). Heard c.args.until c.is_come.result (stand_of g.D.Stream.Read.remaining g.D.Stream.Write.contents first c.args.self.now.watched.items c.args.self.now.is_accepted style trees) text (stand_of g.D.Stream.Read.remaining g.D.Stream.Write.contents noted.driver.engine noted.watched.items noted.is_accepted noted.style t)) (sym grown)
-    (subst (λ (s : Style). Heard c.args.until c.is_come.result (stand_of g.D.Stream.Read.remaining g.D.Stream.Write.contents first c.args.self.now.watched.items c.args.self.now.is_accepted style trees) text (stand_of g.D.Stream.Read.remaining g.D.Stream.Write.contents noted.driver.engine noted.watched.items noted.is_accepted s trees)) (sym same)
-    (heard_so g.D.Stream.Read.remaining g.D.Stream.Write.contents c.args.until c.is_come.result turn first between noted.driver.engine c.args.self.now.watched.items noted.watched.items c.args.self.now.is_accepted noted.is_accepted style trees text
-    (c.note.ensures.engine ∙ c.printed_turn.ensures.engine ∙ c.elapsed-ms.ensures.engine) c.in_ok-turn.ensures.goes c.in_ok-turn.ensures.flows
-    (same_tells style turn text between stamped.driver.engine c.args.self.now.watched.items stamped.watched.items told.watched.items noted.watched.items c.elapsed-ms.ensures.engine
+    subst (λ (t : Trees g.row.A.Denot). Heard c.args.until c.is_come.result (stand_of g.D.Stream.Read.remaining g.D.Stream.Write.contents
+    first c.args.self.now.watched.items c.args.self.now.is_accepted style trees) text (stand_of g.D.Stream.Read.remaining
+    g.D.Stream.Write.contents noted.driver.engine noted.watched.items noted.is_accepted noted.style t)) (sym grown)
+    (subst (λ (s : Style). Heard c.args.until c.is_come.result (stand_of g.D.Stream.Read.remaining g.D.Stream.Write.contents first
+    c.args.self.now.watched.items c.args.self.now.is_accepted style trees) text (stand_of g.D.Stream.Read.remaining
+    g.D.Stream.Write.contents noted.driver.engine noted.watched.items noted.is_accepted s trees)) (sym same)
+    (heard_so g.D.Stream.Read.remaining g.D.Stream.Write.contents c.args.until c.is_come.result turn first between noted.driver.engine
+    c.args.self.now.watched.items noted.watched.items c.args.self.now.is_accepted noted.is_accepted style trees text
+    (c.note.ensures.engine ∙ c.printed_turn.ensures.engine ∙ c.elapsed-ms.ensures.engine) c.in_ok-turn.ensures.goes
+    c.in_ok-turn.ensures.flows
+    (same_tells style turn text between stamped.driver.engine c.args.self.now.watched.items stamped.watched.items told.watched.items
+    noted.watched.items c.elapsed-ms.ensures.engine
     (ap (λ w. w.items) c.elapsed-ms.ensures.watched) (ap (λ w. w.items) c.note.ensures.watched) tells)
-    (c.note.ensures.accepted ∙ ap (λ b. b || accepts turn) (c.printed_turn.ensures.accepted ∙ c.elapsed-ms.ensures.accepted)) c.is_come.ensures c.in_ok-turn.ensures.come c.in_ok-turn.ensures.none))
+    (c.note.ensures.accepted ∙ ap (λ b. b || accepts turn) (c.printed_turn.ensures.accepted ∙ c.elapsed-ms.ensures.accepted))
+    c.is_come.ensures c.in_ok-turn.ensures.come c.in_ok-turn.ensures.none))

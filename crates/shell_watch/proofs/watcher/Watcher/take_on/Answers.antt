@@ -11,9 +11,11 @@ returns-then-is_settled g c =
     let view = view_of old.driver.engine.agent.asker.follower.client in
     let aim = aim_of c.args.subject.now in
     let is : c.is_settled.result ≡ is_settled view aim old.watched.items =
-    c.is_settled.ensures ∙ ap (λ v. is_settled v aim c.as_slice.result.now) c.client-client.ensures ∙ ap (λ ws. is_settled view aim ws) c.as_slice.ensures.value in
+    c.is_settled.ensures ∙ ap (λ v. is_settled v aim c.as_slice.result.now) c.client-client.ensures
+    ∙ ap (λ ws. is_settled view aim ws) c.as_slice.ensures.value in
     settled (is_settled view aim old.watched.items) aim
-    (stand_of g.D.Stream.Read.remaining g.D.Stream.Write.contents old.driver.engine old.watched.items old.is_accepted old.style old.trees) (sym is ∙ c.if-is_settled.true)
+    (stand_of g.D.Stream.Read.remaining g.D.Stream.Write.contents old.driver.engine old.watched.items old.is_accepted old.style old.trees)
+    (sym is ∙ c.if-is_settled.true)
 
 pub returns : goal.returns
 returns g c =
@@ -22,7 +24,10 @@ returns g c =
     let view = view_of old.driver.engine.agent.asker.follower.client in
     let aim = aim_of c.args.subject.now in
     let is : c.is_settled.result ≡ is_settled view aim old.watched.items =
-    c.is_settled.ensures ∙ ap (λ v. is_settled v aim c.as_slice.result.now) c.client-client.ensures ∙ ap (λ ws. is_settled view aim ws) c.as_slice.ensures.value in
+    c.is_settled.ensures ∙ ap (λ v. is_settled v aim c.as_slice.result.now) c.client-client.ensures
+    ∙ ap (λ ws. is_settled view aim ws) c.as_slice.ensures.value in
     ok_taken c.follow.result (is_settled view aim old.watched.items) aim
-    (stand_of g.D.Stream.Read.remaining g.D.Stream.Write.contents old.driver.engine old.watched.items old.is_accepted old.style old.trees) (stand_of g.D.Stream.Read.remaining g.D.Stream.Write.contents new.driver.engine new.watched.items new.is_accepted new.style new.trees)
+    (stand_of g.D.Stream.Read.remaining g.D.Stream.Write.contents old.driver.engine old.watched.items old.is_accepted old.style old.trees)
+    (stand_of g.D.Stream.Read.remaining g.D.Stream.Write.contents new.driver.engine new.watched.items
+    new.is_accepted new.style new.trees)
     (sym is ∙ c.if-is_settled.false) c.follow.ensures

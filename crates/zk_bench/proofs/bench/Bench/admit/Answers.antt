@@ -25,10 +25,12 @@ returns-then-self-clause-admits g c = λ seen xid ready opening last up.
     let new = linked_of (record c.self.inside.connection { phase = Ended; output = c.send_expired.new.out }) in
     let held : to_z w64 (of_z w64 c.zxid.result) ≡ c.zxid.result = search rules in
     let asked : to_z w64 (of_z w64 c.args.request.now.last_zxid_seen) ≡ c.args.request.now.last_zxid_seen = search rules in
-    let low = not_ahead (zxid_held (history_of old.history) (slice_index old.taken old.server)) seen _ _ (held ∙ c.zxid.ensures ready) (asked ∙ last) c.if-zxid-request.false in
+    let low = not_ahead (zxid_held (history_of old.history) (slice_index old.taken old.server)) seen _ _ (held ∙ c.zxid.ensures ready)
+    (asked ∙ last) c.if-zxid-request.false in
     subst (λ (s : Served). AnswersOne (Connect seen) xid (shown_of s) (shown_of (record b { connection = new }))) c.self.view_is
     (expires_so b new seen xid (subst (λ (s : Served). s.connection.phase ≡ Opening) (sym c.self.view_is) opening)
-    (subst (λ (s : Served). seen ≤ zxid_held (history_of s.history) (slice_index s.taken s.server)) (sym c.self.view_is) low) c.in_ok-send_expired.ensures.sends refl)
+    (subst (λ (s : Served). seen ≤ zxid_held (history_of s.history) (slice_index s.taken s.server)) (sym c.self.view_is) low)
+    c.in_ok-send_expired.ensures.sends refl)
 
 pub returns-clause-admits : goal.returns-clause-admits
 returns-clause-admits g c = λ seen xid ready opening last up.
@@ -38,10 +40,12 @@ returns-clause-admits g c = λ seen xid ready opening last up.
     let ranged : to_z w32 (of_z w32 c.args.request.now.time_out) ≡ c.args.request.now.time_out = search rules in
     let held : to_z w64 (of_z w64 c.zxid.result) ≡ c.zxid.result = search rules in
     let asked : to_z w64 (of_z w64 c.args.request.now.last_zxid_seen) ≡ c.args.request.now.last_zxid_seen = search rules in
-    let low = not_ahead (zxid_held (history_of old.history) (slice_index old.taken old.server)) seen _ _ (held ∙ c.zxid.ensures ready) (asked ∙ last) c.if-zxid-request.false in
+    let low = not_ahead (zxid_held (history_of old.history) (slice_index old.taken old.server)) seen _ _ (held ∙ c.zxid.ensures ready)
+    (asked ∙ last) c.if-zxid-request.false in
     subst (λ (s : Served). AnswersOne (Connect seen) xid (shown_of s) (shown_of (record b { connection = new }))) c.self.view_is
     (admits_so b new seen xid (subst (λ (s : Served). s.connection.phase ≡ Opening) (sym c.self.view_is) opening)
-    (subst (λ (s : Served). seen ≤ zxid_held (history_of s.history) (slice_index s.taken s.server)) (sym c.self.view_is) low) (c.in_ok-send_accepted.ensures.sends (ap (int_lt (pos 0)) ranged ∙ up)) refl)
+    (subst (λ (s : Served). seen ≤ zxid_held (history_of s.history) (slice_index s.taken s.server)) (sym c.self.view_is) low)
+    (c.in_ok-send_accepted.ensures.sends (ap (int_lt (pos 0)) ranged ∙ up)) refl)
 
 pub returns-then-zxid-request-clause-stays : goal.returns-then-zxid-request-clause-stays
 returns-then-zxid-request-clause-stays g c = λ seen ready last low over.

@@ -66,18 +66,21 @@ returns-in_err-pong-in-Ping-clause-declines g c = λ asked has asks.
     errs_so c.from_residual.result _ _ c.from_residual.ensures.1
     (λ refusal same. subst (Declines asked c.args.xid old new) (sym same)
     (stops_by asked c.args.xid old new _
-    (λ over. pings_asked (λ (one : Wanted). ProcessesOne one c.args.xid (shown_of old) (shown_of (ended new))) asked (subst (λ r. Asks r asked) c.in-Ping.is asks)
+    (λ over. pings_asked (λ (one : Wanted). ProcessesOne one c.args.xid (shown_of old) (shown_of (ended new))) asked
+    (subst (λ r. Asks r asked) c.in-Ping.is asks)
     (c.in_err-pong-in-Ping.ensures.ends c.args.xid has (ap Err over)))))
 
 pub returns-in_ok-pong-in-Ping-clause-answers : goal.returns-in_ok-pong-in-Ping-clause-answers
 returns-in_ok-pong-in-Ping-clause-answers g c = λ asked has asks.
-    pings_asked (λ (one : Wanted). AnswersOne one c.args.xid (shown_of c.args.self.now) (shown_of c.pong.new.self)) asked (subst (λ r. Asks r asked) c.in-Ping.is asks) (c.in_ok-pong-in-Ping.ensures.answers c.args.xid has)
+    pings_asked (λ (one : Wanted). AnswersOne one c.args.xid (shown_of c.args.self.now) (shown_of c.pong.new.self)) asked
+    (subst (λ r. Asks r asked) c.in-Ping.is asks) (c.in_ok-pong-in-Ping.ensures.answers c.args.xid has)
 
 pub returns-in_default-clause-answers : goal.returns-in_default-clause-answers
 returns-in_default-clause-answers g c = λ asked has asks.
     let other = c.in_default in
     let xid : to_z w32 (of_z w32 c.args.xid) ≡ c.args.xid = search rules in
-    let look = look_if c.args.request asked asks other.not-Create other.not-SetData other.not-Delete other.not-Ping other.not-CloseSession in
+    let look =
+    look_if c.args.request asked asks other.not-Create other.not-SetData other.not-Delete other.not-Ping other.not-CloseSession in
     subst (λ (x : ℤ). OnOk c.read-outcome.result (AnswersOne asked x (shown_of c.args.self.now) (shown_of c.read-outcome.new.self))) xid
     (c.read-outcome.ensures.answers asked has look asks)
 
@@ -94,4 +97,5 @@ returns-in-SetData-clause-stays g c = λ asked has asks answerable fits.
 pub returns-in_default-clause-stays : goal.returns-in_default-clause-stays
 returns-in_default-clause-stays g c = λ asked has asks answerable fits.
     let other = c.in_default in
-    c.read-outcome.ensures.stays asked has (look_if c.args.request asked asks other.not-Create other.not-SetData other.not-Delete other.not-Ping other.not-CloseSession) asks answerable
+    c.read-outcome.ensures.stays asked has (look_if c.args.request asked asks other.not-Create other.not-SetData other.not-Delete
+    other.not-Ping other.not-CloseSession) asks answerable

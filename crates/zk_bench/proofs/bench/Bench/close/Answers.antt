@@ -15,7 +15,10 @@ returns-clause-answers g c = λ has.
     let b = bench_of c.self.inside in
     let done = c.in_ok-send_err.ensures in
     let xid : to_z w32 (of_z w32 c.args.xid) ≡ c.args.xid = search rules in
-    subst (λ (n : Served). AnswersOne (Ask Close) c.args.xid (shown_of old) (shown_of (record n { connection = record n.connection { phase = Ended } }))) (sym c.self.view_is)
-    (subst (λ (n : Served). AnswersOne (Ask Close) c.args.xid (shown_of old) (shown_of (record n { connection = record n.connection { phase = Ended } }))) (sym done.only)
+    subst (λ (n : Served). AnswersOne (Ask Close) c.args.xid (shown_of old)
+    (shown_of (record n { connection = record n.connection { phase = Ended } }))) (sym c.self.view_is)
+    (subst (λ (n : Served). AnswersOne (Ask Close) c.args.xid (shown_of old)
+    (shown_of (record n { connection = record n.connection { phase = Ended } }))) (sym done.only)
     (closes_so old c.send_err.new.self.connection.output c.args.xid has
-    (subst (λ (x : ℤ). SendsHeader (x, (pos (zxid_of old), pos 0)) old.connection.output c.send_err.new.self.connection.output) xid (done.sends has.ready))))
+    (subst (λ (x : ℤ). SendsHeader (x, (pos (zxid_of old), pos 0)) old.connection.output c.send_err.new.self.connection.output) xid
+    (done.sends has.ready))))

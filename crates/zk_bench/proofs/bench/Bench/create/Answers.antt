@@ -21,7 +21,8 @@ returns-in-Err-clause-declines g c = λ asked has asks.
 
 -- what holds of the create that is made holds of the one that was asked for
 as_asked : (g : _) (c : goal.After-drop-2 g) (P : Request → ℤ → Type 0) (asked : Request) → Asks (requests.Create c.args.request) asked
-    → ((number : ℕ) → number ≤ 3 → to_z w32 (of_z w32 c.args.request.flags) ≡ pos number → P (Ask (Create c.text_of.result.now c.args.request.bytes number)) (to_z w32 (of_z w32 c.args.xid))) → P asked c.args.xid
+    → ((number : ℕ) → number ≤ 3 → to_z w32 (of_z w32 c.args.request.flags) ≡ pos number
+    → P (Ask (Create c.text_of.result.now c.args.request.bytes number)) (to_z w32 (of_z w32 c.args.xid))) → P asked c.args.xid
 as_asked g c P asked asks made =
     let r = c.args.request in
     let xid : to_z w32 (of_z w32 c.args.xid) ≡ c.args.xid = search rules in
@@ -39,8 +40,10 @@ returns-clause-answers g c = λ asked has asks.
     let new = c.make-outcome.new.self in
     let more = c.mode_caught_up.ensures.has has in
     as_asked g c (λ one xid. OnOk c.make-outcome.result (AnswersOne one xid (shown_of old) (shown_of new))) asked asks
-    (λ number low flags. ok_so c.make-outcome.result _ _ (c.make-outcome.ensures.answers number more (mode_is (to_z w32 (of_z w32 c.args.request.flags)) number _ _ low flags c.in-Ok.ensures.mode))
-    (λ done. processes_then (Ask (Create c.text_of.result.now c.args.request.bytes number)) (to_z w32 (of_z w32 c.args.xid)) old mid new has more (c.in-Ok.ensures.takes has) done))
+    (λ number low flags. ok_so c.make-outcome.result _ _ (c.make-outcome.ensures.answers number more
+    (mode_is (to_z w32 (of_z w32 c.args.request.flags)) number _ _ low flags c.in-Ok.ensures.mode))
+    (λ done. processes_then (Ask (Create c.text_of.result.now c.args.request.bytes number))
+    (to_z w32 (of_z w32 c.args.xid)) old mid new has more (c.in-Ok.ensures.takes has) done))
 
 pub returns-clause-declines : goal.returns-clause-declines
 returns-clause-declines g c = λ asked has asks.
@@ -51,11 +54,13 @@ returns-clause-declines g c = λ asked has asks.
     (λ number low flags.
     let more = c.mode_caught_up.ensures.has has in
     let one = Create c.text_of.result.now c.args.request.bytes number in
-    err_so c.make-outcome.result (Declines (Ask one) (to_z w32 (of_z w32 c.args.xid)) mid new) (Declines (Ask one) (to_z w32 (of_z w32 c.args.xid)) old new) (c.make-outcome.ensures.declines number more)
+    err_so c.make-outcome.result (Declines (Ask one) (to_z w32 (of_z w32 c.args.xid)) mid new)
+    (Declines (Ask one) (to_z w32 (of_z w32 c.args.xid)) old new) (c.make-outcome.ensures.declines number more)
     (λ refusal d. declines_then one (to_z w32 (of_z w32 c.args.xid)) old mid new refusal has more (c.in-Ok.ensures.takes has) d))
 
 pub returns-in-Err-clause-stays : goal.returns-in-Err-clause-stays
 returns-in-Err-clause-stays g c = λ asked asks small over.
     let stop : c.in-Err.stop ≡ stops.End = cc in
     let flagged : to_z w32 (of_z w32 c.args.request.flags) ≡ c.args.request.flags = search rules in
-    creates_asked (λ (one : Request). ⊥) c.args.request asked asks (λ text number is at flags low. c.in-Err.ensures.stays number (flagged ∙ flags) low (ap Err stop))
+    creates_asked (λ (one : Request). ⊥) c.args.request asked asks
+    (λ text number is at flags low. c.in-Err.ensures.stays number (flagged ∙ flags) low (ap Err stop))

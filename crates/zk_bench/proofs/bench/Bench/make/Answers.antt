@@ -23,11 +23,13 @@ returns-in_err-made-clause-declines g c = λ number has.
     let old = c.args.self.now in
     let one = Create c.args.text.now c.args.bytes number in
     errs_so c.from_residual.result _ _ c.from_residual.ensures.1
-    (λ refusal is. declines_unmade one c.args.xid old old refusal tt has has (unmade_same old refusal has (subst IsAnswer (sym is) c.in_err-made.ensures.refused)))
+    (λ refusal is. declines_unmade one c.args.xid old old refusal tt has has
+    (unmade_same old refusal has (subst IsAnswer (sym is) c.in_err-made.ensures.refused)))
 
 pub returns-in-Err-clause-declines : goal.returns-in-Err-clause-declines
 returns-in-Err-clause-declines g c = λ number has.
-    declines_unmade (Create c.args.text.now c.args.bytes number) c.args.xid c.args.self.now c.write.new.self c.in-Err.refusal tt has (c.write.ensures.has has) (c.in-Err.ensures.refuses has)
+    declines_unmade (Create c.args.text.now c.args.bytes number) c.args.xid c.args.self.now c.write.new.self c.in-Err.refusal tt has
+    (c.write.ensures.has has) (c.in-Err.ensures.refuses has)
 
 pub returns-in_err-outcome-clause-declines : goal.returns-in_err-outcome-clause-declines
 returns-in_err-outcome-clause-declines g c = λ number has.
@@ -38,7 +40,8 @@ returns-in_err-outcome-clause-declines g c = λ number has.
     let done = c.in_err-outcome.ensures in
     errs_so c.from_residual-in_err-outcome.result _ _ c.from_residual-in_err-outcome.ensures.1
     (λ refusal is. subst (Declines one c.args.xid old new) (sym is)
-    (stops_by one c.args.xid old new _ (λ over. ends_sending one c.args.xid old mid new has (c.write.ensures.has has) (c.in_default.ensures.takes has) done.only (done.sent (ap Err over)))))
+    (stops_by one c.args.xid old new _ (λ over. ends_sending one c.args.xid old mid new has (c.write.ensures.has has)
+    (c.in_default.ensures.takes has) done.only (done.sent (ap Err over)))))
 
 pub returns-clause-answers : goal.returns-clause-answers
 returns-clause-answers g c = λ number has same.
@@ -52,12 +55,16 @@ returns-clause-answers g c = λ number has same.
     let done = c.in_ok-outcome.ensures in
     let xid : to_z w32 (of_z w32 c.args.xid) ≡ c.args.xid = search rules in
     created_so c.args.text.now c.args.bytes number c.args.xid old mid new at owner more (c.in_default.ensures.takes has)
-    (subst (λ (b : Bool). IsMadeOf c.args.text.now b at) (sym same) (subst (λ (t : Text). IsMadeOf c.args.text.now c.args.mode.sequential t) (sym c.as_str.ensures.value) made.1))
-    (subst (λ (t : Text). HasWritten (Creates (path_of t) c.args.bytes owner) mid) (sym c.as_str.ensures.value) (subst (λ (x : model.Change). HasWritten x mid) made.0 (c.in_default.ensures.wrote has)))
-    (subst (λ (x : ℤ). Sends (x, (pos (zxid_of mid), pos 0)) create_response (Some at) mid.connection.output new.connection.output) xid (done.sends more.ready)) done.only
+    (subst (λ (b : Bool). IsMadeOf c.args.text.now b at) (sym same)
+    (subst (λ (t : Text). IsMadeOf c.args.text.now c.args.mode.sequential t) (sym c.as_str.ensures.value) made.1))
+    (subst (λ (t : Text). HasWritten (Creates (path_of t) c.args.bytes owner) mid) (sym c.as_str.ensures.value)
+    (subst (λ (x : model.Change). HasWritten x mid) made.0 (c.in_default.ensures.wrote has)))
+    (subst (λ (x : ℤ). Sends (x, (pos (zxid_of mid), pos 0)) create_response (Some at) mid.connection.output new.connection.output) xid
+    (done.sends more.ready)) done.only
 
 pub returns-in-Err-clause-stays : goal.returns-in-Err-clause-stays
-returns-in-Err-clause-stays g c = λ small. c.in-Err.ensures.stays (subst (IsAccepted (change_of c.in_ok-made.change)) c.newest.ensures.seen (c.in_ok-made.ensures.allowed small))
+returns-in-Err-clause-stays g c = λ small.
+    c.in-Err.ensures.stays (subst (IsAccepted (change_of c.in_ok-made.change)) c.newest.ensures.seen (c.in_ok-made.ensures.allowed small))
 
 pub returns-in_err-outcome-clause-stays : goal.returns-in_err-outcome-clause-stays
 returns-in_err-outcome-clause-stays g c = λ small.

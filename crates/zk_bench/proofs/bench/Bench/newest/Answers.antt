@@ -16,8 +16,10 @@ returns-clause-held g c =
     let b = bench_of c.self.inside in
     let h = history_of b.history in
     let ranged : to_z w64 (of_z w64 c.last_zxid.result) ≡ c.last_zxid.result = search rules in
-    subst (λ (s : Served). HasAll s → tree_at (history_of s.history) (natural (to_z w64 (of_z w64 c.last_zxid.result))) ≡ tree_held (history_of s.history) (slice_index s.taken s.server)) c.self.view_is
-    (λ all. ap (λ (z : ℤ). tree_at h (natural z)) (ranged ∙ c.last_zxid.ensures.value) ∙ newest_tree h (slice_index b.taken b.server) c.last_zxid.ensures.history.rising all)
+    subst (λ (s : Served). HasAll s → tree_at (history_of s.history) (natural (to_z w64 (of_z w64 c.last_zxid.result)))
+    ≡ tree_held (history_of s.history) (slice_index s.taken s.server)) c.self.view_is
+    (λ all. ap (λ (z : ℤ). tree_at h (natural z)) (ranged ∙ c.last_zxid.ensures.value)
+    ∙ newest_tree h (slice_index b.taken b.server) c.last_zxid.ensures.history.rising all)
 
 pub returns-clause-seen : goal.returns-clause-seen
 returns-clause-seen g c =

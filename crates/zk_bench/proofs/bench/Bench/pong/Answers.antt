@@ -11,4 +11,5 @@ returns-clause-answers g c = λ xid has.
     let old = c.args.self.now in
     let new = c.send_err.new.self in
     ok_so c.send_err.result _ _ (c.send_err.ensures.sends has.ready)
-    (λ s. subst (λ (n : Served). AnswersOne Ping xid (shown_of old) (shown_of n)) (sym c.send_err.ensures.only) (pongs old new.connection.output xid has s))
+    (λ s. subst (λ (n : Served). AnswersOne Ping xid (shown_of old) (shown_of n)) (sym c.send_err.ensures.only)
+    (pongs old new.connection.output xid has s))

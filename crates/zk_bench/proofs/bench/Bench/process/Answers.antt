@@ -8,9 +8,11 @@ use Rattle.zk_bench.proofs.bench.Bench.process.Goals as goal
 pub returns-clause-ready : goal.returns-clause-ready
 returns-clause-ready g c = λ ready.
     let mid = c.process_next-outcome.new.self in
-    let up : is_open c.args.self.now.connection.phase ≡ true = ap (λ (s : Served). is_open s.connection.phase) (sym c.self.view_is) ∙ sym c.is_open.ensures ∙ c.if-not-is_open.false in
+    let up : is_open c.args.self.now.connection.phase ≡ true =
+    ap (λ (s : Served). is_open s.connection.phase) (sym c.self.view_is) ∙ sym c.is_open.ensures ∙ c.if-not-is_open.false in
     let now = c.process_next-outcome.ensures.ready up ready in
-    settled IsReady c.process_next-outcome.result mid c.settle.new.self c.settle.ensures.ok c.settle.ensures.ended c.settle.ensures.lost now (ready_ended mid now) (ready_disconnected mid now)
+    settled IsReady c.process_next-outcome.result mid c.settle.new.self c.settle.ensures.ok c.settle.ensures.ended c.settle.ensures.lost now
+    (ready_ended mid now) (ready_disconnected mid now)
 
 pub returns-clause-serves : goal.returns-clause-serves
 returns-clause-serves g c = λ request xid payload rest ready up stands now.
@@ -23,13 +25,19 @@ returns-clause-serves g c = λ request xid payload rest ready up stands now.
       is = front_field payload rest old.connection.requests stands.whole stands.small;
       small = stands.small;
     }) in
-    settled_so (λ (new : Served). ProcessesFirst request xid payload (shown_of old) (shown_of new)) c.process_next-outcome.result c.settle.result mid c.settle.new.self c.settle.ensures.ok c.settle.ensures.ended c.settle.ensures.gives_up
-    (ok_so c.process_next-outcome.result _ _ (done.serves request xid payload rest ready up stands now) (λ a. first_processed old mid request xid payload rest stands.whole gone (processed_so request xid (shown_of old) (shown_of mid) a)))
-    (λ over. first_processed old (ended mid) request xid payload rest stands.whole gone (done.breaks request xid payload rest ready up stands now over))
+    settled_so (λ (new : Served). ProcessesFirst request xid payload (shown_of old) (shown_of new)) c.process_next-outcome.result
+    c.settle.result mid c.settle.new.self c.settle.ensures.ok c.settle.ensures.ended c.settle.ensures.gives_up
+    (ok_so c.process_next-outcome.result _ _ (done.serves request xid payload rest ready up stands now) (λ a.
+    first_processed old mid request xid payload rest stands.whole gone (processed_so request xid (shown_of old) (shown_of mid) a)))
+    (λ over. first_processed old (ended mid) request xid payload rest stands.whole gone
+    (done.breaks request xid payload rest ready up stands now over))
 
 pub returns-clause-answers : goal.returns-clause-answers
 returns-clause-answers g c = λ request xid payload rest ready up stands now answerable.
     let old = c.args.self.now in
     let done = c.process_next-outcome.ensures in
-    settled_so (λ (new : Served). AnswersFirst request xid (shown_of old) (shown_of new)) c.process_next-outcome.result c.settle.result c.process_next-outcome.new.self c.settle.new.self c.settle.ensures.ok c.settle.ensures.ended c.settle.ensures.gives_up
-    (ok_so c.process_next-outcome.result _ _ (done.serves request xid payload rest ready up stands now) (answered_so request xid (shown_of old) (shown_of c.process_next-outcome.new.self))) (λ over. absurd (done.stays request xid payload rest ready up stands now answerable over))
+    settled_so (λ (new : Served). AnswersFirst request xid (shown_of old) (shown_of new)) c.process_next-outcome.result c.settle.result
+    c.process_next-outcome.new.self c.settle.new.self c.settle.ensures.ok c.settle.ensures.ended c.settle.ensures.gives_up
+    (ok_so c.process_next-outcome.result _ _ (done.serves request xid payload rest ready up stands now)
+    (answered_so request xid (shown_of old) (shown_of c.process_next-outcome.new.self)))
+    (λ over. absurd (done.stays request xid payload rest ready up stands now answerable over))

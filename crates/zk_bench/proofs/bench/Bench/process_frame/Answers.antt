@@ -16,14 +16,17 @@ pub returns-in-Opening-clause-serves : goal.returns-in-Opening-clause-serves
 returns-in-Opening-clause-serves g c = λ asked xid ready up now read fit.
     let old = c.args.self.now in
     let opening : old.connection.phase ≡ Opening = ap (λ (s : Served). s.connection.phase) (sym c.self.view_is) ∙ c.in-Opening.is in
-    first_by (λ (one : Request). OnOk c.process_first.result (AnswersOne one xid (shown_of old) (shown_of c.process_first.new.self))) asked xid (first c.args.length (drop 4 old.connection.requests))
+    first_by (λ (one : Request). OnOk c.process_first.result (AnswersOne one xid (shown_of old) (shown_of c.process_first.new.self))) asked
+    xid (first c.args.length (drop 4 old.connection.requests))
     (subst (λ (s : Stage). IsFor asked s) (ap stage_of opening) now) fit
-    (λ seen timeout session password found above. c.process_first.ensures.connects seen timeout session password xid ready opening found above)
+    (λ seen timeout session password found above.
+    c.process_first.ensures.connects seen timeout session password xid ready opening found above)
 
 pub returns-in-Opening-clause-stays : goal.returns-in-Opening-clause-stays
 returns-in-Opening-clause-stays g c = λ asked xid ready up now read fit.
     let old = c.args.self.now in
     let opening : old.connection.phase ≡ Opening = ap (λ (s : Served). s.connection.phase) (sym c.self.view_is) ∙ c.in-Opening.is in
-    first_by (λ (one : Request). IsAnswerable one old → ¬ IsErrOf c.process_first.result stops.End) asked xid (first c.args.length (drop 4 old.connection.requests))
+    first_by (λ (one : Request). IsAnswerable one old → ¬ IsErrOf c.process_first.result stops.End) asked xid
+    (first c.args.length (drop 4 old.connection.requests))
     (subst (λ (s : Stage). IsFor asked s) (ap stage_of opening) now) fit
     (λ seen timeout session password found above low. c.process_first.ensures.stays seen timeout session password ready found low)

@@ -21,16 +21,20 @@ returns-in-Negative-clause-breaks g c = λ asked xid payload rest ready up stand
 pub returns-in-Whole-clause-serves : goal.returns-in-Whole-clause-serves
 returns-in-Whole-clause-serves g c = λ asked xid payload rest ready up stands now.
     let whole : IsWhole c.args.self.now.connection.requests c.in-Whole.length =
-    subst (λ bytes. IsWhole bytes c.in-Whole.length) (c.as_slice.ensures.value ∙ ap (λ (s : Served). s.connection.requests) c.self.view_is) c.in-Whole.ensures in
+    subst (λ bytes. IsWhole bytes c.in-Whole.length)
+    (c.as_slice.ensures.value ∙ ap (λ (s : Served). s.connection.requests) c.self.view_is) c.in-Whole.ensures in
     let same = whole_payload payload rest c.args.self.now.connection.requests c.in-Whole.length stands.whole stands.small whole in
-    c.process_frame.ensures.serves asked xid ready up now (subst (λ (p : List ℕ). IsReadAs asked xid p) same stands.read) (subst (λ (p : List ℕ). IsFit asked p) same stands.fit)
+    c.process_frame.ensures.serves asked xid ready up now (subst (λ (p : List ℕ). IsReadAs asked xid p) same stands.read)
+    (subst (λ (p : List ℕ). IsFit asked p) same stands.fit)
 
 pub returns-in-Whole-clause-breaks : goal.returns-in-Whole-clause-breaks
 returns-in-Whole-clause-breaks g c = λ asked xid payload rest ready up stands now over.
     let whole : IsWhole c.args.self.now.connection.requests c.in-Whole.length =
-    subst (λ bytes. IsWhole bytes c.in-Whole.length) (c.as_slice.ensures.value ∙ ap (λ (s : Served). s.connection.requests) c.self.view_is) c.in-Whole.ensures in
+    subst (λ bytes. IsWhole bytes c.in-Whole.length)
+    (c.as_slice.ensures.value ∙ ap (λ (s : Served). s.connection.requests) c.self.view_is) c.in-Whole.ensures in
     let same = whole_payload payload rest c.args.self.now.connection.requests c.in-Whole.length stands.whole stands.small whole in
-    c.process_frame.ensures.ends asked xid ready up now (subst (λ (p : List ℕ). IsReadAs asked xid p) same stands.read) (subst (λ (p : List ℕ). IsFit asked p) same stands.fit) over
+    c.process_frame.ensures.ends asked xid ready up now (subst (λ (p : List ℕ). IsReadAs asked xid p) same stands.read)
+    (subst (λ (p : List ℕ). IsFit asked p) same stands.fit) over
 
 pub returns-in-Negative-clause-stays : goal.returns-in-Negative-clause-stays
 returns-in-Negative-clause-stays g c = λ asked xid payload rest ready up stands now answerable over.
@@ -40,6 +44,8 @@ returns-in-Negative-clause-stays g c = λ asked xid payload rest ready up stands
 pub returns-in-Whole-clause-stays : goal.returns-in-Whole-clause-stays
 returns-in-Whole-clause-stays g c = λ asked xid payload rest ready up stands now answerable.
     let whole : IsWhole c.args.self.now.connection.requests c.in-Whole.length =
-    subst (λ bytes. IsWhole bytes c.in-Whole.length) (c.as_slice.ensures.value ∙ ap (λ (s : Served). s.connection.requests) c.self.view_is) c.in-Whole.ensures in
+    subst (λ bytes. IsWhole bytes c.in-Whole.length)
+    (c.as_slice.ensures.value ∙ ap (λ (s : Served). s.connection.requests) c.self.view_is) c.in-Whole.ensures in
     let same = whole_payload payload rest c.args.self.now.connection.requests c.in-Whole.length stands.whole stands.small whole in
-    c.process_frame.ensures.stays asked xid ready up now (subst (λ (p : List ℕ). IsReadAs asked xid p) same stands.read) (subst (λ (p : List ℕ). IsFit asked p) same stands.fit) answerable
+    c.process_frame.ensures.stays asked xid ready up now (subst (λ (p : List ℕ). IsReadAs asked xid p) same stands.read)
+    (subst (λ (p : List ℕ). IsFit asked p) same stands.fit) answerable

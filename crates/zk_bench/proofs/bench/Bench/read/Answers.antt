@@ -20,10 +20,12 @@ use Rattle.zk_bench.specs.Answerable.{AnswerFits, IsAnswerable}
 use Rattle.zk_bench.proofs.bench.Bench.read.Goals as goal
 
 -- the server reads at its place in the history
-placed : (g : _) (c : goal.After-read g) → HasClient (bench_of c.self.inside) → to_z w64 (of_z w64 c.zxid_after.result) ≡ pos (zxid_held (history_of c.self.inside.history) (slice_index c.self.inside.taken c.self.inside.server))
+placed : (g : _) (c : goal.After-read g) → HasClient (bench_of c.self.inside) → to_z w64 (of_z w64 c.zxid_after.result)
+    ≡ pos (zxid_held (history_of c.self.inside.history) (slice_index c.self.inside.taken c.self.inside.server))
 placed g c mine =
     let ranged : to_z w64 (of_z w64 c.zxid_after.result) ≡ c.zxid_after.result = search rules in
-    ranged ∙ c.zxid_after.ensures.zxid (taken_at (history_of c.self.inside.history) c.self.inside.taken c.self.inside.server mine.ready.taken)
+    ranged
+    ∙ c.zxid_after.ensures.zxid (taken_at (history_of c.self.inside.history) c.self.inside.taken c.self.inside.server mine.ready.taken)
 
 pub returns-clause-answers : goal.returns-clause-answers
 returns-clause-answers g c = λ asked has look asks.
@@ -35,15 +37,19 @@ returns-clause-answers g c = λ asked has look asks.
     let mine : HasClient b = subst HasClient (sym c.self.view_is) has in
     let xid : to_z w32 (of_z w32 c.args.xid) ≡ c.args.xid = search rules in
     let at = placed g c mine in
-    looks (λ (one : Request). OnOk c.read.result (AnswersOne one c.args.xid (shown_of c.args.self.now) (shown_of (record b { connection = linked_of new })))) c.args.request.now asked look asks
+    looks (λ (one : Request).
+    OnOk c.read.result (AnswersOne one c.args.xid (shown_of c.args.self.now) (shown_of (record b { connection = linked_of new }))))
+    c.args.request.now asked look asks
     (λ call is reads.
-    subst (λ (s : Served). OnOk c.read.result (AnswersOne (Ask call) c.args.xid (shown_of s) (shown_of (record b { connection = linked_of new })))) c.self.view_is
+    subst (λ (s : Served). OnOk c.read.result
+    (AnswersOne (Ask call) c.args.xid (shown_of s) (shown_of (record b { connection = linked_of new })))) c.self.view_is
     (ok_so c.read.result _ _ (c.read.ensures.answers call held reads at)
     (λ a. reads_so b old new call c.args.xid refl mine.accepted
     (subst (λ (x : ℤ). AnswersRead (tree_held h (slice_index b.taken b.server)) held x call old new) xid
     (subst (λ (t : Tree). AnswersRead t held (to_z w32 (of_z w32 c.args.xid)) call old new) c.zxid_after.ensures.held a)))))
     (λ is_last since part restoring.
-    subst (λ (s : Served). OnOk c.read.result (AnswersOne (Restore is_last since part) c.args.xid (shown_of s) (shown_of (record b { connection = linked_of new })))) c.self.view_is
+    subst (λ (s : Served). OnOk c.read.result (AnswersOne (Restore is_last since part) c.args.xid (shown_of s)
+    (shown_of (record b { connection = linked_of new })))) c.self.view_is
     (ok_so c.read.result _ _ (c.read.ensures.restores since held part restoring at)
     (λ r. restores_so b old new mine.accepted is_last since part c.args.xid
     (subst (λ (x : ℤ). RestoresPart (tree_held h (slice_index b.taken b.server)) held x since part old new) xid
@@ -57,14 +63,18 @@ returns-clause-declines g c = λ asked has look asks.
     let new = c.read.new.connection in
     let mine : HasClient b = subst HasClient (sym c.self.view_is) has in
     let at = placed g c mine in
-    looks (λ (one : Request). IfErr c.read.result (Declines one c.args.xid c.args.self.now (record b { connection = linked_of new }))) c.args.request.now asked look asks
+    looks (λ (one : Request). IfErr c.read.result (Declines one c.args.xid c.args.self.now (record b { connection = linked_of new })))
+    c.args.request.now asked look asks
     (λ call is reads.
     subst (λ (s : Served). IfErr c.read.result (Declines (Ask call) c.args.xid s (record b { connection = linked_of new }))) c.self.view_is
     (declines_read b old new mine.accepted c.args.xid call c.read.result is
-    (subst (λ (t : Tree). IfErr c.read.result (RefusesRead t call old new)) c.zxid_after.ensures.held (c.read.ensures.refuses call held reads at)) c.read.ensures.ends))
+    (subst (λ (t : Tree). IfErr c.read.result (RefusesRead t call old new)) c.zxid_after.ensures.held
+    (c.read.ensures.refuses call held reads at)) c.read.ensures.ends))
     (λ is_last since part restoring.
-    subst (λ (s : Served). IfErr c.read.result (Declines (Restore is_last since part) c.args.xid s (record b { connection = linked_of new }))) c.self.view_is
-    (declines_part b old new mine.accepted c.args.xid (Restore is_last since part) c.read.result (c.read.ensures.stops since part restoring) c.read.ensures.ends))
+    subst (λ (s : Served). IfErr c.read.result
+    (Declines (Restore is_last since part) c.args.xid s (record b { connection = linked_of new }))) c.self.view_is
+    (declines_part b old new mine.accepted c.args.xid (Restore is_last since part) c.read.result
+    (c.read.ensures.stops since part restoring) c.read.ensures.ends))
 
 pub returns-clause-stays : goal.returns-clause-stays
 returns-clause-stays g c = λ asked has look asks answerable.
@@ -72,6 +82,7 @@ returns-clause-stays g c = λ asked has look asks answerable.
     let held = zxid_held (history_of b.history) (slice_index b.taken b.server) in
     let mine : HasClient b = subst HasClient (sym c.self.view_is) has in
     looks (λ (one : Request). IsAnswerable one b → ¬ IsErrOf c.read.result (refusals.Stop stops.End)) c.args.request.now asked look asks
-    (λ call is reads fits. c.read.ensures.stays call held reads (placed g c mine) (subst (λ (t : Tree). AnswerFits t call) (sym c.zxid_after.ensures.held) fits))
+    (λ call is reads fits. c.read.ensures.stays call held reads (placed g c mine)
+    (subst (λ (t : Tree). AnswerFits t call) (sym c.zxid_after.ensures.held) fits))
     (λ is_last since part restoring fits. c.read.ensures.holds since part restoring)
     (subst (IsAnswerable asked) (sym c.self.view_is) answerable)

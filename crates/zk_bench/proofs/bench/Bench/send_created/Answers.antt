@@ -3,4 +3,5 @@ use Rattle.zk_bench.proofs.Staying.{made_fits}
 use Rattle.zk_bench.proofs.bench.Bench.send_created.Goals as goal
 
 pub returns-clause-stays : goal.returns-clause-stays
-returns-clause-stays g c = λ is. c.send_result.ensures.stays (made_fits c.args.text.now is (is_utf8-from_IsUtf8 c.args.text.now c.utf8.text))
+returns-clause-stays g c =
+    λ is. c.send_result.ensures.stays (made_fits c.args.text.now is (is_utf8-from_IsUtf8 c.args.text.now c.utf8.text))

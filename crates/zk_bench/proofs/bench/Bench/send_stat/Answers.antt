@@ -27,17 +27,22 @@ returns-clause-sends g c = λ ready all is.
     let output = c.send_result.new.out.items in
     let xid : to_z w32 (of_z w32 c.args.xid) ≡ c.args.xid = search rules in
     let ranged : to_z w64 (of_z w64 c.zxid-zxid.result) ≡ c.zxid-zxid.result = search rules in
-    let held : tree_at (history_of c.newest.result.history.now) (natural c.newest.result.zxid) ≡ tree_held (history_of old.history) (slice_index old.taken old.server) =
+    let held : tree_at (history_of c.newest.result.history.now) (natural c.newest.result.zxid) ≡ tree_held (history_of old.history)
+    (slice_index old.taken old.server) =
     ap (λ (k : HistoryView). tree_at (history_of k) (natural c.newest.result.zxid)) c.newest.ensures.history ∙ c.newest.ensures.held all in
     let counted : IsStat (tree_held (history_of old.history) (slice_index old.taken old.server)) path (Some told) =
-    subst (λ (t : Tree). IsStat t path (Some told)) held (subst (λ (o : Option Stat). IsStat (tree_at (history_of c.newest.result.history.now) (natural c.newest.result.zxid)) path o) c.in-Some.is (c.in_ok-stat.ensures is)) in
+    subst (λ (t : Tree). IsStat t path (Some told)) held
+    (subst (λ (o : Option Stat). IsStat (tree_at (history_of c.newest.result.history.now) (natural c.newest.result.zxid)) path o)
+    c.in-Some.is (c.in_ok-stat.ensures is)) in
     let sends : Sends (c.args.xid, (pos (zxid_of old), pos 0)) stat value b.connection.output output =
     subst (λ (x : ℤ). Sends (x, (pos (zxid_of old), pos 0)) stat value b.connection.output output) xid
-    (subst (λ (z : ℤ). Sends (to_z w32 (of_z w32 c.args.xid), (z, pos 0)) stat value b.connection.output output) (ranged ∙ c.zxid-zxid.ensures ready) c.in_ok-send_result.ensures.sends) in
+    (subst (λ (z : ℤ). Sends (to_z w32 (of_z w32 c.args.xid), (z, pos 0)) stat value b.connection.output output)
+    (ranged ∙ c.zxid-zxid.ensures ready) c.in_ok-send_result.ensures.sends) in
     record {
       value = value;
       told = counted;
-      sends = subst (λ (s : Served). Sends (c.args.xid, (pos (zxid_of old), pos 0)) stat value s.connection.output output) c.self.view_is sends;
+      sends =
+          subst (λ (s : Served). Sends (c.args.xid, (pos (zxid_of old), pos 0)) stat value s.connection.output output) c.self.view_is sends;
     }
 
 pub returns-in_err-send_result-clause-stays : goal.returns-in_err-send_result-clause-stays

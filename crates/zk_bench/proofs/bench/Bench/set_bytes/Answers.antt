@@ -14,7 +14,8 @@ use Rattle.zk_bench.proofs.bench.Bench.set_bytes.Goals as goal
 pub returns-in-Err-clause-declines : goal.returns-in-Err-clause-declines
 returns-in-Err-clause-declines g c = λ has is.
     let one = Ask (SetData c.args.text.now c.args.bytes c.args.version) in
-    stops_by one c.args.xid c.args.self.now c.catch_up.new.self c.in-Err.stop (λ over. ends_then one c.args.xid c.args.self.now c.catch_up.new.self (c.in-Err.ensures.ends has))
+    stops_by one c.args.xid c.args.self.now c.catch_up.new.self c.in-Err.stop
+    (λ over. ends_then one c.args.xid c.args.self.now c.catch_up.new.self (c.in-Err.ensures.ends has))
 
 pub returns-in-Err-written_path-clause-declines : goal.returns-in-Err-written_path-clause-declines
 returns-in-Err-written_path-clause-declines g c = λ has is.
@@ -35,7 +36,8 @@ returns-in_err-write-clause-declines g c = λ has is.
     let more = c.catch_up.ensures.has has in
     errs_so c.from_residual.result _ _ c.from_residual.ensures.1
     (λ refusal same. subst (Declines (Ask one) c.args.xid old new) (sym same)
-    (declines_then one c.args.xid old mid new _ has more (c.in_default.ensures.takes has) (declines_unmade one c.args.xid mid new _ tt more (c.write.ensures.has more) (c.in_err-write.ensures.refuses more))))
+    (declines_then one c.args.xid old mid new _ has more (c.in_default.ensures.takes has)
+    (declines_unmade one c.args.xid mid new _ tt more (c.write.ensures.has more) (c.in_err-write.ensures.refuses more))))
 
 pub returns-clause-answers : goal.returns-clause-answers
 returns-clause-answers g c = λ has is.
@@ -53,7 +55,8 @@ returns-clause-answers g c = λ has is.
     subst (λ (t : Text). HasWritten (Sets (path_of t) c.args.bytes) late) c.in-Ok.ensures.path
     (subst (λ (bytes : Option (List ℕ)). HasWritten (Sets (path_of c.in-Ok.path) bytes) late) c.into_inner.ensures (done.wrote more)) in
     ok_so c.send_stat.result _ _ (c.send_stat.ensures.sends still.ready (done.all more) is)
-    (λ sends. set_so text c.args.bytes c.args.version c.args.xid old late new still took wrote (subst (λ (x : ℤ). SendsStat x text late new) xid sends) c.send_stat.ensures.only)
+    (λ sends. set_so text c.args.bytes c.args.version c.args.xid old late new still took wrote
+    (subst (λ (x : ℤ). SendsStat x text late new) xid sends) c.send_stat.ensures.only)
 
 pub returns-clause-declines : goal.returns-clause-declines
 returns-clause-declines g c = λ has is.
@@ -63,14 +66,18 @@ returns-clause-declines g c = λ has is.
     let new = c.send_stat.new.self in
     let more = c.catch_up.ensures.has has in
     let took = takes_then old mid late has more (c.in_default.ensures.takes has) (c.in_ok-write.ensures.takes more) in
-    err_so c.send_stat.result (LeavesUnsent late new) (Declines (Ask (SetData c.args.text.now c.args.bytes c.args.version)) c.args.xid old new) c.send_stat.ensures.unsent
-    (λ refusal unsent. declines_unsent c.args.text.now c.args.bytes c.args.version c.args.xid old late new refusal has (c.write.ensures.has more) took c.send_stat.ensures.only unsent)
+    err_so c.send_stat.result (LeavesUnsent late new)
+    (Declines (Ask (SetData c.args.text.now c.args.bytes c.args.version)) c.args.xid old new) c.send_stat.ensures.unsent
+    (λ refusal unsent. declines_unsent c.args.text.now c.args.bytes c.args.version c.args.xid old late new refusal has
+    (c.write.ensures.has more) took c.send_stat.ensures.only unsent)
 
 pub returns-in_err-write-clause-stays : goal.returns-in_err-write-clause-stays
 returns-in_err-write-clause-stays g c = λ small.
     let tree = newest_tree c.catch_up.new.self.history in
     let allowed : IsAccepted (Sets (path_of c.args.text.now) c.args.bytes) tree =
-    subst (λ (t : Tree). IsAccepted (Sets (path_of c.args.text.now) c.args.bytes) t) c.newest.ensures.seen (c.in-Ok.ensures.allowed c.args.bytes small) in
+    subst (λ (t : Tree). IsAccepted (Sets (path_of c.args.text.now) c.args.bytes) t) c.newest.ensures.seen
+    (c.in-Ok.ensures.allowed c.args.bytes small) in
     let made = subst (λ (t : Text). IsAccepted (Sets (path_of t) c.args.bytes) tree) (sym c.in-Ok.ensures.path) allowed in
     handed_on c.from_residual.result _ _ c.from_residual.ensures.1
-    (λ over. c.in_err-write.ensures.stays (subst (λ (bytes : Option (List ℕ)). IsAccepted (Sets (path_of c.in-Ok.path) bytes) tree) (sym c.into_inner.ensures) made) (cc))
+    (λ over. c.in_err-write.ensures.stays
+    (subst (λ (bytes : Option (List ℕ)). IsAccepted (Sets (path_of c.in-Ok.path) bytes) tree) (sym c.into_inner.ensures) made) (cc))

@@ -13,7 +13,9 @@ use Rattle.zk_bench.proofs.bench.Bench.set_data.Goals as goal
 
 -- what holds of the setData that is made holds of the one that was asked for
 as_asked : (g : _) (c : goal.After-drop g) (P : Request → ℤ → Type 0) (asked : Request) → Asks (requests.SetData c.args.request) asked
-    → (IsPath c.text_of.result.now → P (Ask (SetData c.text_of.result.now c.args.request.bytes (to_z w32 (of_z w32 c.args.request.version)))) (to_z w32 (of_z w32 c.args.xid))) → P asked c.args.xid
+    → (IsPath c.text_of.result.now
+    → P (Ask (SetData c.text_of.result.now c.args.request.bytes (to_z w32 (of_z w32 c.args.request.version))))
+    (to_z w32 (of_z w32 c.args.xid))) → P asked c.args.xid
 as_asked g c P asked asks made =
     let r = c.args.request in
     let xid : to_z w32 (of_z w32 c.args.xid) ≡ c.args.xid = search rules in
@@ -23,12 +25,16 @@ as_asked g c P asked asks made =
     let same : c.text_of.result.now ≡ text = c.text_of.ensures ∙ ap or_empty at in
     subst (λ (t : Text). P (Ask (SetData t r.bytes r.version)) c.args.xid) same
     (subst (λ (x : ℤ). P (Ask (SetData c.text_of.result.now r.bytes r.version)) x) xid
-    (subst (λ (v : ℤ). P (Ask (SetData c.text_of.result.now r.bytes v)) (to_z w32 (of_z w32 c.args.xid))) version (made (subst IsPath (sym same) is)))))
+    (subst (λ (v : ℤ). P (Ask (SetData c.text_of.result.now r.bytes v)) (to_z w32 (of_z w32 c.args.xid))) version
+    (made (subst IsPath (sym same) is)))))
 
 pub returns-clause-answers : goal.returns-clause-answers
 returns-clause-answers g c = λ asked has asks.
-    as_asked g c (λ one xid. OnOk c.set_bytes-outcome.result (AnswersOne one xid (shown_of c.args.self.now) (shown_of c.set_bytes-outcome.new.self))) asked asks (c.set_bytes-outcome.ensures.answers has)
+    as_asked g c
+    (λ one xid. OnOk c.set_bytes-outcome.result (AnswersOne one xid (shown_of c.args.self.now) (shown_of c.set_bytes-outcome.new.self)))
+    asked asks (c.set_bytes-outcome.ensures.answers has)
 
 pub returns-clause-declines : goal.returns-clause-declines
 returns-clause-declines g c = λ asked has asks.
-    as_asked g c (λ one xid. IfErr c.set_bytes-outcome.result (Declines one xid c.args.self.now c.set_bytes-outcome.new.self)) asked asks (c.set_bytes-outcome.ensures.declines has)
+    as_asked g c (λ one xid. IfErr c.set_bytes-outcome.result (Declines one xid c.args.self.now c.set_bytes-outcome.new.self)) asked asks
+    (c.set_bytes-outcome.ensures.declines has)

@@ -11,17 +11,21 @@ pub returns-clause-ready : goal.returns-clause-ready
 returns-clause-ready g c = λ ready.
     let mid = c.take_next-outcome.new.self in
     let now = c.take_next-outcome.ensures.ready ready in
-    settled IsReady c.take_next-outcome.result mid c.settle.new.self c.settle.ensures.ok c.settle.ensures.ended c.settle.ensures.lost now (ready_ended mid now) (ready_disconnected mid now)
+    settled IsReady c.take_next-outcome.result mid c.settle.new.self c.settle.ensures.ok c.settle.ensures.ended c.settle.ensures.lost now
+    (ready_ended mid now) (ready_disconnected mid now)
 
 pub returns-clause-advances : goal.returns-clause-advances
 returns-clause-advances g c = λ ready same up.
     let old = c.args.self.now in
     let mid = c.take_next-outcome.new.self in
-    settled_so (λ (new : Served). TakesSome (shown_of old) (shown_of new)) c.take_next-outcome.result c.settle.result mid c.settle.new.self c.settle.ensures.ok c.settle.ensures.ended c.settle.ensures.gives_up
+    settled_so (λ (new : Served). TakesSome (shown_of old) (shown_of new)) c.take_next-outcome.result c.settle.result mid c.settle.new.self
+    c.settle.ensures.ok c.settle.ensures.ended c.settle.ensures.gives_up
     (c.take_next-outcome.ensures.advances ready same up)
     (λ over. shows_ended old (ended mid)
-    (subst (λ (s : Served). GoesOn (history_of old.history) (history_of s.history)) (sym c.take_next-outcome.ensures.rest) (same_history (history_of old.history)))
-    refl (this_error c.take_next-outcome.result stops.End (mid.connection.output ≡ old.connection.output) c.take_next-outcome.ensures.sent over))
+    (subst (λ (s : Served). GoesOn (history_of old.history) (history_of s.history)) (sym c.take_next-outcome.ensures.rest)
+    (same_history (history_of old.history)))
+    refl (this_error c.take_next-outcome.result stops.End
+    (mid.connection.output ≡ old.connection.output) c.take_next-outcome.ensures.sent over))
 
 gives : {T E : Type 0} (result : Result T E) (P : Type 0) → IsOk result → OnOk result P → P
 gives (Ok x) P is p = p
@@ -42,5 +46,6 @@ pub returns-clause-stays : goal.returns-clause-stays
 returns-clause-stays g c =
     let mid = c.take_next-outcome.new.self in
     let done = c.take_next-outcome.ensures in
-    settled_so (λ (new : Served). new.connection.phase ≡ c.args.self.now.connection.phase) c.take_next-outcome.result c.settle.result mid c.settle.new.self c.settle.ensures.ok c.settle.ensures.ended c.settle.ensures.gives_up
+    settled_so (λ (new : Served). new.connection.phase ≡ c.args.self.now.connection.phase) c.take_next-outcome.result c.settle.result mid
+    c.settle.new.self c.settle.ensures.ok c.settle.ensures.ended c.settle.ensures.gives_up
     (on_ok c.take_next-outcome.result _ done.phase) (λ over. absurd (done.stays over))

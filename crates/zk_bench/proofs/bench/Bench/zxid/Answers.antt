@@ -12,5 +12,6 @@ pub returns : goal.returns
 returns g c =
     let b = bench_of c.self.inside in
     let ranged : to_z w64 (of_z w64 c.zxid_after.result) ≡ c.zxid_after.result = search rules in
-    subst (λ (old : Served). IsReady old → to_z w64 (of_z w64 c.zxid_after.result) ≡ pos (zxid_held (history_of old.history) (slice_index old.taken old.server))) c.self.view_is
+    subst (λ (old : Served). IsReady old → to_z w64 (of_z w64 c.zxid_after.result)
+    ≡ pos (zxid_held (history_of old.history) (slice_index old.taken old.server))) c.self.view_is
     (λ ready. ranged ∙ c.zxid_after.ensures.zxid (taken_at (history_of b.history) b.taken b.server ready.taken))

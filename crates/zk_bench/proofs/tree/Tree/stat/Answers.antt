@@ -10,4 +10,5 @@ pub returns-in-Some : goal.returns-in-Some
 returns-in-Some g c = λ is.
     let same : to_z w64 (of_z w64 c.args.self.now.zxid) ≡ c.args.self.now.zxid = search rules in
     subst (λ (z : ℤ). IsStat (tree_at (history_of c.args.self.now.history.now) (natural z)) (path_of c.args.text.now) c.stat_at.result) same
-    (stat_found (tree_at (history_of c.args.self.now.history.now) (natural (to_z w64 (of_z w64 c.args.self.now.zxid)))) c.in-Some.path c.args.text.now c.stat_at.result (sym c.in-Some.is ∙ c.in_ok-path.ensures.path is) c.stat_at.ensures.told)
+    (stat_found (tree_at (history_of c.args.self.now.history.now) (natural (to_z w64 (of_z w64 c.args.self.now.zxid)))) c.in-Some.path
+    c.args.text.now c.stat_at.result (sym c.in-Some.is ∙ c.in_ok-path.ensures.path is) c.stat_at.ensures.told)

@@ -13,54 +13,82 @@ use Rattle.zk_history.proofs.history.History.change.Goals as goal
 pub returns-then-not-takes-clause-refused : goal.returns-then-not-takes-clause-refused
 returns-then-not-takes-clause-refused g c =
     let l : length c.self.inside.transactions.items ≡ 0 → ⊥ = λ e. grind (arith, nat_tests, e) in (
-      was_some transaction_of c.self.inside.transactions.items (map transaction_of c.self.inside.nodes.items) c.args.self.now c.self.view_is l,
-      refused_by c.args.self.now (change_of c.args.change) c.takes.result (subst IsSound c.self.view_is c.self.invariant.0) c.takes.ensures c.if-not-takes.true,
+      was_some transaction_of c.self.inside.transactions.items
+          (map transaction_of c.self.inside.nodes.items) c.args.self.now c.self.view_is l,
+      refused_by c.args.self.now (change_of c.args.change) c.takes.result
+          (subst IsSound c.self.view_is c.self.invariant.0) c.takes.ensures c.if-not-takes.true,
     )
 
 pub returns-clause-accepted : goal.returns-clause-accepted
-returns-clause-accepted g c = accepted_by c.args.self.now (change_of c.args.change) c.takes.result (subst IsSound c.self.view_is c.self.invariant.0) c.takes.ensures c.if-not-takes.false
+returns-clause-accepted g c = accepted_by c.args.self.now (change_of c.args.change) c.takes.result
+    (subst IsSound c.self.view_is c.self.invariant.0) c.takes.ensures c.if-not-takes.false
 
 pub note-requires : goal.note-requires
 note-requires g c =
-    let kept : HistoryView = record { nodes = map transaction_of c.self.inside.nodes.items; transactions = map transaction_of c.self.inside.transactions.items } in
-    let accepted = accepted_by c.args.self.now (change_of c.args.change) c.takes.result (subst IsSound c.self.view_is c.self.invariant.0) c.takes.ensures c.if-not-takes.false in
+    let kept : HistoryView = record {
+      nodes = map transaction_of c.self.inside.nodes.items;
+      transactions = map transaction_of c.self.inside.transactions.items;
+    } in
+    let accepted = accepted_by c.args.self.now (change_of c.args.change) c.takes.result
+    (subst IsSound c.self.view_is c.self.invariant.0) c.takes.ensures c.if-not-takes.false in
     let here = subst (λ (k : HistoryView). IsAccepted (change_of c.args.change) (newest_tree k)) (sym c.self.view_is) accepted in
-    record { fits = can_be_noted kept (versions_of c.self.inside.versions) (change_of c.args.change) c.self.invariant.0 c.self.invariant.1 here }
+    record {
+      fits =
+          can_be_noted kept (versions_of c.self.inside.versions) (change_of c.args.change) c.self.invariant.0 c.self.invariant.1 here;
+    }
 
 pub invariant_of-self : goal.invariant_of-self
-invariant_of-self g c = (c.self.invariant.0, IsIndexed-same _ (versions_of c.self.inside.versions) (versions_of c.note.new.versions) (λ text is. on_err_is c.note.result c.is_err.result c.is_err.ensures.value c.if-is_err.true c.note.ensures.err text) c.self.invariant.1)
+invariant_of-self g c = (
+  c.self.invariant.0,
+  IsIndexed-same _ (versions_of c.self.inside.versions) (versions_of c.note.new.versions)
+      (λ text is. on_err_is c.note.result c.is_err.result c.is_err.ensures.value c.if-is_err.true c.note.ensures.err text)
+      c.self.invariant.1,
+)
 
 pub returns-then-is_err-clause-refused : goal.returns-then-is_err-clause-refused
 returns-then-is_err-clause-refused g c =
     let l : length c.self.inside.transactions.items ≡ 0 → ⊥ = λ e. grind (arith, nat_tests, e) in
-    let some = was_some transaction_of c.self.inside.transactions.items (map transaction_of c.self.inside.nodes.items) c.args.self.now c.self.view_is l in
-    let accepted = accepted_by c.args.self.now (change_of c.args.change) c.takes.result (subst IsSound c.self.view_is c.self.invariant.0) c.takes.ensures c.if-not-takes.false in
+    let some = was_some transaction_of c.self.inside.transactions.items
+    (map transaction_of c.self.inside.nodes.items) c.args.self.now c.self.view_is l in
+    let accepted = accepted_by c.args.self.now (change_of c.args.change) c.takes.result
+    (subst IsSound c.self.view_is c.self.invariant.0) c.takes.ensures c.if-not-takes.false in
     (some, accepted)
 
 pub invariant_of-self-in-Err : goal.invariant_of-self-in-Err
 invariant_of-self-in-Err g c =
-    let kept : HistoryView = record { nodes = map transaction_of c.self.inside.nodes.items; transactions = map transaction_of c.self.inside.transactions.items } in
+    let kept : HistoryView = record {
+      nodes = map transaction_of c.self.inside.nodes.items;
+      transactions = map transaction_of c.self.inside.transactions.items;
+    } in
     let s = c.next_spot-spot.result in
     let P : List model.Transaction → Type 0 = λ ts.
     IsSound (record { nodes = map transaction_of c.self.inside.nodes.items; transactions = ts })
     × IsIndexed (record { nodes = map transaction_of c.self.inside.nodes.items; transactions = ts }) (versions_of c.forget.new.versions) in
     let same = IsIndexed-same kept (versions_of c.self.inside.versions) (versions_of c.forget.new.versions)
-    (λ text is. noted_forgotten s.zxid s.time s.origin text (change_of c.args.change) (versions_of c.self.inside.versions text) (versions_of c.note.new.versions text) (versions_of c.forget.new.versions text)
-    (on_ok_is c.note.result c.is_err.result c.is_err.ensures.value c.if-is_err.false c.note.ensures.ok text is) (c.forget.ensures text is ∙ ap (λ change. versions_before text (change_of change) (versions_of c.note.new.versions text)) c.in-Err.ensures.back))
+    (λ text is. noted_forgotten s.zxid s.time s.origin text (change_of c.args.change) (versions_of c.self.inside.versions text)
+    (versions_of c.note.new.versions text) (versions_of c.forget.new.versions text)
+    (on_ok_is c.note.result c.is_err.result c.is_err.ensures.value c.if-is_err.false c.note.ensures.ok text is) (c.forget.ensures text is
+    ∙ ap (λ change. versions_before text (change_of change) (versions_of c.note.new.versions text)) c.in-Err.ensures.back))
     c.self.invariant.1 in
     subst P (sym c.in-Err.ensures.err) (c.self.invariant.0, same)
 
 pub returns-in-Err-clause-refused : goal.returns-in-Err-clause-refused
 returns-in-Err-clause-refused g c =
     let l : length c.self.inside.transactions.items ≡ 0 → ⊥ = λ e. grind (arith, nat_tests, e) in
-    let some = was_some transaction_of c.self.inside.transactions.items (map transaction_of c.self.inside.nodes.items) c.args.self.now c.self.view_is l in
-    let accepted = accepted_by c.args.self.now (change_of c.args.change) c.takes.result (subst IsSound c.self.view_is c.self.invariant.0) c.takes.ensures c.if-not-takes.false in
+    let some = was_some transaction_of c.self.inside.transactions.items
+    (map transaction_of c.self.inside.nodes.items) c.args.self.now c.self.view_is l in
+    let accepted = accepted_by c.args.self.now (change_of c.args.change) c.takes.result
+    (subst IsSound c.self.view_is c.self.invariant.0) c.takes.ensures c.if-not-takes.false in
     (some, accepted)
 
 pub invariant_of-self-in_default : goal.invariant_of-self-in_default
 invariant_of-self-in_default g c =
-    let kept : HistoryView = record { nodes = map transaction_of c.self.inside.nodes.items; transactions = map transaction_of c.self.inside.transactions.items } in
-    let accepted = accepted_by c.args.self.now (change_of c.args.change) c.takes.result (subst IsSound c.self.view_is c.self.invariant.0) c.takes.ensures c.if-not-takes.false in
+    let kept : HistoryView = record {
+      nodes = map transaction_of c.self.inside.nodes.items;
+      transactions = map transaction_of c.self.inside.transactions.items;
+    } in
+    let accepted = accepted_by c.args.self.now (change_of c.args.change) c.takes.result
+    (subst IsSound c.self.view_is c.self.invariant.0) c.takes.ensures c.if-not-takes.false in
     let here = subst (λ (k : HistoryView). IsAccepted (change_of c.args.change) (newest_tree k)) (sym c.self.view_is) accepted in
     let l : length c.self.inside.transactions.items ≡ 0 → ⊥ = λ e. grind (arith, nat_tests, e) in
     let some = was_some transaction_of c.self.inside.transactions.items (map transaction_of c.self.inside.nodes.items) kept refl l in
@@ -68,9 +96,12 @@ invariant_of-self-in_default g c =
     let old = versions_of c.self.inside.versions in
     let s = c.next_spot-spot.result in
     let last = last_transaction (map transaction_of c.self.inside.transactions.items) in
-    let zxid = c.next_spot-spot.ensures.zxid ∙ ap (λ (xs : List (Transaction g.row.A.Denot)). (last_transaction (map transaction_of xs)).zxid) c.as_slice.ensures.value in
-    let time = c.next_spot-spot.ensures.time ∙ ap (λ (xs : List (Transaction g.row.A.Denot)). (last_transaction (map transaction_of xs)).time) c.as_slice.ensures.value in
-    let origin = c.next_spot-spot.ensures.origin ∙ ap (λ (xs : List (Transaction g.row.A.Denot)). next_origin (map transaction_of xs)) c.as_slice.ensures.value in
+    let zxid = c.next_spot-spot.ensures.zxid
+    ∙ ap (λ (xs : List (Transaction g.row.A.Denot)). (last_transaction (map transaction_of xs)).zxid) c.as_slice.ensures.value in
+    let time = c.next_spot-spot.ensures.time
+    ∙ ap (λ (xs : List (Transaction g.row.A.Denot)). (last_transaction (map transaction_of xs)).time) c.as_slice.ensures.value in
+    let origin = c.next_spot-spot.ensures.origin
+    ∙ ap (λ (xs : List (Transaction g.row.A.Denot)). next_origin (map transaction_of xs)) c.as_slice.ensures.value in
     let P : List model.Transaction → Type 0 = λ ts.
     IsSound (record { nodes = map transaction_of c.self.inside.nodes.items; transactions = ts })
     × IsIndexed (record { nodes = map transaction_of c.self.inside.nodes.items; transactions = ts }) (versions_of c.note.new.versions) in

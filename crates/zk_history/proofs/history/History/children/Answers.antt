@@ -6,4 +6,5 @@ use Rattle.zk_history.proofs.history.History.children.Goals as goal
 pub returns : goal.returns
 returns g c =
     let p = path_of c.args.at.now in
-    c.counted.ensures.counted (children_at 9223372036854775808 p c.args.self.now.transactions (names_first c.args.self.now p)) (names_later-children c.args.self.now 9223372036854775808 p c.counted.ensures.sound)
+    c.counted.ensures.counted (children_at 9223372036854775808 p c.args.self.now.transactions (names_first c.args.self.now p))
+    (names_later-children c.args.self.now 9223372036854775808 p c.counted.ensures.sound)

@@ -12,8 +12,10 @@ returns-clause-counted g c = λ names h.
     let kept = c.args.self.now in
     let p = path_of c.args.at.now in
     c.children_of.ensures ∙ c.version.ensures.count ∙ count_is kept c.args.z p c.version.ensures.sound
-    ∙ same_count (tree_at (history_of kept) c.args.z) p (children_at c.args.z p kept.transactions (names_first kept p)) names (names_later-children kept c.args.z p c.version.ensures.sound) h
+    ∙ same_count (tree_at (history_of kept) c.args.z) p (children_at c.args.z p kept.transactions (names_first kept p)) names
+    (names_later-children kept c.args.z p c.version.ensures.sound) h
 
 pub returns-clause-few : goal.returns-clause-few
 returns-clause-few g c =
-    subst (λ (n : ℕ). n ≤ 2147483647) (sym (c.children_of.ensures ∙ c.version.ensures.count)) (count_small c.args.self.now c.args.z (path_of c.args.at.now) c.version.ensures.sound)
+    subst (λ (n : ℕ). n ≤ 2147483647) (sym (c.children_of.ensures ∙ c.version.ensures.count))
+    (count_small c.args.self.now c.args.z (path_of c.args.at.now) c.version.ensures.sound)

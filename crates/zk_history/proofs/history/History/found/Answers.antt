@@ -13,10 +13,12 @@ invariant_of-result g c =
     let kept = c.args.self.now in
     let p = path_of c.args.at.now in
     let told : Tells kept (Some c.in-Some.entry) (tree_at (history_of kept) c.args.z p) =
-    subst (λ (o : Option Entry). Tells kept o (tree_at (history_of kept) c.args.z p)) (sym c.entry_of.ensures ∙ c.in-Some.is) c.version.ensures.node in
+    subst (λ (o : Option Entry). Tells kept o (tree_at (history_of kept) c.args.z p))
+    (sym c.entry_of.ensures ∙ c.in-Some.is) c.version.ensures.node in
     let found = found_told kept c.in-Some.entry (tree_at (history_of kept) c.args.z p) told in
     let small = node_small kept c.args.z p (node_with c.in-Some.entry found.0) c.version.ensures.sound (sym found.2) in
-    let size : size_of (option_copied c.bytes.result) ≤ 2147483647 = subst (λ (o : Option (List ℕ)). size_of o ≤ 2147483647) (sym (c.bytes.ensures found.0 found.1)) small.bytes in
+    let size : size_of (option_copied c.bytes.result) ≤ 2147483647 =
+    subst (λ (o : Option (List ℕ)). size_of o ≤ 2147483647) (sym (c.bytes.ensures found.0 found.1)) small.bytes in
     let czxid = small.czxid in
     let mzxid = small.mzxid in
     let pzxid = small.pzxid in

@@ -18,7 +18,8 @@ returns-clause-value g c =
     ∙ ap (λ (k : HistoryView). pos (newest 0 k.transactions)) c.self.view_is
 
 pub returns-then-is_empty-clause-history : goal.returns-then-is_empty-clause-history
-returns-then-is_empty-clause-history g c = subst (λ (k : HistoryView). IsHistory (history_of k)) c.self.view_is (IsHistory-sound _ c.self.invariant.0)
+returns-then-is_empty-clause-history g c =
+    subst (λ (k : HistoryView). IsHistory (history_of k)) c.self.view_is (IsHistory-sound _ c.self.invariant.0)
 
 pub returns-clause-history : goal.returns-clause-history
 returns-clause-history g c = subst (λ (k : HistoryView). IsHistory (history_of k)) c.self.view_is (IsHistory-sound _ c.self.invariant.0)

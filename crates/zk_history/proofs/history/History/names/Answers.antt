@@ -15,16 +15,22 @@ use Rattle.zk_history.proofs.history.History.names.Goals as goal
 
 pub returns : goal.returns
 returns g c = λ name.
-    let kept : HistoryView = record { nodes = map transaction_of c.self.inside.nodes.items; transactions = map transaction_of c.self.inside.transactions.items } in
+    let kept : HistoryView = record {
+      nodes = map transaction_of c.self.inside.nodes.items;
+      transactions = map transaction_of c.self.inside.transactions.items;
+    } in
     let p = path_of c.args.at.now in
     let none = no_names string_bytes c.new-names.result.keys c.new-names.ensures.empty in
-    let made : List (Transaction g.row.A.Denot) → List (Transaction g.row.A.Denot) → HistoryView = λ xs ys. record { nodes = map transaction_of xs; transactions = map transaction_of ys } in
+    let made : List (Transaction g.row.A.Denot) → List (Transaction g.row.A.Denot)
+    → HistoryView = λ xs ys. record { nodes = map transaction_of xs; transactions = map transaction_of ys } in
     let vs = c.versions_at.result.now in
     let empty = names_of c.new-names.result in
     let all : names_of c.names_after_versions.new.names ≡ children_at c.args.z p kept.transactions (names_first kept p) =
     c.in_ok-names_after_versions.ensures
-    ∙ ap (λ (xs : List (Transaction g.row.A.Denot)). names_told (made xs c.as_slice-2.result.now) p c.args.z vs empty) c.as_slice.ensures.value
-    ∙ ap (λ (ys : List (Transaction g.row.A.Denot)). names_told (made c.self.inside.nodes.items ys) p c.args.z vs empty) c.as_slice-2.ensures.value
+    ∙ ap (λ (xs : List (Transaction g.row.A.Denot)). names_told (made xs c.as_slice-2.result.now) p c.args.z vs empty)
+    c.as_slice.ensures.value
+    ∙ ap (λ (ys : List (Transaction g.row.A.Denot)). names_told (made c.self.inside.nodes.items ys) p c.args.z vs empty)
+    c.as_slice-2.ensures.value
     ∙ ap (λ ws. names_told kept p c.args.z ws empty) c.versions_at.ensures
     ∙ ap (names_told kept p c.args.z (versions_of c.self.inside.versions c.args.at.now)) none
     ∙ c.self.invariant.1.names c.args.at.now c.requires c.args.z in

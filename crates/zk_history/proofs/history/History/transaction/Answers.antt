@@ -18,8 +18,10 @@ returns-then-n-len g c =
     ∙ nth-mapped transaction_of c.self.inside.transactions.items c.args.n one (grind (arith, nat_tests)) c.index-transaction.ensures
     ∙ ap (λ (z : ℤ). Some (transaction_told z one.time one.changes.items)) (sym cast)
     ∙ ap (λ (t : ℤ). Some (transaction_told (to_z w64 one.zxid) t one.changes.items)) (sym time)
-    ∙ ap (λ (xs : List (Change g.row.A.Denot)). Some (transaction_told (to_z w64 one.zxid) (to_z w64 (of_z w64 one.time)) xs)) (sym c.as_slice.ensures.value)
+    ∙ ap (λ (xs : List (Change g.row.A.Denot)). Some (transaction_told (to_z w64 one.zxid) (to_z w64 (of_z w64 one.time)) xs))
+    (sym c.as_slice.ensures.value)
 
 pub returns-else-n-len : goal.returns-else-n-len
 returns-else-n-len g c =
-    ap (λ (k : HistoryView). slice_get k.transactions c.args.n) (sym c.self.view_is) ∙ nth-past transaction_of c.self.inside.transactions.items c.args.n (grind (arith, nat_tests))
+    ap (λ (k : HistoryView). slice_get k.transactions c.args.n) (sym c.self.view_is)
+    ∙ nth-past transaction_of c.self.inside.transactions.items c.args.n (grind (arith, nat_tests))

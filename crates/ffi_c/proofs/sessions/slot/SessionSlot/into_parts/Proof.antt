@@ -56,24 +56,31 @@ module _ {M : Type 1} {𝓤 : Ura M} (𝓛 : Logic 𝓤) (at_mem : Memory → SP
         qed 𝓛 (‵ (From'.own_val z.0.3.0 z.0.4.0) ∷ []) ∵ fsplit ! $ move ! (1 ∷ []) $
         rewrite ! 0 (λ (m : Option AgentDevice). ‵ (owned_session z.0.3.0.alloc z.0.3.0.at m)) is refl $ move ! (1 ∷ 0 ∷ []) $ fjoin ! $
         use1 𝓛 (‵ ((B E).own_val v z.0.4.0)) (id⊢ 𝓤 _) $
-        box_out E ! v z.0.4.0 (λ b o hv e ws fa. box_in E ! v b o v.value e refl $ use1 𝓛 (‵ (To.own_val made (word E hv b o ∷ []))) (id⊢ 𝓤 _) $
+        box_out E
+        ! v z.0.4.0 (λ b o hv e ws fa. box_in E ! v b o v.value e refl $ use1 𝓛 (‵ (To.own_val made (word E hv b o ∷ []))) (id⊢ 𝓤 _) $
         let w = word E hv b o in
         let Γ : List (Item 𝓤) = ‵ (To.own_val made (w ∷ [])) ∷ [] in
-        by ! (passed_as 𝓛 𝓣 code.function Post Γ ws (qed 𝓛 Γ ∵ enter ! 𝓣.C 𝓣.Λ code.function (w ∷ []) _ $ alloc_all ! (λ ls. pass_all ! refl (box_typed E hv b o fa, tt) $
-        sets ! (of_opd ! (get_in ! (fld ! refl (stop !)) (sub ! 0 refl (whole !)))) refl (tt, tt) $ sets ! (of_opd ! (get_in ! (fld ! refl (stop !)) (sub ! 1 refl (whole !)))) refl fa $
-        sets ! (agg ! (and_then ! (get ! refl) (and_then ! (get ! refl) (no_more !)))) refl (box_typed E hv b o fa) $ returns ! (look_at ! 0 refl) $ free_all ! refl $
+        by ! (passed_as 𝓛 𝓣 code.function Post Γ ws
+        (qed 𝓛 Γ ∵ enter ! 𝓣.C 𝓣.Λ code.function (w ∷ []) _ $ alloc_all ! (λ ls. pass_all ! refl (box_typed E hv b o fa, tt) $
+        sets ! (of_opd ! (get_in ! (fld ! refl (stop !)) (sub ! 0 refl (whole !)))) refl (tt, tt) $ sets
+        ! (of_opd ! (get_in ! (fld ! refl (stop !)) (sub ! 1 refl (whole !)))) refl fa $
+        sets ! (agg ! (and_then ! (get ! refl) (and_then ! (get ! refl) (no_more !)))) refl (box_typed E hv b o fa) $ returns
+        ! (look_at ! 0 refl) $ free_all ! refl $
         suffices ! _ (ends_at 𝓛 F.ended stayed (F.clauses 𝓛 at_mem run) z w made (tt, tt) (tt, tt)) $ says ! (sym is) $
         nothing ! $ nothing ! $ fjoin ! $ join ! $ nothing ! $ join ! $ done !))))
 
-    either : (m : Option AgentDevice) → z.0.3.0.held ≡ m → IsSome z.0.3.0.held → ent 𝓤 (types.Kit.⋆ 𝓛 (‵ (From'.own_val z.0.3.0 z.0.4.0) ∷ [])) Goal
+    either : (m : Option AgentDevice)
+        → z.0.3.0.held ≡ m → IsSome z.0.3.0.held → ent 𝓤 (types.Kit.⋆ 𝓛 (‵ (From'.own_val z.0.3.0 z.0.4.0) ∷ [])) Goal
     either (Some x) is some = held_at x is
     either None is some = absurd (true≢false (sym (subst (λ (m : Option AgentDevice). IsSome m) is some)))
 
     walk : ent 𝓤 ((walk_of 𝓛 F.ended stayed (F.clauses 𝓛 at_mem run)).pre z) Goal
     walk =
-        qed 𝓛 ((‵ ftrue ⊛ ‵ (fsep (From'.own_val z.0.3.0 z.0.4.0) ftrue)) ∷ raw (fact 𝓤 (IsSome z.0.3.0.held)) ∷ []) ∵ split ! $ drop ! $ fsplit ! $ move ! (1 ∷ []) $ drop ! $ move ! (1 ∷ []) $
+        qed 𝓛 ((‵ ftrue ⊛ ‵ (fsep (From'.own_val z.0.3.0 z.0.4.0) ftrue)) ∷ raw (fact 𝓤 (IsSome z.0.3.0.held)) ∷ []) ∵ split ! $ drop
+        ! $ fsplit ! $ move ! (1 ∷ []) $ drop ! $ move ! (1 ∷ []) $
         heard ! (IsSome z.0.3.0.held) (λ some. by ! (either z.0.3.0.held refl some))
 
 pub into_parts_spec : {M : Type 1} → stated.statement M
 into_parts_spec 𝓤 𝓛 𝓜 𝓡 wired =
-    meets 𝓛 𝓜 𝓡 F.ended stayed (Goes-dropped 𝓛 0 From yes (λ κs x f. refl), tt) (F.clauses 𝓛 𝓜.mem 𝓡.returns) #self code.function (code.unfolded 𝓤 𝓛.H 𝓜 𝓡 wired) (walk 𝓛 𝓜.mem 𝓡.returns (here 𝓛 𝓜 𝓡))
+    meets 𝓛 𝓜 𝓡 F.ended stayed (Goes-dropped 𝓛 0 From yes (λ κs x f. refl), tt) (F.clauses 𝓛 𝓜.mem 𝓡.returns)
+    #self code.function (code.unfolded 𝓤 𝓛.H 𝓜 𝓡 wired) (walk 𝓛 𝓜.mem 𝓡.returns (here 𝓛 𝓜 𝓡))
