@@ -11,4 +11,5 @@ bench_of i = record {
   connection = linked_of i.connection;
   expired = i.expired;
   time = i.time;
+  session = i.session;
 }

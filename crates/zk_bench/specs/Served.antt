@@ -1,5 +1,5 @@
 -- What there is to see of a bench: servers over one history, and the connection to one of them.
-use Rattle.std.specs.Prelude.{ℕ, ◌+◌, ◌≡◌, Bool, true, false, List, [], ◌∷◌, ◌++◌, drop, slice_index, slice_set, Option, None, Some}
+use Rattle.std.specs.Prelude.{ℕ, ℤ, pos, ◌+◌, ◌≡◌, Bool, true, false, List, [], ◌∷◌, ◌++◌, drop, slice_index, slice_set, Option, None, Some}
 use Rattle.std.specs.Prelude.{slice_get}
 use Rattle.zk_history.specs.HistoryView.{HistoryView}
 use Rattle.zk_nodes.specs.Path.{Text}
@@ -16,7 +16,8 @@ pub record Linked : Type 0 where
   pub requests : List ℕ
   pub output : List ℕ
 
--- how many transactions each server has taken, the server that is connected, whether sessions have expired, and the time
+-- how many transactions each server has taken, the server that is connected, whether the session has expired, the time, and the number of
+-- the session
 pub record Served : Type 0 where
   pub history : HistoryView
   pub taken : List ℕ
@@ -24,6 +25,7 @@ pub record Served : Type 0 where
   pub connection : Linked
   pub expired : Bool
   pub time : ℕ
+  pub session : ℤ
 
 -- a connection with no watch and no bytes
 abbrev pub linked : Phase → Linked
@@ -38,6 +40,7 @@ started history = record {
   connection = linked Apart;
   expired = false;
   time = 0;
+  session = pos 1;
 }
 
 -- a new connection to a server, counted from 0

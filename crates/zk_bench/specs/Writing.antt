@@ -37,10 +37,10 @@ mode_of (pos n) =
     else None
 mode_of (negsuc n) = None
 
--- the session that owns a node: 1 an ephemeral one, and none another
-abbrev pub owner_of : Bool → ℤ
-owner_of true = pos 1
-owner_of false = pos 0
+-- the session that owns a node: this one an ephemeral one, and none another
+abbrev pub owner_of : (session : ℤ) → Bool → ℤ
+owner_of session true = session
+owner_of session false = pos 0
 
 -- Where writes are made
 

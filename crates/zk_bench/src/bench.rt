@@ -77,6 +77,8 @@ pub struct Bench<A: Allocator + Copy> {
     expired: bool,
     // The time of accepted writes, in milliseconds.
     time: u64,
+    // The number that accepted clients are told.
+    session: i64,
 }
 
 impl<A: Allocator + Copy> Model for Bench<A> {
@@ -93,13 +95,14 @@ impl<A: Allocator + Copy> Model for Bench<A> {
       connection = linked_of b.connection;
       expired = b.expired;
       time = b.time;
+      session = b.session;
     } };
 
     ghost invariant = { λ b. b.server < 8 };
 }
 
 impl<A: Allocator + Copy> Bench<A> {
-    /// Servers over a history, each before its first transaction. None is connected, and the time is 0.
+    /// Servers over a history, each before its first transaction. None is connected, the time is 0, and the session has number 1.
     pub fn new(alloc: A, history: History<A>) -> Bench<A>
         ensures is { result ≡ started history }
         ensures ready { IsReady result }
@@ -112,6 +115,7 @@ impl<A: Allocator + Copy> Bench<A> {
             connection: Connection::new(alloc, Phase::Apart),
             expired: false,
             time: 0,
+            session: 1,
         }
     }
 
@@ -153,6 +157,28 @@ impl<A: Allocator + Copy> Bench<A> {
         ensures { self.new ≡ record self.old { expired = false } }
     {
         self.expired = false;
+    }
+
+    /// From now on accepted clients have the session of this number, and ephemeral nodes that they make are its own. So benches of several
+    /// sessions tell them apart.
+    pub fn number(&mut self, session: i64)
+        ensures { self.new ≡ record self.old { session = session } }
+    {
+        self.session = session;
+    }
+
+    /// Whether a server has the connection, and takes requests.
+    pub fn is_open(&self) -> bool
+        ensures { result ≡ is_open self.now.connection.phase }
+    {
+        Connection::is_open(&self.connection)
+    }
+
+    /// How many bytes came in that are not processed.
+    pub fn waiting(&self) -> usize
+        ensures { result ≡ bytes_of self.now.connection.requests }
+    {
+        self.connection.requests.len()
     }
 
     /// One more transaction, of another session, with this change alone: it stands at the end of the history, one zxid above the last, at
@@ -450,7 +476,7 @@ impl<A: Allocator + Copy> Bench<A> {
             return Ok(());
         }
         let out = &mut self.connection.output;
-        send_accepted(self.alloc, request.time_out, out)?;
+        send_accepted(self.alloc, self.session, request.time_out, out)?;
         self.connection.phase = Phase::Accepted;
         Ok(())
     }
@@ -650,7 +676,7 @@ impl<A: Allocator + Copy> Bench<A> {
         ensures history { Continues self.old.history self.new.history }
         ensures rest { self.new ≡ record self.old { history = self.new.history; taken = self.new.taken; connection = self.new.connection } }
     {
-        let (made, change) = creation(&self.newest(), mode, text, bytes)?;
+        let (made, change) = creation(&self.newest(), self.session, mode, text, bytes)?;
         if let Err(refusal) = self.write(change) {
             drop(made);
             return Err(refusal);

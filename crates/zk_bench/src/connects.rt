@@ -12,14 +12,15 @@ use std::alloc::{AllocError, Allocator};
 use zk_jute::Buffer;
 use zk_records::ConnectResponse;
 
-// The id of each session.
-const SESSION: i64 = 1;
-
-/// The answer to a client that is accepted: session 1 with the timeout that was asked for, and sixteen bytes 01.
-fn accepted<A: Allocator>(alloc: A, time_out: i32) -> Result<ConnectResponse<A>, AllocError>
+/// The answer to a client that is accepted: this session with the timeout that was asked for, and sixteen bytes 01.
+fn accepted<A: Allocator>(
+    alloc: A,
+    session: i64,
+    time_out: i32,
+) -> Result<ConnectResponse<A>, AllocError>
     ensures { IfOk result (λ response. (response.time_out ≡ time_out) × (response.read_only ≡ None) × CanBeTold (response_of response)) }
 {
-    response(alloc, time_out, SESSION, 1)
+    response(alloc, time_out, session, 1)
 }
 
 /// The answer to a client whose session has expired: timeout 0, session 0 and sixteen zero bytes.
@@ -32,6 +33,7 @@ fn expired<A: Allocator>(alloc: A) -> Result<ConnectResponse<A>, AllocError>
 /// Sends the answer to a client that is accepted.
 pub(crate) fn send_accepted<A: Allocator + Copy>(
     alloc: A,
+    session: i64,
     time_out: i32,
     out: &mut Vec<u8, A>,
 ) -> Result<(), Stop>
@@ -39,7 +41,7 @@ pub(crate) fn send_accepted<A: Allocator + Copy>(
     ensures ended { IsErrOf result stops.End → out.new.items ≡ out.old.items }
     ensures stays { ¬ IsErrOf result stops.End }
 {
-    let response = accepted(alloc, time_out)?;
+    let response = accepted(alloc, session, time_out)?;
     send_response(alloc, response, out)?;
     Ok(())
 }

@@ -31,9 +31,6 @@ use zk_jute::Buffer;
 use zk_nodes::{Path, Stat};
 use zk_records::{Code, DeleteRequest};
 
-// The session that owns ephemeral nodes.
-const OWNER: i64 = 1;
-
 /// How a node is made: the flags of a create.
 #[derive(Clone, Copy)]
 pub(crate) struct Mode {
@@ -168,15 +165,16 @@ fn created_path<A: Allocator + Copy>(
     }
 }
 
-/// What a create changes, with the text of the path that it makes, or the first code that refuses it.
+/// What a create of this session changes, with the text of the path that it makes, or the first code that refuses it.
 pub(crate) fn creation<A: Allocator + Copy>(
     tree: &Tree<'_, A>,
+    session: i64,
     mode: Mode,
     text: &str,
     bytes: Buffer<A>,
 ) -> Result<(String<A>, Change<A>), Refusal>
-    ensures made { IfOk result (λ made. (change_of made.1 ≡ Creates (names_in (string_bytes made.0)) bytes (owner_of mode.ephemeral))
-        × IsMadeOf text.now mode.sequential (string_bytes made.0)) }
+    ensures made { IfOk result (λ made. (change_of made.1 ≡ Creates (names_in (string_bytes made.0)) bytes
+        (owner_of session mode.ephemeral)) × IsMadeOf text.now mode.sequential (string_bytes made.0)) }
     ensures text { IfOk result (λ made. made_text mode.sequential text.now
         (creates_beside (names_in text.now) tree.now.history.now.transactions) ≡ Some (string_bytes made.0)) }
     ensures accepted { (names : NameSet) → AreBeside (tree_of tree.now.history.now tree.now.zxid) (names_in text.now) names
@@ -203,7 +201,7 @@ pub(crate) fn creation<A: Allocator + Copy>(
         drop(bytes);
         return Err(Refusal::Stop(Stop::Memory));
     };
-    let owner = if mode.ephemeral { OWNER } else { 0 };
+    let owner = if mode.ephemeral { session } else { 0 };
     let change = Change::Create(path, bytes.into_inner(), owner);
     Ok((text, change))
 }

@@ -8,7 +8,7 @@ use Rattle.zk_conversation.specs.Calls.{Create}
 use Rattle.zk_laws.specs.Server.{IsMadeOf}
 use Rattle.zk_laws.specs.Messages.{Ask}
 use Rattle.zk_bench.specs.Serving.{Sends}
-use Rattle.zk_bench.specs.Writing.{IsAnswer, owner_of}
+use Rattle.zk_bench.specs.Writing.{IsAnswer}
 use Rattle.zk_bench.specs.Stepping.{Declines, HasWritten, zxid_of}
 use Rattle.zk_bench.proofs.Answered.{errs_so}
 use Rattle.zk_bench.proofs.Processed.{declines_unmade, unmade_same, ends_sending, stops_by, created_so}
@@ -50,14 +50,13 @@ returns-clause-answers g c = λ number has same.
     let new = c.send_created-outcome.new.self in
     let made = c.in_ok-made.ensures.made in
     let at : Text = c.as_str.result.now in
-    let owner = owner_of c.args.mode.ephemeral in
     let more = c.write.ensures.has has in
     let done = c.in_ok-outcome.ensures in
     let xid : to_z w32 (of_z w32 c.args.xid) ≡ c.args.xid = search rules in
-    created_so c.args.text.now c.args.bytes number c.args.xid old mid new at owner more (c.in_default.ensures.takes has)
+    created_so c.args.text.now c.args.bytes number c.args.xid old mid new at _ more (c.in_default.ensures.takes has)
     (subst (λ (b : Bool). IsMadeOf c.args.text.now b at) (sym same)
     (subst (λ (t : Text). IsMadeOf c.args.text.now c.args.mode.sequential t) (sym c.as_str.ensures.value) made.1))
-    (subst (λ (t : Text). HasWritten (Creates (path_of t) c.args.bytes owner) mid) (sym c.as_str.ensures.value)
+    (subst (λ (t : Text). HasWritten (Creates (path_of t) c.args.bytes _) mid) (sym c.as_str.ensures.value)
     (subst (λ (x : model.Change). HasWritten x mid) made.0 (c.in_default.ensures.wrote has)))
     (subst (λ (x : ℤ). Sends (x, (pos (zxid_of mid), pos 0)) create_response (Some at) mid.connection.output new.connection.output) xid
     (done.sends more.ready)) done.only
