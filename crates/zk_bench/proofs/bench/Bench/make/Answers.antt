@@ -1,4 +1,4 @@
-use Rattle.std.proofs.Common.{rules, ◌≡◌, sym, ap, subst, ℤ, pos, Bool, Some, to_z, of_z, w32}
+use Rattle.std.proofs.Common.{rules, ◌≡◌, sym, ap, subst, ℤ, pos, Bool, Some, to_z, of_z, w32, w64}
 use Rattle.std.specs.Prelude.{Err}
 use Rattle.zk_records.specs.Layouts.{create_response}
 use Rattle.zk_nodes.specs.Path.{Text, path_of}
@@ -8,7 +8,7 @@ use Rattle.zk_conversation.specs.Calls.{Create}
 use Rattle.zk_laws.specs.Server.{IsMadeOf}
 use Rattle.zk_laws.specs.Messages.{Ask}
 use Rattle.zk_bench.specs.Serving.{Sends}
-use Rattle.zk_bench.specs.Writing.{IsAnswer}
+use Rattle.zk_bench.specs.Writing.{owner_of, IsAnswer}
 use Rattle.zk_bench.specs.Stepping.{Declines, HasWritten, zxid_of}
 use Rattle.zk_bench.proofs.Answered.{errs_so}
 use Rattle.zk_bench.proofs.Processed.{declines_unmade, unmade_same, ends_sending, stops_by, created_so}
@@ -50,14 +50,18 @@ returns-clause-answers g c = λ number has same.
     let new = c.send_created-outcome.new.self in
     let made = c.in_ok-made.ensures.made in
     let at : Text = c.as_str.result.now in
+    let owner = owner_of old.session c.args.mode.ephemeral in
     let more = c.write.ensures.has has in
     let done = c.in_ok-outcome.ensures in
     let xid : to_z w32 (of_z w32 c.args.xid) ≡ c.args.xid = search rules in
-    created_so c.args.text.now c.args.bytes number c.args.xid old mid new at _ more (c.in_default.ensures.takes has)
+    let raw : ℤ = to_z w64 (of_z w64 c.self.inside.session) in
+    let session : raw ≡ old.session = search rules in
+    created_so c.args.text.now c.args.bytes number c.args.xid old mid new at owner more (c.in_default.ensures.takes has)
     (subst (λ (b : Bool). IsMadeOf c.args.text.now b at) (sym same)
     (subst (λ (t : Text). IsMadeOf c.args.text.now c.args.mode.sequential t) (sym c.as_str.ensures.value) made.1))
-    (subst (λ (t : Text). HasWritten (Creates (path_of t) c.args.bytes _) mid) (sym c.as_str.ensures.value)
-    (subst (λ (x : model.Change). HasWritten x mid) made.0 (c.in_default.ensures.wrote has)))
+    (subst (λ (s : ℤ). HasWritten (Creates (path_of at) c.args.bytes (owner_of s c.args.mode.ephemeral)) mid) session
+    (subst (λ (t : Text). HasWritten (Creates (path_of t) c.args.bytes (owner_of raw c.args.mode.ephemeral)) mid) (sym c.as_str.ensures.value)
+    (subst (λ (x : model.Change). HasWritten x mid) made.0 (c.in_default.ensures.wrote has))))
     (subst (λ (x : ℤ). Sends (x, (pos (zxid_of mid), pos 0)) create_response (Some at) mid.connection.output new.connection.output) xid
     (done.sends more.ready)) done.only
 
