@@ -8,7 +8,7 @@ use Rattle.zk_agent.specs.Telling.{Told}
 use Rattle.zk_driver.specs.Flowing.{Runs}
 use Rattle.zk_driver.specs.Noting.{is_come}
 use Rattle.zk_driver.proofs.Running.{runs_join, runs_same}
-use Rattle.shell_watch.specs.Trees.{is_settled, stays, tickets_gone}
+use Rattle.zk_trees.specs.Trees.{is_settled, stays, tickets_gone}
 use Rattle.shell_watch.specs.Watching.{flow_in, view_in, Closes, Does, FollowsAll, FollowsRun, FollowsSo, Grows, LetsGo, Move, Prints}
 use Rattle.shell_watch.specs.Watching.{Stand, Takes, TakesOn, TakesOnWhere, Tends, TendsSo, WatchesRun}
 
