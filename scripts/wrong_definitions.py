@@ -6,7 +6,7 @@ what refused it. There are three lists, in the folder wrong_definitions:
 
   wrong      wrong definitions. The crate is checked, and where each of its laws is still proved, the crates of laws above it
   narrower   premises that are harder to meet than they should be. A law that has such a premise is still true: it is refused by what the
-             laws say of servers by themselves, by the schedules that meet the premise, by the laws of theory_receptive and by theory_witnesses
+             laws say of servers by themselves, by the schedules that meet the premise, by the laws of theory_rules and by theory_witnesses
   weaker     promises that say less, or something else. Each law may still be proved: they are refused by scripts/statements, which compares
              the code with STATEMENTS.md and STATEMENTS.lock, and by scripts/definitions, which compares it with docs/DEFINITIONS.md
 
@@ -42,7 +42,7 @@ TOP = Path(__file__).resolve().parent.parent
 TURNS, LAWS, LOCAL = "zk_turns", "zk_laws", "theory_local"
 KINDS = ("weaker", "narrower", "wrong")
 # the crates of laws above one
-ABOVE = {TURNS: ["theory_rules"], LAWS: ["theory_serving", "theory_receptive"], LOCAL: [], "zk_conclusions": ["theory_witnesses"]}
+ABOVE = {TURNS: ["theory_rules"], LAWS: ["theory_serving", "theory_rules"], LOCAL: [], "zk_conclusions": ["theory_witnesses"]}
 # the sections of docs/DEFINITIONS.md whose definitions have edits; and section 18, of which STATEMENTS.md has the definitions
 SECTIONS = [*range(1, 7), *range(10, 16)]
 

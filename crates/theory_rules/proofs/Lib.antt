@@ -4,3 +4,12 @@ pub mod States
 pub mod Ticked
 pub mod Numbered
 pub mod Looking_back
+pub mod Client
+pub mod Spelled
+pub mod Taking
+pub mod Answering
+pub mod Telling
+pub mod Leading
+pub mod Holding
+pub mod Missed
+pub mod Quiet

@@ -3,3 +3,7 @@ pub mod Closing
 pub mod Ticking
 pub mod Xids
 pub mod Rules
+pub mod Missed
+pub mod Next
+pub mod Told
+pub mod Leads

@@ -1,9 +1,0 @@
-pub mod Client
-pub mod Spelled
-pub mod Taking
-pub mod Answering
-pub mod Telling
-pub mod Leading
-pub mod Holding
-pub mod Missed
-pub mod Quiet

@@ -1,6 +1,0 @@
-use Rattle.theory_receptive.proofs.Answering.{refuses}
-use Rattle.theory_receptive.proofs.calls_are_refused.Goals as goal
-
-pub returns-clause-refuses : goal.returns-clause-refuses
-returns-clause-refuses c h start entries call xid code behind a some there can =
-    refuses h start entries call xid code behind a some there can

@@ -1,8 +1,0 @@
-use Rattle.theory_receptive.proofs.Taking.{restores}
-use Rattle.theory_receptive.proofs.parts_are_set.Goals as goal
-
-pub returns : goal.returns
-returns c = record {
-  restores = λ h start entries is_last relative part xid sent zxid err behind a all tells can.
-      restores h start entries is_last relative part xid sent zxid err behind a all tells can;
-}

@@ -1,4 +1,0 @@
-pub mod Missed
-pub mod Next
-pub mod Told
-pub mod Leads

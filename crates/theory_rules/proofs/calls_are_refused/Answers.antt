@@ -1,0 +1,6 @@
+use Rattle.theory_rules.proofs.Answering.{refuses}
+use Rattle.theory_rules.proofs.calls_are_refused.Goals as goal
+
+pub returns-clause-refuses : goal.returns-clause-refuses
+returns-clause-refuses c h start entries call xid code behind a some there can =
+    refuses h start entries call xid code behind a some there can

@@ -1,0 +1,8 @@
+use Rattle.theory_rules.proofs.Taking.{restores}
+use Rattle.theory_rules.proofs.parts_are_set.Goals as goal
+
+pub returns : goal.returns
+returns c = record {
+  restores = λ h start entries is_last relative part xid sent zxid err behind a all tells can.
+      restores h start entries is_last relative part xid sent zxid err behind a all tells can;
+}
