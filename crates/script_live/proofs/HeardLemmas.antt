@@ -25,7 +25,7 @@ told_first (Enters state) given outputs text all tells = (tells.0, tells.1, tell
 told_first (Drop fault) given outputs text all tells = (tells.0, tells.1, tells.2, all tells.1 tells.3, tells.4)
 
 -- What is printed of the outputs that are given is what is printed of all.
-told_all : (outputs : List Output) (text : List ℕ) → TellsEach (filter is_given outputs) text → TellsEach outputs text
+pub told_all : (outputs : List Output) (text : List ℕ) → TellsEach (filter is_given outputs) text → TellsEach outputs text
 told_all [] text none = none
 told_all (output ∷ outputs) text tells = told_first output (filter is_given outputs) outputs text (told_all outputs) tells
 

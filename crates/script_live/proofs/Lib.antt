@@ -3,3 +3,4 @@ pub mod LiveLemmas
 pub mod TrailLemmas
 pub mod GiveLemmas
 pub mod Flowed
+pub mod Printing

@@ -13,21 +13,23 @@ use Rattle.script_words.specs.declared.stop.LineStop.TheVariants as stops
 use Rattle.script_replay.specs.ReplayLines.{BeginValue}
 use Rattle.script_replay.specs.Played.{start_of}
 use Rattle.script_live.specs.Begins.{begun_by, Begins}
+use Rattle.script_live.specs.Flowing.{Flow}
 use Rattle.script_live.specs.Heard.{tape, Connects, Tape}
 use Rattle.script_live.specs.LiveLines.{LiveValue, OpensLine, says_at}
 use Rattle.script_live.specs.Lives.{position, rules, DoesLive, HaltsFirst, HaltsLine, HaltsLive, IsTranscript, IsUnread, Position}
 use Rattle.script_live.specs.Lives.{TakesLine}
+use Rattle.script_live.specs.Printed.{Prints}
 
 -- a line that says nothing
-pub took_none : (line : Text) (begun : Bool) (view : View) (text : List ℕ) → says_at (words_of line) begun ≡ Ok None → text ≡ []
-    → TakesLine line (position view begun) (position view begun) text
-took_none line begun view text says none = record { what = None; says = says; does = (refl, none) }
+pub took_none : (line : Text) (begun : Bool) (flow : Flow) (text : List ℕ) → says_at (words_of line) begun ≡ Ok None → text ≡ []
+    → TakesLine line (position flow begun) (position flow begun) text
+took_none line begun flow text says none = record { what = None; says = says; does = (refl, none) }
 
 -- a line that says something
-pub took : (line : Text) (begun : Bool) (old new : View) (text : List ℕ) (value : LiveValue)
+pub took : (line : Text) (begun : Bool) (old new : Flow) (text : List ℕ) (value : LiveValue)
     → says_at (words_of line) begun ≡ Ok (Some value)
-    → DoesLive value old new text → TakesLine line (position old begun) (position new true) text
-took line begun old new text value says does = record { what = Some value; says = says; does = (does, refl) }
+    → DoesLive value old.view new.view text → Prints old new [] text → TakesLine line (position old begun) (position new true) text
+took line begun old new text value says does prints = record { what = Some value; says = says; does = (does, prints, refl) }
 
 -- from where a session stands to the next
 pub goes : (line : Text) (old before after : Position) (text : List ℕ) → TakesLine line before after text → before ≡ old
@@ -35,19 +37,30 @@ pub goes : (line : Text) (old before after : Position) (text : List ℕ) → Tak
 goes line old before after text takes is = (after, rw (← is) takes, refl)
 
 -- and why a line is not done there
-pub due : (line : Text) (old : Position) (view after : View) (begun : Bool) (stop : LineStop) → IsDueBy (says_at (words_of line) begun) stop
-    → IfHalted (HaltsLine line begun view after) stop → position view begun ≡ old → IsDue rules line old stop
-due line old view after begun (stops.Refused fault) refused halted is = rw (← is) refused
-due line old view after begun stops.Halted refused halted is = (after, rw (← is) halted)
-due line old view after begun stops.Memory refused halted is = tt
+pub due : (line : Text) (old : Position) (flow : Flow) (after : View) (begun : Bool) (stop : LineStop)
+    → IsDueBy (says_at (words_of line) begun) stop
+    → IfHalted (HaltsLine line begun flow.view after) stop → position flow begun ≡ old → IsDue rules line old stop
+due line old flow after begun (stops.Refused fault) refused halted is = rw (← is) refused
+due line old flow after begun stops.Halted refused halted is = (after, rw (← is) halted)
+due line old flow after begun stops.Memory refused halted is = tt
 
 -- a client that was connected
-pub lived : (lines : List Text) (start : BeginValue) (view : View) (told text : List ℕ) (end : End) → begun_by lines ≡ Begins start
-    → Connects (tape (view_at (start_of start) []) []) (tape view told)
-    → scripts.IsTranscript rules (progress (position view false) told) lines text end
-    → IsTranscript lines text end
-lived lines start view told text end begins connects goes_on =
-    inl (record { start = start; begins = begins; view = view; told = told; connects = connects; goes_on = goes_on })
+pub lived : (lines : List Text) (start : BeginValue) (first ready : Flow) (told text : List ℕ) (end : End)
+    → begun_by lines ≡ Begins start → first.view ≡ view_at (start_of start) []
+    → first.is_open ≡ false → Connects (tape (view_at (start_of start) []) []) (tape ready.view told) → Prints first ready [] told
+    → scripts.IsTranscript rules (progress (position ready false) told) lines text end → IsTranscript lines text end
+lived lines start first ready told text end begins made apart connects prints goes_on = inl (record {
+  start = start;
+  begins = begins;
+  first = first;
+  made = made;
+  apart = apart;
+  ready = ready;
+  told = told;
+  connects = connects;
+  prints = prints;
+  goes_on = goes_on;
+})
 
 -- no client, and no text
 pub unlived : (lines : List Text) (text : List ℕ) (end : End) → text ≡ [] → IsUnread lines end → IsTranscript lines text end

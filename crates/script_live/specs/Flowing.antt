@@ -7,6 +7,8 @@ use Rattle.zk_turns.specs.Turns as turns
 use Rattle.zk_turns.specs.View.{View}
 use Rattle.zk_turns.specs.Rule.{Rule}
 use Rattle.zk_client.specs.Clients.{view_of}
+use Rattle.script_replay.specs.ClientLines.{CallLine, ClientValue, CutLine, NowLine}
+use Rattle.script_replay.specs.Played.{DoesClient}
 use Rattle.zk_link.specs.declared.brought.Brought.{Brought}
 use Rattle.zk_link.specs.declared.brought.Brought.TheVariants as brought
 use Rattle.zk_link.specs.Streams.{known_of, Exchanges, Known}
@@ -51,43 +53,74 @@ flow_of remaining contents joint = record {
 abbrev pub holding : List ℕ → Flow → Flow
 holding held flow = record flow { held = held }
 
--- Some is written and a read is made; the client takes an input, by a turn; a connection begins; it is let go.
+-- The client takes an input: what is held is handed to it, whole. What it sends goes after what is unsent, as long as the connection is
+-- there then.
+abbrev pub HearsSo : Flow → Turn → Flow → Type 0
+HearsSo old turn new =
+    Rule old.view turn new.view × (new.is_open ≡ kept turn.outputs old.is_open) × (bytes_of turn.input ≡ old.held) × (new.held ≡ [])
+    × (new.is_open ≡ true → Exchanges (old.unsent ++ frames turn.outputs) new.unsent old.known new.known [])
+
+-- A connection is there then, with nothing to be written.
+abbrev pub HoldsSo : Flow → Flow → Type 0
+HoldsSo old new = (new.view ≡ old.view) × (new.is_open ≡ true) × (new.unsent ≡ []) × (new.held ≡ [])
+
+-- no connection begins by an input
+abbrev pub IsMidway : Input → Type 0
+IsMidway turns.Opened = ⊥
+IsMidway input = ⊤
+
+-- a line that is no input of a client: it looks something up, or forgets what is stale
+abbrev pub IsLook : ClientValue → Type 0
+IsLook CutLine = ⊥
+IsLook (NowLine moment) = ⊥
+IsLook (CallLine asked) = ⊥
+IsLook value = ⊤
+
+-- Some is written and a read is made; the client takes an input, by a turn; a connection begins; it is over; no address connects; the
+-- client is looked at, and this is printed.
 pub data Deed : Type 0 where
   Reads : Deed
   Hears : Turn → Deed
-  Holds : Deed
-  Ends : Deed
+  Begins : Turn → Deed
+  Ends : Turn → Deed
+  Fails : Deed
+  Looks : ClientValue → (text : List ℕ) → Deed
 
 -- What each does. What a read brings is held, and is what the client is handed next, whole; nothing else is handed to it as bytes, and
--- nothing is read before that. Without a connection a read brings nothing. What a client sends by a turn goes after what is unsent, as long
--- as the connection is there after it.
+-- nothing is read before that. Without a connection a read brings nothing. A connection begins where there was none, and the client is told
+-- so before anything else; where it is over the client is told too.
 abbrev pub Carries : Flow → Deed → Flow → Type 0
 Carries old Reads new =
     Exchanges old.unsent new.unsent old.known new.known new.held × (old.held ≡ []) × (old.is_open ≡ false → new.held ≡ [])
     × (new.view ≡ old.view) × (new.is_open ≡ old.is_open)
-Carries old (Hears turn) new =
-    Rule old.view turn new.view × (new.is_open ≡ kept turn.outputs old.is_open) × (bytes_of turn.input ≡ old.held) × (new.held ≡ [])
-    × (new.is_open ≡ true → Exchanges (old.unsent ++ frames turn.outputs) new.unsent old.known new.known [])
-Carries old Holds new = (new.view ≡ old.view) × (new.is_open ≡ true) × (new.unsent ≡ []) × (old.held ≡ []) × (new.held ≡ [])
-Carries old Ends new = (new.view ≡ old.view) × (new.is_open ≡ false) × (old.held ≡ []) × (new.held ≡ [])
-
--- deeds, the oldest first
-pub record Flows (old new : Flow) : Type 0 where
-  pub deeds : List Deed
-  pub carries : FoldsTo Carries old deeds new
+Carries old (Hears turn) new = HearsSo old turn new × IsMidway turn.input
+Carries old (Begins turn) new =
+    ((between : Flow) × HoldsSo old between × HearsSo between turn new) × (turn.input ≡ turns.Opened)
+    × (old.is_open ≡ false) × (old.held ≡ [])
+Carries old (Ends turn) new =
+    Rule old.view turn new.view × (turn.input ≡ turns.Cut) × (new.is_open ≡ false) × (old.held ≡ []) × (new.held ≡ [])
+Carries old Fails new = (new ≡ old) × (old.held ≡ [])
+Carries old (Looks value text) new =
+    DoesClient value old.view new.view text × IsLook value × (new ≡ record old { view = new.view }) × (old.held ≡ [])
 
 -- A client takes an input: what it says is given, in order, or sent.
 pub record Delivers (input : Input) (before after : List Output) (old new : Flow) : Type 0 where
   pub outputs : List Output
   pub given : after ≡ before ++ filter is_given outputs
-  pub hears : Carries (holding (bytes_of input) old) (Hears (record { input = input; outputs = outputs })) new
+  pub hears : HearsSo (holding (bytes_of input) old) (record { input = input; outputs = outputs }) new
+
+-- The connection is over: the client takes that, and what it says is given, in order.
+pub record Cuts (before after : List Output) (old new : Flow) : Type 0 where
+  pub outputs : List Output
+  pub given : after ≡ before ++ filter is_given outputs
+  pub ends : Carries old (Ends (record { input = turns.Cut; outputs = outputs })) new
 
 -- ---- what follows, as long as one connection lasts
 
 -- No connection begins.
 abbrev pub AreWithin : List Deed → Type 0
 AreWithin [] = ⊤
-AreWithin (Holds ∷ deeds) = ⊥
+AreWithin (Begins turn ∷ deeds) = ⊥
 AreWithin (deed ∷ deeds) = AreWithin deeds
 
 -- what the client is handed of the connection

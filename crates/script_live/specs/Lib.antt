@@ -7,3 +7,4 @@ pub mod Lives
 pub mod Frames
 pub mod Trails
 pub mod Flowing
+pub mod Printed

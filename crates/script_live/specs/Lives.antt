@@ -1,9 +1,9 @@
--- What a whole script makes of a client over a connection, and what it prints, line by line.
-use Rattle.std.specs.Prelude.{◌≡◌, ◌⊎◌, ℕ, Bool, true, false, List, [], ◌∷◌, Some, Ok, Err}
+-- What a whole script makes of a client over a connection, and what it prints, line by line. The client was handed the bytes of its
+-- streams.
+use Rattle.std.specs.Prelude.{◌≡◌, ◌⊎◌, ℕ, Bool, true, false, List, [], ◌∷◌, Option, Some, Ok, Err}
 use Rattle.zk_nodes.specs.Path.{Text}
 use Rattle.zk_turns.specs.Turns.{Cut, Now, Call}
 use Rattle.zk_turns.specs.View.{View, view_at}
-use Rattle.zk_client.specs.Clients.{view_of}
 use Rattle.script_words.specs.Pieces.{words_of}
 use Rattle.script_words.specs.Said.{TakesSaid}
 use Rattle.script_words.specs.Scripts.{progress, Rules}
@@ -15,8 +15,10 @@ use Rattle.script_replay.specs.ReplayLines.{BeginValue}
 use Rattle.script_replay.specs.Played.{start_of, DoesClient, HaltsAt}
 use Rattle.script_live.specs.declared.live.Session.{Session}
 use Rattle.script_live.specs.Begins.{begun_by, Begins, Nothing}
+use Rattle.script_live.specs.Flowing.{flow_of, Flow}
 use Rattle.script_live.specs.Heard.{tape, Awaits, Connects, HaltsAmong, HaltsAwaiting, HaltsConnecting, Hears, Takes}
 use Rattle.script_live.specs.LiveLines.{LiveValue, ResumesLine, OpensLine, DrivesLine, says_at}
+use Rattle.script_live.specs.Printed.{Prints}
 
 -- What a line makes of a client, and what it prints: each input is a turn by the rule, whatever the connection brings, and a
 -- look-up changes nothing. A session was taken up before.
@@ -43,20 +45,21 @@ pub record HaltsLine (line : Text) (begun : Bool) (old new : View) : Type 0 wher
   pub says : says_at (words_of line) begun ≡ Ok (Some value)
   pub halts : HaltsLive value old new
 
--- Where a script stands: the client, and whether lines have begun.
+-- Where a script stands: the client with its connection, and whether lines have begun.
 pub record Position : Type 0 where
-  pub view : View
+  pub flow : Flow
   pub begun : Bool
 
-abbrev pub position : View → Bool → Position
-position view begun = record { view = view; begun = begun }
+abbrev pub position : Flow → Bool → Position
+position flow begun = record { flow = flow; begun = begun }
 
-abbrev pub position_of : {A D S : Type 0} → Session A D S → Position
-position_of session = position (view_of session.link.joint.client) session.is_begun
+abbrev pub position_of : {A D S : Type 0} → (remaining contents : S → Option (List ℕ)) → Session A D S → Position
+position_of remaining contents session = position (flow_of remaining contents session.link.joint) session.is_begun
 
--- What a line makes of where a script stands, and what it prints. After the first that says something, lines have begun.
+-- What a line makes of where a script stands, and what it prints: what the client says, which is handed the bytes of its streams and no
+-- others. After the first line that says something, lines have begun.
 abbrev pub Does : LiveValue → Position → Position → List ℕ → Type 0
-Does value old new text = DoesLive value old.view new.view text × (new.begun ≡ true)
+Does value old new text = DoesLive value old.flow.view new.flow.view text × Prints old.flow new.flow [] text × (new.begun ≡ true)
 
 -- A line is taken: it does what it says, or nothing where it says nothing.
 abbrev pub TakesLine : Text → Position → Position → List ℕ → Type 0
@@ -67,17 +70,21 @@ abbrev pub rules : Rules Position
 rules = record {
   Takes = TakesLine;
   Refuses = λ line old fault. says_at (words_of line) old.begun ≡ Err fault;
-  Halts = λ line old. (after : View) × HaltsLine line old.begun old.view after;
+  Halts = λ line old. (after : View) × HaltsLine line old.begun old.flow.view after;
 }
 
--- The client that lines ask for is connected, and then takes them. The text is what all this prints.
+-- The client that lines ask for is made, without a connection; it is connected, and then takes them. The text is what all this prints.
 pub record Lives (lines : List Text) (text : List ℕ) (end : End) : Type 0 where
   pub start : BeginValue
   pub begins : begun_by lines ≡ Begins start
-  pub view : View
+  pub first : Flow
+  pub made : first.view ≡ view_at (start_of start) []
+  pub apart : first.is_open ≡ false
+  pub ready : Flow
   pub told : List ℕ
-  pub connects : Connects (tape (view_at (start_of start) []) []) (tape view told)
-  pub goes_on : scripts.IsTranscript rules (progress (position view false) told) lines text end
+  pub connects : Connects (tape (view_at (start_of start) []) []) (tape ready.view told)
+  pub prints : Prints first ready [] told
+  pub goes_on : scripts.IsTranscript rules (progress (position ready false) told) lines text end
 
 -- The client that lines ask for halts while it is connected.
 pub record HaltsFirst (lines : List Text) : Type 0 where

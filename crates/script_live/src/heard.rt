@@ -1,12 +1,13 @@
 //! What a client says to an input, as printed lines: all but what goes to the server.
 
-ghost use Rattle.std.specs.Prelude.{◌≡◌, ◌++◌, ℕ, List, IfOk, IfErr, OnOk, string_bytes};
+ghost use Rattle.std.specs.Prelude.{◌≡◌, ◌++◌, ℕ, List, false, is_some, IfOk, IfErr, OnOk, string_bytes};
 ghost use Rattle.zk_turns.specs.Turns.{Cut};
 ghost use Rattle.zk_client.specs.Clients.{view_of};
 ghost use Rattle.zk_client.specs.Views.{input_view, output_view, said};
 ghost use Rattle.script_words.specs.Stops.{IfHalted, IsWant};
-ghost use Rattle.script_live.specs.Flowing.{bytes_of, flow_of, holding, Flows};
+ghost use Rattle.script_live.specs.Flowing.{flow_of};
 ghost use Rattle.script_live.specs.Heard.{tape, Halts, Hears, TellsEach, TellsHeard};
+ghost use Rattle.script_live.specs.Printed.{Hands, Prints};
 
 use crate::joint::Joint;
 use script_replay::outputs::push_output;
@@ -69,8 +70,8 @@ pub fn printed_step<A: Allocator + Copy, S: Stream>(
 ) -> Result<Heard<A>, LineStop>
     ensures ok { OnOk result (Hears (tape (view_of joint.old.client) (string_bytes text.old)) (input_view input)
         (tape (view_of joint.new.client) (string_bytes text.new))) }
-    ensures flows { OnOk result (Flows (holding (bytes_of (input_view input)) (flow_of S.remaining S.contents joint.old))
-        (flow_of S.remaining S.contents joint.new)) }
+    ensures flows { OnOk result (Hands (input_view input) (flow_of S.remaining S.contents joint.old)
+        (flow_of S.remaining S.contents joint.new) (string_bytes text.old) (string_bytes text.new)) }
     ensures err { IfErr result IsWant }
     ensures halt { IfErr result (IfHalted (Halts (tape (view_of joint.old.client) (string_bytes text.old)) (input_view input)
         (tape (view_of joint.new.client) (string_bytes text.new)))) }
@@ -92,7 +93,9 @@ pub fn cut<A: Allocator + Copy, S: Stream>(
 ) -> Result<(), LineStop>
     ensures ok { OnOk result
         (Hears (tape (view_of joint.old.client) (string_bytes text.old)) Cut (tape (view_of joint.new.client) (string_bytes text.new))) }
-    ensures flows { OnOk result (Flows (flow_of S.remaining S.contents joint.old) (flow_of S.remaining S.contents joint.new)) }
+    ensures flows { OnOk result (Prints (flow_of S.remaining S.contents joint.old) (flow_of S.remaining S.contents joint.new)
+        (string_bytes text.old) (string_bytes text.new)) }
+    ensures shut { OnOk result (is_some joint.new.stream ≡ false) }
     ensures err { IfErr result IsWant }
     ensures halt { IfErr result (IfHalted
         (Halts (tape (view_of joint.old.client) (string_bytes text.old)) Cut (tape (view_of joint.new.client) (string_bytes text.new)))) }

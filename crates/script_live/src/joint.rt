@@ -8,7 +8,7 @@ ghost use Rattle.zk_client.specs.Views.{input_view, said};
 ghost use Rattle.script_words.specs.declared.stop.LineStop.TheVariants.{Memory};
 ghost use Rattle.zk_link.specs.Written.{IsLeftOf};
 ghost use Rattle.zk_link.specs.Streams.{known_of, Exchanges};
-ghost use Rattle.script_live.specs.Flowing.{flow_of, piece_in, Delivers, Flows};
+ghost use Rattle.script_live.specs.Flowing.{flow_of, piece_in, Cuts, Delivers, HoldsSo};
 ghost use Rattle.script_live.specs.Frames.{frames};
 ghost use Rattle.script_live.specs.Trails.{bare_of, is_given, kept, trail_of, Fails, Hears, IsLoud};
 
@@ -61,7 +61,7 @@ impl<A: Allocator + Copy, S: Stream> Joint<A, S> {
     pub fn hold(&mut self, stream: S)
         ensures trail { bare_of self.new ≡ record (bare_of self.old) { is_open = true } }
         ensures unsent { self.new.unsent.items ≡ [] }
-        ensures flows { Flows (flow_of S.remaining S.contents self.old) (flow_of S.remaining S.contents self.new) }
+        ensures flows { HoldsSo (flow_of S.remaining S.contents self.old) (flow_of S.remaining S.contents self.new) }
     {
         self.unsent.clear();
         self.stream = Some(stream);
@@ -207,7 +207,8 @@ impl<A: Allocator + Copy, S: Stream> Joint<A, S> {
         ensures ok { OnOk result
             (Hears (record (trail_of self.old outputs.old.items) { is_open = false }) Cut (trail_of self.new outputs.new.items)) }
         ensures err { IfErr result (λ stop. Fails stop (trail_of self.old outputs.old.items) (trail_of self.new outputs.new.items)) }
-        ensures flows { OnOk result (Flows (flow_of S.remaining S.contents self.old) (flow_of S.remaining S.contents self.new)) }
+        ensures flows { OnOk result (Cuts (said outputs.old.items) (said outputs.new.items) (flow_of S.remaining S.contents self.old)
+            (flow_of S.remaining S.contents self.new)) }
         ensures loud { IfErr result (λ stop. IsLoud stop (view_of self.old.client) Cut) }
     {
         self.stream = None;

@@ -1,14 +1,15 @@
 //! A client and the connection that it has.
 
-ghost use Rattle.std.specs.Prelude.{◌≡◌, ◌≤◌, [], ◌∷◌, true, false, IfErr, IfOk, IsOk, OnOk, string_bytes};
+ghost use Rattle.std.specs.Prelude.{◌≡◌, ◌≤◌, [], ◌∷◌, true, false, is_some, IfErr, IfOk, IsOk, OnOk, string_bytes};
 ghost use Rattle.zk_conversation.specs.Views.{call_view};
 ghost use Rattle.zk_client.specs.Clients.{view_of};
 ghost use Rattle.zk_client.specs.Views.{input_view};
 ghost use Rattle.zk_turns.specs.Turns.{Call, Cut, Opened};
 ghost use Rattle.script_words.specs.Stops.{IfHalted, IsWant};
-ghost use Rattle.script_live.specs.Flowing.{bytes_of, flow_of, holding, piece_bytes, piece_in, Flows};
+ghost use Rattle.script_live.specs.Flowing.{flow_of, holding, piece_bytes, piece_in, Carries, Reads};
 ghost use Rattle.script_live.specs.Heard.{is_waiting, tape, Awaits, Brings, Connects, Halts, HaltsAmong, HaltsAwaiting, HaltsBrought};
 ghost use Rattle.script_live.specs.Heard.{HaltsConnecting, Hears, MayEnd, Takes};
+ghost use Rattle.script_live.specs.Printed.{HandsThen, Prints};
 
 use crate::heard::{cut, printed_step};
 use crate::joint::Joint;
@@ -63,7 +64,8 @@ fn piece_of<A: Allocator>(
 impl<A: Allocator + Copy, S: Stream> Link<A, S> {
     /// A client with no connection yet.
     pub fn new(alloc: A, client: Client<A>) -> Link<A, S>
-        ensures { view_of result.joint.client ≡ view_of client }
+        ensures client { view_of result.joint.client ≡ view_of client }
+        ensures closed { is_some result.joint.stream ≡ false }
     {
         Link {
             joint: Joint::new(alloc, client),
@@ -74,8 +76,9 @@ impl<A: Allocator + Copy, S: Stream> Link<A, S> {
     pub fn cut(&mut self, alloc: A, text: &mut String<A>) -> Result<(), LineStop>
         ensures ok { OnOk result (Hears (tape (view_of self.old.joint.client) (string_bytes text.old)) Cut
             (tape (view_of self.new.joint.client) (string_bytes text.new))) }
-        ensures flows { OnOk result
-            (Flows (flow_of S.remaining S.contents self.old.joint) (flow_of S.remaining S.contents self.new.joint)) }
+        ensures flows { OnOk result (Prints (flow_of S.remaining S.contents self.old.joint) (flow_of S.remaining S.contents self.new.joint)
+            (string_bytes text.old) (string_bytes text.new)) }
+        ensures shut { OnOk result (is_some self.new.joint.stream ≡ false) }
         ensures err { IfErr result IsWant }
         ensures halt { IfErr result (IfHalted (Halts (tape (view_of self.old.joint.client) (string_bytes text.old)) Cut
             (tape (view_of self.new.joint.client) (string_bytes text.new)))) }
@@ -87,8 +90,10 @@ impl<A: Allocator + Copy, S: Stream> Link<A, S> {
     fn end_if(&mut self, is_over: bool, alloc: A, text: &mut String<A>) -> Result<(), LineStop>
         ensures ok { OnOk result (MayEnd (tape (view_of self.old.joint.client) (string_bytes text.old))
             (tape (view_of self.new.joint.client) (string_bytes text.new))) }
-        ensures flows { OnOk result
-            (Flows (flow_of S.remaining S.contents self.old.joint) (flow_of S.remaining S.contents self.new.joint)) }
+        ensures flows { OnOk result (Prints (flow_of S.remaining S.contents self.old.joint) (flow_of S.remaining S.contents self.new.joint)
+            (string_bytes text.old) (string_bytes text.new)) }
+        ensures shut { is_over ≡ true → OnOk result (is_some self.new.joint.stream ≡ false) }
+        ensures same { is_over ≡ false → self.new ≡ self.old }
         ensures err { IfErr result IsWant }
         ensures halt { IfErr result (IfHalted (Halts (tape (view_of self.old.joint.client) (string_bytes text.old)) Cut
             (tape (view_of self.new.joint.client) (string_bytes text.new)))) }
@@ -109,8 +114,8 @@ impl<A: Allocator + Copy, S: Stream> Link<A, S> {
     ) -> Result<Vec<Output<A>, A>, LineStop>
         ensures ok { OnOk result (Takes (tape (view_of self.old.joint.client) (string_bytes text.old)) (input_view input)
             (tape (view_of self.new.joint.client) (string_bytes text.new))) }
-        ensures flows { OnOk result (Flows (holding (bytes_of (input_view input)) (flow_of S.remaining S.contents self.old.joint))
-            (flow_of S.remaining S.contents self.new.joint)) }
+        ensures flows { OnOk result (HandsThen (input_view input) (flow_of S.remaining S.contents self.old.joint)
+            (flow_of S.remaining S.contents self.new.joint) (string_bytes text.old) (string_bytes text.new)) }
         ensures err { IfErr result IsWant }
         ensures halt { IfErr result (IfHalted (HaltsAmong (tape (view_of self.old.joint.client) (string_bytes text.old))
             (input_view input ∷ Cut ∷ []) (tape (view_of self.new.joint.client) (string_bytes text.new)))) }
@@ -142,7 +147,7 @@ impl<A: Allocator + Copy, S: Stream> Link<A, S> {
     /// The next piece of the connection, and none where it has ended, or brings nothing in time.
     fn next_piece(&mut self) -> Result<Option<Vec<u8, A>>, AllocError>
         ensures view { view_of self.new.joint.client ≡ view_of self.old.joint.client }
-        ensures flows { IfOk result (λ piece. Flows (flow_of S.remaining S.contents self.old.joint)
+        ensures flows { IfOk result (λ piece. Carries (flow_of S.remaining S.contents self.old.joint) Reads
             (holding (piece_bytes piece) (flow_of S.remaining S.contents self.new.joint))) }
     {
         let wait = self.longest_wait();
@@ -154,8 +159,8 @@ impl<A: Allocator + Copy, S: Stream> Link<A, S> {
     fn bring(&mut self, alloc: A, text: &mut String<A>) -> Result<Vec<Output<A>, A>, LineStop>
         ensures ok { OnOk result (Brings (tape (view_of self.old.joint.client) (string_bytes text.old))
             (tape (view_of self.new.joint.client) (string_bytes text.new))) }
-        ensures flows { OnOk result
-            (Flows (flow_of S.remaining S.contents self.old.joint) (flow_of S.remaining S.contents self.new.joint)) }
+        ensures flows { OnOk result (Prints (flow_of S.remaining S.contents self.old.joint) (flow_of S.remaining S.contents self.new.joint)
+            (string_bytes text.old) (string_bytes text.new)) }
         ensures err { IfErr result IsWant }
         ensures halt { IfErr result (IfHalted (HaltsBrought (tape (view_of self.old.joint.client) (string_bytes text.old))
             (tape (view_of self.new.joint.client) (string_bytes text.new)))) }
@@ -180,13 +185,13 @@ impl<A: Allocator + Copy, S: Stream> Link<A, S> {
     }
 
     /// Reads until the server has answered that a connection begins. By the last piece it ends.
-    #[tactic(auto, using(crate::proofs::HeardLemmas::nothing))]
+    #[tactic(auto, using(crate::proofs::HeardLemmas::nothing, crate::proofs::Printing::prints_none))]
     fn settle(&mut self, alloc: A, text: &mut String<A>) -> Result<(), LineStop>
         ensures ok { OnOk result (Brings (tape (view_of self.old.joint.client) (string_bytes text.old))
             (tape (view_of self.new.joint.client) (string_bytes text.new))) }
         ensures settled { OnOk result (is_waiting (view_of self.new.joint.client).standing.state ≡ false) }
-        ensures flows { OnOk result
-            (Flows (flow_of S.remaining S.contents self.old.joint) (flow_of S.remaining S.contents self.new.joint)) }
+        ensures flows { OnOk result (Prints (flow_of S.remaining S.contents self.old.joint) (flow_of S.remaining S.contents self.new.joint)
+            (string_bytes text.old) (string_bytes text.new)) }
         ensures err { IfErr result IsWant }
         ensures halt { IfErr result (IfHalted (HaltsBrought (tape (view_of self.old.joint.client) (string_bytes text.old))
             (tape (view_of self.new.joint.client) (string_bytes text.new)))) }
@@ -205,7 +210,7 @@ impl<A: Allocator + Copy, S: Stream> Link<A, S> {
     }
 
     /// Reads until the call with this ticket is answered, or the connection has ended. By the last piece it ends.
-    #[tactic(auto, using(crate::proofs::HeardLemmas::nothing))]
+    #[tactic(auto, using(crate::proofs::HeardLemmas::nothing, crate::proofs::Printing::prints_none))]
     fn wait(
         &mut self,
         alloc: A,
@@ -215,8 +220,8 @@ impl<A: Allocator + Copy, S: Stream> Link<A, S> {
     ) -> Result<(), LineStop>
         ensures ok { OnOk result (Brings (tape (view_of self.old.joint.client) (string_bytes text.old))
             (tape (view_of self.new.joint.client) (string_bytes text.new))) }
-        ensures flows { OnOk result
-            (Flows (flow_of S.remaining S.contents self.old.joint) (flow_of S.remaining S.contents self.new.joint)) }
+        ensures flows { OnOk result (Prints (flow_of S.remaining S.contents self.old.joint) (flow_of S.remaining S.contents self.new.joint)
+            (string_bytes text.old) (string_bytes text.new)) }
         ensures err { IfErr result IsWant }
         ensures halt { IfErr result (IfHalted (HaltsBrought (tape (view_of self.old.joint.client) (string_bytes text.old))
             (tape (view_of self.new.joint.client) (string_bytes text.new)))) }
@@ -239,8 +244,8 @@ impl<A: Allocator + Copy, S: Stream> Link<A, S> {
     pub fn ask(&mut self, alloc: A, asked: Asked<A>, text: &mut String<A>) -> Result<(), LineStop>
         ensures ok { OnOk result (Awaits (tape (view_of self.old.joint.client) (string_bytes text.old))
             (Call asked.ticket (call_view asked.call)) (tape (view_of self.new.joint.client) (string_bytes text.new))) }
-        ensures flows { OnOk result
-            (Flows (flow_of S.remaining S.contents self.old.joint) (flow_of S.remaining S.contents self.new.joint)) }
+        ensures flows { OnOk result (Prints (flow_of S.remaining S.contents self.old.joint) (flow_of S.remaining S.contents self.new.joint)
+            (string_bytes text.old) (string_bytes text.new)) }
         ensures err { IfErr result IsWant }
         ensures halt { IfErr result (IfHalted (HaltsAwaiting (tape (view_of self.old.joint.client) (string_bytes text.old))
             (Call asked.ticket (call_view asked.call)) (tape (view_of self.new.joint.client) (string_bytes text.new)))) }
@@ -252,7 +257,7 @@ impl<A: Allocator + Copy, S: Stream> Link<A, S> {
     }
 
     /// Ends the connection that is there, and begins one with the next address that connects.
-    #[tactic(auto, using(crate::proofs::HeardLemmas::fails))]
+    #[tactic(auto, using(crate::proofs::HeardLemmas::fails, crate::proofs::Printing::prints_down))]
     pub fn connect<D: Dial<Stream = S>>(
         &mut self,
         alloc: A,
@@ -262,8 +267,8 @@ impl<A: Allocator + Copy, S: Stream> Link<A, S> {
     ) -> Result<(), LineStop>
         ensures ok { OnOk result (Connects (tape (view_of self.old.joint.client) (string_bytes text.old))
             (tape (view_of self.new.joint.client) (string_bytes text.new))) }
-        ensures flows { OnOk result
-            (Flows (flow_of S.remaining S.contents self.old.joint) (flow_of S.remaining S.contents self.new.joint)) }
+        ensures flows { OnOk result (Prints (flow_of S.remaining S.contents self.old.joint) (flow_of S.remaining S.contents self.new.joint)
+            (string_bytes text.old) (string_bytes text.new)) }
         ensures err { IfErr result IsWant }
         ensures halt { IfErr result (IfHalted (HaltsConnecting (tape (view_of self.old.joint.client) (string_bytes text.old))
             (tape (view_of self.new.joint.client) (string_bytes text.new)))) }

@@ -1,6 +1,6 @@
 //! A live session of a whole script.
 
-ghost use Rattle.std.specs.Prelude.{◌≡◌, [], false, IfErr, IfOk, map, string_bytes};
+ghost use Rattle.std.specs.Prelude.{◌≡◌, [], false, is_some, IfErr, IfOk, map, string_bytes};
 ghost use Rattle.zk_turns.specs.View.{view_at};
 ghost use Rattle.zk_client.specs.Clients.{view_of};
 ghost use Rattle.script_words.specs.Pieces.{words_of};
@@ -10,9 +10,11 @@ ghost use Rattle.script_replay.specs.Lines.{begin_value_of, client_value_of};
 ghost use Rattle.script_replay.specs.ReplayLines.{BeginValue, CanBegin};
 ghost use Rattle.script_replay.specs.Played.{start_of};
 ghost use Rattle.script_live.specs.Begins.{begun_by, Begins};
+ghost use Rattle.script_live.specs.Flowing.{flow_of};
 ghost use Rattle.script_live.specs.Lines.{live_value_of};
 ghost use Rattle.script_live.specs.LiveLines.{DrivesLine, says_at};
 ghost use Rattle.script_live.specs.Lives.{position_of, rules, DoesLive, HaltsLine, HaltsLive, IsTranscript, Position, TakesLine};
+ghost use Rattle.script_live.specs.Printed.{Prints};
 
 use crate::first_line::begin_of;
 use crate::link::Link;
@@ -42,6 +44,8 @@ impl<A: Allocator + Copy, D: Dial> Session<'_, A, D> {
     fn drive(&mut self, alloc: A, line: ClientLine<A>) -> Result<String<A>, LineStop>
         ensures ok { IfOk result (λ text. DoesLive (DrivesLine (client_value_of line)) (view_of self.old.link.joint.client)
             (view_of self.new.link.joint.client) (string_bytes text)) }
+        ensures prints { IfOk result (λ text. Prints (flow_of D.Stream.remaining D.Stream.contents self.old.link.joint)
+            (flow_of D.Stream.remaining D.Stream.contents self.new.link.joint) [] (string_bytes text)) }
         ensures err { IfErr result IsWant }
         ensures halt { IfErr result (IfHalted
             (HaltsLive (DrivesLine (client_value_of line)) (view_of self.old.link.joint.client) (view_of self.new.link.joint.client))) }
@@ -63,6 +67,8 @@ impl<A: Allocator + Copy, D: Dial> Session<'_, A, D> {
     fn act(&mut self, alloc: A, line: LiveLine<A>) -> Result<String<A>, LineStop>
         ensures ok { IfOk result (λ text.
             DoesLive (live_value_of line) (view_of self.old.link.joint.client) (view_of self.new.link.joint.client) (string_bytes text)) }
+        ensures prints { IfOk result (λ text. Prints (flow_of D.Stream.remaining D.Stream.contents self.old.link.joint)
+            (flow_of D.Stream.remaining D.Stream.contents self.new.link.joint) [] (string_bytes text)) }
         ensures err { IfErr result IsWant }
         ensures halt { IfErr result
             (IfHalted (HaltsLive (live_value_of line) (view_of self.old.link.joint.client) (view_of self.new.link.joint.client))) }
@@ -82,7 +88,8 @@ impl<A: Allocator + Copy, D: Dial> Session<'_, A, D> {
     /// Does what a line says, and gives what is to be printed. The first reason that applies refuses a line.
     #[tactic(auto, using(crate::proofs::LiveLemmas::took_none, crate::proofs::LiveLemmas::took))]
     fn read_line(&mut self, alloc: A, line: &[u8]) -> Result<String<A>, LineStop>
-        ensures ok { IfOk result (λ text. TakesLine line.now (position_of self.old) (position_of self.new) (string_bytes text)) }
+        ensures ok { IfOk result (λ text. TakesLine line.now (position_of D.Stream.remaining D.Stream.contents self.old)
+            (position_of D.Stream.remaining D.Stream.contents self.new) (string_bytes text)) }
         ensures err { IfErr result (IsDueBy (says_at (words_of line.now) self.old.is_begun)) }
         ensures halt { IfErr result
             (IfHalted (HaltsLine line.now self.old.is_begun (view_of self.old.link.joint.client) (view_of self.new.link.joint.client))) }
@@ -101,7 +108,7 @@ impl<A: Allocator + Copy, D: Dial> LineReader<A> for Session<'_, A, D> {
 
     ghost rules = { rules };
 
-    ghost stands = { λ session here. position_of session ≡ here };
+    ghost stands = { λ session here. position_of D.Stream.remaining D.Stream.contents session ≡ here };
 
     fn read(&mut self, alloc: A, line: &[u8]) -> Result<String<A>, LineStop> {
         match self.read_line(alloc, line) {
@@ -120,6 +127,7 @@ fn made<'a, A: Allocator + Copy, D: Dial>(
 ) -> Result<Session<'a, A, D>, AllocError>
     requires { CanBegin (begin_value_of begin) }
     ensures view { IfOk result (λ session. view_of session.link.joint.client ≡ view_at (start_of (begin_value_of begin)) []) }
+    ensures closed { IfOk result (λ session. is_some session.link.joint.stream ≡ false) }
     ensures begun { IfOk result (λ session. session.is_begun ≡ false) }
 {
     let client = make_client(alloc, begin)?;
@@ -137,7 +145,8 @@ fn connected<A: Allocator + Copy, D: Dial>(
     session: &mut Session<'_, A, D>,
     lines: &[&[u8]],
 ) -> Transcript<A>
-    requires { session.old.is_begun ≡ false }
+    requires begun { session.old.is_begun ≡ false }
+    requires closed { is_some session.old.link.joint.stream ≡ false }
     ensures { (begin : BeginValue) → begun_by (map (λ l. l.now) lines.now) ≡ Begins begin
         → view_of session.old.link.joint.client ≡ view_at (start_of begin) []
         → IsTranscript (map (λ l. l.now) lines.now) (string_bytes result.text) result.end }

@@ -38,20 +38,20 @@ use Rattle.zk_served.proofs.Moved.{all_apart, all_ready, bytes_noted, late_noted
 use Rattle.zk_served.proofs.Moved.{Loose, Ready}
 use Rattle.zk_served.proofs.Acted.{acts_keep, apart_kept}
 
-abbrev view_in : {A : Type 0} → Course A → View
+abbrev pub view_in : {A : Type 0} → Course A → View
 view_in course = view_of course.agent.asker.follower.client
 
 -- what is held on a connection that is there
-abbrev held_where : Bool → List ℕ → List ℕ
+abbrev pub held_where : Bool → List ℕ → List ℕ
 held_where true held = held
 held_where false held = []
 
 -- between deeds
-record Bound {A : Type 0} (flow : Flow A) (shown : Shown) : Type 0 where
-  here : Kept (view_in flow.course) flow.course.channel.is_open flow.course.channel.unsent
+pub record Bound {A : Type 0} (flow : Flow A) (shown : Shown) : Type 0 where
+  pub here : Kept (view_in flow.course) flow.course.channel.is_open flow.course.channel.unsent
       (held_where flow.course.channel.is_open flow.held) shown
-  tied : is_up (view_in flow.course) ≡ true → is_open flow.course.agent.dialler.phase ≡ true
-  later : IsLater flow.course.agent.timeout_ms
+  pub tied : is_up (view_in flow.course) ≡ true → is_open flow.course.agent.dialler.phase ≡ true
+  pub later : IsLater flow.course.agent.timeout_ms
 
 none_where : (there : Bool) (held : List ℕ) → held ≡ [] → held_where there held ≡ []
 none_where true held none = none
@@ -287,7 +287,7 @@ told_bound : {A : Type 0} (old new : Flow A) (shown : Shown) → new ≡ record 
 told_bound old new shown same bound =
     subst (λ f. Bound f shown) (sym same) (record { here = bound.here; tied = bound.tied; later = bound.later })
 
-steps_bound : {A : Type 0} (steps : List (Option (Deed A))) (old new : Flow A) (passes : FoldsTo Passes old steps new)
+pub steps_bound : {A : Type 0} (steps : List (Option (Deed A))) (old new : Flow A) (passes : FoldsTo Passes old steps new)
     (before after : Shown) → StepsFit steps old new passes → Meets ByDriver steps old new passes before after
     → Bound old before → Bound new after
 steps_bound [] old new same before after fits meets bound = subst (Bound new) (sym meets) (subst (λ f. Bound f before) same bound)
@@ -297,7 +297,7 @@ steps_bound (Some deed ∷ steps) old new passes before after fits meets bound =
 steps_bound (None ∷ steps) old new passes before after fits meets bound =
     steps_bound steps passes.0 new passes.2 before after fits meets (told_bound old passes.0 before passes.1 bound)
 
-begins_bound : {A : Type 0} (flow : Flow A) (before : Shown) → Begins flow → Bound flow before
+pub begins_bound : {A : Type 0} (flow : Flow A) (before : Shown) → Begins flow → Bound flow before
 begins_bound flow before begins = record {
   here = record {
     met = before;
@@ -362,7 +362,7 @@ befalls_driver (Made (Noted now (happens.Follow ticket side path))) old new befo
 befalls_driver (Made (Noted now (happens.Unfollow ticket))) old new before after carries meets = meets
 befalls_driver (Asked now input) old new before after carries meets = meets
 
-meets_driver : {A : Type 0} (steps : List (Option (Deed A))) (old new : Flow A) (passes : FoldsTo Passes old steps new)
+pub meets_driver : {A : Type 0} (steps : List (Option (Deed A))) (old new : Flow A) (passes : FoldsTo Passes old steps new)
     (before after : Shown) → Meets ByStream steps old new passes before after → Meets ByDriver steps old new passes before after
 meets_driver [] old new same before after meets = meets
 meets_driver (Some deed ∷ steps) old new passes before after meets = (

@@ -148,7 +148,7 @@ kept_down view was_there is_there unsent held then_unsent then_held old new k do
   gone = λ up there. let e : true ≡ false = sym up ∙ down in cc;
 }
 
-goes_nowhere : (h : History) → GoesOn h h
+pub goes_nowhere : (h : History) → GoesOn h h
 goes_nowhere h = record { first = refl; more = []; transactions = sym (append-nil h.transactions) }
 
 -- its connection is over, and what was read may still be handed to it

@@ -5,7 +5,7 @@ use Rattle.script_live.specs.Trails.{trail_of}
 use Rattle.script_live.specs.Heard.{TellsEach}
 use Rattle.script_live.proofs.HeardLemmas.{heard}
 use Rattle.script_live.specs.Flowing.{flow_of}
-use Rattle.script_live.proofs.Flowed.{flow_heard}
+use Rattle.script_live.proofs.Printing.{hands_so}
 use Rattle.script_live.proofs.heard.printed_step.Goals as goal
 
 pub returns-clause-ok : goal.returns-clause-ok
@@ -21,5 +21,8 @@ returns-clause-ok g c =
 pub returns-clause-flows : goal.returns-clause-flows
 returns-clause-flows g c =
     let know = flow_of g.S.Read.remaining g.S.Write.contents in
-    flow_heard (input_view c.args.input) (said c.new-outputs.result.items) (said c.step.new.outputs.items) (know c.args.joint.now)
-    (know c.step.new.self) c.in-Ok.ensures.flows
+    let told = c.in_ok-push_told.ensures in
+    let tells : TellsEach (said c.step.new.outputs.items) told.0 = rw (← c.as_slice.ensures.value) told.1 in
+    hands_so (input_view c.args.input) (said c.new-outputs.result.items) (said c.step.new.outputs.items) (know c.args.joint.now)
+    (know c.step.new.self) (string_bytes c.args.text.now) told.0
+    (string_bytes c.push_told.new.text) (ap said c.new-outputs.ensures.items) c.in-Ok.ensures.flows tells told.2

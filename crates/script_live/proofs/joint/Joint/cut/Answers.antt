@@ -3,7 +3,7 @@ use Rattle.script_live.specs.Trails.{trail_of}
 use Rattle.script_live.proofs.TrailLemmas.{same_fails}
 use Rattle.zk_client.specs.Views.{said}
 use Rattle.script_live.specs.Flowing.{flow_of}
-use Rattle.script_live.proofs.Flowed.{flow_cut}
+use Rattle.script_live.proofs.Flowed.{cut_so}
 use Rattle.script_live.proofs.joint.Joint.cut.Goals as goal
 
 pub returns-in_err-step-clause-err : goal.returns-in_err-step-clause-err
@@ -17,5 +17,5 @@ pub returns-clause-flows : goal.returns-clause-flows
 returns-clause-flows g c =
     let know = flow_of g.S.Read.remaining g.S.Write.contents in
     let ended = know (record c.args.self.now { stream = None }) in
-    flow_cut (said c.args.outputs.now.items) (said c.step.new.outputs.items) (know c.args.self.now) ended (know c.step.new.self)
-    (refl, refl, refl, refl) refl c.in_ok-step.ensures.flows
+    cut_so (said c.args.outputs.now.items) (said c.step.new.outputs.items) (know c.args.self.now) ended
+    (know c.step.new.self) refl refl refl c.in_ok-step.ensures.flows

@@ -5,7 +5,8 @@ use Rattle.zk_turns.specs.Turns.{Call}
 use Rattle.zk_client.specs.Clients.{view_of}
 use Rattle.script_live.specs.Heard.{tape}
 use Rattle.script_live.proofs.HeardLemmas.{asks, halts_asked, halts_awaiting}
-use Rattle.script_live.proofs.Flowed.{flow_after}
+use Rattle.script_live.specs.Flowing.{flow_of}
+use Rattle.script_live.proofs.Printing.{prints_after, prints_hands}
 use Rattle.script_live.proofs.link.Link.ask.Goals as goal
 
 pub returns-clause-ok : goal.returns-clause-ok
@@ -38,4 +39,12 @@ returns-in_err-wait-clause-halt g c =
     search rules
 
 pub returns-clause-flows : goal.returns-clause-flows
-returns-clause-flows g c = flow_after _ _ _ c.in_ok-outputs.ensures.flows c.in_ok-wait.ensures.flows
+returns-clause-flows g c =
+    let know = flow_of g.S.Read.remaining g.S.Write.contents in
+    let sent = c.step.new in
+    let new = c.wait.new in
+    prints_after (know c.args.self.now.joint) (know sent.self.joint) (know new.self.joint) (string_bytes c.args.text.now)
+    (string_bytes sent.text) (string_bytes new.text)
+    (prints_hands (Call c.args.asked.ticket (call_view c.args.asked.call)) (know c.args.self.now.joint) (know sent.self.joint)
+    (string_bytes c.args.text.now) (string_bytes sent.text) tt c.in_ok-outputs.ensures.flows)
+    c.in_ok-wait.ensures.flows

@@ -2,10 +2,10 @@ use Rattle.std.proofs.Common.{rules, ℕ, Option, Vec, subst}
 use Rattle.std.specs.Prelude.{string_bytes}
 use Rattle.zk_turns.specs.Turns.{Cut}
 use Rattle.zk_client.specs.Clients.{view_of}
-use Rattle.script_live.specs.Flowing.{flow_of, holding, piece_bytes, Flows}
+use Rattle.script_live.specs.Flowing.{flow_of, holding, piece_bytes, Carries, Reads}
 use Rattle.script_live.specs.Heard.{tape}
 use Rattle.script_live.proofs.HeardLemmas.{halts_cut, halts_piece, one, piece}
-use Rattle.script_live.proofs.Flowed.{flow_after}
+use Rattle.script_live.proofs.Printing.{prints_piece, prints_quiet}
 use Rattle.script_live.proofs.link.Link.bring.Goals as goal
 
 pub returns-in_ok-outputs-in-Some-clause-ok : goal.returns-in_ok-outputs-in-Some-clause-ok
@@ -43,13 +43,17 @@ returns-in_err-cut-in-None-clause-halt g c =
 pub returns-in_ok-outputs-in-Some-clause-flows : goal.returns-in_ok-outputs-in-Some-clause-flows
 returns-in_ok-outputs-in-Some-clause-flows g c =
     let know = flow_of g.S.Read.remaining g.S.Write.contents in
-    let read = subst (λ (p : Option (Vec ℕ g.row.A.Denot)). Flows (know c.args.self.now.joint)
+    let read = subst (λ (p : Option (Vec ℕ g.row.A.Denot)). Carries (know c.args.self.now.joint) Reads
     (holding (piece_bytes p) (know c.next_piece.new.self.joint))) c.in-Some.is c.in_ok-bytes.ensures.flows in
-    flow_after _ _ _ read c.in_ok-outputs-in-Some.ensures.flows
+    prints_piece c.in-Some.bytes.items (know c.args.self.now.joint) (know c.next_piece.new.self.joint) (know c.step.new.self.joint)
+    (string_bytes c.args.text.now) (string_bytes c.step.new.text)
+    read c.in_ok-outputs-in-Some.ensures.flows
 
 pub returns-in_ok-cut-in-None-clause-flows : goal.returns-in_ok-cut-in-None-clause-flows
 returns-in_ok-cut-in-None-clause-flows g c =
     let know = flow_of g.S.Read.remaining g.S.Write.contents in
-    let read = subst (λ (p : Option (Vec ℕ g.row.A.Denot)). Flows (know c.args.self.now.joint)
+    let read = subst (λ (p : Option (Vec ℕ g.row.A.Denot)). Carries (know c.args.self.now.joint) Reads
     (holding (piece_bytes p) (know c.next_piece.new.self.joint))) c.in-None.is c.in_ok-bytes.ensures.flows in
-    flow_after _ _ _ read c.in_ok-cut-in-None.ensures.flows
+    prints_quiet (know c.args.self.now.joint) (know c.next_piece.new.self.joint) (know c.cut.new.self.joint) (string_bytes c.args.text.now)
+    (string_bytes c.cut.new.text)
+    read c.in_ok-cut-in-None.ensures.flows

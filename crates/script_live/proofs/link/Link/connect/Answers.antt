@@ -1,5 +1,5 @@
-use Rattle.std.proofs.Common.{◌≡◌, [], ◌∷◌, ap, rules, subst}
-use Rattle.std.specs.Prelude.{string_bytes}
+use Rattle.std.proofs.Common.{◌≡◌, [], ◌∷◌, ap, refl, rules, subst}
+use Rattle.std.specs.Prelude.{is_some, string_bytes}
 use Rattle.zk_turns.specs.Turns.{Cut, Opened}
 use Rattle.zk_turns.specs.View.{View}
 use Rattle.zk_client.specs.Clients.{view_of}
@@ -7,7 +7,9 @@ use Rattle.script_live.specs.Trails.{Trail}
 use Rattle.script_words.specs.Stops.{IfHalted}
 use Rattle.script_live.specs.Heard.{tape, HaltsAmong, Takes}
 use Rattle.script_live.proofs.HeardLemmas.{connects, halts_opened, halts_settling}
-use Rattle.script_live.proofs.Flowed.{flow_after}
+use Rattle.script_live.specs.Flowing.{flow_of}
+use Rattle.script_live.specs.declared.link.Link.{Link}
+use Rattle.script_live.proofs.Printing.{prints_after, prints_begin, shut_by}
 use Rattle.script_live.proofs.link.Link.connect.Goals as goal
 
 pub returns-clause-ok : goal.returns-clause-ok
@@ -53,5 +55,18 @@ returns-in_err-settle-clause-halt g c =
 
 pub returns-clause-flows : goal.returns-clause-flows
 returns-clause-flows g c =
-    flow_after _ _ _ c.in_ok-end_if.ensures.flows
-    (flow_after _ _ _ c.hold.ensures.flows (flow_after _ _ _ c.in_ok-step.ensures.flows c.in_ok-settle.ensures.flows))
+    let know = flow_of g.S.Read.remaining g.S.Write.contents in
+    let old = c.args.self.now in
+    let ended = c.end_if.new in
+    let began = c.step.new in
+    let new = c.settle.new in
+    let shut =
+    shut_by c.is_open.result (is_some old.joint.stream) (is_some ended.self.joint.stream) c.is_open.ensures c.in_ok-end_if.ensures.shut
+    (λ stays. ap (λ (l : Link g.row.A.Denot g.row.S.Denot). is_some l.joint.stream) (c.end_if.ensures.same stays)) in
+    prints_after (know old.joint) (know ended.self.joint) (know new.self.joint) (string_bytes c.args.text.now) (string_bytes ended.text)
+    (string_bytes new.text) c.in_ok-end_if.ensures.flows
+    (prints_after (know ended.self.joint) (know began.self.joint) (know new.self.joint) (string_bytes ended.text)
+    (string_bytes began.text) (string_bytes new.text)
+    (prints_begin (know ended.self.joint) (know c.hold.new.self) (know began.self.joint) (string_bytes ended.text)
+    (string_bytes began.text) shut refl c.hold.ensures.flows c.in_ok-step.ensures.flows)
+    c.in_ok-settle.ensures.flows)

@@ -1,12 +1,12 @@
 use Rattle.std.proofs.Common.{rules}
-use Rattle.script_live.proofs.Flowed.{flow_after}
+use Rattle.script_live.proofs.Printing.{prints_after}
 use Rattle.script_live.proofs.HeardLemmas.{behind, cut_settles, ended, halts_behind, halts_ended}
 use Rattle.script_live.proofs.link.Link.settle.Goals as goal
 
 pub loop-preserved : goal.loop-preserved
 loop-preserved g c = record {
   brings = behind _ _ _ c.loop.invariant.brings c.in_ok-bring.ensures.ok;
-  flows = flow_after _ _ _ c.loop.invariant.flows c.in_ok-bring.ensures.flows;
+  flows = prints_after _ _ _ _ _ _ c.loop.invariant.flows c.in_ok-bring.ensures.flows;
 }
 
 pub returns-clause-ok : goal.returns-clause-ok
@@ -24,4 +24,4 @@ returns-in_err-cut-clause-halt g c =
     let halted = halts_ended _ _ _ c.in_err-cut.field-0.0 c.loop.invariant.brings c.in_err-cut.ensures.halt in search rules
 
 pub returns-clause-flows : goal.returns-clause-flows
-returns-clause-flows g c = flow_after _ _ _ c.loop.invariant.flows c.in_ok-cut.ensures.flows
+returns-clause-flows g c = prints_after _ _ _ _ _ _ c.loop.invariant.flows c.in_ok-cut.ensures.flows

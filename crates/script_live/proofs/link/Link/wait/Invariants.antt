@@ -1,7 +1,8 @@
 use Rattle.std.specs.Prelude.{string_bytes}
 use Rattle.zk_client.specs.Clients.{view_of}
-use Rattle.script_live.specs.Flowing.{flow_of, Flows}
+use Rattle.script_live.specs.Flowing.{flow_of}
 use Rattle.script_live.specs.Heard.{tape, Brings}
+use Rattle.script_live.specs.Printed.{Prints}
 use Rattle.script_live.proofs.link.Link.wait.Given as goal
 
 -- what the connection has brought so far
@@ -9,6 +10,6 @@ abbrev pub invariant-loop : goal.invariant-loop
 invariant-loop g l = record {
   brings : Brings (tape (view_of l.initial.self.joint.client) (string_bytes l.initial.text))
       (tape (view_of l.self.joint.client) (string_bytes l.text));
-  flows : Flows (flow_of g.S.Read.remaining g.S.Write.contents l.initial.self.joint)
-      (flow_of g.S.Read.remaining g.S.Write.contents l.self.joint);
+  flows : Prints (flow_of g.S.Read.remaining g.S.Write.contents l.initial.self.joint)
+      (flow_of g.S.Read.remaining g.S.Write.contents l.self.joint) (string_bytes l.initial.text) (string_bytes l.text);
 }

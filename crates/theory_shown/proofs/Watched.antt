@@ -1,0 +1,103 @@
+-- What a watch prints is the history's.
+use Rattle.std.proofs.Common.{◌≡◌, Bool, List, [], ◌∷◌, Option, sym, subst}
+use Rattle.std.specs.Prelude.{ℕ}
+use Rattle.std.specs.List.{FoldsTo}
+use Rattle.zk_nodes.specs.History.{History, IsHistory}
+use Rattle.zk_nodes.specs.Path.{Text}
+use Rattle.zk_nodes.specs.declared.side.Side.{Side}
+use Rattle.zk_laws.specs.Headline.{IsCoherentWith}
+use Rattle.theory_serving.specs.GoingOn.{GoesOn}
+use Rattle.theory_serving.specs.Shown.{Shown}
+use Rattle.zk_bench.proofs.Processed.{goes_further}
+use Rattle.zk_served.proofs.Served.{begins_bound, held_where, Bound}
+use Rattle.zk_served.proofs.Turned.{goes_nowhere}
+use Rattle.shell_watch.specs.Watching.{flow_in, view_in, Closes, Does, EndsFrom, Move, PrintsFrom, Stand, Takes}
+use Rattle.theory_shown.specs.Watched.{AllCohere, EndsCohere, EndsMeet, FollowsMeet, IsMoveCoherent, MoveMeets, MovesMeet, PrintsCohere}
+use Rattle.theory_shown.specs.Watched.{PrintsMeet, RunMeets}
+use Rattle.theory_shown.proofs.Going.{kept_coheres, run_bound, run_on, same_on}
+
+coheres : {A : Type 0} (stand : Stand A) (shown : Shown) (history : History)
+    → Bound (flow_in stand) shown → GoesOn shown.history history → IsHistory history → IsCoherentWith history (view_in stand)
+coheres stand shown history bound goes is =
+    kept_coheres (view_in stand) stand.course.channel.is_open stand.course.channel.unsent
+    (held_where stand.course.channel.is_open []) shown history bound.here goes is
+
+-- ---- a move
+
+move_on : {A : Type 0} (move : Move A) (old new : Stand A) (does : Does old move new) (before after : Shown)
+    → MoveMeets move old new does before after → GoesOn before.history after.history
+move_on (Takes turn text) old new does before after meets =
+    goes_further before.history meets.0.history after.history (run_on (flow_in old) (flow_in does.between) before meets.0 meets.1)
+    (run_on (flow_in does.between) (flow_in new) meets.0 after meets.2)
+move_on (Closes until) old new does before after meets = run_on (flow_in old) (flow_in new) before after meets
+
+move_bound : {A : Type 0} (move : Move A) (old new : Stand A) (does : Does old move new) (before after : Shown)
+    → MoveMeets move old new does before after → Bound (flow_in old) before → Bound (flow_in new) after
+move_bound (Takes turn text) old new does before after meets bound =
+    run_bound (flow_in does.between) (flow_in new) meets.0 after meets.2
+    (run_bound (flow_in old) (flow_in does.between) before meets.0 meets.1 bound)
+move_bound (Closes until) old new does before after meets bound = run_bound (flow_in old) (flow_in new) before after meets bound
+
+move_coheres : {A : Type 0} (move : Move A) (old new : Stand A) (does : Does old move new) (before after : Shown) (history : History)
+    → MoveMeets move old new does before after → Bound (flow_in old) before
+    → GoesOn after.history history → IsHistory history → IsMoveCoherent history move old new does
+move_coheres (Takes turn text) old new does before after history meets bound goes is =
+    let between = run_bound (flow_in old) (flow_in does.between) before meets.0 meets.1 bound in
+    let later =
+    goes_further meets.0.history after.history history (run_on (flow_in does.between) (flow_in new) meets.0 after meets.2) goes in (
+      coheres does.between meets.0 history between later is,
+      coheres new after history (run_bound (flow_in does.between) (flow_in new) meets.0 after meets.2 between) goes is,
+    )
+move_coheres (Closes until) old new does before after history meets bound goes is =
+    coheres new after history (run_bound (flow_in old) (flow_in new) before after meets bound) goes is
+
+-- ---- moves
+
+moves_on : {A : Type 0} (moves : List (Move A)) (old new : Stand A) (does : FoldsTo Does old moves new) (before after : Shown)
+    → MovesMeet moves old new does before after → GoesOn before.history after.history
+moves_on [] old new does before after meets = same_on before after meets
+moves_on (move ∷ moves) old new does before after meets =
+    goes_further before.history meets.0.history after.history (move_on move old does.0 does.1 before meets.0 meets.1)
+    (moves_on moves does.0 new does.2 meets.0 after meets.2)
+
+moves_bound : {A : Type 0} (moves : List (Move A)) (old new : Stand A) (does : FoldsTo Does old moves new) (before after : Shown)
+    → MovesMeet moves old new does before after → Bound (flow_in old) before
+    → Bound (flow_in new) after
+moves_bound [] old new same before after meets bound =
+    subst (λ s. Bound (flow_in new) s) (sym meets) (subst (λ s. Bound (flow_in s) before) same bound)
+moves_bound (move ∷ moves) old new does before after meets bound =
+    moves_bound moves does.0 new does.2 meets.0 after meets.2 (move_bound move old does.0 does.1 before meets.0 meets.1 bound)
+
+all_cohere : {A : Type 0} (moves : List (Move A)) (old new : Stand A) (does : FoldsTo Does old moves new) (before after : Shown)
+    (history : History) → MovesMeet moves old new does before after → Bound (flow_in old) before
+    → GoesOn after.history history → IsHistory history → AllCohere history moves old new does
+all_cohere [] old new does before after history meets bound goes is = tt
+all_cohere (move ∷ moves) old new does before after history meets bound goes is =
+    let later = goes_further meets.0.history after.history history (moves_on moves does.0 new does.2 meets.0 after meets.2) goes in (
+      move_coheres move old does.0 does.1 before meets.0 history meets.1 bound later is,
+      all_cohere moves does.0 new does.2 meets.0 after history meets.2
+          (move_bound move old does.0 does.1 before meets.0 meets.1 bound) goes is,
+    )
+
+-- ---- the whole
+
+ready_bound : {A : Type 0} (first ready : Stand A) (shown : Shown) → FollowsMeet first ready shown → Bound (flow_in ready) shown
+ready_bound first ready shown meets =
+    run_bound (flow_in first) (flow_in ready) meets.before shown meets.runs (begins_bound (flow_in first) meets.before meets.begins)
+
+pub prints_cohere : (A : Type 0) → PrintsCohere A
+prints_cohere A aims first text from after meets =
+    all_cohere from.prints.moves from.ready from.last from.prints.does meets.ready after after.history meets.prints
+    (ready_bound first from.ready meets.ready meets.follows) (goes_nowhere after.history) meets.history
+
+pub ends_cohere : (A : Type 0) → EndsCohere A
+ends_cohere A aims for_ms first text is_accepted from after meets =
+    let over = from.over in
+    let ready = ready_bound first from.ready meets.ready meets.follows in
+    let later = moves_on over.closes.moves over.over from.last over.closes.does meets.over after meets.closes in (
+      all_cohere over.prints.moves from.ready over.over over.prints.does meets.ready meets.over after.history meets.prints
+          ready later meets.history,
+      all_cohere over.closes.moves over.over from.last over.closes.does meets.over after after.history meets.closes
+          (moves_bound over.prints.moves from.ready over.over over.prints.does meets.ready meets.over meets.prints ready)
+          (goes_nowhere after.history) meets.history,
+    )
