@@ -4,3 +4,4 @@ pub mod TrailLemmas
 pub mod GiveLemmas
 pub mod Flowed
 pub mod Printing
+pub mod Living

@@ -2,6 +2,7 @@
 //! have empty bodies: their contracts are the laws.
 #![tactic(auto)]
 
+ghost use Rattle.theory_shown.specs.Lived.{LifeCoheres};
 ghost use Rattle.theory_shown.specs.Watched.{EndsCohere, PrintsCohere};
 
 use std::alloc::Allocator;
@@ -11,4 +12,10 @@ use std::alloc::Allocator;
 pub fn watches_cohere<A: Allocator>()
     ensures printed { PrintsCohere A }
     ensures over { EndsCohere A }
+{}
+
+/// The same of a client that a script drives over such connections: each good answer that it has, and that is looked up and printed, is the
+/// history's.
+pub fn lives_cohere()
+    ensures { LifeCoheres }
 {}

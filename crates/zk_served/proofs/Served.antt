@@ -315,13 +315,13 @@ begins_bound flow before begins = record {
 
 -- ---- by what streams know
 
-known_took : (before took written : List ℕ) (old new : Option (List ℕ)) → old ≡ Some before → new ≡ Some (before ++ took)
+pub known_took : (before took written : List ℕ) (old new : Option (List ℕ)) → old ≡ Some before → new ≡ Some (before ++ took)
     → Appends old new written → took ≡ written
 known_took before took written old new is then_is appends =
     append_cancel_left before took written
     (subst (λ o. Appends o (Some (before ++ took)) written) is (subst (λ o. Appends old o written) then_is appends))
 
-known_gave : (gave rest piece : List ℕ) (old new : Option (List ℕ)) → old ≡ Some (gave ++ rest)
+pub known_gave : (gave rest piece : List ℕ) (old new : Option (List ℕ)) → old ≡ Some (gave ++ rest)
     → new ≡ Some rest → Consumes old new piece → gave ≡ piece
 known_gave gave rest piece old new is then_is consumes =
     append_cancel_right gave piece rest (subst (λ o. Consumes o (Some rest) piece) is (subst (λ o. Consumes old o piece) then_is consumes))
