@@ -3,7 +3,8 @@ use Rattle.std.proofs.Common.{◌≡◌, ◌≢◌, ◌<◌, ◌⊎◌, ◌++◌
 use Rattle.std.proofs.Common.{None, Some, Result, length, true, false, append_assoc, refl, sym, ap, subst}
 use Rattle.std.proofs.lemmas.List.{map-append, reverse-append, reverse-reverse}
 use Rattle.zk_nodes.specs.Path.{Text}
-use Rattle.zk_driver.specs.Driving.{Course}
+use Rattle.zk_driver.specs.Flowing.{Flow, Runs}
+use Rattle.zk_driver.proofs.Running.{runs_join, runs_same}
 use Rattle.zk_turns.specs.Turns.{Replied, ConnectionLoss, SessionExpired, SessionClosed, NotConnected, TooManyWatches, TooLarge}
 use Rattle.zk_turns.specs.Turns.{TooManyPending}
 use Rattle.zk_conversation.specs.Results.{NoNode, Refused, Found, Read, Listing, Made, Done}
@@ -16,7 +17,7 @@ use Rattle.shell_ask.specs.Asking.{Coming, Answered, Heard, Late}
 use Rattle.shell_ask.specs.Printing.{end_of, IsToldEnd}
 use Rattle.shell_ask.specs.Trees.{child_of, ending_end, ending_view, listing_of, names_within, spot_view, waiting_view, with_next}
 use Rattle.shell_ask.specs.Trees.{AreInOrder, EndsAt, Ending, Full, HasNoPath, IsGone, IsHeard, IsListed, IsUndone, Misnamed, Reaches, Spot}
-use Rattle.shell_ask.specs.Trees.{Stage, Steps, Stopped, Whole}
+use Rattle.shell_ask.specs.Trees.{Stage, Steps, Stopped, Whole, WalksRun, begins, leaves_out, prints_leaf, prints_node, steps}
 
 -- ---- the nodes that wait
 
@@ -97,16 +98,17 @@ is_full (Misnamed name) more = absurd cc
 
 -- ---- its steps
 
-abbrev pub stage : {A : Type 0} → Course A → (waiting : List Spot) (printed : List Text) → Stage A
-stage course waiting printed = record { course = course; waiting = waiting; printed = printed }
+abbrev pub stage : {A : Type 0} → Flow A → (waiting : List Spot) (printed : List Text) → Stage A
+stage flow waiting printed = record { flow = flow; waiting = waiting; printed = printed }
 
-pub heard_of : {A : Type 0} (bounds : Bounds) (old : Stage A) (spot : Spot) (coming : Coming) (last : Course A)
+pub heard_of : {A : Type 0} (bounds : Bounds) (old : Stage A) (spot : Spot) (coming : Coming) (last : Flow A)
     → length old.printed < bounds.most → IsListed bounds.deepest spot
-    → Heard (listing_of spot) bounds.until old.course coming last → IsHeard bounds (with_next spot old) spot old.waiting coming last
-heard_of bounds old spot coming last room listed heard =
-    record { next = record { next = refl; room = room }; listed = listed; heard = heard }
+    → Heard (listing_of spot) bounds.until old.flow.course coming last.course → Runs old.flow last
+    → IsHeard bounds (with_next spot old) spot old.waiting coming last
+heard_of bounds old spot coming last room listed heard runs =
+    record { next = record { next = refl; room = room }; listed = listed; heard = heard; runs = runs }
 
-pub misnamed : {A : Type 0} (bounds : Bounds) (old : Stage A) (spot : Spot) (coming : Coming) (last : Course A) (each : List Text)
+pub misnamed : {A : Type 0} (bounds : Bounds) (old : Stage A) (spot : Spot) (coming : Coming) (last : Flow A) (each : List Text)
     (child : Text) (ending : Ending)
     → IsHeard bounds (with_next spot old) spot old.waiting coming last → end_of coming ≡ ends.Done
     → AreInOrder each (names_within bounds.deepest spot coming)
@@ -116,7 +118,7 @@ misnamed bounds old spot coming last each child ending heard done order has path
       spot = spot;
       rest = old.waiting;
       coming = coming;
-      course = last;
+      flow = last;
       each = each;
       child = child;
       heard = heard;
@@ -127,13 +129,13 @@ misnamed bounds old spot coming last each child ending heard done order has path
       named = refl;
     })
 
-pub stopped : {A : Type 0} (bounds : Bounds) (old : Stage A) (spot : Spot) (coming : Coming) (last : Course A)
+pub stopped : {A : Type 0} (bounds : Bounds) (old : Stage A) (spot : Spot) (coming : Coming) (last : Flow A)
     → IsHeard bounds (with_next spot old) spot old.waiting coming last
     → end_of coming ≢ ends.Done → (IsGone spot coming → ⊥) → EndsAt bounds (with_next spot old) (Stopped spot.name coming)
 stopped bounds old spot coming last heard undone_so stays = record {
   spot = spot;
   rest = old.waiting;
-  course = last;
+  flow = last;
   heard = heard;
   undone = undone_so;
   stays = stays;
@@ -145,30 +147,30 @@ if_none None p f = f p
 if_none (Some x) p f = tt
 
 -- where the nodes that wait are the same
-pub ends_at : {A E : Type 0} (bounds : Bounds) (course : Course A) (waiting next : List Spot) (printed now : List Text)
+pub ends_at : {A E : Type 0} (bounds : Bounds) (flow : Flow A) (waiting next : List Spot) (printed now : List Text)
     (r : Result (Option (Reached A)) E) → waiting ≡ next
-    → IfOk r (λ ending. IfSome ending (λ e. EndsAt bounds (stage course next printed) (ending_view e) × (now ≡ printed)))
-    → IfOk r (λ ending. IfSome ending (λ e. EndsAt bounds (stage course waiting printed) (ending_view e) × (now ≡ printed)))
-ends_at bounds course waiting next printed now r same =
+    → IfOk r (λ ending. IfSome ending (λ e. EndsAt bounds (stage flow next printed) (ending_view e) × (now ≡ printed)))
+    → IfOk r (λ ending. IfSome ending (λ e. EndsAt bounds (stage flow waiting printed) (ending_view e) × (now ≡ printed)))
+ends_at bounds flow waiting next printed now r same =
     subst (λ (w : List Spot).
-    IfOk r (λ ending. IfSome ending (λ e. EndsAt bounds (stage course w printed) (ending_view e) × (now ≡ printed)))) (sym same)
+    IfOk r (λ ending. IfSome ending (λ e. EndsAt bounds (stage flow w printed) (ending_view e) × (now ≡ printed)))) (sym same)
 
-pub steps_from : {A E : Type 0} (bounds : Bounds) (course : Course A) (waiting next : List Spot) (printed : List Text) (new : Stage A)
+pub steps_from : {A E : Type 0} (bounds : Bounds) (flow : Flow A) (waiting next : List Spot) (printed : List Text) (new : Stage A)
     (r : Result (Option (Reached A)) E)
-    → waiting ≡ next → IfOk r (λ ending. IfNone ending (Steps bounds (stage course next printed) new))
-    → IfOk r (λ ending. IfNone ending (Steps bounds (stage course waiting printed) new))
-steps_from bounds course waiting next printed new r same =
-    subst (λ (w : List Spot). IfOk r (λ ending. IfNone ending (Steps bounds (stage course w printed) new))) (sym same)
+    → waiting ≡ next → IfOk r (λ ending. IfNone ending (Steps bounds (stage flow next printed) new))
+    → IfOk r (λ ending. IfNone ending (Steps bounds (stage flow waiting printed) new))
+steps_from bounds flow waiting next printed new r same =
+    subst (λ (w : List Spot). IfOk r (λ ending. IfNone ending (Steps bounds (stage flow w printed) new))) (sym same)
 
 -- ---- from the beginning on
 
-pub from_there : {A : Type 0} (bounds : Bounds) (course : Course A) (waiting begun : List Spot) (printed none : List Text) (last : Stage A)
-    → waiting ≡ begun → printed ≡ none → Reaches bounds (record { course = course; waiting = waiting; printed = printed }) last
-    → Reaches bounds (record { course = course; waiting = begun; printed = none }) last
-from_there {A} bounds course waiting begun printed none last waits prints reaches =
-    let first : Reaches bounds (record { course = course; waiting = begun; printed = printed }) last
-    = subst (λ (w : List Spot). Reaches bounds (record { course = course; waiting = w; printed = printed }) last) waits reaches in
-    subst (λ (p : List Text). Reaches bounds (record { course = course; waiting = begun; printed = p }) last) prints first
+pub from_there : {A : Type 0} (bounds : Bounds) (flow : Flow A) (waiting begun : List Spot) (printed none : List Text) (last : Stage A)
+    → waiting ≡ begun → printed ≡ none → Reaches bounds (record { flow = flow; waiting = waiting; printed = printed }) last
+    → Reaches bounds (record { flow = flow; waiting = begun; printed = none }) last
+from_there {A} bounds flow waiting begun printed none last waits prints reaches =
+    let first : Reaches bounds (record { flow = flow; waiting = begun; printed = printed }) last
+    = subst (λ (w : List Spot). Reaches bounds (record { flow = flow; waiting = w; printed = printed }) last) waits reaches in
+    subst (λ (p : List Text). Reaches bounds (record { flow = flow; waiting = begun; printed = p }) last) prints first
 
 -- ---- the nodes below a node
 
@@ -180,3 +182,17 @@ spots_on spots child spot name rest is =
     ap (λ l. l ++ map (child_of spot) rest) (map-append spot_view spots (child ∷ []))
     ∙ append_assoc (map spot_view spots) (spot_view child ∷ []) (map (child_of spot) rest)
     ∙ ap (λ s. map spot_view spots ++ s ∷ map (child_of spot) rest) is
+
+-- ---- byte by byte
+
+step_runs : {A : Type 0} (bounds : Bounds) (old new : Stage A) → Steps bounds old new → Runs old.flow new.flow
+step_runs bounds old new (prints_leaf spot rest next leaf becomes) = runs_same old.flow new.flow (sym becomes.0)
+step_runs bounds old new (prints_node spot rest coming last each heard done order becomes) =
+    runs_join old.flow last new.flow heard.runs (runs_same last new.flow (sym becomes.0))
+step_runs bounds old new (leaves_out spot rest coming last heard gone becomes) =
+    runs_join old.flow last new.flow heard.runs (runs_same last new.flow (sym becomes.0))
+
+pub walks_run : (A : Type 0) → WalksRun A
+walks_run A bounds start last begins = runs_same start.flow start.flow refl
+walks_run A bounds start last (steps old new reaches step) =
+    runs_join start.flow old.flow new.flow (walks_run A bounds start old reaches) (step_runs bounds old new step)

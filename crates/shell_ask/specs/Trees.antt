@@ -12,7 +12,8 @@ use Rattle.zk_conversation.specs.Results.{Result, Listing}
 use Rattle.zk_turns.specs.Turns.{Outcome, Replied, new_start}
 use Rattle.zk_turns.specs.View.{view_at}
 use Rattle.zk_client.specs.Clients.{view_of}
-use Rattle.zk_driver.specs.Driving.{closed, Course}
+use Rattle.zk_driver.specs.Driving.{closed}
+use Rattle.zk_driver.specs.Flowing.{Flow, Runs}
 use Rattle.script_words.specs.Values.{AreNames}
 use Rattle.shell_ask.specs.declared.end.End.{End}
 use Rattle.shell_ask.specs.declared.end.End.TheVariants as ends
@@ -106,44 +107,45 @@ IsGone spot coming = (end_of coming ≡ ends.NoNode) × (spot.depth ≢ 0)
 
 -- ---- a walk
 
--- How far a walk has come: the driver's course, the nodes that wait, the next one first, and what is printed by then.
+-- How far a walk has come: how far the driver has, byte by byte, the nodes that wait, the next one first, and what is printed by then.
 pub record Stage (A : Type 0) : Type 0 where
-  pub course : Course A
+  pub flow : Flow A
   pub waiting : List Spot
   pub printed : List Text
 
-abbrev pub stage_of : {A : Type 0} → Course A → Walk A → Stage A
-stage_of course walk = record { course = course; waiting = waiting_view walk.waiting.items; printed = walk.printed.items }
+abbrev pub stage_of : {A : Type 0} → Flow A → Walk A → Stage A
+stage_of flow walk = record { flow = flow; waiting = waiting_view walk.waiting.items; printed = walk.printed.items }
 
 -- another node is the next one
 abbrev pub with_next : {A : Type 0} → Spot → Stage A → Stage A
 with_next spot stage = record stage { waiting = spot ∷ stage.waiting }
 
-abbrev pub Becomes : {A : Type 0} → Stage A → (course : Course A) (waiting : List Spot) (printed : List Text) → Type 0
-Becomes new course waiting printed = (new.course ≡ course) × (new.waiting ≡ waiting) × (new.printed ≡ printed)
+abbrev pub Becomes : {A : Type 0} → Stage A → (flow : Flow A) (waiting : List Spot) (printed : List Text) → Type 0
+Becomes new flow waiting printed = (new.flow ≡ flow) × (new.waiting ≡ waiting) × (new.printed ≡ printed)
 
 -- This node is the next one, and it may be printed.
 pub record IsNext {A : Type 0} (bounds : Bounds) (old : Stage A) (spot : Spot) (rest : List Spot) : Type 0 where
   pub next : old.waiting ≡ spot ∷ rest
   pub room : length old.printed < bounds.most
 
--- It is listed by a call that waits to the walk's limit, and this comes of it.
+-- It is listed by a call that waits to the walk's limit, and this comes of it. Byte by byte that is a run of the driver.
 pub record IsHeard {A : Type 0} (bounds : Bounds) (old : Stage A) (spot : Spot) (rest : List Spot) (coming : Coming)
-    (last : Course A) : Type 0 where
+    (last : Flow A) : Type 0 where
   pub next : IsNext bounds old spot rest
   pub listed : IsListed bounds.deepest spot
-  pub heard : Heard (listing_of spot) bounds.until old.course coming last
+  pub heard : Heard (listing_of spot) bounds.until old.flow.course coming last.course
+  pub runs : Runs old.flow last
 
 -- A node at the greatest depth is printed. Any other is listed first, and printed: those below it are next, in the order of their names.
 -- One that is gone by then is left out, unless it is the root.
 pub data Steps {A : Type 0} (bounds : Bounds) (old new : Stage A) : Type 0 where
   prints_leaf : (spot : Spot) (rest : List Spot) → IsNext bounds old spot rest → (IsListed bounds.deepest spot → ⊥)
-      → Becomes new old.course rest (old.printed ++ spot.name ∷ []) → Steps bounds old new
-  prints_node : (spot : Spot) (rest : List Spot) (coming : Coming) (last : Course A) (each : List Text)
+      → Becomes new old.flow rest (old.printed ++ spot.name ∷ []) → Steps bounds old new
+  prints_node : (spot : Spot) (rest : List Spot) (coming : Coming) (last : Flow A) (each : List Text)
       → IsHeard bounds old spot rest coming last
       → end_of coming ≡ ends.Done → AreInOrder each (names_within bounds.deepest spot coming)
       → Becomes new last (map (child_of spot) each ++ rest) (old.printed ++ spot.name ∷ []) → Steps bounds old new
-  leaves_out : (spot : Spot) (rest : List Spot) (coming : Coming) (last : Course A)
+  leaves_out : (spot : Spot) (rest : List Spot) (coming : Coming) (last : Flow A)
       → IsHeard bounds old spot rest coming last → IsGone spot coming
       → Becomes new last rest old.printed → Steps bounds old new
 
@@ -169,8 +171,8 @@ ending_view (reached.Misnamed name) = Misnamed name
 pub record StopsAt {A : Type 0} (bounds : Bounds) (last : Stage A) (name : Text) (coming : Coming) : Type 0 where
   pub spot : Spot
   pub rest : List Spot
-  pub course : Course A
-  pub heard : IsHeard bounds last spot rest coming course
+  pub flow : Flow A
+  pub heard : IsHeard bounds last spot rest coming flow
   pub undone : end_of coming ≢ ends.Done
   pub stays : IsGone spot coming → ⊥
   pub named : name ≡ spot.name
@@ -179,10 +181,10 @@ pub record IsMisnamedAt {A : Type 0} (bounds : Bounds) (last : Stage A) (name : 
   pub spot : Spot
   pub rest : List Spot
   pub coming : Coming
-  pub course : Course A
+  pub flow : Flow A
   pub each : List Text
   pub child : Text
-  pub heard : IsHeard bounds last spot rest coming course
+  pub heard : IsHeard bounds last spot rest coming flow
   pub done : end_of coming ≡ ends.Done
   pub listed : AreInOrder each (names_within bounds.deepest spot coming)
   pub contains : Contains each child
@@ -196,13 +198,13 @@ EndsAt bounds last (Stopped name coming) = StopsAt bounds last name coming
 EndsAt bounds last (Misnamed name) = IsMisnamedAt bounds last name
 
 -- A driver walks so from the root on, and its calls wait to this moment.
-pub record WalksFrom {A : Type 0} (start : Course A) (until : ℕ) (scope : Scope) (ending : Ending) (printed : List Text) : Type 0 where
+pub record WalksFrom {A : Type 0} (start : Flow A) (until : ℕ) (scope : Scope) (ending : Ending) (printed : List Text) : Type 0 where
   pub bounds : Bounds
   pub deepest : bounds.deepest ≡ scope.deepest
   pub most : bounds.most ≡ scope.most
   pub until_is : bounds.until ≡ until
   pub last : Stage A
-  pub reaches : Reaches bounds (record { course = start; waiting = root_of scope ∷ []; printed = [] }) last
+  pub reaches : Reaches bounds (record { flow = start; waiting = root_of scope ∷ []; printed = [] }) last
   pub ends : EndsAt bounds last ending
   pub prints : printed ≡ last.printed
 
@@ -210,12 +212,18 @@ pub record WalksFrom {A : Type 0} (start : Course A) (until : ℕ) (scope : Scop
 -- one, `from`, as the whole walk may wait.
 pub record Tours (A : Type 0) (scope : Scope) (ending : Ending) (printed : List Text) : Type 0 where
   pub timeout : ℕ
-  pub start : Course A
-  pub begins : view_of start.agent.asker.follower.client ≡ view_at (new_start timeout) []
-  pub parted : start.channel ≡ closed
-  pub untold : start.told ≡ []
+  pub start : Flow A
+  pub begins : view_of start.course.agent.asker.follower.client ≡ view_at (new_start timeout) []
+  pub parted : start.course.channel ≡ closed
+  pub untold : start.course.told ≡ []
   pub from : ℕ
   pub walks : WalksFrom start (min (from + scope.wait_ms) (2 ^ 64 - 1)) scope ending printed
+
+-- ---- what follows byte by byte
+
+-- A walk is a run of its driver, up to each place that it reaches.
+abbrev pub WalksRun : Type 0 → Type 0
+WalksRun A = (bounds : Bounds) (start last : Stage A) → Reaches bounds start last → Runs start.flow last.flow
 
 -- ---- what is printed and told of it
 

@@ -11,6 +11,7 @@ mod data;
 mod end;
 mod fields;
 mod json_lines;
+pub mod laws;
 mod names;
 mod plan;
 mod result;

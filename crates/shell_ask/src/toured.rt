@@ -3,7 +3,7 @@
 ghost use Rattle.std.specs.Prelude.{◌≡◌, ◌≢◌, ◌⊎◌, ◌∷◌, [], List, None, IfOk, IfSome};
 ghost use Rattle.std.specs.Io.KnownBytes.{Appends};
 ghost use Rattle.zk_nodes.specs.Path.{Text};
-ghost use Rattle.zk_driver.specs.Driving.{course_of};
+ghost use Rattle.zk_driver.specs.Flowing.{flow_of};
 ghost use Rattle.shell_ask.specs.Printing.{IsToldEnd};
 ghost use Rattle.shell_ask.specs.Trees.{ending_end, ending_told, ending_view, root_of, scope_of, tree_text, waiting_view, Ending as Ends};
 ghost use Rattle.shell_ask.specs.Trees.{Full, IsUndone, Tours, WalksFrom, Whole};
@@ -55,7 +55,7 @@ fn walked<A: Allocator + Copy, D: Dial + Drop, C: Clock + Drop>(
     until: u64,
 ) -> Result<Tour<A>, Stop>
     ensures { IfOk result
-        (λ tour. WalksFrom (course_of driver.old.engine None) until (scope_of plan.now) (ending_view tour.ending) tour.printed.items) }
+        (λ tour. WalksFrom (flow_of D.Stream.remaining D.Stream.contents driver.old.engine None) until (scope_of plan.now) (ending_view tour.ending) tour.printed.items) }
 {
     let bounds = Bounds {
         deepest: plan.deepest,

@@ -1,9 +1,10 @@
 //! A walk through a tree, one node after the other.
 
-ghost use Rattle.std.specs.Prelude.{◌≡◌, ◌≢◌, ◌++◌, ◌∷◌, [], ◌<◌, ◌-◌, ◌^◌, true, false, List, Contains, None, IfOk, IfSome, IfNone};
+ghost use Rattle.std.specs.Prelude.{◌≡◌, ◌≢◌, ◌++◌, ◌∷◌, [], ◌<◌, ◌-◌, ◌^◌, true, false, List, Contains, None, IfOk, IfSome, IfNone, OnOk};
 ghost use Rattle.std.specs.Prelude.{length, map, string_bytes};
 ghost use Rattle.zk_nodes.specs.Path.{Text};
 ghost use Rattle.zk_driver.specs.Driving.{course_of};
+ghost use Rattle.zk_driver.specs.Flowing.{flow_of, Runs};
 ghost use Rattle.shell_ask.specs.Asking.{came_view, Heard};
 ghost use Rattle.shell_ask.specs.Printing.{end_of};
 ghost use Rattle.shell_ask.specs.declared.end.End.TheVariants as ends;
@@ -105,8 +106,9 @@ fn listed<A: Allocator + Copy, D: Dial + Drop, C: Clock + Drop>(
     ticket: u64,
     until: u64,
 ) -> Result<Came<A>, Stop>
-    ensures { IfOk result (λ came. Heard (listing_of (spot_view spot.now)) until (course_of driver.old.engine None) (came_view came)
+    ensures heard { IfOk result (λ came. Heard (listing_of (spot_view spot.now)) until (course_of driver.old.engine None) (came_view came)
         (course_of driver.new.engine None)) }
+    ensures runs { OnOk result (Runs (flow_of D.Stream.remaining D.Stream.contents driver.old.engine None) (flow_of D.Stream.remaining D.Stream.contents driver.new.engine None)) }
 {
     let path = copied(alloc, &spot.path)?;
     answered(
@@ -167,11 +169,11 @@ impl<A: Allocator + Copy> Walk<A> {
         requires listed { IsListed bounds.deepest (spot_view spot) }
         requires room { length self.old.printed.items < bounds.most }
         ensures some { IfOk result (λ ending. IfSome ending (λ e.
-            EndsAt bounds (with_next (spot_view spot) (stage_of (course_of driver.old.engine None) self.old)) (ending_view e)
+            EndsAt bounds (with_next (spot_view spot) (stage_of (flow_of D.Stream.remaining D.Stream.contents driver.old.engine None) self.old)) (ending_view e)
             × (self.new.printed.items ≡ self.old.printed.items))) }
         ensures none { IfOk result (λ ending. IfNone ending (
-            Steps bounds (with_next (spot_view spot) (stage_of (course_of driver.old.engine None) self.old))
-            (stage_of (course_of driver.new.engine None) self.new))) }
+            Steps bounds (with_next (spot_view spot) (stage_of (flow_of D.Stream.remaining D.Stream.contents driver.old.engine None) self.old))
+            (stage_of (flow_of D.Stream.remaining D.Stream.contents driver.new.engine None) self.new))) }
     {
         let came = listed(driver, alloc, &spot, ticket, bounds.until)?;
         if is_done(&came) {
@@ -192,11 +194,11 @@ impl<A: Allocator + Copy> Walk<A> {
         ticket: u64,
     ) -> Result<Option<Ending<A>>, Stop>
         ensures some { IfOk result (λ ending. IfSome ending (λ e.
-            EndsAt bounds (stage_of (course_of driver.old.engine None) self.old) (ending_view e)
+            EndsAt bounds (stage_of (flow_of D.Stream.remaining D.Stream.contents driver.old.engine None) self.old) (ending_view e)
             × (self.new.printed.items ≡ self.old.printed.items))) }
         ensures none { IfOk result (λ ending. IfNone ending (
-            Steps bounds (stage_of (course_of driver.old.engine None) self.old)
-            (stage_of (course_of driver.new.engine None) self.new))) }
+            Steps bounds (stage_of (flow_of D.Stream.remaining D.Stream.contents driver.old.engine None) self.old)
+            (stage_of (flow_of D.Stream.remaining D.Stream.contents driver.new.engine None) self.new))) }
     {
         let Some(spot) = self.waiting.pop() else {
             return Ok(Some(Ending::Whole));
@@ -220,7 +222,7 @@ impl<A: Allocator + Copy> Walk<A> {
         alloc: A,
         bounds: Bounds,
     ) -> Result<Ending<A>, Stop>
-        ensures { IfOk result (λ ending. (last : Stage A) × Reaches bounds (stage_of (course_of driver.old.engine None) self.old) last
+        ensures { IfOk result (λ ending. (last : Stage A) × Reaches bounds (stage_of (flow_of D.Stream.remaining D.Stream.contents driver.old.engine None) self.old) last
             × EndsAt bounds last (ending_view ending) × (self.new.printed.items ≡ last.printed)) }
     {
         for ticket in CALL..u64::MAX {

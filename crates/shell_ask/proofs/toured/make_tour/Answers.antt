@@ -1,6 +1,6 @@
 use Rattle.std.proofs.Common.{ℕ, ap, subst, None}
 use Rattle.zk_agent.specs.Telling.{told_by}
-use Rattle.zk_driver.specs.Driving.{course_of}
+use Rattle.zk_driver.specs.Flowing.{flow_of}
 use Rattle.zk_driver.specs.declared.engine.Engine.{Engine}
 use Rattle.shell_ask.specs.Trees.{ending_view, scope_of, WalksFrom}
 use Rattle.shell_ask.proofs.Walking.{undone}
@@ -10,11 +10,12 @@ pub returns-in-Ok-tour-clause-tours : goal.returns-in-Ok-tour-clause-tours
 returns-in-Ok-tour-clause-tours g c =
     let scope = scope_of c.args.plan.now in
     let tour = c.in-Ok-tour.tour in
-    let start = course_of c.in-Ok.driver.engine None in
+    let know = λ (e : Engine g.row.A.Denot g.row.D-Stream.Denot). flow_of g.D.Stream.Read.remaining g.D.Stream.Write.contents e None in
+    let start = know c.in-Ok.driver.engine in
     let until = c.saturating_add-until.result in
     let first : WalksFrom start until scope (ending_view tour.ending) tour.printed.items
     = subst (λ (e : Engine g.row.A.Denot g.row.D-Stream.Denot).
-    WalksFrom (course_of e None) until scope (ending_view tour.ending) tour.printed.items) c.now.ensures.engine c.in-Ok-tour.ensures in
+    WalksFrom (know e) until scope (ending_view tour.ending) tour.printed.items) c.now.ensures.engine c.in-Ok-tour.ensures in
     record {
       timeout = 10000;
       start = start;

@@ -1,5 +1,5 @@
 use Rattle.std.proofs.Common.{None, [], ◌∷◌, refl}
-use Rattle.zk_driver.specs.Driving.{course_of}
+use Rattle.zk_driver.specs.Flowing.{flow_of}
 use Rattle.shell_ask.specs.declared.walk.Bounds.{Bounds}
 use Rattle.shell_ask.specs.Trees.{root_of, scope_of, waiting_view}
 use Rattle.shell_ask.proofs.Walking.{from_there}
@@ -17,7 +17,7 @@ returns g c =
       most = refl;
       until_is = refl;
       last = found.0;
-      reaches = from_there bounds (course_of c.args.driver.now.engine None) (waiting_view walk.waiting.items)
+      reaches = from_there bounds (flow_of g.D.Stream.Read.remaining g.D.Stream.Write.contents c.args.driver.now.engine None) (waiting_view walk.waiting.items)
           (root_of (scope_of plan) ∷ []) walk.printed.items []
           found.0 c.in_ok-walk.ensures.0 c.in_ok-walk.ensures.1 found.1;
       ends = found.2;

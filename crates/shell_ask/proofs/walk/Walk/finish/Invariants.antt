@@ -1,9 +1,9 @@
 use Rattle.std.proofs.Common.{None}
-use Rattle.zk_driver.specs.Driving.{course_of}
+use Rattle.zk_driver.specs.Flowing.{flow_of}
 use Rattle.shell_ask.specs.Trees.{stage_of, Reaches}
 use Rattle.shell_ask.proofs.walk.Walk.finish.Given as goal
 
 -- it has come here from its beginning
 abbrev pub invariant-loop-ticket : goal.invariant-loop-ticket
 invariant-loop-ticket g l =
-    Reaches l.bounds (stage_of (course_of l.fn.driver.engine None) l.fn.self) (stage_of (course_of l.driver.engine None) l.self)
+    Reaches l.bounds (stage_of (flow_of g.D.Stream.Read.remaining g.D.Stream.Write.contents l.fn.driver.engine None) l.fn.self) (stage_of (flow_of g.D.Stream.Read.remaining g.D.Stream.Write.contents l.driver.engine None) l.self)
