@@ -1,19 +1,40 @@
 -- What servers in memory do, as acts.
-use Rattle.std.proofs.Common.{◌≡◌, inl, inr, true, false, [], ap, append-nil, refl, sym}
+use Rattle.std.proofs.Common.{◌≡◌, ℕ, inl, inr, true, false, [], ap, append-nil, refl, sym}
+use Rattle.std.specs.Prelude.{slice_index}
 use Rattle.std.proofs.lemmas.List.{take-append-drop}
 use Rattle.theory_serving.specs.Shown.{more_requests, Open}
 use Rattle.theory_serving.specs.Shown as shows
+use Rattle.theory_serving.proofs.Later.{taken_at}
+use Rattle.zk_history.specs.HistoryView.{history_of}
+use Rattle.zk_laws.specs.ServerSteps.{Waiting}
+use Rattle.zk_laws.specs.Server.{Watches}
 use Rattle.zk_bench.specs.declared.phase.Phase.{Phase}
 use Rattle.zk_bench.specs.declared.phase.Phase.TheVariants.{Accepted, Apart, Ended, Opening}
 use Rattle.zk_bench.specs.Served.{is_open}
 use Rattle.zk_bench.specs.Stepping.{phase_of, shown_of}
-use Rattle.zk_served.specs.Benches.{BenchAdvances, BenchEnds, BenchGives, BenchProcesses, BenchTakes}
+use Rattle.zk_served.specs.Benches.{BenchAdvances, BenchConnects, BenchEnds, BenchGives, BenchProcesses, BenchTakes}
 
 open_phase : (phase : Phase) → is_open phase ≡ true → phase_of phase ≡ shows.Open
 open_phase Apart up = let e : false ≡ true = up in cc
 open_phase Opening up = refl
 open_phase Accepted up = refl
 open_phase Ended up = let e : false ≡ true = up in cc
+
+pub bench_connects : BenchConnects
+bench_connects served server ready then_ready = (
+  slice_index served.taken server,
+  taken_at (history_of served.history) served.taken server ready.taken,
+  ap (λ (w : Watches). begun_with w) (then_ready.unwatched refl),
+)
+  where
+    begun_with : Watches → shows.Shown
+    begun_with watches = record {
+      history = history_of served.history;
+      server = record { place = slice_index served.taken server; watches = watches; stage = Waiting };
+      phase = shows.Open;
+      requests = [];
+      output = [];
+    }
 
 pub bench_takes : BenchTakes
 bench_takes served bytes up =

@@ -1,14 +1,22 @@
 -- What servers in memory do is what befalls a connection, by the clauses of `Bench`.
-use Rattle.std.specs.Prelude.{◌≡◌, ◌<◌, ◌^◌, ℕ, ℤ, true, List, ◌++◌, length, take}
+use Rattle.std.specs.Prelude.{◌≡◌, ◌<◌, ◌≤◌, ◌^◌, ℕ, ℤ, true, List, ◌++◌, length, take}
 use Rattle.zk_frames.specs.Frame.{frame}
 use Rattle.zk_nodes.specs.History.{IsHistory}
 use Rattle.zk_history.specs.HistoryView.{history_of}
 use Rattle.zk_laws.specs.Messages.{Request}
 use Rattle.theory_serving.specs.GoingOn.{GoesOn}
+use Rattle.theory_serving.specs.Shown.{connected}
 use Rattle.theory_serving.specs.Wires.{IsFor, StandsFirst}
 use Rattle.zk_bench.specs.Served.{ended, is_open, with_requests, without_output, Served}
-use Rattle.zk_bench.specs.Stepping.{shown_of, ProcessesFirst, TakesSome}
+use Rattle.zk_bench.specs.Served as bench
+use Rattle.zk_bench.specs.Stepping.{shown_of, IsReady, ProcessesFirst, TakesSome}
 use Rattle.zk_served.specs.Acts.{Gives, Happens, Serves, Takes}
+
+-- a connection begins, to a server that holds a beginning of the history (`is`, `ready` of `Bench::connect`)
+abbrev pub BenchConnects : Type 0
+BenchConnects =
+    (served : Served) (server : ℕ) → IsReady served → IsReady (bench.connected served server)
+    → (place : ℕ) × (place ≤ length (shown_of served).history.transactions) × (shown_of (bench.connected served server) ≡ connected place (shown_of served))
 
 -- bytes come to the connected server (`ok` of `Bench::receive`)
 abbrev pub BenchTakes : Type 0

@@ -2,7 +2,7 @@
 //! functions have empty bodies: their contracts are the laws.
 #![tactic(auto)]
 
-ghost use Rattle.zk_served.specs.Benches.{BenchAdvances, BenchEnds, BenchGives, BenchProcesses, BenchTakes};
+ghost use Rattle.zk_served.specs.Benches.{BenchAdvances, BenchConnects, BenchEnds, BenchGives, BenchProcesses, BenchTakes};
 ghost use Rattle.zk_served.specs.Serving.{BytesServe, StreamsCohere, StreamsServe};
 
 use std::alloc::Allocator;
@@ -23,9 +23,10 @@ pub fn bytes_serve<A: Allocator>()
     ensures { BytesServe A }
 {}
 
-/// What befalls a connection is what servers in memory do, by the clauses of `zk_bench::Bench`: bytes come to the connected server, the
+/// What befalls a connection is what servers in memory do, by the clauses of `zk_bench::Bench`: it begins, bytes come to the connected server, the
 /// first bytes that it sent are taken out, it takes a transaction, it processes a request, it ends the connection.
 pub fn benches_act()
+    ensures connects { BenchConnects }
     ensures takes { BenchTakes }
     ensures gives { BenchGives }
     ensures advances { BenchAdvances }

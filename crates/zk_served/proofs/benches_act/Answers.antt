@@ -1,5 +1,8 @@
-use Rattle.zk_served.proofs.Benched.{bench_advances, bench_ends, bench_gives, bench_processes, bench_takes}
+use Rattle.zk_served.proofs.Benched.{bench_advances, bench_connects, bench_ends, bench_gives, bench_processes, bench_takes}
 use Rattle.zk_served.proofs.benches_act.Goals as goal
+
+pub returns-clause-connects : goal.returns-clause-connects
+returns-clause-connects c = bench_connects
 
 pub returns-clause-takes : goal.returns-clause-takes
 returns-clause-takes c = bench_takes
