@@ -23,10 +23,12 @@ shifted old new text before after prints is = record {
   printed = is ∙ ap (λ l. before ++ l) prints.printed;
 }
 
-line_prints : (what : Option LiveValue) (old new : Position) (text before after : List ℕ) → DoesSome Does what old new text → after ≡ before ++ text
+line_prints : (what : Option LiveValue) (old new : Position) (text before after : List ℕ)
+    → DoesSome Does what old new text → after ≡ before ++ text
     → Prints old.flow new.flow before after
 line_prints None old new text before after does is =
-    prints_same old.flow new.flow before after (sym (ap (λ (p : Position). p.flow) does.0)) (is ∙ ap (λ l. before ++ l) does.1 ∙ append-nil before)
+    prints_same old.flow new.flow before after (sym (ap (λ (p : Position). p.flow) does.0))
+    (is ∙ ap (λ l. before ++ l) does.1 ∙ append-nil before)
 line_prints (Some value) old new text before after does is = shifted old.flow new.flow text before after does.1 is
 
 lines_print : (lines : List Text) (old new : Progress Position) → FoldsTo (Goes rules) old lines new
@@ -36,7 +38,8 @@ lines_print [] old new same =
     (sym (ap (λ (p : Progress Position). p.printed) same))
 lines_print (line ∷ lines) old new goes =
     prints_after old.position.flow goes.0.position.flow new.position.flow old.printed goes.0.printed new.printed
-    (line_prints goes.1.1.what old.position goes.0.position goes.1.0 old.printed goes.0.printed goes.1.1.does goes.1.2) (lines_print lines goes.0 new goes.2)
+    (line_prints goes.1.1.what old.position goes.0.position goes.1.0 old.printed goes.0.printed goes.1.1.does goes.1.2)
+    (lines_print lines goes.0 new goes.2)
 
 some_print : (lines : List Text) (text : List ℕ) (here : Progress Position) → scripts.Prints rules here lines text
     → (last : Flow) × Prints here.position.flow last here.printed text

@@ -86,10 +86,11 @@ pub record Lives (lines : List Text) (text : List ℕ) (end : End) : Type 0 wher
   pub prints : Prints first ready [] told
   pub goes_on : scripts.IsTranscript rules (progress (position ready false) told) lines text end
 
--- All that such lines print, from the first client on, is what a list of deeds prints: the client says it, which is handed the bytes of its streams
--- and no others.
+-- All that such lines print, from the first client on, is what a list of deeds prints: the client says it, which is handed the bytes of its
+-- streams and no others.
 abbrev pub LivesPrint : Type 0
-LivesPrint = (lines : List Text) (text : List ℕ) (end : End) (lives : Lives lines text end) → (last : Flow) × Prints lives.first last [] text
+LivesPrint = (lines : List Text) (text : List ℕ) (end : End) (lives : Lives lines text end)
+    → (last : Flow) × Prints lives.first last [] text
 
 -- The client that lines ask for halts while it is connected.
 pub record HaltsFirst (lines : List Text) : Type 0 where

@@ -87,6 +87,7 @@ impl<A: Allocator + Copy, S: Stream> Link<A, S> {
     }
 
     /// Ends the connection, where it is over.
+    #[tactic(auto, using(crate::proofs::Printing::prints_none))]
     fn end_if(&mut self, is_over: bool, alloc: A, text: &mut String<A>) -> Result<(), LineStop>
         ensures ok { OnOk result (MayEnd (tape (view_of self.old.joint.client) (string_bytes text.old))
             (tape (view_of self.new.joint.client) (string_bytes text.new))) }

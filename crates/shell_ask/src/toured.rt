@@ -55,7 +55,8 @@ fn walked<A: Allocator + Copy, D: Dial + Drop, C: Clock + Drop>(
     until: u64,
 ) -> Result<Tour<A>, Stop>
     ensures { IfOk result
-        (λ tour. WalksFrom (flow_of D.Stream.remaining D.Stream.contents driver.old.engine None) until (scope_of plan.now) (ending_view tour.ending) tour.printed.items) }
+        (λ tour. WalksFrom (flow_of D.Stream.remaining D.Stream.contents driver.old.engine None) until (scope_of plan.now)
+        (ending_view tour.ending) tour.printed.items) }
 {
     let bounds = Bounds {
         deepest: plan.deepest,

@@ -1,5 +1,6 @@
 -- What a client that a script drives prints is the history's.
-use Rattle.std.proofs.Common.{◌≡◌, ◌≤◌, ◌++◌, ◌∙◌, ℕ, Bool, true, false, List, [], ◌∷◌, Option, Some, length, ap, append-nil, refl, sym, subst}
+use Rattle.std.proofs.Common.{◌≡◌, ◌≤◌, ◌++◌, ◌∙◌, ℕ, Bool, true, false, List, [], ◌∷◌, Option, Some, length, ap, append-nil, refl, sym}
+use Rattle.std.proofs.Common.{subst}
 use Rattle.std.specs.Prelude.{◌&&◌, ◌||◌, if◌then◌else◌, not}
 use Rattle.std.specs.List.{list_any, FoldsTo}
 use Rattle.zk_nodes.specs.History.{History, IsHistory}
@@ -67,17 +68,21 @@ there_before false is_there there = there
 -- ---- bytes are written and read
 
 -- some of what is unsent, and a piece, which is held after it
-passed : (view : View) (there : Bool) (unsent rest piece : List ℕ) (old new : Known) (before after : Shown) → Exchanges unsent rest old new piece
+passed : (view : View) (there : Bool) (unsent rest piece : List ℕ) (old new : Known) (before after : Shown)
+    → Exchanges unsent rest old new piece
     → Meanwhile true old new before after → there ≡ true → Kept view there unsent [] before → Kept view there rest piece after
 passed view there unsent rest piece old new before after exchanges meets is k =
-    let took = known_took meets.2.before (taken_in meets.0) exchanges.sends.0 old.took new.took meets.2.taken meets.2.then_taken exchanges.sends.2 in
+    let took = known_took meets.2.before
+    (taken_in meets.0) exchanges.sends.0 old.took new.took meets.2.taken meets.2.then_taken exchanges.sends.2 in
     let gave = known_gave (given_in meets.0) meets.2.rest piece old.left new.left meets.2.left meets.2.then_left exchanges.gives in
     subst (λ b. Kept view b rest piece after) (sym is)
     (subst (λ held. Kept view true rest held after) gave
-    (acts_keep view meets.0 unsent rest [] before after meets.1 (exchanges.sends.1 ∙ ap (λ l. l ++ rest) (sym took)) (subst (λ b. Kept view b unsent [] before) is k)))
+    (acts_keep view meets.0 unsent rest [] before after meets.1 (exchanges.sends.1 ∙ ap (λ l. l ++ rest) (sym took))
+    (subst (λ b. Kept view b unsent [] before) is k)))
 
 -- a connection that is not there any more
-left_kept : (view : View) (there : Bool) (unsent held rest : List ℕ) (before after : Shown) → GoesOn before.history after.history → Kept view there unsent held before → Kept view false rest held after
+left_kept : (view : View) (there : Bool) (unsent held rest : List ℕ) (before after : Shown)
+    → GoesOn before.history after.history → Kept view there unsent held before → Kept view false rest held after
 left_kept view there unsent held rest before after goes k =
     apart_kept view rest rest held before after goes (let_go view there unsent held rest before before k refl)
 
@@ -96,15 +101,18 @@ module _ (old new : Flow) (before after : Shown) (bound : Bound old before) wher
       by : (b : Bool) → old.is_open ≡ b → Meanwhile b old.known new.known before after → Kept old.view new.is_open new.unsent new.held after
       by true there meets =
           subst (λ b. Kept old.view b new.unsent new.held after) (sym (carries.4 ∙ there))
-          (passed old.view true old.unsent new.unsent new.held old.known new.known before after carries.0 meets refl (subst (λ b. Kept old.view b old.unsent [] before) there none))
+          (passed old.view true old.unsent new.unsent new.held old.known new.known before after carries.0 meets refl
+          (subst (λ b. Kept old.view b old.unsent [] before) there none))
       by false shut meets =
           subst (λ b. Kept old.view b new.unsent new.held after) (sym (carries.4 ∙ shut))
           (subst (λ held. Kept old.view false new.unsent held after) (sym (carries.2 shut))
           (left_kept old.view old.is_open old.unsent [] new.unsent before after meets none))
 
   -- what the client says by a turn is written, and the connection may be over
-  said_bound : (outputs : List Output) (there : Bool) (unsent : List ℕ) (known : Known) (shown : Shown) → Kept new.view there (unsent ++ sent_in outputs) [] shown
-      → new.is_open ≡ kept outputs there → new.held ≡ [] → (new.is_open ≡ true → Exchanges (unsent ++ frames outputs) new.unsent known new.known [])
+  said_bound : (outputs : List Output) (there : Bool) (unsent : List ℕ) (known : Known) (shown : Shown)
+      → Kept new.view there (unsent ++ sent_in outputs) [] shown
+      → new.is_open ≡ kept outputs there → new.held ≡ []
+      → (new.is_open ≡ true → Exchanges (unsent ++ frames outputs) new.unsent known new.known [])
       → Meanwhile new.is_open known new.known shown after → Kept new.view new.is_open new.unsent new.held after
   said_bound outputs there unsent known shown k lasts none writes meets =
       subst (λ held. Kept new.view new.is_open new.unsent held after) (sym none) (by new.is_open refl meets)
@@ -116,15 +124,19 @@ module _ (old new : Flow) (before after : Shown) (bound : Bound old before) wher
           (passed new.view there (unsent ++ sent_in outputs) new.unsent [] known new.known shown after
           (subst (λ l. Exchanges (unsent ++ l) new.unsent known new.known []) (frames_sent outputs) (writes open_now)) meets was k)
       by false shut meets =
-          subst (λ b. Kept new.view b new.unsent [] after) (sym shut) (left_kept new.view there (unsent ++ sent_in outputs) [] new.unsent shown after meets k)
+          subst (λ b. Kept new.view b new.unsent [] after) (sym shut)
+          (left_kept new.view there (unsent ++ sent_in outputs) [] new.unsent shown after meets k)
 
-  hears_bound : (turn : Turn) → HearsSo old turn new → IsMidway turn.input → Meanwhile new.is_open old.known new.known before after → IsFitInput turn.input → Bound new after
+  hears_bound : (turn : Turn) → HearsSo old turn new → IsMidway turn.input → Meanwhile new.is_open old.known new.known before after
+      → IsFitInput turn.input → Bound new after
   hears_bound turn hears midway meets fit = record {
     here = said_bound turn.outputs old.is_open old.unsent old.known before
-        (input_keeps old.view new.view old.is_open old.unsent old.held [] before turn.input turn.outputs bound.here hears.0 (within turn.input midway) fit (handed turn.input hears.2))
+        (input_keeps old.view new.view old.is_open old.unsent old.held [] before turn.input turn.outputs bound.here hears.0
+        (within turn.input midway) fit (handed turn.input hears.2))
         hears.1 hears.3 hears.4 meets;
     tied = λ up.
-        let stays = stays_up old.view new.view bound.here.met bound.here.was turn.input turn.outputs hears.0 (within turn.input midway) up in
+        let stays =
+        stays_up old.view new.view bound.here.met bound.here.was turn.input turn.outputs hears.0 (within turn.input midway) up in
         hears.1 ∙ stays_there turn.outputs old.is_open stays.ends (bound.tied stays.up);
   }
     where
@@ -142,12 +154,16 @@ module _ (old new : Flow) (before after : Shown) (bound : Bound old before) wher
       handed (turns.Now moment) is = is
       handed (turns.Call ticket asked) is = is
 
-  begins_bound : (turn : Turn) (carries : Carries old (Begins turn) new) → Befalls old (Begins turn) new carries before after → Bound new after
+  begins_bound : (turn : Turn) (carries : Carries old (Begins turn) new)
+      → Befalls old (Begins turn) new carries before after → Bound new after
   begins_bound turn carries meets = record {
-    here = said_bound turn.outputs true [] carries.0.0.known (connected meets.0 before) began (carries.0.2.1 ∙ ap (kept turn.outputs) carries.0.1.1) carries.0.2.3
-        (λ there. subst (λ l. Exchanges (l ++ frames turn.outputs) new.unsent carries.0.0.known new.known []) carries.0.1.2 (carries.0.2.4 there)) meets.2;
+    here = said_bound turn.outputs true [] carries.0.0.known (connected meets.0 before) began
+        (carries.0.2.1 ∙ ap (kept turn.outputs) carries.0.1.1) carries.0.2.3
+        (λ there. subst (λ l. Exchanges (l ++ frames turn.outputs) new.unsent carries.0.0.known new.known []) carries.0.1.2
+        (carries.0.2.4 there)) meets.2;
     tied = λ up.
-        carries.0.2.1 ∙ stays_there turn.outputs carries.0.0.is_open (opened_ends old.view new.view bound.here.met bound.here.was turn.outputs rule up) carries.0.1.1;
+        carries.0.2.1 ∙ stays_there turn.outputs carries.0.0.is_open
+        (opened_ends old.view new.view bound.here.met bound.here.was turn.outputs rule up) carries.0.1.1;
   }
     where
       rule : Rule old.view (record { input = turns.Opened; outputs = turn.outputs }) new.view
@@ -158,7 +174,8 @@ module _ (old new : Flow) (before after : Shown) (bound : Bound old before) wher
       began : Kept new.view true (sent_in turn.outputs) [] (connected meets.0 before)
       began =
           opened_kept old.view new.view old.is_open old.unsent old.held (connected meets.0 before)
-          (kept_down old.view old.is_open old.is_open old.unsent old.held old.unsent old.held before (connected meets.0 before) bound.here (down_of old before bound carries.2) refl)
+          (kept_down old.view old.is_open old.is_open old.unsent old.held old.unsent old.held before (connected meets.0 before) bound.here
+          (down_of old before bound carries.2) refl)
           meets.0 before turn.outputs refl meets.1 rule
 
   ends_bound : (turn : Turn) → Carries old (Ends turn) new → GoesOn before.history after.history → Bound new after
@@ -181,7 +198,8 @@ module _ (old new : Flow) (before after : Shown) (bound : Bound old before) wher
   seen_bound : new ≡ record old { view = new.view } → new.view ≡ old.view → after ≡ before → Bound new after
   seen_bound rest is then_is = same_bound (rest ∙ ap (λ v. record old { view = v }) is) then_is
 
-  forgets_bound : new ≡ record old { view = new.view } → new.view ≡ record old.view { cache = forgotten old.view.cache } → after ≡ before → Bound new after
+  forgets_bound : new ≡ record old { view = new.view } → new.view ≡ record old.view { cache = forgotten old.view.cache }
+      → after ≡ before → Bound new after
   forgets_bound rest is then_is =
       subst (λ (f : Flow). Bound f after) (sym (rest ∙ ap (λ v. record old { view = v }) is))
       (subst (λ (s : Shown). Bound (record old { view = record old.view { cache = forgotten old.view.cache } }) s) (sym then_is) (record {
@@ -206,34 +224,42 @@ module _ (old new : Flow) (before after : Shown) (bound : Bound old before) wher
   looks_bound SavedLine text carries is = seen_bound carries.2 carries.0.0 is
   looks_bound ForgetLine text carries is = forgets_bound carries.2 carries.0.0 is
 
-deed_bound : (deed : Deed) (old new : Flow) (carries : Carries old deed new) (before after : Shown) → Befalls old deed new carries before after → Bound old before → Bound new after
+deed_bound : (deed : Deed) (old new : Flow) (carries : Carries old deed new) (before after : Shown)
+    → Befalls old deed new carries before after → Bound old before → Bound new after
 deed_bound Reads old new carries before after meets bound = reads_bound old new before after bound carries meets
-deed_bound (Hears turn) old new carries before after meets bound = hears_bound old new before after bound turn carries.0 carries.1 meets.0 meets.1
+deed_bound (Hears turn) old new carries before after meets bound =
+    hears_bound old new before after bound turn carries.0 carries.1 meets.0 meets.1
 deed_bound (Begins turn) old new carries before after meets bound = begins_bound old new before after bound turn carries meets
 deed_bound (Ends turn) old new carries before after meets bound = ends_bound old new before after bound turn carries meets
 deed_bound Fails old new carries before after meets bound = same_bound old new before after bound carries.0 meets
 deed_bound (Looks value text) old new carries before after meets bound = looks_bound old new before after bound value text carries meets
 
-meanwhile_on : (there : Bool) (old new : Known) (before after : Shown) → Meanwhile there old new before after → GoesOn before.history after.history
+meanwhile_on : (there : Bool) (old new : Known) (before after : Shown)
+    → Meanwhile there old new before after → GoesOn before.history after.history
 meanwhile_on true old new before after meets = acts_on meets.0 before after meets.1
 meanwhile_on false old new before after meets = meets
 
-deed_on : (deed : Deed) (old new : Flow) (carries : Carries old deed new) (before after : Shown) → Befalls old deed new carries before after → GoesOn before.history after.history
+deed_on : (deed : Deed) (old new : Flow) (carries : Carries old deed new) (before after : Shown)
+    → Befalls old deed new carries before after → GoesOn before.history after.history
 deed_on Reads old new carries before after meets = meanwhile_on old.is_open old.known new.known before after meets
 deed_on (Hears turn) old new carries before after meets = meanwhile_on new.is_open old.known new.known before after meets.0
-deed_on (Begins turn) old new carries before after meets = meanwhile_on new.is_open carries.0.0.known new.known (connected meets.0 before) after meets.2
+deed_on (Begins turn) old new carries before after meets =
+    meanwhile_on new.is_open carries.0.0.known new.known (connected meets.0 before) after meets.2
 deed_on (Ends turn) old new carries before after meets = meets
 deed_on Fails old new carries before after meets = same_on before after meets
 deed_on (Looks value text) old new carries before after meets = same_on before after meets
 
 -- ---- deeds
 
-deeds_on : (deeds : List Deed) (old new : Flow) (carries : FoldsTo Carries old deeds new) (before after : Shown) → DeedsMeet deeds old new carries before after → GoesOn before.history after.history
+deeds_on : (deeds : List Deed) (old new : Flow) (carries : FoldsTo Carries old deeds new) (before after : Shown)
+    → DeedsMeet deeds old new carries before after → GoesOn before.history after.history
 deeds_on [] old new carries before after meets = same_on before after meets
 deeds_on (deed ∷ deeds) old new carries before after meets =
-    goes_further before.history meets.0.history after.history (deed_on deed old carries.0 carries.1 before meets.0 meets.1) (deeds_on deeds carries.0 new carries.2 meets.0 after meets.2)
+    goes_further before.history meets.0.history after.history (deed_on deed old carries.0 carries.1 before meets.0 meets.1)
+    (deeds_on deeds carries.0 new carries.2 meets.0 after meets.2)
 
-all_cohere : (deeds : List Deed) (old new : Flow) (carries : FoldsTo Carries old deeds new) (before after : Shown) (history : History) → DeedsMeet deeds old new carries before after → Bound old before
+all_cohere : (deeds : List Deed) (old new : Flow) (carries : FoldsTo Carries old deeds new) (before after : Shown) (history : History)
+    → DeedsMeet deeds old new carries before after → Bound old before
     → GoesOn after.history history → IsHistory history → AllCohere history deeds old new carries
 all_cohere [] old new carries before after history meets bound goes is = tt
 all_cohere (deed ∷ deeds) old new carries before after history meets bound goes is =
@@ -243,7 +269,8 @@ all_cohere (deed ∷ deeds) old new carries before after history meets bound goe
       all_cohere deeds carries.0 new carries.2 meets.0 after history meets.2 then_bound goes is,
     )
 
-begun_bound : (first last : Flow) (text : List ℕ) (prints : Prints first last [] text) (after : Shown) (meets : LifeMeets first last text prints after) → Bound first meets.before
+begun_bound : (first last : Flow) (text : List ℕ) (prints : Prints first last [] text) (after : Shown)
+    (meets : LifeMeets first last text prints after) → Bound first meets.before
 begun_bound first last text prints after meets = record {
   here = record {
     met = meets.before;
@@ -260,4 +287,5 @@ begun_bound first last text prints after meets = record {
 
 pub life_coheres : LifeCoheres
 life_coheres first last text prints after meets =
-    all_cohere prints.deeds first last prints.carries meets.before after after.history meets.meets (begun_bound first last text prints after meets) (goes_nowhere after.history) meets.history
+    all_cohere prints.deeds first last prints.carries meets.before after after.history meets.meets
+    (begun_bound first last text prints after meets) (goes_nowhere after.history) meets.history

@@ -27,16 +27,18 @@ pub record ByKnown (took gave : List ℕ) (old new : Known) : Type 0 where
 
 -- While a connection is there, what befalls it are acts with these bytes; without one the history may go on.
 abbrev pub Meanwhile : Bool → (old new : Known) → (before after : Shown) → Type 0
-Meanwhile true old new before after = (acts : List Act) × FoldsTo Happens before acts after × ByKnown (taken_in acts) (given_in acts) old new
+Meanwhile true old new before after =
+    (acts : List Act) × FoldsTo Happens before acts after × ByKnown (taken_in acts) (given_in acts) old new
 Meanwhile false old new before after = GoesOn before.history after.history
 
--- A connection that begins is one to a server, which holds a beginning of the history. What the client is asked is about paths, with values of
--- their types.
+-- A connection that begins is one to a server, which holds a beginning of the history. What the client is asked is about paths, with values
+-- of their types.
 abbrev pub Befalls : (old : Flow) → (deed : Deed) → (new : Flow) → Carries old deed new → (before after : Shown) → Type 0
 Befalls old Reads new carries before after = Meanwhile old.is_open old.known new.known before after
 Befalls old (Hears turn) new carries before after = Meanwhile new.is_open old.known new.known before after × IsFitInput turn.input
 Befalls old (Begins turn) new carries before after =
-    (place : ℕ) × (place ≤ length before.history.transactions) × Meanwhile new.is_open carries.0.0.known new.known (connected place before) after
+    (place : ℕ) × (place ≤ length before.history.transactions)
+    × Meanwhile new.is_open carries.0.0.known new.known (connected place before) after
 Befalls old (Ends turn) new carries before after = GoesOn before.history after.history
 Befalls old deed new carries before after = after ≡ before
 

@@ -267,7 +267,8 @@ abbrev pub IsHanded : Input → (held then_held : List ℕ) → Type 0
 IsHanded (Bytes bytes) held then_held = (bytes ≡ held) × (then_held ≡ [])
 IsHanded input held then_held = then_held ≡ held
 
-pub input_keeps : (view after : View) (is_there : Bool) (unsent held then_held : List ℕ) (shown : Shown) (input : Input) (outputs : List Output)
+pub input_keeps : (view after : View) (is_there : Bool) (unsent held then_held : List ℕ) (shown : Shown)
+    (input : Input) (outputs : List Output)
     → Kept view is_there unsent held shown
     → Rule view (record { input = input; outputs = outputs }) after → IsWithin input → IsFitInput input → IsHanded input held then_held
     → Kept after is_there (unsent ++ sent_in outputs) then_held shown

@@ -16,7 +16,8 @@ use Rattle.zk_served.specs.Acts.{Gives, Happens, Serves, Takes}
 abbrev pub BenchConnects : Type 0
 BenchConnects =
     (served : Served) (server : ℕ) → IsReady served → IsReady (bench.connected served server)
-    → (place : ℕ) × (place ≤ length (shown_of served).history.transactions) × (shown_of (bench.connected served server) ≡ connected place (shown_of served))
+    → (place : ℕ) × (place ≤ length (shown_of served).history.transactions)
+    × (shown_of (bench.connected served server) ≡ connected place (shown_of served))
 
 -- bytes come to the connected server (`ok` of `Bench::receive`)
 abbrev pub BenchTakes : Type 0

@@ -23,8 +23,8 @@ pub fn bytes_serve<A: Allocator>()
     ensures { BytesServe A }
 {}
 
-/// What befalls a connection is what servers in memory do, by the clauses of `zk_bench::Bench`: it begins, bytes come to the connected server, the
-/// first bytes that it sent are taken out, it takes a transaction, it processes a request, it ends the connection.
+/// What befalls a connection is what servers in memory do, by the clauses of `zk_bench::Bench`: it begins, bytes come to the connected
+/// server, the first bytes that it sent are taken out, it takes a transaction, it processes a request, it ends the connection.
 pub fn benches_act()
     ensures connects { BenchConnects }
     ensures takes { BenchTakes }

@@ -14,7 +14,8 @@ returns-then-is_done-clause-some g c =
     let spot = spot_view c.args.spot in
     let coming = came_view c.in_ok-came.came in
     let last = flow_of g.D.Stream.Read.remaining g.D.Stream.Write.contents c.listed.new.driver.engine None in
-    let heard = heard_of bounds old spot coming last c.requires.room c.requires.listed c.in_ok-came.ensures.heard c.in_ok-came.ensures.runs in
+    let heard =
+    heard_of bounds old spot coming last c.requires.room c.requires.listed c.in_ok-came.ensures.heard c.in_ok-came.ensures.runs in
     let done = c.is_done.ensures.done c.if-is_done.true in
     IfOk-weaker c.open.result _ _
     (λ ending found. IfSome_then ending found
@@ -27,7 +28,8 @@ returns-then-is_done-clause-none g c =
     let spot = spot_view c.args.spot in
     let coming = came_view c.in_ok-came.came in
     let last = flow_of g.D.Stream.Read.remaining g.D.Stream.Write.contents c.listed.new.driver.engine None in
-    let heard = heard_of bounds old spot coming last c.requires.room c.requires.listed c.in_ok-came.ensures.heard c.in_ok-came.ensures.runs in
+    let heard =
+    heard_of bounds old spot coming last c.requires.room c.requires.listed c.in_ok-came.ensures.heard c.in_ok-came.ensures.runs in
     let done = c.is_done.ensures.done c.if-is_done.true in
     IfOk-weaker c.open.result _ _
     (λ ending found. if_none ending found (λ m. prints_node spot old.waiting coming last m.0 heard done m.1 (refl, m.2, m.3)))
@@ -50,7 +52,8 @@ returns-clause-some g c =
     let coming = came_view c.in_ok-came.came in
     let last = flow_of g.D.Stream.Read.remaining g.D.Stream.Write.contents c.listed.new.driver.engine None in (
       stopped c.args.bounds old spot coming last
-          (heard_of c.args.bounds old spot coming last c.requires.room c.requires.listed c.in_ok-came.ensures.heard c.in_ok-came.ensures.runs)
+          (heard_of c.args.bounds old spot coming last c.requires.room c.requires.listed c.in_ok-came.ensures.heard
+          c.in_ok-came.ensures.runs)
           (c.is_done.ensures.undone c.if-is_done.false) (c.is_gone.ensures.stays c.if-is_gone.false),
       refl,
     )
