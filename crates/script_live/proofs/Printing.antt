@@ -1,13 +1,15 @@
 -- What is printed of deeds, one after the other.
 use Rattle.std.proofs.Common.{◌≡◌, ◌++◌, ◌∙◌, ℕ, Bool, true, false, List, [], ◌∷◌, ap, append-nil, append_assoc, refl, sym, subst}
-use Rattle.std.specs.Prelude.{Result, Ok, Err, OnOk, codes}
+use Rattle.std.specs.Prelude.{Result, Ok, Err, IfOk, OnOk, codes}
 use Rattle.std.specs.List.{filter}
 use Rattle.zk_turns.specs.Turns.{Bytes, Cut, Input, Opened, Output}
 use Rattle.script_words.specs.Lines.{TellsInOrder}
 use Rattle.script_live.specs.Trails.{is_given}
 use Rattle.script_live.specs.Heard.{TellsEach}
 use Rattle.script_live.specs.Flowing.{bytes_of, holding, Begins, Carries, Cuts, Deed, Delivers, Ends, Fails, Flow, Hears, HoldsSo, IsMidway}
-use Rattle.script_live.specs.Flowing.{Reads}
+use Rattle.script_live.specs.Flowing.{IsLook, Looks, Reads}
+use Rattle.script_replay.specs.ClientLines.{ClientValue}
+use Rattle.script_replay.specs.Played.{DoesClient}
 use Rattle.script_live.specs.Printed.{Hands, HandsThen, Prints, TellsDeed}
 use Rattle.script_live.proofs.Flowed.{carries_on}
 use Rattle.script_live.proofs.HeardLemmas.{told_all}
@@ -116,3 +118,16 @@ prints_down old here first before after prints none printed =
 pub shut_by : (is_over was is : Bool) → is_over ≡ was → (is_over ≡ true → is ≡ false) → (is_over ≡ false → is ≡ was) → is ≡ false
 shut_by true was is same shut stays = shut refl
 shut_by false was is same shut stays = stays refl ∙ sym same
+
+-- ---- one line
+
+pub prints_from : (old new : Flow) (before after : List ℕ) → before ≡ [] → Prints old new before after → Prints old new [] after
+prints_from old new before after none prints = subst (λ l. Prints old new l after) none prints
+
+-- what is no input of a client
+pub prints_look : {X E : Type 0} (result : Result X E) (text_of : X → List ℕ) (value : ClientValue) (old new : Flow) → IsLook value
+    → IfOk result (λ text. DoesClient value old.view new.view (text_of text)) → new ≡ record old { view = new.view } → old.held ≡ []
+    → IfOk result (λ text. Prints old new [] (text_of text))
+prints_look (Ok text) text_of value old new look does same none =
+    prints_one (Looks value (text_of text)) old new [] (text_of text) (text_of text) (does, look, same, none) refl refl
+prints_look (Err e) text_of value old new look does same none = tt

@@ -53,14 +53,20 @@ impl<A: Allocator + Copy, D: Dial> Session<'_, A, D> {
     {
         let mut text = String::new(alloc);
         match line {
-            ClientLine::Cut => self.link.cut(alloc, &mut text)?,
+            ClientLine::Cut => {
+                self.link.cut(alloc, &mut text)?;
+                Ok(text)
+            }
             ClientLine::Now(moment) => {
                 self.link.step(alloc, Input::Now(moment), &mut text)?;
+                Ok(text)
             }
-            ClientLine::Call(asked) => self.link.ask(alloc, asked, &mut text)?,
-            line => return driven(alloc, &mut self.link.joint.client, line),
+            ClientLine::Call(asked) => {
+                self.link.ask(alloc, asked, &mut text)?;
+                Ok(text)
+            }
+            line => driven(alloc, &mut self.link.joint.client, line),
         }
-        Ok(text)
     }
 
     /// Does what a line says, and gives what is to be printed.

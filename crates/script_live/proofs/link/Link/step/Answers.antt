@@ -4,8 +4,8 @@ use Rattle.script_live.proofs.link.Link.step.Goals as goal
 
 pub returns-clause-flows : goal.returns-clause-flows
 returns-clause-flows g c = record {
-  between = flow_of g.S.Read.remaining g.S.Write.contents c.printed_step-heard.new.joint;
-  text = string_bytes c.printed_step-heard.new.text;
+  between = flow_of g.S.Read.remaining g.S.Write.contents c.printed_step.new.joint;
+  text = string_bytes c.printed_step.new.text;
   hands = c.in_ok-heard.ensures.flows;
   goes_on = c.in_ok-end_if.ensures.flows;
 }
