@@ -1,5 +1,5 @@
 -- Beside a run of a driver the history goes on, and what was good then stays the history's.
-use Rattle.std.proofs.Common.{◌≡◌, ◌⊎◌, inl, inr, Bool, true, false, List, [], ◌∷◌, Option, Some, None, refl, sym, subst}
+use Rattle.std.proofs.Common.{◌≡◌, inl, inr, Bool, true, false, List, [], ◌∷◌, Option, Some, None, refl, sym, subst}
 use Rattle.std.specs.Prelude.{ℕ}
 use Rattle.std.specs.List.{FoldsTo}
 use Rattle.zk_nodes.specs.History.{History, IsHistory}
@@ -11,7 +11,7 @@ use Rattle.theory_serving.proofs.Views.{good_session, rests_session}
 use Rattle.zk_bench.proofs.Processed.{goes_further}
 use Rattle.zk_agent.specs.declared.input.Input.TheVariants as happens
 use Rattle.zk_driver.specs.Driving.{Looked, Noted, Written}
-use Rattle.zk_driver.specs.Flowing.{Asked, Carries, Deed, Flow, Made, Passes}
+use Rattle.zk_driver.specs.Flowing.{Asked, Deed, Flow, Made, Passes}
 use Rattle.zk_served.specs.Acts.{Act, Gives, Happens, Serves, Takes}
 use Rattle.zk_served.specs.Worlds.{Befalls, ByStream, Meanwhile, Meets}
 use Rattle.zk_served.proofs.Turned.{goes_nowhere, Kept}

@@ -1,5 +1,5 @@
 -- What a client that a script drives prints is the history's.
-use Rattle.std.proofs.Common.{◌≡◌, ◌≤◌, ◌++◌, ◌∙◌, ℕ, Bool, true, false, List, [], ◌∷◌, Option, Some, length, ap, append-nil, refl, sym}
+use Rattle.std.proofs.Common.{◌≡◌, ◌++◌, ◌∙◌, ℕ, Bool, true, false, List, [], ◌∷◌, ap, refl, sym}
 use Rattle.std.proofs.Common.{subst}
 use Rattle.std.specs.Prelude.{◌&&◌, ◌||◌, if◌then◌else◌, not}
 use Rattle.std.specs.List.{list_any, FoldsTo}
@@ -9,15 +9,14 @@ use Rattle.zk_turns.specs.Turns as turns
 use Rattle.zk_turns.specs.Turns.{Answer, Drop, Enters, Forgets, Input, Output, Report, Send, Turn, ends_connection}
 use Rattle.zk_turns.specs.View.{Standing, View}
 use Rattle.zk_turns.specs.Past.{is_open as is_going}
-use Rattle.zk_turns.specs.Rule.{forgotten, Rule, Stands}
-use Rattle.zk_laws.specs.Headline.{IsCoherentWith}
+use Rattle.zk_turns.specs.Rule.{forgotten, Rule}
 use Rattle.theory_serving.specs.GoingOn.{GoesOn}
 use Rattle.theory_serving.specs.Shown.{connected, sent_in, EndsNothing, Shown}
 use Rattle.theory_serving.specs.Wires.{is_up}
 use Rattle.theory_serving.proofs.Views.{first_session, forget_session}
 use Rattle.zk_bench.proofs.Processed.{goes_further}
 use Rattle.zk_link.specs.Streams.{Exchanges, Known}
-use Rattle.zk_served.specs.Acts.{given_in, taken_in, Act, Happens}
+use Rattle.zk_served.specs.Acts.{given_in, taken_in}
 use Rattle.zk_served.specs.Asking.{IsFitInput}
 use Rattle.zk_served.proofs.Acted.{acts_keep, apart_kept}
 use Rattle.zk_served.proofs.Heard.{input_keeps, IsHanded}
@@ -29,7 +28,7 @@ use Rattle.script_live.specs.Frames.{frames}
 use Rattle.script_live.specs.Trails.{kept}
 use Rattle.script_live.specs.Flowing.{bytes_of, Begins, Carries, Deed, Ends, Fails, Flow, Hears, HearsSo, IsMidway, Looks, Reads}
 use Rattle.script_live.specs.Printed.{Prints}
-use Rattle.theory_shown.specs.Lived.{AllCohere, Befalls, ByKnown, DeedsMeet, LifeCoheres, LifeMeets, Meanwhile}
+use Rattle.theory_shown.specs.Lived.{AllCohere, Befalls, DeedsMeet, LifeCoheres, LifeMeets, Meanwhile}
 use Rattle.theory_shown.proofs.Going.{acts_on, kept_coheres, same_on}
 
 -- ---- what is between a client and servers

@@ -1,19 +1,15 @@
 -- What a watch prints is the history's.
-use Rattle.std.proofs.Common.{◌≡◌, Bool, List, [], ◌∷◌, Option, sym, subst}
-use Rattle.std.specs.Prelude.{ℕ}
+use Rattle.std.proofs.Common.{List, [], ◌∷◌, sym, subst}
 use Rattle.std.specs.List.{FoldsTo}
 use Rattle.zk_nodes.specs.History.{History, IsHistory}
-use Rattle.zk_nodes.specs.Path.{Text}
-use Rattle.zk_nodes.specs.declared.side.Side.{Side}
 use Rattle.zk_laws.specs.Headline.{IsCoherentWith}
 use Rattle.theory_serving.specs.GoingOn.{GoesOn}
 use Rattle.theory_serving.specs.Shown.{Shown}
 use Rattle.zk_bench.proofs.Processed.{goes_further}
 use Rattle.zk_served.proofs.Served.{begins_bound, held_where, Bound}
 use Rattle.zk_served.proofs.Turned.{goes_nowhere}
-use Rattle.shell_watch.specs.Watching.{flow_in, view_in, Closes, Does, EndsFrom, Move, PrintsFrom, Stand, Takes}
-use Rattle.theory_shown.specs.Watched.{AllCohere, EndsCohere, EndsMeet, FollowsMeet, IsMoveCoherent, MoveMeets, MovesMeet, PrintsCohere}
-use Rattle.theory_shown.specs.Watched.{PrintsMeet, RunMeets}
+use Rattle.shell_watch.specs.Watching.{flow_in, view_in, Closes, Does, Move, Stand, Takes}
+use Rattle.theory_shown.specs.Watched.{AllCohere, EndsCohere, FollowsMeet, IsMoveCoherent, MoveMeets, MovesMeet, PrintsCohere}
 use Rattle.theory_shown.proofs.Going.{kept_coheres, run_bound, run_on, same_on}
 
 coheres : {A : Type 0} (stand : Stand A) (shown : Shown) (history : History)

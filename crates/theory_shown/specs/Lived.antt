@@ -1,5 +1,5 @@
 -- A client that a script drives, over connections to servers of the model, prints what the history has.
-use Rattle.std.specs.Prelude.{◌≡◌, ◌<◌, ◌≤◌, ⊤, ℕ, Bool, true, false, List, [], ◌∷◌, ◌++◌, length, Option, Some}
+use Rattle.std.specs.Prelude.{◌≡◌, ◌<◌, ◌≤◌, ⊤, ℕ, Bool, true, false, List, [], ◌∷◌, ◌++◌, length, Some}
 use Rattle.std.specs.List.{FoldsTo}
 use Rattle.zk_nodes.specs.History.{History, IsHistory}
 use Rattle.zk_turns.specs.Turns.{Start}
@@ -11,7 +11,7 @@ use Rattle.theory_serving.specs.Shown.{connected, Shown}
 use Rattle.zk_link.specs.Streams.{Known}
 use Rattle.zk_served.specs.Acts.{given_in, taken_in, Act, Happens}
 use Rattle.zk_served.specs.Asking.{IsFitInput}
-use Rattle.script_live.specs.Flowing.{Begins, Carries, Deed, Ends, Fails, Flow, Hears, Looks, Reads}
+use Rattle.script_live.specs.Flowing.{Begins, Carries, Deed, Ends, Flow, Hears, Reads}
 use Rattle.script_live.specs.Printed.{Prints}
 
 -- ---- servers beside what a client and its connection do
