@@ -1,3 +1,4 @@
 pub mod Going
 pub mod Watched
 pub mod Lived
+pub mod Benched

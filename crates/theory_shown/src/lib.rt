@@ -2,6 +2,8 @@
 //! have empty bodies: their contracts are the laws.
 #![tactic(auto)]
 
+ghost use Rattle.zk_served.specs.Worlds.{ByDriver, ByStream};
+ghost use Rattle.theory_shown.specs.Benched.{BenchesCohere, BenchesMeet, BenchesServe};
 ghost use Rattle.theory_shown.specs.Lived.{LifeCoheres};
 ghost use Rattle.theory_shown.specs.Watched.{EndsCohere, PrintsCohere};
 
@@ -18,4 +20,15 @@ pub fn watches_cohere<A: Allocator>()
 /// history's.
 pub fn lives_cohere()
     ensures { LifeCoheres }
+{}
+
+/// A driver whose connections lead to a server in memory was served from the bench's history: over a whole run, beside which a bench does
+/// what its clauses say, with the bytes that streams took and gave, or that the driver wrote and read. What the bench shows is then what
+/// servers of the model show, so its client was served from that history, and each good answer that it has is the history's.
+pub fn benches_serve<A: Allocator>()
+    ensures meets { BenchesMeet A ByStream }
+    ensures meets_bytes { BenchesMeet A ByDriver }
+    ensures served { BenchesServe A ByStream }
+    ensures served_bytes { BenchesServe A ByDriver }
+    ensures coheres { BenchesCohere A ByStream }
 {}
