@@ -1,27 +1,21 @@
 -- What a bench does beside a driver is what servers of the model do.
-use Rattle.std.proofs.Common.{◌≡◌, ◌∙◌, ℕ, inl, inr, Bool, true, false, List, [], ◌∷◌, Option, Some, None, ap, refl, sym, subst}
+use Rattle.std.proofs.Common.{◌≡◌, ◌∙◌, ℕ, inl, inr, Bool, true, false, List, [], ◌∷◌, Some, None, ap, refl, sym, subst}
 use Rattle.std.specs.Prelude.{take}
 use Rattle.std.specs.List.{FoldsTo}
-use Rattle.zk_client.specs.Clients.{view_of}
-use Rattle.zk_laws.specs.Headline.{IsCoherentWith}
-use Rattle.zk_conclusions.specs.Seen.{IsServedFrom}
-use Rattle.theory_serving.specs.Shown.{more_requests, Shown}
-use Rattle.theory_serving.specs.Shown as shows
+use Rattle.theory_serving.specs.Shown.{more_requests}
 use Rattle.zk_bench.specs.declared.phase.Phase.{Phase}
 use Rattle.zk_bench.specs.declared.phase.Phase.TheVariants.{Accepted, Apart, Ended, Opening}
-use Rattle.zk_bench.specs.Served.{ended, is_open, with_requests, without_output, Served}
-use Rattle.zk_bench.specs.Served as bench
+use Rattle.zk_bench.specs.Served.{is_open, Served}
 use Rattle.zk_bench.specs.Stepping.{phase_of, shown_of, IsReady}
 use Rattle.zk_agent.specs.declared.input.Input.TheVariants as happens
 use Rattle.zk_driver.specs.Driving.{Looked, Noted, Written}
-use Rattle.zk_driver.specs.Flowing.{Asked, Deed, Flow, Made, Passes}
+use Rattle.zk_driver.specs.Flowing.{Asked, Deed, Flow, Made}
 use Rattle.zk_served.specs.Acts.{Act, Gives, Happens, Serves, Takes}
 use Rattle.zk_served.specs.Serving.{MeetsServers}
-use Rattle.zk_served.specs.Worlds.{Befalls, ByDriver, ByStream, Meanwhile, Meets}
+use Rattle.zk_served.specs.Worlds.{Befalls, ByDriver, ByStream, Meanwhile}
 use Rattle.zk_served.proofs.Benched.{bench_advances, bench_connects, bench_ends, bench_gives, bench_processes, bench_takes}
 use Rattle.zk_served.proofs.Served.{bytes_serve, streams_cohere, streams_serve}
 use Rattle.theory_shown.specs.Benched.{BefallsBench, BenchDoes, BenchesCohere, BenchesMeet, BenchesServe, DrivesBench, MeanwhileBench}
-use Rattle.theory_shown.specs.Benched.{MeetsBench}
 
 -- ---- acts
 

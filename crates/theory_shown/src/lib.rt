@@ -1,5 +1,6 @@
-//! What is printed of a client whose connections lead to servers of the model agrees with their history, wherever cuts fall. The functions
-//! have empty bodies: their contracts are the laws.
+//! What is printed of a client whose connections lead to servers of the model agrees with their history, wherever cuts fall. A driver whose
+//! connections lead to a server in memory was served from the bench's history. The functions have empty bodies: their contracts are the
+//! laws.
 #![tactic(auto)]
 
 ghost use Rattle.zk_served.specs.Worlds.{ByDriver, ByStream};
