@@ -1,11 +1,12 @@
 -- What a bench does beside a driver is what servers of the model do.
-use Rattle.std.proofs.Common.{◌≡◌, ◌∙◌, ℕ, inl, inr, Bool, true, false, List, [], ◌∷◌, Some, None, ap, refl, sym, subst}
+use Rattle.std.proofs.Common.{◌≡◌, ◌∙◌, ℕ, inl, inr, Bool, true, false, List, [], ◌∷◌, Some, None, ap, append-nil, refl, sym, subst}
 use Rattle.std.specs.Prelude.{take}
 use Rattle.std.specs.List.{FoldsTo}
 use Rattle.theory_serving.specs.Shown.{more_requests}
 use Rattle.zk_bench.specs.declared.phase.Phase.{Phase}
 use Rattle.zk_bench.specs.declared.phase.Phase.TheVariants.{Accepted, Apart, Ended, Opening}
-use Rattle.zk_bench.specs.Served.{is_open, Served}
+use Rattle.zk_bench.specs.Served.{is_open, with_requests, Served}
+use Rattle.zk_bench.specs.Served as bench
 use Rattle.zk_bench.specs.Stepping.{phase_of, shown_of, IsReady}
 use Rattle.zk_agent.specs.declared.input.Input.TheVariants as happens
 use Rattle.zk_driver.specs.Driving.{Looked, Noted, Written}
@@ -15,6 +16,7 @@ use Rattle.zk_served.specs.Serving.{MeetsServers}
 use Rattle.zk_served.specs.Worlds.{Befalls, ByDriver, ByStream, Meanwhile}
 use Rattle.zk_served.proofs.Benched.{bench_advances, bench_connects, bench_ends, bench_gives, bench_processes, bench_takes}
 use Rattle.zk_served.proofs.Served.{bytes_serve, streams_cohere, streams_serve}
+use Rattle.theory_shown.specs.Benched.{BenchesReceive}
 use Rattle.theory_shown.specs.Benched.{BefallsBench, BenchDoes, BenchesCohere, BenchesMeet, BenchesServe, DrivesBench, MeanwhileBench}
 
 -- ---- acts
@@ -115,3 +117,16 @@ benches_serve_bytes A old new after drives = bytes_serve old new (shown_of after
 
 pub benches_cohere : (A : Type 0) → BenchesCohere A ByStream
 benches_cohere A old new after drives = streams_cohere old new (shown_of after) (as_servers ByStream old new after drives)
+
+-- ---- such a bench can be
+
+pub benches_receive : (A : Type 0) → BenchesReceive A
+benches_receive A now old new passes before server bytes ready then_ready up by =
+    let one = bench.connected before server in
+    let after = with_requests one bytes in
+    let done = subst (λ b. MeanwhileBench ByDriver b passes.0 passes.2.0 one after) (sym up) (
+      Takes bytes ∷ [],
+      (after, (λ up. refl, λ down. let e : true ≡ false = down in cc), refl),
+      subst (λ took. ByDriver took [] passes.0 passes.2.0) (sym (append-nil bytes)) by,
+    ) in
+    (one, (server, ready, then_ready, refl), (after, done, refl))

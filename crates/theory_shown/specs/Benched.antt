@@ -20,7 +20,7 @@ use Rattle.zk_driver.specs.Flowing.{Deed, Flow, Made, Passes, Runs}
 use Rattle.zk_served.specs.Acts.{given_in, taken_in, Act, Gives, Serves, Takes}
 use Rattle.zk_served.specs.Asking.{StepsFit}
 use Rattle.zk_served.specs.Serving.{Begins}
-use Rattle.zk_served.specs.Worlds.{Meets}
+use Rattle.zk_served.specs.Worlds.{ByDriver, Meets}
 
 -- ---- what a bench does while a connection is there
 
@@ -108,3 +108,12 @@ BenchesServe A By = (old new : Flow A) (after : Served) → DrivesBench By old n
 abbrev pub BenchesCohere : (A : Type 0) → (List ℕ → List ℕ → Flow A → Flow A → Type 0) → Type 0
 BenchesCohere A By = (old new : Flow A) (after : Served) → DrivesBench By old new after
     → IsCoherentWith (history_of after.history) (view_of new.course.agent.asker.follower.client)
+
+-- Each ready bench can go on so, where a driver is told of a connection and writes: it begins the connection, and receives what is written.
+abbrev pub BenchesReceive : Type 0 → Type 0
+BenchesReceive A =
+    (now : ℕ) (old new : Flow A) (passes : FoldsTo Passes old (Some (Made (Noted now happens.Opened)) ∷ Some (Made Written) ∷ []) new)
+    (before : Served) (server : ℕ) (bytes : List ℕ) → IsReady before → IsReady (bench.connected before server)
+    → passes.0.course.channel.is_open ≡ true → ByDriver bytes [] passes.0 passes.2.0
+    → MeetsBench ByDriver (Some (Made (Noted now happens.Opened)) ∷ Some (Made Written) ∷ []) old new passes
+    before (with_requests (bench.connected before server) bytes)

@@ -4,7 +4,7 @@
 #![tactic(auto)]
 
 ghost use Rattle.zk_served.specs.Worlds.{ByDriver, ByStream};
-ghost use Rattle.theory_shown.specs.Benched.{BenchesCohere, BenchesMeet, BenchesServe};
+ghost use Rattle.theory_shown.specs.Benched.{BenchesCohere, BenchesMeet, BenchesReceive, BenchesServe};
 ghost use Rattle.theory_shown.specs.Lived.{LifeCoheres};
 ghost use Rattle.theory_shown.specs.Watched.{EndsCohere, PrintsCohere};
 
@@ -32,4 +32,6 @@ pub fn benches_serve<A: Allocator>()
     ensures served { BenchesServe A ByStream }
     ensures served_bytes { BenchesServe A ByDriver }
     ensures coheres { BenchesCohere A ByStream }
+    // And each ready bench can begin a connection and receive what is written on it.
+    ensures receives { BenchesReceive A }
 {}

@@ -1,5 +1,5 @@
 use Rattle.zk_served.specs.Worlds.{ByDriver, ByStream}
-use Rattle.theory_shown.proofs.Benched.{benches_cohere, benches_meet, benches_serve, benches_serve_bytes}
+use Rattle.theory_shown.proofs.Benched.{benches_cohere, benches_meet, benches_receive, benches_serve, benches_serve_bytes}
 use Rattle.theory_shown.proofs.benches_serve.Goals as goal
 
 pub returns-clause-meets : goal.returns-clause-meets
@@ -16,3 +16,6 @@ returns-clause-served_bytes g c = benches_serve_bytes g.row.A.Denot
 
 pub returns-clause-coheres : goal.returns-clause-coheres
 returns-clause-coheres g c = benches_cohere g.row.A.Denot
+
+pub returns-clause-receives : goal.returns-clause-receives
+returns-clause-receives g c = benches_receive g.row.A.Denot
