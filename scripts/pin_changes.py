@@ -10,7 +10,7 @@ from collections import Counter
 from collections.abc import Iterable, Iterator, Mapping
 from dataclasses import dataclass
 
-from pins import TOP, Part, Parts, Pin, is_pinned, numbered
+from pins import TOP, Part, Parts, Pin, is_pinned, numbered, stating
 
 GONE, NEW, OTHERWISE, MOVED = "went away", "was added", "reads otherwise", "moved as it was"
 At = tuple[str, str]
@@ -102,4 +102,4 @@ def texts_at(commit: str) -> dict[str, str]:
     with tarfile.open(fileobj=io.BytesIO(run.stdout)) as archive:
         names = {it.name.removeprefix("crates/"): it for it in archive if it.isfile()}
         read = {name: archive.extractfile(it) for name, it in names.items() if is_pinned(name)}
-        return {name: part.read().decode("utf-8", "replace") for name, part in read.items() if part}
+        return stating({name: part.read().decode("utf-8", "replace") for name, part in read.items() if part})

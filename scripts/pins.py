@@ -1,5 +1,6 @@
 """What the crates state, read from their texts: each public function with its clauses, each trait, type, ghost view and invariant, what each
-crate gives its callers, and each definition of specs/. `scripts/statements` writes a line of each into STATEMENTS.lock.
+crate gives its callers, and each definition of specs/, or of proofs/ in a file that clauses name. `scripts/statements` writes a line of each
+into STATEMENTS.lock.
 
 A pin has a part for each clause, field and text of equations. The checksum of a part is of its words, without comments and line breaks, and of
 what the imports of its file take the names in it for: a name that is imported from elsewhere says something else.
@@ -342,16 +343,30 @@ def pins_in(file: str, text: str) -> tuple[Pin, ...]:
     return tuple(Block(file, Scope()).pins([line.rstrip() for line in lines]))
 
 
+OF_PROOFS = re.compile(r"^ *(?:pub |ghost )*use Rattle\.(\w+)\.proofs\.(\w+)\b", re.M)
+
+
 def is_pinned(file: str) -> bool:
-    """Whether a file below crates/ states anything."""
-    return not file.startswith(NOT_PINNED) and bool(re.match(r"[^/]+/(?:specs/.*\.antt|src/.*\.rt)$", file))
+    """Whether a file below crates/ states anything, or one of proofs/ may."""
+    return not file.startswith(NOT_PINNED) and bool(re.match(r"[^/]+/(?:(?:specs/.*|proofs/\w+)\.antt|src/.*\.rt)$", file))
+
+
+def stating(texts: Mapping[str, str]) -> dict[str, str]:
+    """Those of these texts that state something: of proofs/ the files that src/ and specs/ name, and those that these name."""
+    found: set[str] = set()
+    rest = {name for name in texts if "/proofs/" not in name}
+    while rest:
+        found |= rest
+        named = {f"{crate}/proofs/{module}.antt" for name in rest for crate, module in OF_PROOFS.findall(texts[name])}
+        rest = (named & texts.keys()) - found
+    return {name: texts[name] for name in sorted(found)}
 
 
 def texts_here() -> dict[str, str]:
     """The texts that are pinned, as they are in the work tree."""
-    found = [*CRATES.glob("*/specs/**/*.antt"), *CRATES.glob("*/src/**/*.rt")]
+    found = [*CRATES.glob("*/specs/**/*.antt"), *CRATES.glob("*/proofs/*.antt"), *CRATES.glob("*/src/**/*.rt")]
     names = {str(path.relative_to(CRATES)): path for path in found}
-    return {name: names[name].read_text(encoding="utf-8") for name in sorted(names) if is_pinned(name)}
+    return stating({name: path.read_text(encoding="utf-8") for name, path in names.items() if is_pinned(name)})
 
 
 def numbered(names: Iterable[str]) -> Iterator[str]:

@@ -42,13 +42,19 @@ TOP = Path(__file__).resolve().parent.parent
 TURNS, LAWS, LOCAL = "zk_turns", "zk_laws", "theory_local"
 KINDS = ("weaker", "narrower", "wrong")
 # the crates of laws above one
-ABOVE = {TURNS: ["theory_rules"], LAWS: ["theory_serving", "theory_rules"], LOCAL: [], "zk_conclusions": ["theory_witnesses"]}
+ABOVE = {
+    TURNS: ["theory_turns", "theory_rules"],
+    LAWS: ["theory_runs", "theory_serving", "theory_rules"],
+    LOCAL: ["theory_witnesses"],
+    "zk_conclusions": ["theory_witnesses"],
+}
 # the sections of docs/DEFINITIONS.md whose definitions have edits; and section 18, of which STATEMENTS.md has the definitions
 SECTIONS = [*range(1, 7), *range(10, 16)]
 
 DATA = "it names data: a field or a case fewer cannot be read where they are made"
 TABLE = "it is a table of the protocol, by which the code writes and reads: tests have its values"
 OUTSIDES = "it says what a run's outside tells of its turns, and nothing of servers: crates/zk_client/wrong_bodies turns it"
+STEPS = "it is of the client step by step, which `one_turn` proves to be what the look-backs give: with another one that is false"
 # definitions of these sections that have no such edit
 EXCEPTIONS = {
     **dict.fromkeys("Notice Watches Message Request Stage ServerEnd ServerStep Sent Wire Entry LocalEntry".split(), DATA),
@@ -60,6 +66,7 @@ EXCEPTIONS = {
     **dict.fromkeys("get_children2_response get_data_response reply_header set_data_request set_watches watcher_event".split(), TABLE),
     **dict.fromkeys("operation_number body_layout request_layout".split(), TABLE),
     **dict.fromkeys("Told HandsOut IsGiven tells_turn inputs_then TellsAll NoneIsLeft".split(), OUTSIDES),
+    **dict.fromkeys("merged merged_known merged_full registered fired with_path next_xid IsAsked".split(), STEPS),
 }
 
 
@@ -216,7 +223,7 @@ class Copy:
 def make_copies(folder, jobs, edits):
     """A copy for each job. The first is checked as it stands, and the others are copies of it."""
     lower = {edit.crate for edit in edits if edit.kind != "weaker"}
-    chains = [crate for first in ABOVE if first in lower for crate in (first, *ABOVE[first])]
+    chains = [*dict.fromkeys(crate for first in ABOVE if first in lower for crate in (first, *ABOVE[first]))]
     below = crates_below()
     first = Copy(f"{folder}/0", chains)
     first.folder.mkdir(parents=True)

@@ -19,11 +19,11 @@ use Rattle.zk_turns.specs.Meaning.{Among}
 use Rattle.zk_laws.specs.Server.{Notice, Watches, fires_all, leaves_set_all, sets, tree_held, zxid_held, part_tells, part_sets, both}
 use Rattle.zk_laws.specs.Server.{same_side, IsOther}
 use Rattle.zk_laws.specs.Messages.{Message, Replies, Watches_set, Notifies, Request, Restore, Ask}
-use Rattle.zk_laws.specs.Log.{Item, Took, zxid_in, last, good, left_by, leaves, tells_of, Answer, refreshed, answer_of}
-use Rattle.zk_laws.specs.Steps.{is_behind}
-use Rattle.zk_laws.specs.Invariant.{IsRight, Ahead, IsCovered, IsSure, IsSettled}
+use Rattle.zk_laws.proofs.Log.{Item, Took, zxid_in, last, good, left_by, leaves, tells_of, Answer, refreshed, answer_of}
+use Rattle.zk_laws.proofs.Steps.{is_behind}
+use Rattle.zk_laws.proofs.Invariant.{IsRight, Ahead, IsCovered, IsSure, IsSettled}
 use Rattle.zk_laws.proofs.Basics.{text_eq-true, text_eq_from}
-use Rattle.zk_laws.proofs.Shown.{all_sent}
+use Rattle.theory_runs.proofs.Shown.{all_sent}
 use Rattle.zk_laws.proofs.Stamps.{IsNextAt}
 use Rattle.zk_laws.proofs.Ahead.{IsLess, ahead_more, ahead_right, right_less, told_log, told_less, notices_ahead, max_zero}
 use Rattle.zk_laws.proofs.Serving.{next_ahead, answer_ahead, part_ahead}

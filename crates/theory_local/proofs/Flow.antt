@@ -29,9 +29,9 @@ use Rattle.zk_turns.specs.Taken.{reading, taken_of}
 use Rattle.zk_laws.specs.Server.{zxid_held, IsOther}
 use Rattle.zk_laws.specs.Messages.{Message, Replies, Watches_set, Request, from_zero}
 use Rattle.zk_laws.specs.ServerSteps.{Stage, Ended, ServerEnd}
-use Rattle.zk_laws.specs.Seen.{seen}
+use Rattle.zk_laws.proofs.Seen.{seen}
 use Rattle.zk_laws.specs.Served.{requests, unread, Wire, is_going, IsPayload}
-use Rattle.zk_laws.specs.Flight.{Letter, frames, messages, answers, AreLater, Owes}
+use Rattle.zk_laws.proofs.Matching.{Letter, frames, messages, answers, AreLater, Owes}
 use Rattle.theory_local.specs.LocalSteps.{GivesAt}
 use Rattle.theory_local.specs.LocalHeadline.{IsDenial}
 use Rattle.theory_local.proofs.Elsewhere.{left_refused}

@@ -17,7 +17,7 @@ use Rattle.zk_laws.specs.Server.{Notice, AreSent, Gives, fires_all, part_tells, 
 use Rattle.zk_laws.specs.Messages.{Request}
 use Rattle.zk_laws.specs.ServerSteps.{ServerEnd, ServerStep, Advances, Admits, Refuses, Answers, Restores, Pongs, MayDo, changes_next}
 use Rattle.zk_laws.specs.Served.{Wire, Entry, Goes_on, Serves, items_in, wire_of, unread, MayEnter, IsServing, Served, wire_past, wire_on}
-use Rattle.zk_laws.specs.Flight.{HasCode}
+use Rattle.zk_laws.specs.Server.{HasCode}
 use Rattle.zk_laws.specs.Headline.{IsTrueOf}
 use Rattle.zk_laws.proofs.Basics.{sent_among, Among-left}
 use Rattle.zk_laws.proofs.Moving.{refusal}

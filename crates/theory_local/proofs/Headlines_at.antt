@@ -17,7 +17,8 @@ use Rattle.zk_cache.specs.Kept.{Answer as Kept_answer, Absent as Kept_absent, Kn
 use Rattle.zk_cache.specs.declared.held.Mark.TheVariants.{Good}
 use Rattle.zk_watches.specs.Lists.{Lists}
 use Rattle.zk_watches.specs.Parts.{parts}
-use Rattle.zk_turns.specs.Rule.{AllAsked, Stands}
+use Rattle.zk_laws.proofs.Matching.{AllAsked}
+use Rattle.zk_turns.specs.Rule.{Stands}
 use Rattle.zk_turns.specs.Turns.{Start, Item, Fault}
 use Rattle.zk_turns.specs.View.{View}
 use Rattle.zk_turns.specs.Taken.{past_of}
@@ -31,11 +32,11 @@ use Rattle.zk_frames.specs.Frame.{frame}
 use Rattle.zk_laws.specs.Server.{Fits, FitsNames, Reads, tree_held, zxid_held, Gives}
 use Rattle.zk_laws.specs.Laws.{IsTrueWrite, AreRestored}
 use Rattle.zk_laws.specs.Messages.{Request, Connect, Restore, Ask, Ping, from_zero}
-use Rattle.zk_laws.specs.Log.{last, good, Answer, Absent, Known, Full, Suits}
-use Rattle.zk_laws.specs.Invariant.{IsAwaited, IsSure, IsSettled, Ahead}
-use Rattle.zk_laws.specs.Seen.{seen, node_answer, names_answer, if_good}
+use Rattle.zk_laws.proofs.Log.{last, good, Answer, Absent, Known, Full, Suits}
+use Rattle.zk_laws.proofs.Invariant.{IsAwaited, IsSure, IsSettled, Ahead}
+use Rattle.zk_laws.proofs.Seen.{seen, node_answer, names_answer, if_good}
 use Rattle.zk_laws.specs.Served.{Wire, unread}
-use Rattle.zk_laws.specs.Flight.{Letter, frames, messages}
+use Rattle.zk_laws.proofs.Matching.{Letter, frames, messages}
 use Rattle.zk_laws.proofs.Outputs.{among_split, given_answers, given_drops}
 use Rattle.zk_laws.proofs.More.{given_write}
 use Rattle.zk_laws.proofs.Seeing.{last_is, good_node, good_names}

@@ -17,14 +17,14 @@ use Rattle.zk_turns.specs.Turns.{IsAskable}
 use Rattle.zk_laws.specs.Server.{Notice, Watches, IsOther, AreSent, fires_all, leaves_set_all, sets, tree_held, zxid_held, part_tells}
 use Rattle.zk_laws.specs.Server.{part_sets, both}
 use Rattle.zk_laws.specs.Messages.{Message, Accepted, Expired, Replies, Watches_set, Notifies, Pong, Request, Connect, Restore, Ask, Ping}
-use Rattle.zk_laws.specs.Log.{Item, Starts, Forgets, Took, zxid_in, last, good, left_by, AreParts}
-use Rattle.zk_laws.specs.Steps.{is_behind, restores, Connection, Up, World, By_server, served}
-use Rattle.zk_laws.specs.Run.{Goes}
+use Rattle.zk_laws.proofs.Log.{Item, Starts, Forgets, Took, zxid_in, last, good, left_by, AreParts}
+use Rattle.zk_laws.proofs.Steps.{is_behind, restores, Connection, Up, World, By_server, served}
+use Rattle.zk_laws.proofs.Run.{Goes}
 use Rattle.zk_laws.proofs.Whole.{move_kept}
 use Rattle.zk_laws.specs.ServerSteps.{Stage, Waiting, Serving, Ended, Advances, changes_next}
 use Rattle.std.specs.List.{AllByRecursion}
-use Rattle.zk_laws.specs.Invariant.{IsRight, Ahead, IsAwaited, IsSure, IsSettled, IsUnwatched, IsStarting}
-use Rattle.zk_laws.specs.Log.{Answer}
+use Rattle.zk_laws.proofs.Invariant.{IsRight, Ahead, IsAwaited, IsSure, IsSettled, IsUnwatched, IsStarting}
+use Rattle.zk_laws.proofs.Log.{Answer}
 use Rattle.zk_turns.proofs.Ranged.{all_append}
 use Rattle.zk_laws.proofs.Basics.{none_sent}
 use Rattle.zk_laws.proofs.Stamps.{IsNextAt, next_at}

@@ -6,5 +6,4 @@ pub mod Meeting_at
 pub mod Moving_at
 pub mod Headlines_at
 pub mod Following
-pub mod Departure_shown
 pub mod Everywhere

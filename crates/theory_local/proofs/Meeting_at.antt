@@ -29,13 +29,13 @@ use Rattle.zk_nodes.specs.Path.{Text}
 use Rattle.zk_nodes.specs.History.{History}
 use Rattle.zk_laws.specs.Server.{Notice}
 use Rattle.zk_laws.specs.Messages.{Message, Accepted, Replies, Watches_set, Notifies, Pong, Request, Expired as Expires, from_zero}
-use Rattle.zk_laws.specs.Log.{Item as Log_item, Took, last, left_by}
-use Rattle.zk_laws.specs.Steps.{is_behind, restores}
+use Rattle.zk_laws.proofs.Log.{Item as Log_item, Took, last, left_by}
+use Rattle.zk_laws.proofs.Steps.{is_behind, restores}
 use Rattle.zk_laws.specs.ServerSteps.{Stage, Waiting, Serving, Ended}
-use Rattle.zk_laws.specs.Seen.{seen, item_of}
+use Rattle.zk_laws.proofs.Seen.{seen, item_of}
 use Rattle.zk_laws.specs.Served.{MayEnter, Goes_on, Sent, requests, part_requests, unread, Wire, new_wire, no_wire, is_going, IsPayload}
 use Rattle.zk_laws.specs.Served.{wire_past}
-use Rattle.zk_laws.specs.Flight.{Letter, frames, messages, answers, AreLater, Owes}
+use Rattle.zk_laws.proofs.Matching.{Letter, frames, messages, answers, AreLater, Owes}
 use Rattle.zk_laws.proofs.Seeing.{last_is}
 use Rattle.zk_laws.proofs.Ordering.{are_parts}
 use Rattle.zk_laws.proofs.Framed.{taken_first, first_too_long, none_cut, reads_notice, reads_pong, reads_part, reads_reply, reads_accepted}
@@ -45,7 +45,7 @@ use Rattle.theory_local.proofs.Kept_at.{IsOpeningAt, IsStartingAt, IsTalkingAt, 
 use Rattle.theory_local.proofs.Flow.{Tail, Nothing_more, Failure, tail_bytes, IsForAt, IsLetterAt, IsFlow, IsTail, IsSpelt, IsGivenAt}
 use Rattle.theory_local.proofs.Flow.{IsAnsweredFor, AnswersFirstAt, IsAnswered, IsCalmAt, Stands_at, reads_refusal, reads_denial}
 use Rattle.theory_local.specs.LocalHeadline.{IsDenial}
-use Rattle.zk_laws.specs.Flight.{HasCode}
+use Rattle.zk_laws.specs.Server.{HasCode}
 use Rattle.zk_turns.specs.Spelled.{IsHeaded}
 use Rattle.zk_conversation.specs.Questions.{Question}
 use Rattle.zk_conversation.specs.Results.{Result, NoNode, Refused, Found, Read, Listing, Made, Done}

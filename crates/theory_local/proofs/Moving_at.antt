@@ -12,7 +12,7 @@ use Rattle.zk_conversation.specs.Pending.{closes}
 use Rattle.zk_conversation.specs.Questions.{question_of}
 use Rattle.zk_conversation.specs.Results.{Result, Refused}
 use Rattle.zk_frames.specs.Frame.{frame}
-use Rattle.zk_turns.specs.Rule.{AllAsked}
+use Rattle.zk_laws.proofs.Matching.{AllAsked}
 use Rattle.zk_turns.specs.Turns.{IsAsked, Start, Turned, Forgets as Forgets_now, Halts as Halts_here}
 use Rattle.zk_turns.specs.Past.{Asking, Past, is_talking, state_of, held_of}
 use Rattle.zk_turns.specs.Taken.{past_of}
@@ -21,13 +21,13 @@ use Rattle.zk_turns.proofs.Ranged.{all_append}
 use Rattle.zk_laws.specs.Server.{Notice, Watches, IsOther, sets, tree_held, zxid_held, part_tells, part_sets, both}
 use Rattle.zk_laws.specs.Messages.{Message, Accepted, Replies, Watches_set, Notifies, Pong, Request, Connect, Restore, Ask, Ping}
 use Rattle.zk_laws.specs.Messages.{Expired as Expires}
-use Rattle.zk_laws.specs.Log.{Item}
-use Rattle.zk_laws.specs.Steps.{rest_of}
+use Rattle.zk_laws.proofs.Log.{Item}
+use Rattle.zk_laws.proofs.Steps.{rest_of}
 use Rattle.zk_laws.specs.ServerSteps.{Stage, ServerStep, messages_by, Waiting, Serving, Ended, Advances, Admits, Refuses, Answers, Restores}
 use Rattle.zk_laws.specs.ServerSteps.{Pongs, IsNext}
-use Rattle.zk_laws.specs.Seen.{seen}
+use Rattle.zk_laws.proofs.Seen.{seen}
 use Rattle.zk_laws.specs.Served.{Sent, requests, unread, Wire, ArePayloads, first_xid, wire_on}
-use Rattle.zk_laws.specs.Flight.{Letter, frames, messages, answers, AreLater, WaitsFor, Owes}
+use Rattle.zk_laws.proofs.Matching.{Letter, frames, messages, answers, AreLater, WaitsFor, Owes}
 use Rattle.zk_laws.proofs.Flight.{drop_one}
 use Rattle.zk_laws.proofs.Whole.{next_is}
 use Rattle.theory_local.specs.LocalSteps.{GivesAt, AreToldAt, MayDoAt}

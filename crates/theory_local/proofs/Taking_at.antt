@@ -15,11 +15,11 @@ use Rattle.zk_turns.specs.Past.{Notifies as Tells, Pong as Echo}
 use Rattle.zk_turns.proofs.Stepped.{Counted, counted_next, Waits, waits}
 use Rattle.zk_laws.specs.Server.{Notice}
 use Rattle.zk_laws.specs.Messages.{Message, Connect, Replies, Watches_set, Notifies, Pong, Request, Ask, Ping, from_zero}
-use Rattle.zk_laws.specs.Log.{Item, Opened, Lost, Forgets, Took, last}
+use Rattle.zk_laws.proofs.Log.{Item, Opened, Lost, Forgets, Took, last}
 use Rattle.zk_laws.specs.ServerSteps.{Stage}
-use Rattle.zk_laws.specs.Seen.{seen}
+use Rattle.zk_laws.proofs.Seen.{seen}
 use Rattle.zk_laws.specs.Served.{Sent, requests, unread, Wire, new_wire, is_going}
-use Rattle.zk_laws.specs.Flight.{Letter, frames, messages, answers, AreLater, Owes, WaitsFor}
+use Rattle.zk_laws.proofs.Matching.{Letter, frames, messages, answers, AreLater, Owes, WaitsFor}
 use Rattle.zk_laws.proofs.Ahead.{max_zero}
 use Rattle.zk_laws.proofs.Seeing.{last_is}
 use Rattle.zk_laws.proofs.Flight.{awaited_less, awaited_more, owes_append, owes_one, unread_more}

@@ -9,7 +9,7 @@ use Rattle.zk_conversation.specs.Calls as call
 use Rattle.zk_conversation.specs.Calls.{Call}
 use Rattle.zk_conversation.specs.Results.{Result}
 use Rattle.zk_turns.specs.Meaning.{Among}
-use Rattle.zk_laws.specs.Flight.{HasCode}
+use Rattle.zk_laws.specs.Server.{HasCode}
 use Rattle.zk_laws.specs.Server.{Notice, AreSent, fires_all, tree_held, Gives, part_tells}
 use Rattle.zk_laws.specs.Messages.{Request, Restore, Ask}
 use Rattle.zk_laws.specs.ServerSteps.{Waiting, Serving, Ended, ServerEnd, ServerStep, Advances, Answers, Restores, IsNext, changes_next}

@@ -2,7 +2,7 @@
 //! The functions have empty bodies: their contracts are the laws.
 #![tactic(auto)]
 
-ghost use Rattle.std.specs.Prelude.{◌≢◌, ◌<◌, ◌^◌, ℤ, true, length, ℕ, ◌≡◌, pos, negsuc, Bool, List, [], ◌∷◌, map, ◌++◌, Some};
+ghost use Rattle.std.specs.Prelude.{◌≢◌, ◌<◌, ◌^◌, ℤ, true, length, ℕ, ◌≡◌, pos, negsuc, Bool, List, [], ◌∷◌, map, ◌++◌};
 ghost use Rattle.zk_nodes.specs.Path.{Text};
 ghost use Rattle.zk_nodes.specs.History.{History, IsHistory, Tree};
 ghost use Rattle.zk_records.specs.declared.event.Event.{Event};
@@ -10,28 +10,20 @@ ghost use Rattle.zk_records.specs.declared.event.Event.TheVariants.{Created, Dat
 ghost use Rattle.zk_watches.specs.Lists.{Lists};
 ghost use Rattle.zk_conversation.specs.Calls.{Call, part_xid};
 ghost use Rattle.zk_conversation.specs.Results.{Result};
-ghost use Rattle.zk_turns.specs.Turns.{Start, WatchesRefused, Item as Client_item};
-ghost use Rattle.zk_turns.specs.View.{View, Cache, view_at};
-ghost use Rattle.zk_turns.specs.Past.{Past, kept_data, last_of, Dropped};
-ghost use Rattle.zk_turns.specs.Taken.{past_of};
+ghost use Rattle.zk_turns.specs.Turns.{Start, Item as Client_item};
+ghost use Rattle.zk_turns.specs.View.{View, Cache};
+ghost use Rattle.zk_turns.specs.Past.{Past};
 ghost use Rattle.zk_turns.specs.Spelled.{IsHeaded};
-ghost use Rattle.zk_turns.specs.Meaning.{Among};
-ghost use Rattle.zk_cache.specs.Kept.{Full};
-ghost use Rattle.zk_cache.specs.declared.held.Mark.TheVariants.{Good};
 ghost use Rattle.zk_turns.specs.Rule.{Stands};
 ghost use Rattle.zk_laws.specs.Server.{Notice, IsOther};
 ghost use Rattle.zk_laws.specs.Messages.{Request, Ask, Restore, Notifies};
 ghost use Rattle.zk_laws.specs.ServerSteps.{ServerEnd, Serving, Answers, IsNext};
 ghost use Rattle.zk_laws.specs.Served.{Entry, items_in, wire_of, IsServing, Served, Wire, unread, first_xid, is_going, ArePayloads};
-ghost use Rattle.zk_laws.specs.Flight.{HasCode};
-ghost use Rattle.zk_laws.specs.Example.{two_changes, at_a, fields_at_five};
-ghost use Rattle.zk_laws.specs.Meeting_example.{new_client};
 ghost use Rattle.zk_laws.specs.Headline.{IsTrueOf, IsCoherentWith, IsQuietAt, tree_of};
 ghost use Rattle.theory_local.specs.LocalSteps.{IsOf, IsAbout, AreToldAt, MayDoAt};
 ghost use Rattle.theory_local.specs.LocalServed.{LocalEntry, Tells, Denies, Fails, MayEnterAt, items_at, wire_at, local_of, IsServingAt};
 ghost use Rattle.theory_local.specs.LocalServed.{ServedAt};
 ghost use Rattle.theory_local.specs.LocalHeadline.{IsTrueAt, IsCoherentAt, IsQuietAfter, tree_after, HeadlineAt};
-ghost use Rattle.theory_local.specs.Departure_example.{only_a, until_config, until_refused};
 
 /// The headline at some paths: what servers answer and tell elsewhere does not touch what is good there, nor which answers are true there.
 pub fn local_headline()
@@ -100,19 +92,4 @@ pub fn elsewhere_is_free()
         → IsNext (Restore is_last relative part) (map (λ sent. sent.request) (unread start past wire)) → length payload < 2 ^ 31
         → code ≢ pos 0 → IsHeaded part_xid zxid code payload behind
         → MayEnterAt (IsOf paths) h start (Fails payload rest) past wire }
-{}
-
-/// A schedule whose server departs from the model at another path meets the premise at /a, and so its client has what `local_headline`
-/// promises (`history`, `serving`, `stands`): a read of /zookeeper/config is answered with the version -1, and later a part of
-/// setWatches with -112, which ends the connection (`refused`). What was read of /a is still good (`kept`), at the last seen zxid
-/// (`last`). Under no history does the read meet the premise of `headline` (`departs`).
-pub fn departing_schedule()
-    ensures history { IsHistory two_changes }
-    ensures serving { IsServingAt (IsOf only_a) two_changes new_client until_refused }
-    ensures stands { Stands new_client (items_at until_refused) (view_at new_client (past_of new_client (items_at until_refused))) }
-    ensures kept { kept_data at_a (past_of new_client (items_at until_refused))
-        ≡ Some (record { answer = Full (Some (104 ∷ 105 ∷ [])) fields_at_five; mark = Good }) }
-    ensures last { last_of new_client (past_of new_client (items_at until_refused)) ≡ pos 5 }
-    ensures refused { Among (Dropped (WatchesRefused (negsuc 111))) (past_of new_client (items_at until_refused)) }
-    ensures departs { (h : History) → IsHistory h → Served h new_client (items_at until_config) → ⊥ }
 {}

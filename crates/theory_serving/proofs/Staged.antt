@@ -13,12 +13,12 @@ use Rattle.zk_laws.specs.Messages.{Message, Request, Connect, Restore, Ask, Ping
 use Rattle.zk_laws.specs.ServerSteps.{Stage, Waiting, Serving, Ended, ServerStep, Advances, Admits, Refuses, Answers, Restores, Pongs}
 use Rattle.zk_laws.specs.Served.{Sent, Entry, Goes_on, Serves, items_in, Wire, new_wire, wire_of, wire_past, wire_on, is_going, unread}
 use Rattle.zk_laws.specs.Served.{requests, part_requests, WasSent, IsServing}
-use Rattle.zk_laws.specs.Log.{Item as Seen}
-use Rattle.zk_laws.specs.Seen.{seen}
-use Rattle.zk_laws.specs.Steps.{Connection, Up}
-use Rattle.zk_laws.specs.Flight.{Letter, messages, connection, Matches}
-use Rattle.zk_laws.specs.Invariant.{IsOpening, IsKeptUp}
-use Rattle.zk_turns.specs.Rule.{AllAsked}
+use Rattle.zk_laws.proofs.Log.{Item as Seen}
+use Rattle.zk_laws.proofs.Seen.{seen}
+use Rattle.zk_laws.proofs.Steps.{Connection, Up}
+use Rattle.zk_laws.proofs.Matching.{Letter, messages, connection, Matches}
+use Rattle.zk_laws.proofs.Invariant.{IsOpening, IsKeptUp}
+use Rattle.zk_laws.proofs.Matching.{AllAsked}
 use Rattle.zk_laws.proofs.Moving.{schedule_here}
 use Rattle.zk_laws.proofs.Reaching.{reached_kept}
 use Rattle.zk_laws.proofs.Taking.{up_reached}

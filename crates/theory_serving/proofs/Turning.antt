@@ -27,7 +27,7 @@ use Rattle.zk_turns.specs.Taken as taken
 use Rattle.zk_turns.specs.Taken.{reading, caused, happenings, opens, of_cutting, cut, Cutting, Unfinished, Bad, Payload, due, timeout_of}
 use Rattle.zk_turns.specs.Taken.{refusal, past_after, past_of, comes, if_open}
 use Rattle.zk_turns.specs.Rule.{IsOpen, says, part_frame, loss, losses, report, due_happenings, due_signals}
-use Rattle.zk_turns.specs.Sent.{part_of}
+use Rattle.zk_turns.proofs.Frames_sent.{part_of}
 use Rattle.zk_turns.proofs.Stream.{of_reading}
 use Rattle.zk_turns.proofs.Words.{calls}
 use Rattle.zk_laws.specs.Served.{Sent, part_requests, requests, is_going}

@@ -29,10 +29,10 @@ use Rattle.theory_serving.proofs.GoingOn.{goes_serving}
 use Rattle.zk_laws.specs.ServerSteps.{Waiting, Serving, Ended}
 use Rattle.zk_laws.specs.Messages.{Connect, Restore, Ask, Ping}
 use Rattle.zk_laws.specs.Served.{items_in, wire_of, requests, unread, IsServing}
-use Rattle.zk_laws.specs.Example.{two_changes, at_a, fields_at_five, just_a, a_changed}
-use Rattle.zk_laws.specs.Meeting_example.{welcome_payload, notice_payload, new_client, until_half_read}
-use Rattle.zk_laws.proofs.Shown.{all_sent, is_history}
-use Rattle.zk_laws.proofs.Meeting_shown.{half_read_then, stands_then, typed_then}
+use Rattle.theory_runs.specs.Example.{two_changes, at_a, fields_at_five, just_a, a_changed}
+use Rattle.theory_runs.specs.Meeting_example.{welcome_payload, notice_payload, new_client, until_half_read}
+use Rattle.theory_runs.proofs.Shown.{all_sent, is_history}
+use Rattle.theory_runs.proofs.Meeting_shown.{half_read_then, stands_then, typed_then}
 use Rattle.theory_serving.specs.Whole_example.{third_change, three_changes, just_long, write_a, absent_payload, restored_payload}
 use Rattle.theory_serving.specs.Whole_example.{pong_payload, stat_bytes, written_payload, until_watched, until_lost, until_back, until_told}
 use Rattle.theory_serving.specs.Whole_example.{until_ponged, until_written, expired_payload, until_expired}

@@ -1,2 +1,3 @@
 pub mod Meets
 pub mod Lined
+pub mod Departure_shown

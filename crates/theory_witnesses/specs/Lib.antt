@@ -1,2 +1,3 @@
 pub mod Met
 pub mod Rising
+pub mod Departure_example

@@ -18,7 +18,8 @@ use Rattle.zk_conversation.specs.Arriving.{pending_after, talk_after}
 use Rattle.zk_watches.specs.Lists.{Lists}
 use Rattle.zk_cache.specs.Cache.{Answers}
 use Rattle.zk_turns.specs.Taken.{phase_of}
-use Rattle.zk_turns.specs.Rule.{IsOpen, arrival}
+use Rattle.zk_turns.specs.Rule.{IsOpen}
+use Rattle.zk_turns.proofs.Fed.{arrival}
 use Rattle.zk_conversation.proofs.Lengths.{length-int, length-long, length-counted}
 use Rattle.zk_turns.proofs.Arriving.{IsOf, AreOf, of_arriving}
 use Rattle.zk_turns.proofs.Spelt.{first_spelt}

@@ -22,7 +22,8 @@ use Rattle.zk_turns.specs.Turns.{Comes, Output, Framed}
 use Rattle.zk_turns.specs.Past.{Happening, Dropped, Came, Message, Accepted, Expiry, Replies, Watches_set, Notifies, Pong, Skipped}
 use Rattle.zk_turns.specs.Taken.{Cutting, Unfinished, Bad, Payload, cut, of_cutting, happenings}
 use Rattle.zk_turns.specs.View.{View}
-use Rattle.zk_turns.specs.Rule.{if_any, IsOpen, Hears, heard, fed, next, says, arrival, after_all, says_all, after_signals, says_signals}
+use Rattle.zk_turns.specs.Rule.{if_any, IsOpen, next, says, after_all, says_all, after_signals, says_signals}
+use Rattle.zk_turns.proofs.Fed.{Hears, heard, fed, arrival}
 use Rattle.zk_turns.specs.Rule.{next_message, next_reply}
 use Rattle.zk_turns.proofs.Stream.{of_reading}
 use Rattle.zk_turns.proofs.Pieces.{unfinished_view, unfinished_says, frame_view, frame_says, bad_first_view, bad_first_says, parted_view}

@@ -10,15 +10,16 @@ ghost use Rattle.zk_turns.specs.View.{View};
 ghost use Rattle.zk_turns.specs.Rule.{Stands};
 ghost use Rattle.zk_client.specs.Runs.{Holds};
 
+pub use theory_runs::{one_entry, one_item, small_schedule, taken_as_sent};
+pub use theory_turns::{good_marks, sent_frames, standing_answers};
 pub use zk_laws::{
-    above_the_saved, answers_are_true, coherence, drops_are_due, headline, one_entry, one_item,
-    parsed_requests, quiet_client, sent_requests, small_schedule, taken_as_sent,
+    above_the_saved, answers_are_true, coherence, drops_are_due, headline, parsed_requests,
+    quiet_client, sent_requests,
 };
 pub use zk_turns::{
-    each_call_once, first_view, given_up, good_marks, good_since, kept_whole, last_never_falls,
-    last_seen, listed_order, listed_paths, nothing_is_kept, one_cut, one_forget, one_halt,
-    one_turn, readings, refused_first, reports, requests_fit, requests_read, sent_frames,
-    standing_answers, told_states, whole_stream,
+    each_call_once, first_view, given_up, good_since, kept_whole, last_never_falls, last_seen,
+    listed_order, listed_paths, nothing_is_kept, one_cut, one_forget, one_halt, one_turn, readings,
+    refused_first, reports, requests_fit, requests_read, told_states, whole_stream,
 };
 
 /// Whoever stands, holds. A client stands where nothing has happened when it is made, each step leads on from where it stands to

@@ -7,9 +7,9 @@ use Rattle.zk_nodes.specs.declared.side.Side.{Side}
 use Rattle.zk_laws.specs.Server.{Watches, Notice}
 use Rattle.zk_turns.specs.Meaning.{Among}
 use Rattle.zk_laws.specs.Messages.{Message, Replies, Notifies, Request}
-use Rattle.zk_laws.specs.Log.{Item, Took, zxid_in, last, good, kept_after, tells_of, Answer, Suits}
-use Rattle.zk_laws.specs.Steps.{is_behind}
-use Rattle.zk_laws.specs.Invariant.{IsRight, Ahead, IsSettled, IsSure}
+use Rattle.zk_laws.proofs.Log.{Item, Took, zxid_in, last, good, kept_after, tells_of, Answer, Suits}
+use Rattle.zk_laws.proofs.Steps.{is_behind}
+use Rattle.zk_laws.proofs.Invariant.{IsRight, Ahead, IsSettled, IsSure}
 use Rattle.zk_laws.proofs.Firing.{IsTold}
 
 -- Taking and adding messages

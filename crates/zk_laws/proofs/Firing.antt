@@ -13,9 +13,9 @@ use Rattle.zk_records.specs.declared.event.Event.TheVariants.{Created, Deleted, 
 use Rattle.zk_records.specs.Events.{concerns}
 use Rattle.std.specs.Prelude.{bytes_eq, option_map}
 use Rattle.zk_turns.specs.Meaning.{Among}
-use Rattle.zk_laws.specs.Log.{tells_of}
+use Rattle.zk_laws.proofs.Log.{tells_of}
 use Rattle.zk_laws.specs.Server.{Notice, Watches, told, fires, leaves_set, fires_all, leaves_set_all}
-use Rattle.zk_laws.specs.Invariant.{is_seen, IsThere}
+use Rattle.zk_laws.proofs.Invariant.{is_seen, IsThere}
 use Rattle.zk_laws.proofs.Basics.{text_eq_from, path_eq-true, Among-left, Among-right}
 
 -- some notice of the list concerns the side of the path

@@ -8,9 +8,9 @@ use Rattle.std.proofs.lemmas.List.{append-nil, drop-append-le}
 use Rattle.zk_turns.specs.Turns.{Start}
 use Rattle.zk_nodes.specs.History.{History}
 use Rattle.zk_laws.specs.Messages.{Restore, from_zero}
-use Rattle.zk_laws.specs.Steps.{restores}
+use Rattle.zk_laws.proofs.Steps.{restores}
 use Rattle.zk_laws.specs.Served.{Sent, part_requests, Wire, is_going}
-use Rattle.zk_laws.specs.Flight.{Owes, Matches, WaitsFor}
+use Rattle.zk_laws.proofs.Matching.{Owes, Matches, WaitsFor}
 
 -- ---- letters
 

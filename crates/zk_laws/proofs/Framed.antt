@@ -38,10 +38,10 @@ use Rattle.zk_turns.specs.Past.{Took, Dropped, Accepted as Accepts, Expiry, Repl
 use Rattle.zk_turns.specs.Past.{Notifies as Tells, Pong as Echo}
 use Rattle.zk_session.specs.SessionView.{Welcome}
 use Rattle.zk_turns.proofs.Pieces.{cut_there, cut_short, same_field, length-frame, drop-frame}
-use Rattle.zk_laws.specs.Log.{left_by}
+use Rattle.zk_laws.proofs.Log.{left_by}
 use Rattle.zk_laws.specs.Server.{Notice as Notified}
 use Rattle.zk_laws.specs.Messages.{Accepted, Expired, Replies, Watches_set, Notifies, Pong, from_zero}
-use Rattle.zk_laws.specs.Flight.{HasCode}
+use Rattle.zk_laws.specs.Server.{HasCode}
 use Rattle.zk_turns.proofs.Words.{happening_of}
 use Rattle.zk_limits.specs.declared.limits.TheConstants.{LONGEST_INCOMING}
 

@@ -1,6 +1,7 @@
 -- The laws of a client that is served.
 use Rattle.zk_laws.proofs.Outputs.{among_split, given_answers, given_drops}
-use Rattle.zk_turns.specs.Rule.{AllAsked, Stands, IsOpen}
+use Rattle.zk_laws.proofs.Matching.{AllAsked}
+use Rattle.zk_turns.specs.Rule.{Stands, IsOpen}
 use Rattle.zk_laws.specs.Laws.{IsTrueWrite, AreRestored}
 use Rattle.zk_laws.specs.Headline.{Headline, IsTrueOf, IsCoherentWith, IsQuietAt, tree_of}
 use Rattle.zk_conversation.specs.Questions.{question_of, Question}
@@ -26,22 +27,23 @@ use Rattle.zk_nodes.specs.declared.side.Side.TheVariants.{Data, Child}
 use Rattle.zk_frames.specs.Frame.{frame}
 use Rattle.zk_turns.specs.View.{View}
 use Rattle.zk_turns.specs.Taken.{past_of}
-use Rattle.zk_turns.specs.Sent.{sends, outputs_of, sent, part_of}
+use Rattle.zk_turns.specs.Sent.{sends, outputs_of}
+use Rattle.zk_turns.proofs.Frames_sent.{sent, part_of}
 use Rattle.zk_turns.proofs.Pieces.{length-frame}
 use Rattle.zk_turns.proofs.Sending.{sent_is}
 use Rattle.zk_turns.specs.Meaning.{Among}
 use Rattle.zk_laws.specs.Server.{Fits, Reads, tree_held}
 use Rattle.zk_laws.specs.Messages.{Replies, from_zero}
-use Rattle.zk_laws.specs.Log.{Took, last, good, Answer, Suits}
-use Rattle.zk_laws.specs.Steps.{World, Connection, Link}
-use Rattle.zk_laws.specs.Seen.{seen, item_of, node_answer, names_answer, if_good}
+use Rattle.zk_laws.proofs.Log.{Took, last, good, Answer, Suits}
+use Rattle.zk_laws.proofs.Steps.{World, Connection, Link}
+use Rattle.zk_laws.proofs.Seen.{seen, item_of, node_answer, names_answer, if_good}
 use Rattle.zk_laws.specs.Served.{WasSent, requests, part_requests, Entry, items_in, Wire, wire_of, unread, IsServing, Served}
 use Rattle.zk_laws.proofs.Basics.{Among-left, Among-right}
 use Rattle.zk_laws.proofs.Whole.{kept_coherent}
 use Rattle.zk_laws.proofs.More.{reads_true, agrees}
 use Rattle.zk_laws.proofs.Seeing.{last_is, good_node, good_names}
-use Rattle.zk_laws.specs.Flight.{IsDue, DropsAreDue, NoneIsNegative, WritesAreTrue, AnswersFirst, Reached, Letter, frames, messages}
-use Rattle.zk_laws.specs.Flight.{connection, InFlight, Matches}
+use Rattle.zk_laws.proofs.Matching.{IsDue, DropsAreDue, NoneIsNegative, WritesAreTrue, AnswersFirst, Reached, Letter, frames, messages}
+use Rattle.zk_laws.proofs.Matching.{connection, InFlight, Matches}
 use Rattle.zk_laws.proofs.Reaching.{reached_kept}
 use Rattle.zk_laws.proofs.Resumed.{replies_above}
 use Rattle.zk_laws.proofs.Moving.{schedule_here}

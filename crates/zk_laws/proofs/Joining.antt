@@ -12,13 +12,13 @@ use Rattle.zk_conversation.specs.Results.{Result, NoNode, Found, Read, Listing}
 use Rattle.std.specs.Prelude.{bytes_eq}
 use Rattle.zk_laws.specs.Server.{same_side, Watches, zxid_held}
 use Rattle.zk_laws.specs.Messages.{Accepted, Expired, Replies, Notifies}
-use Rattle.zk_laws.specs.Log.{Item, Halted, Took, last, good, kept_after, refreshed, answer_of, Kind, Of_data, Of_absence, Of_children}
-use Rattle.zk_laws.specs.Log.{side_of, is_of, is_kind, paths_in, listed, AreParts, tells_of, leaves, Answer, Absent, Known, Full, Names}
-use Rattle.zk_laws.specs.Log.{is_listed}
-use Rattle.zk_laws.specs.Steps.{restores}
+use Rattle.zk_laws.proofs.Log.{Item, Halted, Took, last, good, kept_after, refreshed, answer_of, Kind, Of_data, Of_absence, Of_children}
+use Rattle.zk_laws.proofs.Log.{side_of, is_of, is_kind, paths_in, listed, AreParts, tells_of, leaves, Answer, Absent, Known, Full, Names}
+use Rattle.zk_laws.proofs.Log.{is_listed}
+use Rattle.zk_laws.proofs.Steps.{restores}
 use Rattle.zk_conversation.specs.Pending.{closes}
 use Rattle.zk_laws.proofs.Basics.{text_eq-true}
-use Rattle.zk_laws.specs.Invariant.{IsRight, Ahead, list_in, is_in, IsAwaited, IsSure, IsSettled}
+use Rattle.zk_laws.proofs.Invariant.{IsRight, Ahead, list_in, is_in, IsAwaited, IsSure, IsSettled}
 use Rattle.zk_laws.proofs.Ahead.{max_zero, right_less}
 
 among_left : (path : Text) (xs ys : List Text) → is_listed path xs ≡ true → is_listed path (xs ++ ys) ≡ true

@@ -7,7 +7,6 @@ pub mod Serving
 pub mod Joining
 pub mod Whole
 pub mod More
-pub mod Shown
 pub mod Seeing
 pub mod Parting
 pub mod Framed
@@ -19,8 +18,13 @@ pub mod Moving
 pub mod Headlines
 pub mod Parsed
 pub mod Found
-pub mod Meeting_shown
 pub mod Resumed
 pub mod Outputs
 pub mod Ordering
 pub mod Reading_trees
+pub mod Log
+pub mod Steps
+pub mod Run
+pub mod Invariant
+pub mod Seen
+pub mod Matching

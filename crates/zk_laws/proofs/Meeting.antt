@@ -23,13 +23,13 @@ use Rattle.zk_turns.specs.Rule.{IsOpen}
 use Rattle.zk_turns.proofs.Stepped.{Counted, talks_in}
 use Rattle.zk_turns.proofs.Pieces.{byte_happens}
 use Rattle.zk_nodes.specs.History.{History, IsHistory}
-use Rattle.zk_laws.specs.Invariant.{IsKeptUp, IsStarting, IsOpening}
+use Rattle.zk_laws.proofs.Invariant.{IsKeptUp, IsStarting, IsOpening}
 use Rattle.zk_laws.specs.Messages.{Message, Accepted, Replies, Watches_set, Notifies, Pong, Request, Expired as Expires, from_zero}
-use Rattle.zk_laws.specs.Log.{Item as Log_item, last, left_by}
-use Rattle.zk_laws.specs.Steps.{Connection, Link, Up, Down, World, Joins, Takes, is_behind, restores}
+use Rattle.zk_laws.proofs.Log.{Item as Log_item, last, left_by}
+use Rattle.zk_laws.proofs.Steps.{Connection, Link, Up, Down, World, Joins, Takes, is_behind, restores}
 use Rattle.zk_laws.specs.ServerSteps.{Stage, Waiting, Serving, Ended}
-use Rattle.zk_laws.specs.Run.{Goes}
-use Rattle.zk_laws.specs.Seen.{seen}
+use Rattle.zk_laws.proofs.Run.{Goes}
+use Rattle.zk_laws.proofs.Seen.{seen}
 use Rattle.zk_laws.specs.Served.{MayEnter, Goes_on, Sent, requests, part_requests, unread, Wire, new_wire, no_wire, is_going, IsPayload}
 use Rattle.zk_laws.specs.Served.{wire_past}
 use Rattle.zk_laws.proofs.More.{none_behind}
@@ -37,7 +37,7 @@ use Rattle.zk_laws.proofs.Seeing.{last_is}
 use Rattle.zk_laws.proofs.Ordering.{are_parts}
 use Rattle.zk_laws.proofs.Framed.{taken_first, first_too_long, none_cut, reads_notice, reads_pong, reads_part, reads_reply, reads_accepted}
 use Rattle.zk_laws.proofs.Framed.{reads_expired}
-use Rattle.zk_laws.specs.Flight.{IsCalm, Reached, Letter, frames, messages, answers, Owes, connection, InFlight, Matches}
+use Rattle.zk_laws.proofs.Matching.{IsCalm, Reached, Letter, frames, messages, answers, Owes, connection, InFlight, Matches}
 use Rattle.zk_laws.proofs.Reaching.{reach, reached_kept, reach_start}
 use Rattle.zk_laws.proofs.Flight.{owes_parts, requests_parts, unread_more, still}
 use Rattle.zk_laws.proofs.Taking.{ticked, denied, came, lost, dropped, began, asked, pinged, with_requests, up_reached, took_notice}

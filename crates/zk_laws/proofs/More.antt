@@ -14,13 +14,13 @@ use Rattle.zk_turns.specs.Past.{names_of}
 use Rattle.zk_turns.specs.Meaning.{Among}
 use Rattle.zk_laws.specs.Server.{Reads, FitsNames, Notice, held, tree_held, zxid_held, LastHolds, Gives}
 use Rattle.zk_laws.specs.Messages.{Message, Accepted, Expired, Replies, Watches_set, Notifies, Pong, Request, Connect, Restore, Ask, Ping}
-use Rattle.zk_laws.specs.Log.{Item, Lost, Took, last, good, Answer, Absent, Known, Full, Suits}
-use Rattle.zk_laws.specs.Steps.{is_behind, ends, Connection, Link, Down, Up, World, Step, Asks, Pings, Joins, Takes, rest_of, MayStep}
-use Rattle.zk_laws.specs.Steps.{stepped, By_server}
+use Rattle.zk_laws.proofs.Log.{Item, Lost, Took, last, good, Answer, Absent, Known, Full, Suits}
+use Rattle.zk_laws.proofs.Steps.{is_behind, ends, Connection, Link, Down, Up, World, Step, Asks, Pings, Joins, Takes, rest_of, MayStep}
+use Rattle.zk_laws.proofs.Steps.{stepped, By_server}
 use Rattle.zk_laws.specs.ServerSteps.{Stage, Waiting, Serving, Ended, Advances, Admits, Refuses, Answers, Restores, Pongs, IsNext}
-use Rattle.zk_laws.specs.Run.{start, Move, Opens, Loses, Halts, Forgets_stale, Goes, MayGo, gone, May, moved, IsSchedule, run, NoneBehind}
-use Rattle.zk_laws.specs.Run.{AgreesWhenQuiet}
-use Rattle.zk_laws.specs.Invariant.{Ahead, IsAwaited, IsSure, IsSettled, IsOpening, IsTalking, IsKeptUp, IsKeptBy, IsKept}
+use Rattle.zk_laws.proofs.Run.{start, Move, Opens, Loses, Halts, Forgets_stale, Goes, MayGo, gone, May, moved, IsSchedule, run, NoneBehind}
+use Rattle.zk_laws.proofs.Run.{AgreesWhenQuiet}
+use Rattle.zk_laws.proofs.Invariant.{Ahead, IsAwaited, IsSure, IsSettled, IsOpening, IsTalking, IsKeptUp, IsKeptBy, IsKept}
 use Rattle.zk_laws.specs.Laws.{IsTrueWrite, HasChange, AreRestored}
 use Rattle.zk_laws.proofs.Stamps.{tree_at_held}
 use Rattle.zk_laws.proofs.Whole.{next_is, start_kept, run_kept}

@@ -1,6 +1,6 @@
 -- Each move of a server that meets bytes is a move of a run; and so is each schedule.
 use Rattle.zk_laws.proofs.More.{given_write}
-use Rattle.zk_turns.specs.Rule.{AllAsked}
+use Rattle.zk_laws.proofs.Matching.{AllAsked}
 use Rattle.zk_turns.specs.Turns.{IsAsked, Fault, Start, Turned, Forgets as Forgets_now, Halts as Halts_here}
 use Rattle.zk_turns.specs.Past.{Asking, Dropped, Past, is_talking, state_of, held_of}
 use Rattle.std.proofs.Common.{◌≡◌, ℕ, ◌+◌, ◌≤◌, ℤ, Bool, true, List, [], ◌∷◌, ◌++◌, map, drop, length, refl, sym, ap, subst, ◌∙◌, arith}
@@ -13,19 +13,20 @@ use Rattle.zk_conversation.specs.Results.{Result, Refused}
 use Rattle.zk_frames.specs.Frame.{frame}
 use Rattle.zk_turns.specs.Taken.{past_of}
 use Rattle.zk_nodes.specs.History.{History, IsHistory}
-use Rattle.zk_laws.specs.Invariant.{IsKeptUp, IsTalking}
+use Rattle.zk_laws.proofs.Invariant.{IsKeptUp, IsTalking}
 use Rattle.zk_turns.specs.Meaning.{Among}
 use Rattle.zk_laws.specs.Server.{Notice, Gives, IsOther, zxid_held}
 use Rattle.zk_laws.specs.Messages.{Message, Accepted, Replies, Watches_set, Notifies, Pong, Request, Connect, Restore, Ask, Ping}
 use Rattle.zk_laws.specs.Messages.{Expired as Expires, from_zero}
-use Rattle.zk_laws.specs.Steps.{Connection, Link, Up, Step, MayStep, stepped, rest_of, By_server}
+use Rattle.zk_laws.proofs.Steps.{Connection, Link, Up, Step, MayStep, stepped, rest_of, By_server}
 use Rattle.zk_laws.specs.ServerSteps.{ServerStep, MayDo, messages_by, Waiting, Advances, Admits, Refuses, Answers, Restores, Pongs, IsNext}
-use Rattle.zk_laws.specs.Run.{Goes}
-use Rattle.zk_laws.specs.Seen.{seen}
+use Rattle.zk_laws.proofs.Run.{Goes}
+use Rattle.zk_laws.proofs.Seen.{seen}
 use Rattle.zk_laws.specs.Served.{WasSent, Sent, requests, unread, Wire, ArePayloads, first_xid, wire_on, Entry, Goes_on, Serves, items_in}
 use Rattle.zk_laws.specs.Served.{wire_of, MayEnter, IsServing}
-use Rattle.zk_laws.specs.Flight.{DropsAreDue, IsDue, HasCode, Reached, Letter, IsFor, AreLetters, frames, messages, answers, AreLater}
-use Rattle.zk_laws.specs.Flight.{WaitsFor, Owes, connection, InFlight, Matches}
+use Rattle.zk_laws.proofs.Matching.{DropsAreDue, IsDue, Reached, Letter, IsFor, AreLetters, frames, messages, answers, AreLater}
+use Rattle.zk_laws.specs.Server.{HasCode}
+use Rattle.zk_laws.proofs.Matching.{WaitsFor, Owes, connection, InFlight, Matches}
 use Rattle.zk_laws.proofs.Reaching.{reach, reached_kept}
 use Rattle.zk_laws.proofs.Flight.{drop_one}
 use Rattle.zk_laws.proofs.Taking.{up_reached, forgot, halted}

@@ -13,9 +13,9 @@ use Rattle.zk_turns.specs.Past.{Watches_set as Sets_watches, Notifies as Tells, 
 use Rattle.zk_watches.specs.Parts.{parts}
 use Rattle.zk_turns.proofs.Lists.{grows, Tracks}
 use Rattle.zk_turns.proofs.Registered.{tracks_known, tracks_missing, tracks_parents}
-use Rattle.zk_laws.specs.Log.{Item, Took, Kind, Of_data, Of_absence, Of_children, is_kind, paths_in, listed, AreParts}
+use Rattle.zk_laws.proofs.Log.{Item, Took, Kind, Of_data, Of_absence, Of_children, is_kind, paths_in, listed, AreParts}
 use Rattle.zk_laws.specs.Messages.{Replies, from_zero}
-use Rattle.zk_laws.specs.Seen.{seen, item_of}
+use Rattle.zk_laws.proofs.Seen.{seen, item_of}
 use Rattle.zk_laws.proofs.Parting.{kind_known, kind_missing, kind_parents, parts_known, parts_missing, parts_parents}
 
 -- ---- the lists

@@ -6,7 +6,8 @@ use Rattle.std.specs.List.{flat_map}
 use Rattle.std.proofs.lemmas.List.{append-nil}
 use Rattle.zk_nodes.specs.Path.{Text}
 use Rattle.zk_turns.specs.Turns.{Start}
-use Rattle.zk_turns.specs.Past.{Past, kept_data, kept_names, still_said, word_data, in_known, in_missing, in_parents, AgreesWith}
+use Rattle.zk_turns.specs.Past.{Past, kept_data, kept_names, still_said, word_data, in_known, in_missing, in_parents}
+use Rattle.zk_turns.proofs.Marked.{AgreesWith}
 use Rattle.zk_watches.specs.Lists.{Lists, no_lists}
 use Rattle.zk_watches.specs.Parts.{Watch, OnData, OnExist, OnChild, watches_of, weight_of, put_first, into_first, rest_of_parts}
 use Rattle.zk_watches.specs.Parts.{parts_of_watches, parts}
@@ -16,8 +17,8 @@ use Rattle.zk_cache.specs.declared.held.Kept.{Kept}
 use Rattle.zk_cache.specs.declared.held.Mark.{Mark}
 use Rattle.zk_cache.specs.declared.held.Mark.TheVariants.{Good, Stale}
 use Rattle.zk_turns.proofs.Marks.{data_marks, child_marks, data_agrees}
-use Rattle.zk_laws.specs.Log.{is_of, is_kind, Of_data, Of_absence, Of_children}
-use Rattle.zk_laws.specs.Seen.{seen, node_answer, names_answer, if_good}
+use Rattle.zk_laws.proofs.Log.{is_of, is_kind, Of_data, Of_absence, Of_children}
+use Rattle.zk_laws.proofs.Seen.{seen, node_answer, names_answer, if_good}
 use Rattle.zk_laws.proofs.Seeing.{good_node, good_names}
 use Rattle.zk_turns.proofs.Words.{is_there, is_absent}
 use Rattle.zk_limits.specs.declared.limits.TheConstants.{MOST_WEIGHT}

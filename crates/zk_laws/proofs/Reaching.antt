@@ -1,11 +1,11 @@
 -- The worlds that a run reaches.
 use Rattle.std.proofs.Common.{◌≡◌, ℕ, List, [], ◌∷◌, ◌++◌, refl, sym, ap, subst, ◌∙◌}
 use Rattle.zk_nodes.specs.History.{History, IsHistory}
-use Rattle.zk_laws.specs.Invariant.{IsKept}
-use Rattle.zk_laws.specs.Steps.{World}
-use Rattle.zk_laws.specs.Run.{start, Move, May, moved, IsSchedule, run}
+use Rattle.zk_laws.proofs.Invariant.{IsKept}
+use Rattle.zk_laws.proofs.Steps.{World}
+use Rattle.zk_laws.proofs.Run.{start, Move, May, moved, IsSchedule, run}
 use Rattle.zk_laws.proofs.Whole.{start_kept, run_kept}
-use Rattle.zk_laws.specs.Flight.{Reached}
+use Rattle.zk_laws.proofs.Matching.{Reached}
 
 may_more : (h : History) (moves : List Move) (move : Move) (w : World) → IsSchedule h moves w → May h move (run h moves w)
     → IsSchedule h (moves ++ move ∷ []) w

@@ -9,16 +9,16 @@ use Rattle.zk_nodes.specs.declared.side.Side.TheVariants.{Data}
 use Rattle.zk_conversation.specs.Results.{Result}
 use Rattle.zk_laws.specs.Server.{Notice, Watches, zxid_held}
 use Rattle.zk_turns.specs.Meaning.{Among}
-use Rattle.zk_laws.specs.Steps.{Connection, Link, Up, Down, World, Step, Asks, Pings, Joins, Takes, MayStep, stepped, is_behind, ends}
-use Rattle.zk_laws.specs.Steps.{rest_of, By_server}
+use Rattle.zk_laws.proofs.Steps.{Connection, Link, Up, Down, World, Step, Asks, Pings, Joins, Takes, MayStep, stepped, is_behind, ends}
+use Rattle.zk_laws.proofs.Steps.{rest_of, By_server}
 use Rattle.zk_laws.specs.ServerSteps.{Stage, Waiting, Serving, Ended, Advances, Admits, Refuses, Answers, Restores, Pongs, IsNext}
 use Rattle.zk_laws.specs.Messages.{Message, Accepted, Expired, Replies, Watches_set, Notifies, Pong, Request, Ask}
-use Rattle.zk_laws.specs.Log.{Item, Took, Lost, last}
-use Rattle.zk_laws.specs.Run.{Move, Opens, Loses, Halts, Forgets_stale, Goes, MayGo, gone, May, moved, IsSchedule, run, start}
-use Rattle.zk_laws.specs.Invariant.{Ahead, IsSettled, IsKept, IsKeptBy, IsKeptUp, IsOpening}
+use Rattle.zk_laws.proofs.Log.{Item, Took, Lost, last}
+use Rattle.zk_laws.proofs.Run.{Move, Opens, Loses, Halts, Forgets_stale, Goes, MayGo, gone, May, moved, IsSchedule, run, start}
+use Rattle.zk_laws.proofs.Invariant.{Ahead, IsSettled, IsKept, IsKeptBy, IsKeptUp, IsOpening}
 use Rattle.zk_laws.proofs.Whole.{move_kept, start_kept}
 use Rattle.zk_laws.proofs.More.{never_falls}
-use Rattle.zk_laws.specs.Flight.{Reached}
+use Rattle.zk_laws.proofs.Matching.{Reached}
 
 ahead_low : (h : History) (path : Text) (requests : List Request) (place : ℕ) (watches : Watches) (ms : List Message) (log : List Item)
     → Ahead h Data path ms log (IsSettled h Data path requests place watches) → last log ≤ zxid_held h place

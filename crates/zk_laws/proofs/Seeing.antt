@@ -24,9 +24,9 @@ use Rattle.zk_cache.specs.declared.held.Mark.TheVariants.{Good, Stale}
 use Rattle.zk_records.specs.Events.{concerns}
 use Rattle.zk_turns.proofs.Lists.{same_text, bytes_eq-refl}
 use Rattle.zk_turns.proofs.Cached.{fields_same, merged_is}
-use Rattle.zk_laws.specs.Log.{Took, last, refreshed, good, Answer, Known, Full, Names}
+use Rattle.zk_laws.proofs.Log.{Took, last, refreshed, good, Answer, Known, Full, Names}
 use Rattle.zk_laws.specs.Messages.{Replies, from_zero}
-use Rattle.zk_laws.specs.Seen.{seen, node_answer, names_answer, if_good}
+use Rattle.zk_laws.proofs.Seen.{seen, node_answer, names_answer, if_good}
 use Rattle.zk_laws.proofs.Basics.{text_eq-true, text_eq-refl}
 use Rattle.zk_laws.proofs.Ahead.{max_zero}
 use Rattle.zk_laws.proofs.Serving.{fields_eq-refl}

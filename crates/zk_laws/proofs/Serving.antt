@@ -31,11 +31,11 @@ use Rattle.zk_laws.specs.Laws.{sets_at}
 use Rattle.zk_laws.proofs.Tables.{data_table, child_table}
 use Rattle.zk_turns.specs.Turns.{IsAskable}
 use Rattle.zk_laws.specs.Messages.{Message, Replies, Watches_set, Notifies, Pong, Request, Restore, Ask, Ping}
-use Rattle.zk_laws.specs.Log.{place_left, Item, Took, last, good, zxid_in, refreshed, answer_of, left_by, is_place, leaves, is_listed}
-use Rattle.zk_laws.specs.Log.{Answer, Absent, Known, Full, Names, Suits}
-use Rattle.zk_laws.specs.Steps.{is_behind}
+use Rattle.zk_laws.proofs.Log.{place_left, Item, Took, last, good, zxid_in, refreshed, answer_of, left_by, is_place, leaves, is_listed}
+use Rattle.zk_laws.proofs.Log.{Answer, Absent, Known, Full, Names, Suits}
+use Rattle.zk_laws.proofs.Steps.{is_behind}
 use Rattle.zk_conversation.specs.Pending.{closes}
-use Rattle.zk_laws.specs.Invariant.{IsThere, is_seen, IsRight, Ahead, is_in, IsAwaited, IsCovered, IsSure, IsSettled}
+use Rattle.zk_laws.proofs.Invariant.{IsThere, is_seen, IsRight, Ahead, is_in, IsAwaited, IsCovered, IsSure, IsSettled}
 use Rattle.zk_turns.proofs.Cached.{fields_same, fields_same-refl}
 use Rattle.zk_laws.proofs.Firing.{IsTold, IsSpared, spared_all}
 use Rattle.zk_laws.proofs.Stamps.{IsNextAt, tree_at_held, same_at, IsOld, IsAtMost, below_at}

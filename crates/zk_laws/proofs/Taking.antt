@@ -16,14 +16,14 @@ use Rattle.zk_turns.proofs.Stepped.{Counted, counted_next, Waits, waits}
 use Rattle.zk_nodes.specs.History.{History}
 use Rattle.zk_laws.specs.Server.{Notice}
 use Rattle.zk_laws.specs.Messages.{Message, Replies, Watches_set, Notifies, Pong, Request, Ask, Ping, from_zero}
-use Rattle.zk_laws.specs.Log.{Lost, Took, last}
-use Rattle.zk_laws.specs.Steps.{Connection, Link, Up, Down, World, Asks, Pings, Takes, is_behind, ends}
-use Rattle.zk_laws.specs.Run.{Opens, Loses, Halts, Forgets_stale, Goes, opened}
-use Rattle.zk_laws.specs.Seen.{seen}
+use Rattle.zk_laws.proofs.Log.{Lost, Took, last}
+use Rattle.zk_laws.proofs.Steps.{Connection, Link, Up, Down, World, Asks, Pings, Takes, is_behind, ends}
+use Rattle.zk_laws.proofs.Run.{Opens, Loses, Halts, Forgets_stale, Goes, opened}
+use Rattle.zk_laws.proofs.Seen.{seen}
 use Rattle.zk_laws.specs.Served.{Sent, requests, unread, Wire, new_wire, is_going}
 use Rattle.zk_laws.proofs.Seeing.{last_is}
-use Rattle.zk_laws.specs.Flight.{IsDue, AnswersFirst, IsCalm, Reached, Letter, frames, messages, answers, AreLater, Owes, connection}
-use Rattle.zk_laws.specs.Flight.{InFlight, Matches, WaitsFor}
+use Rattle.zk_laws.proofs.Matching.{IsDue, AnswersFirst, IsCalm, Reached, Letter, frames, messages, answers, AreLater, Owes, connection}
+use Rattle.zk_laws.proofs.Matching.{InFlight, Matches, WaitsFor}
 use Rattle.zk_laws.proofs.Reaching.{reach, reach_as}
 
 module _ (h : History) (start : Start) (Was : List ℕ → Type 0) where

@@ -15,17 +15,17 @@ use Rattle.zk_laws.specs.Server.{Notice, Watches, fires, leaves_set, fires_all, 
 use Rattle.zk_laws.specs.Server.{part_tells, part_sets, both, without, told, same_side}
 use Rattle.zk_turns.specs.Turns.{IsAskable}
 use Rattle.zk_laws.specs.Messages.{Message, Accepted, Expired, Replies, Watches_set, Notifies, Pong, Request, Connect, Restore, Ask, Ping}
-use Rattle.zk_laws.specs.Log.{Item, Opened, Lost, Forgets, Took, last, good, AreParts, IsCoherent, Answer}
-use Rattle.zk_laws.specs.Steps.{is_behind, ends, Connection, Link, Down, Up, World, restores, Step, Asks, Pings, Joins, Takes, rest_of}
-use Rattle.zk_laws.specs.Steps.{MayStep, stepped, By_server}
+use Rattle.zk_laws.proofs.Log.{Item, Opened, Lost, Forgets, Took, last, good, AreParts, IsCoherent, Answer}
+use Rattle.zk_laws.proofs.Steps.{is_behind, ends, Connection, Link, Down, Up, World, restores, Step, Asks, Pings, Joins, Takes, rest_of}
+use Rattle.zk_laws.proofs.Steps.{MayStep, stepped, By_server}
 use Rattle.zk_laws.specs.ServerSteps.{Stage, Waiting, Serving, Ended, changes_next, Advances, Admits, Refuses, Answers, Restores, Pongs}
 use Rattle.zk_laws.specs.ServerSteps.{IsNext}
-use Rattle.zk_laws.specs.Run.{start, Move, Opens, Loses, Halts, Forgets_stale, Goes, May, moved, MayGo, gone, IsSchedule, run}
+use Rattle.zk_laws.proofs.Run.{start, Move, Opens, Loses, Halts, Forgets_stale, Goes, May, moved, MayGo, gone, IsSchedule, run}
 use Rattle.zk_conversation.specs.Pending.{closes}
 use Rattle.zk_laws.proofs.Basics.{none_sent}
 use Rattle.zk_laws.proofs.Stamps.{IsNextAt, next_at}
-use Rattle.zk_laws.specs.Invariant.{AreAskable, IsRight, Ahead, is_in, IsAwaited, IsSure, IsSettled, IsUnwatched, IsOpening, IsStarting}
-use Rattle.zk_laws.specs.Invariant.{IsTalking, IsKeptUp, IsKeptBy, IsKept}
+use Rattle.zk_laws.proofs.Invariant.{AreAskable, IsRight, Ahead, is_in, IsAwaited, IsSure, IsSettled, IsUnwatched, IsOpening, IsStarting}
+use Rattle.zk_laws.proofs.Invariant.{IsTalking, IsKeptUp, IsKeptBy, IsKept}
 use Rattle.zk_laws.proofs.Ahead.{ahead_right, ahead_map, ahead_same, right_less, max_zero}
 use Rattle.zk_laws.proofs.Serving.{next_ahead, answer_ahead, pong_ahead, part_ahead}
 use Rattle.zk_laws.proofs.Joining.{joined}

@@ -1,15 +1,7 @@
 pub mod Server
 pub mod Messages
-pub mod Log
 pub mod ServerSteps
-pub mod Steps
-pub mod Run
-pub mod Invariant
 pub mod Laws
-pub mod Example
-pub mod Seen
 pub mod Served
 pub mod Parsed
 pub mod Headline
-pub mod Meeting_example
-pub mod Flight

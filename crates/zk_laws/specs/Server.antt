@@ -125,6 +125,11 @@ Reads tree _ _ = ⊤
 abbrev pub IsOther : ℤ → Type 0
 IsOther code = (code ≢ pos 0) × (code ≢ negsuc 100)
 
+-- a refusal has another code
+abbrev pub HasCode : Result → Type 0
+HasCode (Refused code) = IsOther code
+HasCode _ = Unit {0}
+
 -- where the server stands, it holds a beginning of the history
 abbrev pub held : History → ℕ → List Transaction
 held h place = take place h.transactions

@@ -24,3 +24,6 @@ pub mod Fields
 pub mod Fitting
 pub mod Ranged
 pub mod Requested
+pub mod Fed
+pub mod Marked
+pub mod Frames_sent

@@ -11,7 +11,8 @@ use Rattle.zk_nodes.specs.declared.data_stat.DataStat.{DataStat}
 use Rattle.zk_turns.specs.Turns.{Start, Report}
 use Rattle.zk_turns.specs.Past.{Past, Happening, Took, Forgot, Notifies, Word, Says, Ends, Empties, Nothing, word_data, word_child}
 use Rattle.zk_turns.specs.Past.{still_said, is_good, in_known, in_missing, listed, lists_of, data_with, good_answer, kept_by, kept_data}
-use Rattle.zk_turns.specs.Past.{kept_names, IsMarked, fields_in, AgreesWith}
+use Rattle.zk_turns.specs.Past.{kept_names}
+use Rattle.zk_turns.proofs.Marked.{IsMarked, fields_in, AgreesWith}
 use Rattle.zk_cache.specs.Kept.{Answer, Absent, Known, Full, Names, stale, without_stale, is_marked_good}
 use Rattle.zk_cache.specs.declared.held.Kept.{Kept}
 use Rattle.zk_cache.specs.declared.held.Mark.{Mark}

@@ -19,7 +19,8 @@ use Rattle.zk_frames.specs.Frame.{frame, length_field, IsUnfinished}
 use Rattle.zk_turns.specs.Past.{Happening, Came, Dropped, Took, Message, Accepted, Expiry, Replies, Watches_set, Notifies, Pong, Skipped}
 use Rattle.zk_turns.specs.View.{View}
 use Rattle.zk_turns.specs.Taken.{cut, cut_at, Cutting, Unfinished, Bad, Payload, of_cutting, happenings, caused, if_open}
-use Rattle.zk_turns.specs.Rule.{IsOpen, Hears, heard, arrival, next, says, after_all, says_all, after_signals, says_signals, fed, heard_now}
+use Rattle.zk_turns.specs.Rule.{IsOpen, next, says, after_all, says_all, after_signals, says_signals, heard_now}
+use Rattle.zk_turns.proofs.Fed.{Hears, heard, arrival, fed}
 use Rattle.zk_turns.proofs.Stepped.{after_append, says_append}
 use Rattle.zk_turns.proofs.Stream.{of_reading}
 use Rattle.zk_limits.specs.declared.limits.TheConstants.{LONGEST_INCOMING}

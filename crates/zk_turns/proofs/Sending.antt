@@ -25,7 +25,8 @@ use Rattle.zk_turns.specs.View.{View, view_at}
 use Rattle.zk_turns.specs.Taken.{reading, caused, happenings, opens, of_cutting, cut, Cutting, Unfinished, Bad, Payload, due, refusal}
 use Rattle.zk_turns.specs.Taken.{joined, past_after, past_of, comes, if_open}
 use Rattle.zk_turns.specs.Rule.{IsOpen, says, part_frame, loss, losses, report, due_happenings, due_signals, AllSaid, Stands}
-use Rattle.zk_turns.specs.Sent.{outputs_of, told_state, sends, part_of, sent}
+use Rattle.zk_turns.specs.Sent.{outputs_of, told_state, sends}
+use Rattle.zk_turns.proofs.Frames_sent.{part_of, sent}
 use Rattle.zk_turns.proofs.Cases.{by_cond, by_open, by_due}
 use Rattle.zk_turns.proofs.Stream.{of_reading}
 use Rattle.zk_turns.proofs.Words.{calls}

@@ -11,7 +11,6 @@ use Rattle.zk_nodes.specs.Path.{Text}
 use Rattle.zk_session.specs.SessionView.{Welcome}
 use Rattle.std.specs.Prelude.{◌≡◌, ℕ, suc, ℤ, ◌+◌, ◌%◌, max, Bool, true, false, not, ◌&&◌, ◌||◌, List, [], ◌∷◌, ◌++◌, map, reverse, drop}
 use Rattle.std.specs.Prelude.{filter, Option, Some, None, is_some, bytes_eq, if◌then◌else◌}
-use Rattle.std.specs.List.{AllByRecursion}
 use Rattle.std.specs.Int.{int_max}
 use Rattle.zk_nodes.specs.declared.side.Side.{Side}
 use Rattle.zk_nodes.specs.declared.side.Side.TheVariants.{Data, Child}
@@ -164,15 +163,6 @@ abbrev pub is_good : Side → Text → Past → Bool
 is_good Data path past = is_some (still_said (word_data path) past)
 is_good Child path past = is_some (still_said (word_child path) past)
 
--- A reply that leaves a watch said this, and nothing that happened since then concerns the path on that side.
-pub record IsMarked {A : Type 0} (word : Happening → Word A) (past : Past) (answer : A) : Type 0 where
-  pub since : List Happening
-  pub reply : Happening
-  pub before : Past
-  pub whole : past ≡ since ++ reply ∷ before
-  pub says : word reply ≡ Says answer
-  pub quiet : AllByRecursion (λ happening. word happening ≡ Nothing) since
-
 -- The cache
 
 abbrev pub data_by : Word Answer → DataStat → Option (Option (List ℕ)) → Option (Option (List ℕ))
@@ -209,17 +199,6 @@ kept_data path (happening ∷ past) =
 abbrev pub kept_names : Text → Past → Option (Kept Names)
 kept_names path [] = None
 kept_names path (happening ∷ past) = kept_by (word_child path happening) (λ names. names) happening (kept_names path past)
-
--- what an answer says of the node, without its data
-abbrev pub fields_in : Answer → Option DataStat
-fields_in Absent = None
-fields_in (Known fields) = Some fields
-fields_in (Full bytes fields) = Some fields
-
--- A good answer says what the last reply said, if nothing has ended that since.
-abbrev pub AgreesWith : Option (Kept Answer) → Option Answer → Type 0
-AgreesWith (Some kept) (Some said) = fields_in kept.answer ≡ fields_in said
-AgreesWith kept said = Unit {0}
 
 -- The lists
 

@@ -27,7 +27,7 @@ use Rattle.zk_session.specs.declared.states.State.TheVariants.{Idle, Connecting,
 use Rattle.zk_frames.specs.Frame.{frame}
 use Rattle.zk_turns.specs.View.{View, Standing, Cache, view_at}
 use Rattle.zk_session.specs.SessionView.{Saved, Moments}
-use Rattle.zk_turns.specs.Taken.{reading, happenings, past_of, past_after}
+use Rattle.zk_turns.specs.Taken.{happenings, past_of, past_after}
 
 -- Lists
 
@@ -205,26 +205,9 @@ abbrev pub says_signals : View → List Signal → List Output
 says_signals view [] = []
 says_signals view (signal ∷ more) = says_all view (happenings view signal) ++ says_signals (after_all view (happenings view signal)) more
 
--- the view after bytes that make no frame whole
-abbrev pub fed : View → List ℕ → View
-fed view [] = view
-fed view (byte ∷ bytes) = record view { moments = heard_now view; held = view.held ++ byte ∷ bytes }
-
 -- a client that takes bytes
 abbrev pub IsOpen : State → Type 0
 IsOpen state = is_open state ≡ true
-
-pub record Hears (view : View) : Type 0 where
-  pub up : IsOpen view.standing.state
-  pub goes_on : view.standing.halted ≡ false
-
--- the view, where something is heard
-abbrev pub heard : View → View
-heard view = record view { moments = heard_now view }
-
--- what a payload makes happen
-abbrev pub arrival : View → List ℕ → Happening
-arrival view payload = reading view.standing.state view.pending view.saved.last payload
 
 -- One turn of a client that has not halted. What a caller asks about are paths.
 pub record Rule (view : View) (turn : Turn) (after : View) : Type 0 where
@@ -243,10 +226,6 @@ pub record RuleAt (moment : ℕ) (view : View) (turn : Turn) (after : View) : Ty
   pub takes : Rule between (record { input = turn.input; outputs = second }) after
 
 -- All turns
-
--- each caller asked about paths
-abbrev pub AllAsked : List Item → Type 0
-AllAsked items = AllAskOf IsAskable items
 
 module _ (start : Start) where
   -- what is said while a past grows by signals, by the definitions alone

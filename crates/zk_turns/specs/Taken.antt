@@ -194,9 +194,3 @@ pub record IsStream (past : Past) : Type 0 where
   pub whole : received past ≡ flat_map (λ frame. frame) (frames_of past) ++ held_of past
   pub each : AllByRecursion (λ bytes. cut bytes ≡ Payload (drop 4 bytes)) (frames_of past)
   pub rest : cut (held_of past) ≡ Unfinished
-
--- what was taken, the newest first
-abbrev pub taken : Past → List Message
-taken [] = []
-taken (Took message ∷ past) = message ∷ taken past
-taken (_ ∷ past) = taken past

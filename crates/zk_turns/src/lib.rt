@@ -24,32 +24,27 @@ ghost use Rattle.std.specs.List.{AllByRecursion};
 ghost use Rattle.zk_turns.specs.Taken.{refusal};
 ghost use Rattle.zk_turns.specs.Spelled.{BeginsWith};
 ghost use Rattle.zk_turns.specs.Causes.{in_turn, IsFirstOf, IsGivenUp};
-ghost use Rattle.std.specs.Prelude.{◌≡◌, ◌≤◌, ℕ, List, [], ◌∷◌, ◌++◌, length, map, Option, ◌<◌, ◌≤ℤ◌, ◌+◌, ◌^◌, ◌&&◌, ◌↔◌, true, false};
+ghost use Rattle.std.specs.Prelude.{◌≡◌, ◌≤◌, ℕ, List, [], ◌∷◌, ◌++◌, length, Option, ◌<◌, ◌≤ℤ◌, ◌+◌, ◌^◌, ◌&&◌, ◌↔◌, true, false};
 ghost use Rattle.std.specs.Prelude.{Some, if◌then◌else◌};
 ghost use Rattle.zk_nodes.specs.Path.{Text};
 ghost use Rattle.zk_nodes.specs.declared.side.Side.{Side};
-ghost use Rattle.zk_nodes.specs.declared.side.Side.TheVariants.{Data, Child};
 ghost use Rattle.zk_records.specs.declared.event.Event.{Event};
 ghost use Rattle.zk_nodes.specs.declared.data_stat.DataStat.{DataStat};
-ghost use Rattle.zk_turns.specs.Turns.{Report, Start, Item, Turned, Forgets, Halts, Turn, Bytes, Signal, Comes, Framed};
-ghost use Rattle.zk_frames.specs.Frame.{frame, IsUnfinished};
-ghost use Rattle.zk_cache.specs.Kept.{Full, is_marked_good, Answer, Names};
+ghost use Rattle.zk_turns.specs.Turns.{Report, Start, Item, Turned, Forgets, Halts, Turn, Bytes, Signal};
+ghost use Rattle.zk_cache.specs.Kept.{Full};
 ghost use Rattle.zk_cache.specs.declared.held.Mark.TheVariants.{Good};
 ghost use Rattle.zk_turns.specs.Past.{Past, Happening, Began, Asked, Took, Accepted, Notifies, Dropped, session_of, state_of, is_talking};
-ghost use Rattle.zk_turns.specs.Past.{is_over, is_good, kept_data, kept_names, still_said, word_data, word_child, IsMarked, AgreesWith};
+ghost use Rattle.zk_turns.specs.Past.{is_over, is_good, kept_data};
 ghost use Rattle.zk_turns.specs.Past.{in_known, in_missing, in_parents, KeepsNothing, last_of, xid_of, lists_of};
 ghost use Rattle.zk_records.specs.Events.{concerns};
 ghost use Rattle.zk_turns.specs.View.{View, view_at};
-ghost use Rattle.zk_limits.specs.declared.limits.TheConstants.{LONGEST_INCOMING};
 ghost use Rattle.zk_turns.specs.Taken.{IsStream, happenings, past_of};
-ghost use Rattle.zk_turns.specs.Rule.{Rule, Stands, HaltsAs, forgotten, report, Hears, IsOpen, heard, fed, arrival, next, says, after_all};
+ghost use Rattle.zk_turns.specs.Rule.{Rule, Stands, HaltsAs, forgotten, report, IsOpen, says, after_all};
 ghost use Rattle.zk_turns.specs.Rule.{says_all, after_signals, says_signals};
 ghost use Rattle.zk_watches.specs.Lists.{has};
 ghost use Rattle.zk_turns.specs.Reported.{reports_in, reports_of};
 ghost use Rattle.zk_turns.specs.Meaning.{Among, CameIn, HasData, IsGoodSince, IsLastSeen, LeavesAt, StandsBefore};
-ghost use Rattle.zk_frames.specs.Stream.{StandsNext};
-ghost use Rattle.zk_frames.specs.declared.fault.FrameFault.{FrameFault};
-ghost use Rattle.zk_turns.specs.Sent.{told_state, sends, outputs_of, sent};
+ghost use Rattle.zk_turns.specs.Sent.{told_state, outputs_of};
 ghost use Rattle.zk_turns.specs.Tickets.{answers_in, calls_in, waiting_with};
 
 /// One turn by the rule keeps what holds of the client: each field of the view is what the definitions give for all
@@ -88,62 +83,11 @@ pub fn one_cut()
         Rule view first middle → Rule middle second after → Rule view whole whole_after → whole_after ≡ after }
 {}
 
-/// Bytes that leave a frame unfinished are held, and nothing is said.
-pub fn unfinished_piece()
-    ensures view { (piece : List ℕ) (view : View) → Hears view → IsUnfinished (view.held ++ piece) →
-        after_signals view (map Comes piece) ≡ fed view piece }
-    ensures says { (piece : List ℕ) (view : View) → Hears view → IsUnfinished (view.held ++ piece) →
-        says_signals view (map Comes piece) ≡ [] }
-{}
-
 /// What one signal and one happening do.
 pub fn one_signal()
     ensures view { (view : View) (signal : Signal) → after_signals view (signal ∷ []) ≡ after_all view (happenings view signal) }
     ensures says { (view : View) (signal : Signal) → says_signals view (signal ∷ []) ≡ says_all view (happenings view signal) }
     ensures happening { (view : View) (happening : Happening) → says_all view (happening ∷ []) ≡ says view happening }
-{}
-
-/// Where a whole frame stands first in what is held and what comes, its payload arrives, and then what is left comes.
-pub fn whole_payload()
-    ensures view { (view : View) (piece payload rest : List ℕ) → Hears view → IsUnfinished view.held → length payload ≤ LONGEST_INCOMING →
-        view.held ++ piece ≡ frame payload ++ rest →
-        after_signals view (map Comes piece) ≡ after_signals (next (heard view) (arrival view payload)) (map Comes rest) }
-    ensures says { (view : View) (piece payload rest : List ℕ) → Hears view → IsUnfinished view.held → length payload ≤ LONGEST_INCOMING →
-        view.held ++ piece ≡ frame payload ++ rest →
-        says_signals view (map Comes piece)
-        ≡ says (heard view) (arrival view payload) ++ says_signals (next (heard view) (arrival view payload)) (map Comes rest) }
-{}
-
-/// Where a length that is not admitted stands first, the connection ends.
-pub fn bad_length()
-    ensures view { (view : View) (piece : List ℕ) (fault : FrameFault) → Hears view → IsUnfinished view.held
-        → StandsNext fault (view.held ++ piece) →
-        after_signals view (map Comes piece) ≡ next (heard view) (Dropped (Framed fault)) }
-    ensures says { (view : View) (piece : List ℕ) (fault : FrameFault) → Hears view → IsUnfinished view.held
-        → StandsNext fault (view.held ++ piece) →
-        says_signals view (map Comes piece) ≡ says (heard view) (Dropped (Framed fault)) }
-{}
-
-/// Where there is no connection, bytes are ignored.
-pub fn unheard_piece()
-    ensures view { (piece : List ℕ) (view : View) → ¬ (IsOpen view.standing.state) → after_signals view (map Comes piece) ≡ view }
-    ensures says { (piece : List ℕ) (view : View) → ¬ (IsOpen view.standing.state) → says_signals view (map Comes piece) ≡ [] }
-{}
-
-/// An answer is marked good exactly where a reply that leaves a watch was taken and nothing has ended it since, and then
-/// it says what the last such reply said.
-pub fn good_marks()
-    ensures nodes { (path : Text) (past : Past) → is_marked_good (kept_data path past) ≡ is_good Data path past }
-    ensures children { (path : Text) (past : Past) → is_marked_good (kept_names path past) ≡ is_good Child path past }
-    ensures answers { (path : Text) (past : Past) → AgreesWith (kept_data path past) (still_said (word_data path) past) }
-{}
-
-/// An answer stands exactly where a reply that leaves a watch said it and nothing since then concerns its path and side.
-pub fn standing_answers()
-    ensures nodes { (path : Text) (past : Past) (answer : Answer)
-        → still_said (word_data path) past ≡ Some answer ↔ IsMarked (word_data path) past answer }
-    ensures children { (path : Text) (past : Past) (names : Names)
-        → still_said (word_child path) past ≡ Some names ↔ IsMarked (word_child path) past names }
 {}
 
 /// An answer is good exactly where a reply that left a watch was taken and no notice about that side of its path, no expiry,
@@ -230,13 +174,6 @@ pub fn each_call_once()
 /// On an open connection the bytes that came are whole frames, each of them taken, and then less than one.
 pub fn whole_stream()
     ensures { (start : Start) (items : List Item) → IsOpen (state_of (past_of start items)) → IsStream (past_of start items) }
-{}
-
-/// What an open connection was sent: the ConnectRequest with the saved session and the last seen zxid; once accepted, the
-/// parts of setWatches with the last seen zxid; then the requests of the calls that were sent, with xids running on, and pings.
-pub fn sent_frames()
-    ensures { (start : Start) (items : List Item) (view : View) → Stands start items view → IsOpen view.standing.state →
-        sends (outputs_of items) ≡ sent start (past_of start items) }
 {}
 
 /// The client's state is the one that was told last.

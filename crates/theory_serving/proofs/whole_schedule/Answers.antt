@@ -1,4 +1,4 @@
-use Rattle.zk_laws.proofs.Meeting_shown.{resumable_then}
+use Rattle.theory_runs.proofs.Meeting_shown.{resumable_then}
 use Rattle.theory_serving.proofs.Whole_shown.{three_history, expired_then, whole_stands, whole_typed, good_then, behind_then, stale_then}
 use Rattle.theory_serving.proofs.Whole_shown.{asked_then, answered_then, quiet_then, seven_then, over_then}
 use Rattle.theory_serving.proofs.whole_schedule.Goals as goal

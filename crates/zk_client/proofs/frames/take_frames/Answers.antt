@@ -6,7 +6,8 @@ use Rattle.zk_frames.specs.Held.{Held}
 use Rattle.zk_frames.specs.Stream.{StandsNext}
 use Rattle.zk_turns.specs.Turns.{Output, Comes}
 use Rattle.zk_turns.specs.View.{View}
-use Rattle.zk_turns.specs.Rule.{IsOpen, after_signals, says_signals, says, next, arrival}
+use Rattle.zk_turns.specs.Rule.{IsOpen, after_signals, says_signals, says, next}
+use Rattle.zk_turns.proofs.Fed.{arrival}
 use Rattle.zk_client.specs.Views.{said}
 use Rattle.zk_client.specs.Seen.{view_with}
 use Rattle.zk_turns.proofs.Pieces.{unheard_view, unheard_says}

@@ -61,7 +61,8 @@ returns-clause-flows g c =
     let began = c.step.new in
     let new = c.settle.new in
     let shut =
-    shut_by c.is_open-is_open.result (is_some old.joint.stream) (is_some ended.self.joint.stream) c.is_open-is_open.ensures c.in_ok-end_if.ensures.shut
+    shut_by c.is_open-is_open.result (is_some old.joint.stream)
+    (is_some ended.self.joint.stream) c.is_open-is_open.ensures c.in_ok-end_if.ensures.shut
     (λ stays. ap (λ (l : Link g.row.A.Denot g.row.S.Denot). is_some l.joint.stream) (c.end_if.ensures.same stays)) in
     prints_after (know old.joint) (know ended.self.joint) (know new.self.joint) (string_bytes c.args.text.now) (string_bytes ended.text)
     (string_bytes new.text) c.in_ok-end_if.ensures.flows

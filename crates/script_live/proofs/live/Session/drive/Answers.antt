@@ -10,7 +10,8 @@ use Rattle.script_live.specs.Flowing.{flow_of, IsLook}
 use Rattle.script_live.proofs.Printing.{prints_from, prints_hands, prints_look}
 use Rattle.script_live.proofs.live.Session.drive.Goals as goal
 
-is_look : {A : Type 0} (line : ClientLine A) → (line ≡ client.Cut → ⊥) → ((x : ℕ) → line ≡ client.Now x → ⊥) → ((x : Asked A) → line ≡ client.Call x → ⊥)
+is_look : {A : Type 0} (line : ClientLine A) → (line ≡ client.Cut → ⊥) → ((x : ℕ) → line ≡ client.Now x → ⊥)
+    → ((x : Asked A) → line ≡ client.Call x → ⊥)
     → IsLook (client_value_of line)
 is_look client.Cut not_cut not_now not_call = absurd (not_cut refl)
 is_look (client.Now x) not_cut not_now not_call = absurd (not_now x refl)
@@ -33,7 +34,8 @@ returns-in_ok-step-in-Now-clause-prints g c =
     let new = know c.step.new.self.joint in
     let before = string_bytes c.new-text.result in
     let after = string_bytes c.step.new.text in
-    prints_from old new before after c.new-text.ensures.bytes (prints_hands (Now c.in-Now.moment) old new before after tt c.in_ok-step-in-Now.ensures.flows)
+    prints_from old new before after c.new-text.ensures.bytes
+    (prints_hands (Now c.in-Now.moment) old new before after tt c.in_ok-step-in-Now.ensures.flows)
 
 pub returns-in_ok-ask-in-Call-clause-prints : goal.returns-in_ok-ask-in-Call-clause-prints
 returns-in_ok-ask-in-Call-clause-prints g c =
@@ -45,4 +47,5 @@ pub returns-in_default-clause-prints : goal.returns-in_default-clause-prints
 returns-in_default-clause-prints g c =
     let old = flow_of g.D.Stream.Read.remaining g.D.Stream.Write.contents c.args.self.now.link.joint in
     let look = is_look c.args.line c.in_default.not-Cut c.in_default.not-Now c.in_default.not-Call in
-    prints_look c.driven.result string_bytes (client_value_of c.args.line) old (record old { view = view_of c.driven.new.client }) look c.driven.ensures.ok refl refl
+    prints_look c.driven.result string_bytes (client_value_of c.args.line) old
+    (record old { view = view_of c.driven.new.client }) look c.driven.ensures.ok refl refl

@@ -60,7 +60,8 @@ returns-clause-answers g c = λ number has same.
     (subst (λ (b : Bool). IsMadeOf c.args.text.now b at) (sym same)
     (subst (λ (t : Text). IsMadeOf c.args.text.now c.args.mode.sequential t) (sym c.as_str.ensures.value) made.1))
     (subst (λ (s : ℤ). HasWritten (Creates (path_of at) c.args.bytes (owner_of s c.args.mode.ephemeral)) mid) session
-    (subst (λ (t : Text). HasWritten (Creates (path_of t) c.args.bytes (owner_of raw c.args.mode.ephemeral)) mid) (sym c.as_str.ensures.value)
+    (subst (λ (t : Text). HasWritten (Creates (path_of t) c.args.bytes (owner_of raw c.args.mode.ephemeral)) mid)
+    (sym c.as_str.ensures.value)
     (subst (λ (x : model.Change). HasWritten x mid) made.0 (c.in_default.ensures.wrote has))))
     (subst (λ (x : ℤ). Sends (x, (pos (zxid_of mid), pos 0)) create_response (Some at) mid.connection.output new.connection.output) xid
     (done.sends more.ready)) done.only

@@ -1,0 +1,8 @@
+use Rattle.theory_turns.proofs.bad_length.Goals as goal
+use Rattle.zk_turns.proofs.Pieces.{bad_first_view, bad_first_says}
+
+pub returns-clause-view : goal.returns-clause-view
+returns-clause-view c = bad_first_view
+
+pub returns-clause-says : goal.returns-clause-says
+returns-clause-says c = bad_first_says

@@ -1,0 +1,5 @@
+use Rattle.theory_turns.proofs.sent_frames.Goals as goal
+use Rattle.zk_turns.proofs.Sending.{sent_is}
+
+pub returns : goal.returns
+returns c = sent_is

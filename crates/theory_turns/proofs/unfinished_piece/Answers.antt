@@ -1,0 +1,8 @@
+use Rattle.theory_turns.proofs.unfinished_piece.Goals as goal
+use Rattle.zk_turns.proofs.Pieces.{unfinished_view, unfinished_says}
+
+pub returns-clause-view : goal.returns-clause-view
+returns-clause-view c = unfinished_view
+
+pub returns-clause-says : goal.returns-clause-says
+returns-clause-says c = unfinished_says
