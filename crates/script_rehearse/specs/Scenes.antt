@@ -128,7 +128,8 @@ Rejoins old new text = (new ≡ rejoined old) × (text ≡ []) × IsResumable (t
 
 -- A connection to a server begins, counted from 0. It is one of the servers that are there, so that they stay as ready as they were.
 abbrev pub Opens : ℕ → Scene → Scene → List ℕ → Type 0
-Opens server old new text = Plays Opened (with_bench old (connected old.bench server)) new text × (IsReady old.bench → IsReady (connected old.bench server))
+Opens server old new text =
+    Plays Opened (with_bench old (connected old.bench server)) new text × (IsReady old.bench → IsReady (connected old.bench server))
 
 -- What is printed of the good answers: of each path that a call named, in the order of their bytes. What the servers keep is a history.
 pub record TellsGood (scene : Scene) (text : List ℕ) : Type 0 where

@@ -19,7 +19,9 @@ used_by step = elim step [ Advances sent ↦ 0 | _ ↦ 1 ]
 abbrev pub Moves : History → ℤ → List Request → List Step → ServerEnd → Type 0
 Moves h xid requests [] server = ⊤
 Moves h xid requests (one ∷ more) server =
-    MayDo h one.step server requests × ArePayloads xid (messages_by h one.step server.place) one.payloads × Moves h xid (drop (used_by one.step) requests) more (end_after h one.step server)
+    MayDo h one.step server requests
+    × ArePayloads xid (messages_by h one.step server.place) one.payloads
+    × Moves h xid (drop (used_by one.step) requests) more (end_after h one.step server)
 
 -- where the server stands then
 abbrev pub ended_by : History → List Step → ServerEnd → ServerEnd

@@ -55,6 +55,7 @@ pub record Headline (h : History) (start : Start) (items : List Item) (view : Vi
   pub answers : (ticket : ℕ) (zxid : ℤ) (result : Result) → Among (Answers ticket (Replied zxid result)) (outputs_of items)
       → (call : Call) × Among (Asked ticket call) (past_of start items) × Among
       (Takes_in (Answers_call ticket (question_of call) zxid result)) (past_of start items)
-      × Reads (tree_at h (from_zero zxid)) (question_of call) result × IsTrueWrite h call (from_zero zxid) result × (from_zero start.last ≤ from_zero zxid) × (zxid ≡ pos (from_zero zxid))
+      × Reads (tree_at h (from_zero zxid)) (question_of call) result × IsTrueWrite h call (from_zero zxid) result
+      × (from_zero start.last ≤ from_zero zxid) × (zxid ≡ pos (from_zero zxid))
   pub drops : (fault : Fault) → Among (Drop fault) (outputs_of items)
       → (fault ≡ Silent) ⊎ ((fault ≡ Framed TooLong) × ((payload : List ℕ) × WasSent entries payload × (LONGEST_INCOMING < length payload)))

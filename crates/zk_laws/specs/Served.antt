@@ -36,9 +36,17 @@ pub record Sent : Type 0 where
 abbrev pub part_requests : ℤ → List Lists → List Sent
 part_requests relative [] = []
 part_requests relative (part ∷ []) =
-    record { payload = part_payload relative part.data_watches part.exist_watches part.child_watches; xid = part_xid; request = Restore true (from_zero relative) part } ∷ []
+    record {
+      payload = part_payload relative part.data_watches part.exist_watches part.child_watches;
+      xid = part_xid;
+      request = Restore true (from_zero relative) part;
+    } ∷ []
 part_requests relative (part ∷ next ∷ more) =
-    record { payload = part_payload relative part.data_watches part.exist_watches part.child_watches; xid = part_xid; request = Restore false (from_zero relative) part } ∷ part_requests relative (next ∷ more)
+    record {
+      payload = part_payload relative part.data_watches part.exist_watches part.child_watches;
+      xid = part_xid;
+      request = Restore false (from_zero relative) part;
+    } ∷ part_requests relative (next ∷ more)
 
 module _ (start : Start) where
   -- The requests of the newest connection, in the order in which they were sent. Their frames, joined, are the bytes sent.
@@ -52,7 +60,8 @@ module _ (start : Start) where
         request = Connect (from_zero (last_of start past));
       } ∷ []
   requests (Takes_in (Accepts welcome) ∷ past) = requests past ++ part_requests (last_of start past) (parts (lists_of past))
-  requests (Asked ticket call ∷ past) = requests past ++ record { payload = call_payload (pos (xid_of past)) call; xid = pos (xid_of past); request = Ask call }
+  requests (Asked ticket call ∷ past) =
+      requests past ++ record { payload = call_payload (pos (xid_of past)) call; xid = pos (xid_of past); request = Ask call }
       ∷ []
   requests (Pinged ∷ past) = requests past ++ record { payload = ping_payload; xid = ping_xid; request = Ping } ∷ []
   requests (_ ∷ past) = requests past
@@ -127,7 +136,11 @@ pub record MayServe (h : History) (start : Start) (step : ServerStep) (payloads 
 -- The server afterwards: all steps but the next transaction have processed a request.
 abbrev pub wire_on : History → ServerStep → List (List ℕ) → Wire → Wire
 wire_on h step payloads wire =
-    record { server = end_after h step wire.server; processed = wire.processed + (elim step [ Advances sent ↦ 0 | _ ↦ 1 ]); coming = wire.coming ++ flat_map frame payloads }
+    record {
+      server = end_after h step wire.server;
+      processed = wire.processed + (elim step [ Advances sent ↦ 0 | _ ↦ 1 ]);
+      coming = wire.coming ++ flat_map frame payloads;
+    }
 
 -- Schedules
 
@@ -164,7 +177,11 @@ WasSent (Serves step payloads ∷ earlier) payload = Among payload payloads ⊎ 
 -- What may come in a schedule: a connection begins at any place, what is received is a beginning of what was sent.
 abbrev pub MayEnter : History → Start → Entry → Past → Wire → Type 0
 MayEnter h start (Goes_on place (Turned turn)) past wire =
-    elim turn.input [ Opening ↦ place ≤ length h.transactions | Bytes bytes ↦ is_going past ≡ true → (rest : List ℕ) × (wire.coming ≡ bytes ++ rest) | _ ↦ ⊤ ]
+    elim turn.input [
+      | Opening ↦ place ≤ length h.transactions
+      | Bytes bytes ↦ is_going past ≡ true → (rest : List ℕ) × (wire.coming ≡ bytes ++ rest)
+      | _ ↦ ⊤
+    ]
 MayEnter h start (Goes_on place _) past wire = ⊤
 MayEnter h start (Serves step payloads) past wire = MayServe h start step payloads past wire
 

@@ -204,7 +204,8 @@ abbrev pub part_sets : ℕ → Tree → Lists → Watches
 part_sets relative tree part Data path =
     (list_any (path_eq path) (map path_of part.data_watches) && not (is_some (known_check relative (tree path))))
     || (list_any (path_eq path) (map path_of part.exist_watches) && not (is_some (missing_check (tree path))))
-part_sets relative tree part Child path = list_any (path_eq path) (map path_of part.child_watches) && not (is_some (parent_check relative (tree path)))
+part_sets relative tree part Child path =
+    list_any (path_eq path) (map path_of part.child_watches) && not (is_some (parent_check relative (tree path)))
 
 -- these watches and those
 abbrev pub both : Watches → Watches → Watches

@@ -16,7 +16,8 @@ module _ (start : Start) where
   -- seen zxid; then the requests of the calls that were not refused, with xids running on, and pings.
   abbrev pub sent : Past → List (List ℕ)
   sent [] = []
-  sent (Began ∷ past) = frame (connect_payload (last_of start past) (pos start.timeout) (session_of start past).session (session_of start past).password) ∷ []
+  sent (Began ∷ past) =
+      frame (connect_payload (last_of start past) (pos start.timeout) (session_of start past).session (session_of start past).password) ∷ []
   sent (Took (Accepted welcome) ∷ past) = sent past ++ map (part_of (last_of start past)) (parts (lists_of past))
   sent (Asked ticket call ∷ past) = sent past ++ frame (call_payload (pos (xid_of past)) call) ∷ []
   sent (Pinged ∷ past) = sent past ++ frame ping_payload ∷ []

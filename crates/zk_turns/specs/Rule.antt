@@ -158,7 +158,8 @@ next_message view Expiry = record view { standing = enters Expired view; pending
 next_message view (Replies ticket question zxid result) = next_reply view question zxid result
 next_message view (Watches_set true zxid) = record view { saved = seen zxid view; pending = drop 1 view.pending; held = [] }
 next_message view (Watches_set false zxid) = record view { pending = drop 1 view.pending; held = [] }
-next_message view (Notifies event path) = record view { held = []; lists = fired view.lists event path; cache = spoilt event path view.cache }
+next_message view (Notifies event path) =
+    record view { held = []; lists = fired view.lists event path; cache = spoilt event path view.cache }
 next_message view Pong = record view { held = [] }
 next_message view Skipped = record view { held = [] }
 

@@ -13,7 +13,8 @@ pub returns : goal.returns
 returns g c =
     let r = c.args.response.now in
     on_ok_weaker c.push_optional_boolean.result
-    (λ (written : string_bytes c.push_optional_boolean.new.text ≡ string_bytes c.push_fields.new.text ++ line (codes "readOnly") (optional_boolean_word r.read_only)).
+    (λ (written : string_bytes c.push_optional_boolean.new.text
+    ≡ string_bytes c.push_fields.new.text ++ line (codes "readOnly") (optional_boolean_word r.read_only)).
     rw (written, c.in_ok-push_fields.ensures)
     (one_more (string_bytes c.args.text.now) (line (codes "protocolVersion") (signed_decimal r.protocol_version))
     (line (codes "timeOut") (signed_decimal r.time_out))
