@@ -19,7 +19,7 @@ use Rattle.zk_driver.specs.Driving.{Looked, Noted, Written}
 use Rattle.zk_driver.specs.Flowing.{Deed, Flow, Made, Passes, Runs}
 use Rattle.zk_served.specs.Acts.{given_in, taken_in, Act, Gives, Serves, Takes}
 use Rattle.zk_served.specs.Asking.{StepsFit}
-use Rattle.zk_served.specs.Serving.{Begins}
+use Rattle.zk_served.specs.ServedDrivers.{Begins}
 use Rattle.zk_served.specs.Worlds.{ByDriver, Meets}
 
 -- ---- what a bench does while a connection is there

@@ -31,7 +31,7 @@ use Rattle.zk_driver.specs.Flowing.{Asked, Carries, Deed, Flow, Made, Passes}
 use Rattle.zk_served.specs.Asking.{DeedFits, StepsFit, MovesFit}
 use Rattle.zk_served.specs.Acts.{given_in, taken_in}
 use Rattle.zk_served.specs.Worlds.{Befalls, ByDriver, ByStream, Meanwhile, Meets}
-use Rattle.zk_served.specs.Serving.{Begins, MeetsServers}
+use Rattle.zk_served.specs.ServedDrivers.{Begins, MeetsServers}
 use Rattle.zk_served.proofs.Turned.{kept_down, let_go, Kept}
 use Rattle.zk_served.proofs.Heard.{left_by}
 use Rattle.zk_served.proofs.Moved.{all_apart, all_ready, bytes_noted, late_noted, opened_noted, over_noted, Apart, Given, IsFree, IsLater}
