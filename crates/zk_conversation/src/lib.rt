@@ -11,6 +11,7 @@ mod arrival;
 mod arriving;
 mod awaited;
 mod call;
+mod conformance;
 mod connect;
 mod conversation;
 mod counts;
