@@ -103,14 +103,14 @@ impl<A: Allocator + Copy> Agent<A> {
     pub(crate) fn timeout_ms(&self) -> u32
         ensures { result ≡ (view_of self.now.asker.follower.client).saved.session.timeout }
     {
-        self.asker.client().timeout_ms()
+        self.asker.follower.client().timeout_ms()
     }
 
     /// Where the client stands.
     pub(crate) fn state(&self) -> State
         ensures { result ≡ (view_of self.now.asker.follower.client).standing.state }
     {
-        self.asker.client().state()
+        self.asker.follower.client().state()
     }
 
     /// Whether the session was closed.
@@ -124,7 +124,7 @@ impl<A: Allocator + Copy> Agent<A> {
     pub fn client(&self) -> &Client<A>
         ensures { view_of result.now ≡ view_of self.now.asker.follower.client }
     {
-        self.asker.client()
+        self.asker.follower.client()
     }
 
     /// The moment at which the server was heard last, on any connection, and none before it was. What is kept and good was so on the
@@ -174,7 +174,7 @@ impl<A: Allocator + Copy> Agent<A> {
         ensures due { IfSome result (λ first. ¬ (NothingOpen self.now first)) }
         ensures never { result ≡ None → (moment : ℕ) → moment < 2 ^ 64 → NothingOpen self.now moment }
     {
-        let due = self.asker.client().deadline();
+        let due = self.asker.follower.client().deadline();
         let attempt = self.dialler.deadline();
         let again = self.asker.follower.deadline();
         let limit = self.asker.line.deadline();
