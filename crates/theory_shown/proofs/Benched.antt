@@ -8,7 +8,7 @@ use Rattle.zk_bench.specs.declared.phase.Phase.TheVariants.{Accepted, Apart, End
 use Rattle.zk_bench.specs.Served.{is_open, with_requests, Served}
 use Rattle.zk_bench.specs.Served as bench
 use Rattle.zk_bench.specs.Stepping.{phase_of, shown_of, IsReady}
-use Rattle.zk_agent.specs.declared.input.Input.TheVariants as happens
+use Rattle.zk_agent.specs.declared.input.AgentInput.TheVariants as happens
 use Rattle.zk_driver.specs.Driving.{Looked, Noted, Written}
 use Rattle.zk_driver.specs.Flowing.{Asked, Deed, Flow, Made}
 use Rattle.zk_served.specs.Acts.{Act, Gives, Happens, Serves, Takes}

@@ -1,13 +1,24 @@
 //! What programs of others may call and nothing here but tests does.
 
-ghost use Rattle.std.specs.Prelude.{◌≡◌, ◌%◌, length, Err, Ok, IfOk, MatchResult, string_bytes};
+ghost use Rattle.std.specs.Prelude.{◌≡◌, ◌%◌, map, reverse, length, Err, Ok, IfOk, MatchResult, string_bytes};
 ghost use Rattle.hex.specs.Hex.{decode_of};
+ghost use Rattle.zk_client.specs.Records.{told_of, turn_view};
 ghost use Rattle.zk_client.specs.SavedSessions.{PutAway, CanBePutAway, saved_bytes, saved_text, text_read, GivesLater, no_digits};
 
+use crate::recording::{Recorded, RecordedTurn};
 use crate::saved_fault::SavedFault;
 use crate::saved_session::SavedSession;
 use hex::FromHexError;
 use std::alloc::{AllocError, Allocator};
+
+impl<A: Allocator + Copy> Recorded<A> {
+    /// The turns, the oldest first.
+    pub fn turns(&self) -> &[RecordedTurn<A>]
+        ensures { reverse (map turn_view result.now) ≡ (told_of self.now).turns }
+    {
+        &self.turns
+    }
+}
 
 impl<A: Allocator + Copy> SavedSession<A> {
     /// The session whose record this text spells in hexadecimal digits of either case, two for each byte. The text is these

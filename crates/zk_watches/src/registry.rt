@@ -1,13 +1,12 @@
 //! The registry: three lists of paths.
 ghost use Rattle.std.specs.Prelude.{◌≡◌, ◌<◌, ◌≤◌, length, true, false, IsOk, OnOk, OnErr, IfOk};
 ghost use Rattle.zk_watches.specs.Lists.{no_lists, has, list_has, side_has, count_of, registered, fires, fired, without, IsSound};
-ghost use Rattle.zk_limits.specs.declared.limits.TheConstants.{LONGEST_PATH};
+ghost use Rattle.zk_limits.specs.declared.limits.TheConstants.{LONGEST_PATH, MOST_PATHS};
 
 use crate::in_order::InOrder;
 use crate::ordered::Ordered;
 use std::alloc::{AllocError, Allocator};
 use std::marker::Model;
-use zk_limits::MOST_PATHS;
 use zk_nodes::{Path, Side};
 use zk_records::Event;
 
