@@ -1,9 +1,11 @@
 //! A session that is put away, for another process to take up.
 
 ghost use Rattle.std.specs.Prelude.{◌≡◌};
+ghost use Rattle.zk_client.specs.SavedSessions.{no_digits};
 
 use crate::saved_fault::SavedFault;
 use crate::saved_record::SavedRecord;
+use hex::FromHexError;
 use std::alloc::{AllocError, Allocator, Global};
 use std::fmt;
 use std::marker::Model;
@@ -33,9 +35,11 @@ impl<A: Allocator> Model for SavedSession<A> {
 }
 
 impl<A: Allocator + Copy> SavedSession<A> {
-    ghost use Rattle.std.specs.Prelude.{◌≤◌, ◌≤ℤ◌, pos, length, IfOk, MatchResult};
+    ghost use Rattle.std.specs.Prelude.{◌≤◌, ◌≤ℤ◌, ◌%◌, pos, length, Err, IfOk, MatchResult, string_bytes};
     ghost use Rattle.zk_limits.specs.declared.limits.TheConstants.{LONGEST_PASSWORD};
-    ghost use Rattle.zk_client.specs.SavedSessions.{PutAway, CanBePutAway, saved_bytes, put_away, bytes_read, Gives};
+    ghost use Rattle.hex.specs.Hex.{decode_of};
+    ghost use Rattle.zk_client.specs.SavedSessions.{PutAway, CanBePutAway, saved_bytes, saved_text, put_away, bytes_read, text_read, Gives};
+    ghost use Rattle.zk_client.specs.SavedSessions.{GivesLater};
 
     /// A session of these three. What a client says of itself becomes one so:
     /// `let saved = client.saved(); SavedSession::new(alloc, saved.session, saved.password, saved.last_zxid)`, and is never
@@ -105,6 +109,29 @@ impl<A: Allocator + Copy> SavedSession<A> {
         }
     }
 
+    /// The session whose record this text spells in hexadecimal digits of either case, two for each byte. The text is these
+    /// digits alone: a program that reads a line cuts off the line's end and any blanks first.
+    ///
+    /// # Errors
+    ///
+    /// `OddDigits`, else `NotHex`, else those of [`SavedSession::from_bytes`]. Memory for the bytes is requested before the
+    /// digits are looked at, so `Memory` may be told instead of another fault, but never instead of `OddDigits`.
+    pub fn from_text(alloc: A, text: &str) -> Result<SavedSession<A>, SavedFault>
+        // Which session or fault it is.
+        ensures exact { GivesLater (text_read text.now) result }
+        // What is read is spelled so.
+        ensures found { IfOk result (λ saved. decode_of text.now ≡ Ok (saved_bytes saved)) }
+        ensures odd { length text.now % 2 ≡ 1 → result ≡ Err (SavedFault.OddDigits (length text.now)) }
+        // What is spelled so is read, unless memory runs out.
+        ensures only { (value : PutAway) → CanBePutAway value → text.now ≡ saved_text value
+            → MatchResult result (λ saved. saved ≡ value) (λ fault. fault ≡ SavedFault.Memory) }
+    {
+        match hex::decode(alloc, text) {
+            Ok(bytes) => SavedSession::from_bytes(alloc, bytes.as_slice()),
+            Err(fault) => Err(no_digits(fault, text.len())),
+        }
+    }
+
     /// The bytes of its record, which [`SavedSession::from_bytes`] reads: 20 and those of the password. An error says
     /// that memory ran out.
     pub fn to_bytes(&self, alloc: A) -> Result<Vec<u8, A>, AllocError>
@@ -123,6 +150,15 @@ impl<A: Allocator + Copy> SavedSession<A> {
             Err(PutError::Memory) => Err(AllocError),
             Err(PutError::TooLong) => unreachable!(),
         }
+    }
+
+    /// The bytes of its record as hexadecimal digits in lower case, one word with no line's end, which
+    /// [`SavedSession::from_text`] reads. An error says that memory ran out.
+    pub fn to_text(&self, alloc: A) -> Result<String<A>, AllocError>
+        ensures { IfOk result (λ text. string_bytes text ≡ saved_text self.now) }
+    {
+        let bytes = self.to_bytes(alloc)?;
+        hex::encode(alloc, bytes.as_slice())
     }
 
     /// What a client can be resumed from: `Client::resume(alloc, 10_000, &saved.as_saved())`, with a timeout in milliseconds.
@@ -156,5 +192,18 @@ impl<A: Allocator> fmt::Debug for SavedSession<A> {
             f,
             "SavedSession {{ session: {session}, last_zxid: {last_zxid}, .. }}"
         )
+    }
+}
+
+// Why a text of this many bytes is no digits.
+fn no_digits(fault: FromHexError, count: usize) -> SavedFault
+    ensures { result ≡ no_digits count fault }
+{
+    match fault {
+        FromHexError::InvalidHexCharacter { index, .. } => SavedFault::NotHex { place: index },
+        FromHexError::OutOfMemory => SavedFault::Memory,
+        FromHexError::OddLength | FromHexError::InvalidStringLength => {
+            SavedFault::OddDigits { count }
+        }
     }
 }
