@@ -9,7 +9,8 @@ ghost use Rattle.zk_turns.specs.Rule.{forgotten, Stands};
 ghost use Rattle.zk_client.specs.Clients.{renewed_start, view_of};
 ghost use Rattle.zk_client.specs.Views.{input_view, said};
 ghost use Rattle.zk_follow.specs.Following.{due_again, first_again, first_of, again_at, heard_all, news_in, told_of, unfollowed};
-ghost use Rattle.zk_follow.specs.Following.{AreVisited, IsAhead, IsCounted, IsFollowed, Reads, Steps};
+ghost use Rattle.zk_follow.specs.Following.{AreVisited, IsAhead, IsCounted, IsFollowed, Steps};
+ghost use Rattle.zk_follow.specs.inner.Following.{Reads};
 
 use crate::news::{News, tell_all};
 use crate::progress::Progress;

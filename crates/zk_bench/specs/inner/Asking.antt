@@ -11,8 +11,8 @@ use Rattle.zk_conversation.specs.Calls as call
 use Rattle.zk_conversation.specs.Calls.{Call, texts_value}
 use Rattle.zk_watches.specs.Lists.{Lists}
 use Rattle.zk_laws.specs.Messages as wanted
-use Rattle.zk_bench.specs.Answering.{IsRead}
-use Rattle.zk_bench.specs.Restoring.{ArePaths}
+use Rattle.zk_bench.specs.inner.Answering.{IsRead}
+use Rattle.zk_bench.specs.inner.Restoring.{ArePaths}
 
 -- The record after the header of an operation is that of this call: of a path, and with a mode from 0 to 3.
 abbrev pub IsBodyOf : (named : Operation) → Value (body_layout named) → Call → Type 0

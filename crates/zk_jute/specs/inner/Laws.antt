@@ -17,7 +17,8 @@ use Rattle.std.proofs.lemmas.Int.{to_z-of_z, of_z-to_z, ints}
 use Rattle.zk_jute.specs.declared.fault.TakeError.{TakeError}
 use Rattle.zk_jute.specs.declared.fault.TakeError.TheVariants.{Short, BadBool, NotUtf8}
 use Rattle.zk_jute.specs.Layout.{Layout, nothing, int, long, boolean, buffer, ustring, vector, ◌⨾◌, Value}
-use Rattle.zk_jute.specs.Spelling.{IsBytes, int_bytes, long_bytes, boolean_bytes, number_of, counted_bytes, spelling, HasLength, Fits}
+use Rattle.zk_jute.specs.Spelling.{IsBytes, int_bytes, long_bytes, boolean_bytes, counted_bytes, spelling, HasLength, Fits}
+use Rattle.zk_jute.specs.inner.Spelling.{number_of}
 use Rattle.zk_jute.specs.Reading.{◌>>=◌, place_of, bytes_at, int_at, long_at, boolean_of, boolean_at, length_of, length_at, unless_null}
 use Rattle.zk_jute.specs.Reading.{counted_at, text_bytes_at, elements_at, reading}
 

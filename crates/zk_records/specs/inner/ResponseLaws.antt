@@ -5,7 +5,7 @@ use Rattle.zk_jute.specs.declared.fault.TakeError.{TakeError}
 use Rattle.zk_jute.specs.Layout.{boolean, Value}
 use Rattle.zk_jute.specs.Spelling.{IsBytes, spelling}
 use Rattle.zk_jute.specs.Reading.{◌>>=◌, reading}
-use Rattle.zk_jute.specs.Laws.{reads, bind_ok, ok_is}
+use Rattle.zk_jute.specs.inner.Laws.{reads, bind_ok, ok_is}
 use Rattle.zk_records.specs.Layouts.{connect_response_front}
 use Rattle.zk_records.specs.Response.{Response, flag_spelling, EndsPayload, IsPayload, flag_at, response_at}
 

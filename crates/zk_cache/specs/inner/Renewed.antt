@@ -2,7 +2,7 @@
 use Rattle.std.specs.Prelude.{Option, Some, None, if◌then◌else◌}
 use Rattle.zk_cache.specs.declared.answers.DataAnswer.{DataAnswer}
 use Rattle.zk_cache.specs.Kept.{Kept, as_good, good}
-use Rattle.zk_cache.specs.Covered.{stays}
+use Rattle.zk_cache.specs.inner.Covered.{stays}
 use Rattle.zk_cache.specs.Contents.{answer_of}
 
 -- the kept answer where it stays, else the new one

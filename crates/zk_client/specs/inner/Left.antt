@@ -4,7 +4,7 @@ use Rattle.std.specs.Option.{option_map}
 use Rattle.zk_nodes.specs.declared.side.Side.{Side}
 use Rattle.zk_nodes.specs.declared.side.Side.TheVariants.{Data, Child}
 use Rattle.zk_nodes.specs.DataStats.{data_stat_of}
-use Rattle.zk_cache.specs.Contents.{set_of}
+use Rattle.zk_cache.specs.inner.Contents.{set_of}
 use Rattle.zk_cache.specs.Kept.{Answer, Absent, Known, Full, Names}
 use Rattle.zk_turns.specs.Past.{Left}
 use Rattle.zk_client.specs.declared.replies.Left.{Left as RustLeft}

@@ -21,7 +21,7 @@ use Rattle.zk_laws.specs.Served.{ArePayloads}
 use Rattle.zk_bench.specs.declared.connection.Connection.{Connection}
 use Rattle.zk_bench.specs.declared.rewatch.Watched.{Watched}
 use Rattle.zk_bench.specs.declared.rewatch.Watched.TheVariants.{Data, Exist, Child}
-use Rattle.zk_bench.specs.Serving.{Tells, watched}
+use Rattle.zk_bench.specs.inner.Serving.{Tells, watched}
 
 -- what was missed at a path with this Stat
 abbrev pub missed_of : Watched → Option Stat → ℤ → Option Event

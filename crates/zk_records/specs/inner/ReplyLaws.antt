@@ -5,7 +5,7 @@ use Rattle.zk_jute.specs.declared.fault.TakeError.{TakeError}
 use Rattle.zk_jute.specs.Layout.{Layout, Value}
 use Rattle.zk_jute.specs.Spelling.{IsBytes, spelling}
 use Rattle.zk_jute.specs.Reading.{◌>>=◌, reading}
-use Rattle.zk_jute.specs.Laws.{Reads, Takes, reads, bind_ok, ok_is}
+use Rattle.zk_jute.specs.inner.Laws.{Reads, Takes, reads, bind_ok, ok_is}
 use Rattle.zk_records.specs.Layouts.{reply_header}
 use Rattle.zk_records.specs.Reply.{ReplyValue, result_spelling, reply_spelling, ResultFits, ReplyFits, result_at, reply_at}
 
