@@ -4,7 +4,7 @@ use Rattle.std.proofs.lemmas.List.Elements.{All-filter}
 use Rattle.zk_turns.specs.View.{View}
 use Rattle.zk_client.specs.Clients.{view_of}
 use Rattle.zk_follow.specs.declared.subject.Subject.{Subject}
-use Rattle.zk_follow.specs.Following.{IsFollowed}
+use Rattle.zk_follow.specs.Following.{unfollowed, IsFollowed}
 use Rattle.zk_line.specs.declared.line.Line.{Line}
 use Rattle.zk_agent.specs.Agents.{trail_of, Unfollows}
 use Rattle.zk_agent.proofs.Moves.{gives, trail_eq}
@@ -25,4 +25,5 @@ returns-clause-followed g c = λ now all.
     let kept = All-filter (λ (s : Subject g.row.A.Denot). not (s.ticket == c.args.ticket)) (IsFollowed now (view_of old.client))
     old.subjects.items all in
     subst (All (IsFollowed now (view_of new.client))) (sym c.unfollow.ensures.subjects)
-    (subst (λ (v : View). All (IsFollowed now v) _) (sym (ap view_of c.unfollow.ensures.client)) kept)
+    (subst (λ (v : View). All (IsFollowed now v) (unfollowed c.args.ticket old.subjects.items))
+    (sym (ap view_of c.unfollow.ensures.client)) kept)
