@@ -25,7 +25,7 @@ pub(crate) struct Asker<A: Allocator + Copy = Global> {
 }
 
 impl<A: Allocator + Copy> Asker<A> {
-    ghost use Rattle.std.specs.Prelude.{◌≡◌, ◌++◌, ◌∷◌, ◌<ℤ◌, ℕ, List, pos, map, false, [], None, IfOk, OnOk, OnSome, All};
+    ghost use Rattle.std.specs.Prelude.{◌≡◌, ◌++◌, ◌∷◌, ◌<ℤ◌, ℕ, List, pos, map, false, [], None, IfOk, OnErr, OnOk, OnSome, All};
     ghost use Rattle.zk_turns.specs.Turns.{Forgets, Item, Start};
     ghost use Rattle.zk_turns.specs.View.{view_at};
     ghost use Rattle.zk_turns.specs.Rule.{forgotten, Stands};
@@ -120,6 +120,7 @@ impl<A: Allocator + Copy> Asker<A> {
           is_there = false;
           told = None;
         } ∷ []) }
+        ensures same { OnErr result (self.new.follower.subjects.items ≡ self.old.follower.subjects.items) }
         ensures line { self.new.line ≡ self.old.line }
     {
         self.follower.follow(ticket, side, path)

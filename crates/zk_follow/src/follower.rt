@@ -188,7 +188,7 @@ impl<A: Allocator + Copy> Follower<A> {
     }
 
     /// Follows a subject, which is read at the next step. The tickets of its reads are this number, which no other call may have, and no
-    /// subject that is followed after it.
+    /// subject that is followed after it. An error means that memory ran out, and nothing has happened then.
     pub fn follow(&mut self, ticket: u64, side: Side, path: Path<A>) -> Result<(), AllocError>
         ensures client { self.new.client ≡ self.old.client }
         ensures subjects { OnOk result (self.new.subjects.items ≡ self.old.subjects.items ++ record {
@@ -200,6 +200,7 @@ impl<A: Allocator + Copy> Follower<A> {
           is_there = false;
           told = None;
         } ∷ []) }
+        ensures same { OnErr result (self.new.subjects.items ≡ self.old.subjects.items) }
     {
         match self.subjects.push(Subject::new(ticket, side, path)) {
             Ok(()) => Ok(()),
