@@ -11,9 +11,9 @@ impl<A: Allocator + Copy> Agent<A> {
     ghost use Rattle.zk_follow.specs.Following.{unfollowed, IsFollowed};
     ghost use Rattle.zk_agent.specs.Agents.{trail_of, Comes, Follows, Unfollows};
 
-    /// Puts a subject among those that are followed. It is no step: nothing is told, and the subject is read at the next one, with all others
-    /// that were added since the last. Make that step at once: until then nothing is promised of the subject, and `deadline` does not count
-    /// it. No other call or subject has or had the ticket. An error means that memory ran out, and nothing has happened then.
+    /// Puts a subject among those that are followed. It is no step: nothing is told, and the subject is read at the next one, with all
+    /// others that were added since the last. Make that step at once: until then nothing is promised of the subject, and `deadline` does
+    /// not count it. No other call or subject has or had the ticket. An error means that memory ran out, and nothing has happened then.
     pub fn add_subject(&mut self, ticket: u64, side: Side, path: Path<A>) -> Result<(), AllocError>
         ensures comes { (now : ℕ) → OnOk result
             (Comes now (Follows ticket side path ∷ []) (trail_of self.old []) (trail_of self.new [])) }
@@ -38,8 +38,8 @@ impl<A: Allocator + Copy> Agent<A> {
         self.asker.follow(ticket, side, path)
     }
 
-    /// Takes the subject of this ticket from those that are followed. It is no step: nothing is told, nothing is due by it, and it takes no
-    /// memory. A read of it that is under way is answered to nobody.
+    /// Takes the subject of this ticket from those that are followed. It is no step: nothing is told, nothing is due by it, and it takes
+    /// no memory. A read of it that is under way is answered to nobody.
     pub fn remove_subject(&mut self, ticket: u64)
         ensures comes { (now : ℕ) → Comes now (Unfollows ticket ∷ []) (trail_of self.old []) (trail_of self.new []) }
         ensures subjects { self.new.asker.follower.subjects.items ≡ unfollowed ticket self.old.asker.follower.subjects.items }
