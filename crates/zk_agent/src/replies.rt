@@ -4,7 +4,7 @@ ghost use Rattle.std.specs.Prelude.{◌≡◌, false, fold};
 ghost use Rattle.std.specs.List.{list_any};
 ghost use Rattle.zk_records.specs.Codes.{code_number};
 ghost use Rattle.zk_client.specs.Views.{output_view, said};
-ghost use Rattle.zk_agent.specs.Waits.{none_sent, sent_by, sent_in};
+ghost use Rattle.zk_agent.specs.Waits.{sent_by, sent_in};
 ghost use Rattle.zk_agent.specs.Replies.{ends_row, heard_in, is_back, is_lost, is_over, is_reply, loses_session};
 
 use crate::sent::Sent;
@@ -128,22 +128,16 @@ fn note_sent<A: Allocator>(sent: &mut Sent, output: &Output<A>)
     }
 }
 
-/// What is sent with all of these.
-fn sent_with<A: Allocator>(outputs: &[Output<A>]) -> Sent
-    ensures { result ≡ fold (λ sent output. sent_by sent (output_view output)) (none_sent false) outputs.now }
+/// What is sent, by what the client says.
+#[tactic(auto, using(crate::proofs::Saying::fold_said))]
+fn sent_in<A: Allocator>(outputs: &[Output<A>]) -> Sent
+    ensures { result ≡ sent_in (said outputs.now) }
 {
     let mut sent = Sent::new(false);
     for output in outputs {
         note_sent(&mut sent, output);
     }
     sent
-}
-
-/// What is sent, by what the client says.
-fn sent_in<A: Allocator>(outputs: &[Output<A>]) -> Sent
-    ensures { result ≡ sent_in (said outputs.now) }
-{
-    sent_with(outputs)
 }
 
 /// What the client says of its connection and of calls.

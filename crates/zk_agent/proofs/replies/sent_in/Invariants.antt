@@ -1,7 +1,7 @@
 use Rattle.std.proofs.Common.{◌≡◌, false, fold, take}
 use Rattle.zk_client.specs.Views.{output_view}
 use Rattle.zk_agent.specs.Waits.{none_sent, sent_by}
-use Rattle.zk_agent.proofs.replies.sent_with.Given as goal
+use Rattle.zk_agent.proofs.replies.sent_in.Given as goal
 
 -- those so far were noted
 abbrev pub invariant-loop-output : goal.invariant-loop-output
