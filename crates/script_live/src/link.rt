@@ -16,7 +16,7 @@ ghost use Rattle.script_live.specs.Printed.{HandsThen, Prints};
 use crate::heard::{cut, printed_step};
 use crate::joint::Joint;
 use crate::ring::Ring;
-use script_replay::call_line::Asked;
+use script_replay::call_line::AskedCall;
 use script_words::stop::LineStop;
 use std::alloc::{AllocError, Allocator};
 use zk_client::{Client, Input, Output};
@@ -244,7 +244,12 @@ impl<A: Allocator + Copy, S: Stream> Link<A, S> {
     }
 
     /// Asks the server, and waits for its answer.
-    pub fn ask(&mut self, alloc: A, asked: Asked<A>, text: &mut String<A>) -> Result<(), LineStop>
+    pub fn ask(
+        &mut self,
+        alloc: A,
+        asked: AskedCall<A>,
+        text: &mut String<A>,
+    ) -> Result<(), LineStop>
         ensures ok { OnOk result (Awaits (tape (view_of self.old.joint.client) (string_bytes text.old))
             (Call asked.ticket (call_view asked.call)) (tape (view_of self.new.joint.client) (string_bytes text.new))) }
         ensures flows { OnOk result (Prints (flow_of S.remaining S.contents self.old.joint) (flow_of S.remaining S.contents self.new.joint)

@@ -25,7 +25,7 @@ use script_replay::begin_line::BeginLine;
 use script_replay::client_line::ClientLine;
 use script_replay::driven::{driven, make_client};
 use script_words::pieces::lines_of;
-use script_words::script::{End, LineReader, Transcript, end_at, nothing, read_lines};
+use script_words::script::{LineReader, ScriptEnd, Transcript, end_at, nothing, read_lines};
 use script_words::stop::LineStop;
 use std::alloc::{AllocError, Allocator};
 use zk_client::Input;
@@ -182,7 +182,7 @@ fn live_from<A: Allocator + Copy, D: Dial>(
             drop(session);
             transcript
         }
-        Err(_) => nothing(alloc, End::Memory),
+        Err(_) => nothing(alloc, ScriptEnd::Memory),
     }
 }
 
@@ -218,6 +218,6 @@ pub fn live<A: Allocator + Copy, D: Dial>(
 {
     match lines_of(alloc, script) {
         Ok(lines) => live_lines(alloc, dial, addresses, lines.as_slice()),
-        Err(_) => nothing(alloc, End::Memory),
+        Err(_) => nothing(alloc, ScriptEnd::Memory),
     }
 }

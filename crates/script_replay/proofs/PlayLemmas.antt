@@ -7,7 +7,7 @@ use Rattle.zk_turns.specs.View.{View, view_at}
 use Rattle.script_words.specs.declared.script_fault.ScriptFault.{ScriptFault}
 use Rattle.script_words.specs.declared.stop.LineStop.{LineStop}
 use Rattle.script_replay.specs.declared.begin_line.BeginKeyword.{BeginKeyword}
-use Rattle.script_replay.specs.declared.player.Keyword.TheVariants as keyword
+use Rattle.script_replay.specs.declared.player.ReplayKeyword.TheVariants as keyword
 use Rattle.script_replay.specs.ReplayLines.{BeginValue, ReplayValue, Begins, begin_line_at, placed_at, says_at}
 use Rattle.script_words.specs.Said.{something}
 use Rattle.script_replay.specs.inner.Played.{DoesSaid}

@@ -1,7 +1,7 @@
 -- What the lines say that are read.
 use Rattle.zk_conversation.specs.Calls.{Call}
 use Rattle.zk_conversation.specs.Views.{call_view}
-use Rattle.script_replay.specs.declared.call_line.Asked.{Asked as RustAsked}
+use Rattle.script_replay.specs.declared.call_line.AskedCall.{AskedCall}
 use Rattle.script_replay.specs.declared.call_line.Wish.TheVariants as wish
 use Rattle.script_replay.specs.declared.client_line.ClientLine.{ClientLine}
 use Rattle.script_replay.specs.declared.client_line.ClientLine.TheVariants as client
@@ -12,7 +12,7 @@ use Rattle.script_replay.specs.CallLines.{Asked}
 use Rattle.script_replay.specs.ClientLines.{ClientValue, CutLine, NowLine, CallLine, PeekLine, LastLine, ForgetLine, SavedLine}
 use Rattle.script_replay.specs.ReplayLines.{BeginValue, TimeoutLine, ResumeLine}
 
-abbrev pub asked_of : {A : Type 0} → RustAsked A → Asked
+abbrev pub asked_of : {A : Type 0} → AskedCall A → Asked
 asked_of asked = record { ticket = asked.ticket; call = call_view asked.call }
 
 abbrev pub client_value_of : {A : Type 0} → ClientLine A → ClientValue

@@ -15,8 +15,8 @@ use Rattle.zk_client.specs.Clients.{view_of}
 use Rattle.zk_driver.specs.Driving.{closed}
 use Rattle.zk_driver.specs.Flowing.{Flow, Runs}
 use Rattle.script_words.specs.Values.{AreNames}
-use Rattle.shell_ask.specs.declared.end.End.{End}
-use Rattle.shell_ask.specs.declared.end.End.TheVariants as ends
+use Rattle.shell_ask.specs.declared.end.CallEnd.{CallEnd}
+use Rattle.shell_ask.specs.declared.end.CallEnd.TheVariants as ends
 use Rattle.shell_ask.specs.declared.plan.Form.{Form}
 use Rattle.shell_ask.specs.declared.plan.Form.TheVariants as form
 use Rattle.shell_ask.specs.declared.plan.TreePlan.{TreePlan}
@@ -222,7 +222,7 @@ ending_told root most Full = fault_line (codes "cut off: ") root (most_words mos
 ending_told root most (Stopped name coming) = told name coming
 ending_told root most (Misnamed name) = fault_line (codes "refused: ") name (codes "a node below it has a name that no path has")
 
-abbrev pub ending_end : Ending → End
+abbrev pub ending_end : Ending → CallEnd
 ending_end Whole = ends.Done
 ending_end Full = ends.More
 ending_end (Stopped name coming) = end_of coming

@@ -8,14 +8,14 @@ ghost use Rattle.zk_driver.specs.Flowing.{flow_of, Runs};
 ghost use Rattle.shell_ask.specs.inner.Asking.{came_view};
 ghost use Rattle.shell_ask.specs.Asking.{Heard};
 ghost use Rattle.shell_ask.specs.Printing.{end_of};
-ghost use Rattle.shell_ask.specs.declared.end.End.TheVariants as ends;
+ghost use Rattle.shell_ask.specs.declared.end.CallEnd.TheVariants as ends;
 ghost use Rattle.shell_ask.specs.Trees.{child_of, listing_of, names_within};
 ghost use Rattle.shell_ask.specs.inner.Trees.{ending_view, spot_view, stage_of, waiting_view, with_next};
 ghost use Rattle.shell_ask.specs.Trees.{AreInOrder, EndsAt, HasNoPath, IsGone, IsListed, Misnamed, Reaches, Stage, Steps};
 
 use crate::answered::{CALL, answered};
 use crate::came::Came;
-use crate::end::End;
+use crate::end::CallEnd;
 use crate::spots::{Spot, copied, is_of_text, put_first, spots_below};
 use crate::told::end_of;
 use std::alloc::Allocator;
@@ -84,7 +84,7 @@ fn is_done<A: Allocator>(came: &Came<A>) -> bool
     ensures undone { result ≡ false → end_of (came_view came.now) ≢ ends.Done }
 {
     match end_of(came) {
-        End::Done => true,
+        CallEnd::Done => true,
         _ => false,
     }
 }
@@ -95,7 +95,7 @@ fn is_gone<A: Allocator>(spot: &Spot<A>, came: &Came<A>) -> bool
     ensures stays { result ≡ false → IsGone (spot_view spot.now) (came_view came.now) → ⊥ }
 {
     match end_of(came) {
-        End::NoNode => spot.depth != 0,
+        CallEnd::NoNode => spot.depth != 0,
         _ => false,
     }
 }

@@ -8,7 +8,7 @@ use Rattle.shell_ask.specs.declared.walk.Walk.{Walk}
 use Rattle.shell_ask.specs.inner.Asking.{came_view}
 use Rattle.shell_ask.specs.Printing.{end_of}
 use Rattle.shell_ask.specs.Trees.{Spot, Stage, Ending, Whole, Full, Stopped, Misnamed}
-use Rattle.shell_ask.specs.declared.end.End.TheVariants as ends
+use Rattle.shell_ask.specs.declared.end.CallEnd.TheVariants as ends
 use Rattle.shell_ask.specs.declared.walk.Ending.TheVariants as reached
 
 abbrev pub spot_view : {A : Type 0} → Place A → Spot

@@ -4,7 +4,7 @@ use Rattle.clap.specs.declared.error.kind.ErrorKind.{ErrorKind}
 use Rattle.shell_commands.specs.declared.line_fault.LineFault.{LineFault}
 use Rattle.shell_commands.specs.declared.line_fault.LineFault.TheVariants.{Help, Refused, Memory}
 use Rattle.clap.specs.declared.error.kind.ErrorKind.TheVariants as kinds
-use Rattle.shell_commands.specs.declared.kind.Kind.TheVariants as kind
+use Rattle.shell_commands.specs.declared.kind.FrameKind.TheVariants as kind
 
 -- A refusal, or that memory ran out.
 abbrev pub IsNoHelp : LineFault → Type 0

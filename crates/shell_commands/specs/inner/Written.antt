@@ -1,6 +1,6 @@
 -- What contracts of private functions say: nobody has to believe it.
 use Rattle.script_words.specs.declared.input.InputFault.{InputFault}
-use Rattle.script_words.specs.declared.script.End.TheVariants.{Memory}
+use Rattle.script_words.specs.declared.script.ScriptEnd.TheVariants.{Memory}
 use Rattle.shell_commands.specs.declared.status.Status.{Status}
 use Rattle.script_words.specs.declared.input.InputFault.TheVariants as faults
 use Rattle.shell_commands.specs.declared.status.Status.TheVariants as status
