@@ -14,11 +14,11 @@ use Rattle.zk_dialler.specs.declared.dialler.DialDue.{DialDue}
 use Rattle.zk_dialler.specs.declared.dialler.DialDue.TheVariants.{Dial, GiveUp}
 use Rattle.zk_follow.specs.declared.news.News.{News}
 use Rattle.zk_follow.specs.Following.{news_in}
-use Rattle.zk_line.specs.declared.entry.Entry.{Entry}
-use Rattle.zk_line.specs.declared.entry.Ending.{Ending}
-use Rattle.zk_line.specs.declared.entry.Ending.TheVariants.{Lost, LostOf, Late, Expired}
-use Rattle.zk_line.specs.Lines.{after_answer, answered, ended, ended_of, first_handed, first_where, goes_back, is_ended, left, settles_one}
-use Rattle.zk_line.specs.Lines.{waits_turn}
+use Rattle.zk_calls.specs.declared.entry.Entry.{Entry}
+use Rattle.zk_calls.specs.declared.entry.Ending.{Ending}
+use Rattle.zk_calls.specs.declared.entry.Ending.TheVariants.{Lost, LostOf, Late, Expired}
+use Rattle.zk_calls.specs.Lines.{after_answer, answered, ended, ended_of, first_handed, first_where, goes_back, is_ended, left, settles_one}
+use Rattle.zk_calls.specs.Lines.{waits_turn}
 use Rattle.zk_dialler.specs.declared.dialler.Phase.{Phase}
 use Rattle.zk_dialler.specs.declared.dialler.Phase.TheVariants.{Waiting, Dialling, Open}
 use Rattle.zk_dialler.specs.Dialling.{is_open}

@@ -26,9 +26,9 @@ use Rattle.zk_dialler.specs.Orders.{numbers, shuffled}
 use Rattle.zk_follow.specs.declared.progress.Progress.TheVariants as progress
 use Rattle.zk_follow.specs.declared.subject.Subject.{Subject}
 use Rattle.zk_follow.specs.Following.{due_again, first_again, news_in, told_of, unfollowed, Steps}
-use Rattle.zk_line.specs.declared.entry.Entry.{Entry}
-use Rattle.zk_line.specs.declared.entry.Ending.TheVariants as ending
-use Rattle.zk_line.specs.Lines.{first_limit, left, next_call}
+use Rattle.zk_calls.specs.declared.entry.Entry.{Entry}
+use Rattle.zk_calls.specs.declared.entry.Ending.TheVariants as ending
+use Rattle.zk_calls.specs.Lines.{first_limit, left, next_call}
 use Rattle.zk_agent.specs.declared.action.Action.{Action}
 use Rattle.zk_agent.specs.declared.agent.Agent.{Agent}
 use Rattle.zk_agent.specs.declared.input.AgentInput.{AgentInput}

@@ -10,10 +10,10 @@ use Rattle.zk_turns.specs.Turns.{Outcome, Output, Answer, Enters, Input}
 use Rattle.zk_turns.specs.Turns as turns
 use Rattle.zk_turns.specs.View.{View}
 use Rattle.zk_follow.specs.Following.{IsFull}
-use Rattle.zk_line.specs.declared.entry.Entry.{Entry}
-use Rattle.zk_line.specs.declared.entry.Ending.{Ending}
-use Rattle.zk_line.specs.declared.entry.Ending.TheVariants.{Lost, LostOf}
-use Rattle.zk_line.specs.Lines.{answered, ended, ended_of, first_handed, has_come, left, settles}
+use Rattle.zk_calls.specs.declared.entry.Entry.{Entry}
+use Rattle.zk_calls.specs.declared.entry.Ending.{Ending}
+use Rattle.zk_calls.specs.declared.entry.Ending.TheVariants.{Lost, LostOf}
+use Rattle.zk_calls.specs.Lines.{answered, ended, ended_of, first_handed, has_come, left, settles}
 use Rattle.zk_agent.specs.Telling.{Told, Says, closed_told, ended_told}
 
 -- ---- what the client says of them

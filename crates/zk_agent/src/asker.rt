@@ -10,9 +10,9 @@ use crate::advancing::{advance, begin, hand_over};
 use crate::calls::{close_calls, end_calls};
 use crate::replies::Heard;
 use std::alloc::{AllocError, Allocator, Global};
+use zk_calls::{Ending, Line};
 use zk_client::{Call, Client, Input, Path, Side};
 use zk_follow::{Follower, FollowerStop};
-use zk_line::{Ending, Line};
 
 /// A client with what it is asked for its program: subjects that are followed, and calls. Where a call counts as handed over, the client
 /// waits for its reply.
@@ -33,7 +33,7 @@ impl<A: Allocator + Copy> Asker<A> {
     ghost use Rattle.zk_client.specs.Views.{input_view};
     ghost use Rattle.zk_follow.specs.declared.progress.Progress.TheVariants as progress;
     ghost use Rattle.zk_follow.specs.Following.{due_again, unfollowed, IsFollowed};
-    ghost use Rattle.zk_line.specs.Lines.{left};
+    ghost use Rattle.zk_calls.specs.Lines.{left};
     ghost use Rattle.zk_agent.specs.inner.Agents.{HandsOver};
     ghost use Rattle.zk_agent.specs.Agents.{TakesSo};
     ghost use Rattle.zk_agent.specs.Calls.{closings, endings};

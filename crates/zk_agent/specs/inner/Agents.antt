@@ -8,8 +8,8 @@ use Rattle.zk_turns.specs.Turns.{Input}
 use Rattle.zk_turns.specs.View.{View}
 use Rattle.zk_dialler.specs.Dialling.{has_come, is_open}
 use Rattle.zk_follow.specs.declared.subject.Subject.{Subject}
-use Rattle.zk_line.specs.declared.entry.Entry.{Entry}
-use Rattle.zk_line.specs.Lines.{first_handed, next_call}
+use Rattle.zk_calls.specs.declared.entry.Entry.{Entry}
+use Rattle.zk_calls.specs.Lines.{first_handed, next_call}
 use Rattle.zk_agent.specs.declared.replies.Heard.{Heard}
 use Rattle.zk_agent.specs.inner.Calls.{how_many_wait, IsDone}
 use Rattle.zk_agent.specs.Calls.{IsInTime}

@@ -2,8 +2,8 @@
 use Rattle.std.specs.Prelude.{◌≡◌, ◌⊎◌, ℕ, true, List, None}
 use Rattle.std.specs.List.{count_by}
 use Rattle.zk_turns.specs.View.{View}
-use Rattle.zk_line.specs.declared.entry.Entry.{Entry}
-use Rattle.zk_line.specs.Lines.{next_call, waits_turn}
+use Rattle.zk_calls.specs.declared.entry.Entry.{Entry}
+use Rattle.zk_calls.specs.Lines.{next_call, waits_turn}
 use Rattle.zk_agent.specs.Calls.{IsPending, IsAway}
 
 -- Where a call counts as handed over, the client waits for its reply.

@@ -1,6 +1,6 @@
 use Rattle.std.proofs.Common.{[], refl, ap}
 use Rattle.zk_client.specs.Clients.{view_of}
-use Rattle.zk_line.specs.declared.line.Line.{Line}
+use Rattle.zk_calls.specs.declared.line.Line.{Line}
 use Rattle.zk_agent.specs.Agents.{trail_of, Follows}
 use Rattle.zk_agent.proofs.Moves.{gives, trail_eq}
 use Rattle.zk_agent.proofs.Saying.{on_ok}

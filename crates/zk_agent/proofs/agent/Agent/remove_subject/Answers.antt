@@ -5,7 +5,7 @@ use Rattle.zk_turns.specs.View.{View}
 use Rattle.zk_client.specs.Clients.{view_of}
 use Rattle.zk_follow.specs.declared.subject.Subject.{Subject}
 use Rattle.zk_follow.specs.Following.{unfollowed, IsFollowed}
-use Rattle.zk_line.specs.declared.line.Line.{Line}
+use Rattle.zk_calls.specs.declared.line.Line.{Line}
 use Rattle.zk_agent.specs.Agents.{trail_of, Unfollows}
 use Rattle.zk_agent.proofs.Moves.{gives, trail_eq}
 use Rattle.zk_agent.proofs.agent.Agent.remove_subject.Goals as goal
