@@ -1,5 +1,5 @@
 -- What contracts of private functions say: nobody has to believe it.
-use Rattle.std.specs.Prelude.{◌≡◌, ℤ, pos, Bool, true, false}
+use Rattle.std.specs.Prelude.{◌<ℤ◌, ◌≡◌, ℤ, pos, Bool, true, false}
 use Rattle.script_rehearse.specs.declared.said.Said.{Said}
 use Rattle.script_rehearse.specs.inner.BenchLines.{bench_value_of}
 use Rattle.script_rehearse.specs.RehearseLines.{RehearseValue, HistoryLine, BeginLine, BenchValueLine}
