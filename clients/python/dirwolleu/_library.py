@@ -9,11 +9,8 @@ and no thread that is interrupted keeps a lock.
 from __future__ import annotations
 
 import ctypes
-import ctypes.util
 import itertools
 import os
-import pathlib
-import platform
 import struct
 import sys
 import types
@@ -325,7 +322,7 @@ _RESULT_WORDS = {
 }
 # end of what is made
 
-_HERE = pathlib.Path(__file__).resolve().parent
+_HERE = os.path.dirname(os.path.abspath(__file__))
 
 
 def _find() -> str:
@@ -334,20 +331,28 @@ def _find() -> str:
     named = os.environ.get("DIRWOLLEU_LIBRARY")
     if named:
         return named
-    checkout = _HERE.parents[2]
-    places = (_HERE, checkout / "clients" / "out", checkout / "prebuilt" / "x86_64-linux")
-    built = next((place for place in places if (place / "libdirwolleu.so").exists()), None)
-    found = str(built / "libdirwolleu.so") if built else ctypes.util.find_library("dirwolleu")
+    checkout = os.path.dirname(os.path.dirname(os.path.dirname(_HERE)))
+    places = (_HERE, os.path.join(checkout, "clients", "out"), os.path.join(checkout, "prebuilt", "x86_64-linux"))
+    files = (os.path.join(place, "libdirwolleu.so") for place in places)
+    found = next(filter(os.path.exists, files), None) or _installed()
     if found is None:
         raise ImportError("libdirwolleu.so is not found: install the package again, or name the file by DIRWOLLEU_LIBRARY")
     return found
 
 
+def _installed() -> Optional[str]:
+    """What the system has."""
+    from ctypes.util import find_library  # here, since it takes a tenth of the time of the whole import
+
+    return find_library("dirwolleu")
+
+
 def _check_machine() -> None:
     """Fails in words where the library can't run."""
-    machine, system = platform.machine(), platform.system()
-    if (machine.lower(), system) not in (("x86_64", "Linux"), ("amd64", "Linux")):
-        raise ImportError(f"dirwolleu runs on Linux on x86-64 alone, and this is {system} on {machine}")
+    system = os.uname() if hasattr(os, "uname") else None
+    machine, name = (system.machine, system.sysname) if system else ("another machine", sys.platform)
+    if (machine.lower(), name) not in (("x86_64", "Linux"), ("amd64", "Linux")):
+        raise ImportError(f"dirwolleu runs on Linux on x86-64 alone, and this is {name} on {machine}")
     if not getattr(sys, "_is_gil_enabled", lambda: True)():
         raise ImportError("dirwolleu wants an interpreter with its global lock (GIL)")
 

@@ -4,7 +4,7 @@ from __future__ import annotations
 
 import dataclasses
 from collections.abc import Generator, Sequence
-from typing import Any, Optional, Union
+from typing import TYPE_CHECKING, Any, Optional, Union
 
 from dirwolleu import _lane as lane
 from dirwolleu import _requests as requests
@@ -12,6 +12,9 @@ from dirwolleu._lane import LaneRequest
 from dirwolleu._requests import Request, Result
 from dirwolleu.exceptions import NodeExistsError, NoNodeError, NotEmptyError
 from dirwolleu.security import ACL
+
+if TYPE_CHECKING:
+    from uuid import UUID
 
 AnyRequest = Union[Request[Result], LaneRequest[Result]]
 Plan = Generator[Union[Request[Any], LaneRequest[Any]], Any, Result]
@@ -24,6 +27,13 @@ def parent_of(path: str) -> str:
 
 def child_of(path: str, name: str) -> str:
     return f"/{name}" if path == "/" else f"{path}/{name}"
+
+
+def new_tag() -> UUID:
+    """What is in no other name."""
+    import uuid  # here, since few programs make such names, and it takes its time
+
+    return uuid.uuid4()
 
 
 def create_request(path: str, value: Optional[bytes], acl: Acls, ephemeral: bool, sequence: bool) -> AnyRequest[str]:
