@@ -2,7 +2,6 @@
 
 from __future__ import annotations
 
-import dataclasses
 from collections.abc import Generator, Sequence
 from typing import TYPE_CHECKING, Any, Optional, Union
 
@@ -53,7 +52,9 @@ def ensure_path(path: str, acl: Acls) -> Plan[None]:
         path = parent_of(path)
     for path in reversed(missing):
         try:
-            yield dataclasses.replace(create_request(path, b"", acl, False, False), is_repeatable=True)
+            request = create_request(path, b"", acl, False, False)
+            request.is_repeatable = True
+            yield request
         except NodeExistsError:
             pass
 
@@ -81,7 +82,9 @@ def delete(path: str, version: int, recursive: bool) -> Plan[None]:
 def _delete_all(path: str, version: int) -> Plan[None]:
     while True:
         try:
-            yield dataclasses.replace(requests.delete(path, version), is_repeatable=version == -1)
+            request = requests.delete(path, version)
+            request.is_repeatable = version == -1
+            yield request
             return
         except NoNodeError:
             return
