@@ -618,17 +618,17 @@ class _Room:
     """Where the library writes bytes. It grows."""
 
     def __init__(self) -> None:
-        self.size = 4096
-        self.bytes = ctypes.create_string_buffer(self.size)
-        self.view = memoryview(self.bytes)
+        self._make(4096)
+
+    def _make(self, size: int) -> None:
+        self.size, self.bytes = size, ctypes.create_string_buffer(size)
+        self.at, self.view = byref(self.bytes), memoryview(self.bytes)
 
     def widen(self, length: int) -> bool:
         """Makes room for this many bytes. Answers whether there was too little."""
         is_short = length > self.size
         if is_short:
-            self.size = length
-            self.bytes = ctypes.create_string_buffer(length)
-            self.view = memoryview(self.bytes)
+            self._make(length)
         return is_short
 
     def first(self, length: int) -> bytes:
@@ -710,7 +710,8 @@ def functions(prefix: str) -> types.SimpleNamespace:
     """The functions of the library whose names begin so, without that."""
     names = [name for name in _FUNCTIONS if name.startswith(prefix)]
     found = types.SimpleNamespace(**{name[len(prefix) :]: getattr(_library, name) for name in names})
-    found.next = _library[f"{prefix}next"]  # another object, which does not look at its arguments: it is called most, by pointers
+    for name in ("next", "copy"):
+        setattr(found, name, _library[f"{prefix}{name}"])  # another object, which does not look at its arguments: these are called most
     return found
 
 
@@ -958,7 +959,7 @@ class LookUps(Generic[Said]):
         room = self._room
         if length > room.size:
             room.widen(length)
-        self._calls.copy(self._handle, 0, room.bytes, length)
+        self._calls.copy(self._handle_at, 0, room.at, length)
         return room.view[:length].tobytes()
 
     def _names(self) -> bytes:
