@@ -7,11 +7,13 @@ import contextlib
 import logging
 import queue
 import threading
+import time
 from collections.abc import Generator
 from typing import Any, Callable, Optional, Protocol
 
 from dirwolleu._lane import LaneRequest
 from dirwolleu._requests import Request
+from dirwolleu._semaphore import Semaphore
 from dirwolleu._steps import Ask, Call, Step, Steps, Wait
 
 logger = logging.getLogger("dirwolleu")
@@ -44,11 +46,11 @@ class News:
         return self._lack.acquire(timeout=-1 if timeout is None else min(max(timeout, 0), threading.TIMEOUT_MAX))
 
 
-class Waiter(News):
-    """One thread that waits for an answer. What is said of `News` holds here too."""
+class Waiter:
+    """One thread that waits for an answer. The thread that answers waits for no lock."""
 
     def __init__(self) -> None:
-        super().__init__()
+        self._answered = Semaphore()
         self._answer: Optional[tuple[Any, Optional[BaseException]]] = None
         self._is_given_up = False
 
@@ -64,16 +66,19 @@ class Waiter(News):
 
     def set_result(self, result: Any) -> None:
         self._answer = result, None
-        self.set()
+        self._answered.post()
 
     def set_exception(self, error: BaseException) -> None:
         self._answer = None, error
-        self.set()
+        self._answered.post()
 
     def result(self, timeout: Optional[float]) -> Any:
-        self.wait(timeout)
-        if self._answer is None:
-            raise TimeoutError
+        until = None if timeout is None else time.monotonic() + timeout
+        while self._answer is None:
+            left = None if until is None else until - time.monotonic()
+            if left is not None and left <= 0:
+                raise TimeoutError
+            self._answered.wait(left)
         result, error = self._answer
         if error is not None:
             raise error

@@ -2,8 +2,7 @@
 
 from __future__ import annotations
 
-import base64
-import hashlib
+import binascii
 from typing import NamedTuple
 
 from dirwolleu.exceptions import ZookeeperError
@@ -80,8 +79,10 @@ def make_digest_acl_credential(username: str, password: str) -> str:
     >>> make_digest_acl_credential("super", "test")
     'super:D/InIHSb7yEEbrWz8b9l71RjZJU='
     """
-    spelled = f"{username}:{password}".encode()
-    return f"{username}:{base64.b64encode(hashlib.sha1(spelled).digest()).decode()}"
+    import hashlib  # here, since few programs want it, and it takes its time
+
+    digest = hashlib.sha1(f"{username}:{password}".encode()).digest()
+    return f"{username}:{binascii.b2a_base64(digest, newline=False).decode()}"
 
 
 def make_digest_acl(
