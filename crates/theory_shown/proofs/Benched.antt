@@ -55,7 +55,7 @@ act_done Serves old new (inr (inr (inr goes))) =
       output = ap (λ c. c.output) goes.1;
     }))
 
-acts_done : (acts : List Act) (old new : Served) → FoldsTo BenchDoes old acts new → FoldsTo Happens (shown_of old) acts (shown_of new)
+pub acts_done : (acts : List Act) (old new : Served) → FoldsTo BenchDoes old acts new → FoldsTo Happens (shown_of old) acts (shown_of new)
 acts_done [] old new same = ap (λ (s : Served). shown_of s) same
 acts_done (act ∷ acts) old new does =
     (shown_of does.0, act_done act old does.0 does.1, acts_done acts does.0 new does.2)
