@@ -14,7 +14,7 @@ use Rattle.zk_bench.specs.Stepping.{shown_of}
 use Rattle.zk_link.specs.Streams.{Known}
 use Rattle.zk_driver.specs.Driving.{ChannelView}
 use Rattle.zk_driver.specs.Flowing.{Flow}
-use Rattle.zk_served.specs.Serving.{Begins}
+use Rattle.zk_served.specs.ServedDrivers.{Begins}
 use Rattle.zk_served.proofs.Benched.{bench_connects}
 use Rattle.script_live.specs.Flowing as live
 use Rattle.script_live.specs.Frames.{frames}
