@@ -16,6 +16,7 @@ use Rattle.zk_driver.specs.Driving.{ChannelView}
 use Rattle.zk_driver.specs.Flowing.{Flow}
 use Rattle.zk_served.specs.ServedDrivers.{Begins}
 use Rattle.zk_served.proofs.Benched.{bench_connects}
+use Rattle.script_replay.specs.Played.{start_of}
 use Rattle.script_live.specs.Flowing as live
 use Rattle.script_live.specs.Frames.{frames}
 use Rattle.script_live.proofs.Living.{lives_print}
@@ -24,7 +25,7 @@ use Rattle.shell_watch.specs.Watching.{flow_in, IsBegun, Stand}
 use Rattle.theory_shown.specs.Agreeing.{BefallsBench, IsTimed, LifeAgrees, MeanwhileBench, RunBenches, WatchAgrees, WatchEndAgrees}
 use Rattle.theory_shown.specs.Lived.{Befalls, LifeCoheres, Meanwhile}
 use Rattle.theory_shown.specs.Watched.{EndsCohere, PrintsCohere, RunMeets}
-use Rattle.theory_shown.proofs.Benched.{acts_done, benches_meet, same_shown}
+use Rattle.theory_shown.proofs.Benched.{acts_done, benches_meet}
 use Rattle.theory_shown.proofs.Lived.{deeds_too}
 use Rattle.theory_shown.proofs.Starting.{begins_in_range}
 use Rattle.theory_shown.proofs.Watched.{moves_too}
@@ -114,8 +115,8 @@ module _ (By : (took gave unsent still piece : List ℕ) → (old new : Known) �
             (bench.connected before meets.0) after meets.3),
       )
   befalls_servers (live.Ends turn) old new carries before after meets = meets
-  befalls_servers live.Fails old new carries before after meets = same_shown before after meets
-  befalls_servers (live.Looks value text) old new carries before after meets = same_shown before after meets
+  befalls_servers live.Fails old new carries before after meets = ap (λ (s : Served). shown_of s) meets
+  befalls_servers (live.Looks value text) old new carries before after meets = ap (λ (s : Served). shown_of s) meets
 
 pub life_agrees : (By : (took gave unsent still piece : List ℕ) → (old new : Known) → Type 0) (after : Served)
     → LifeCoheres By → IsHistory (history_of after.history) → LifeAgrees By after
@@ -125,16 +126,16 @@ life_agrees By after cohere is lines text end lives =
       printed.0,
       printed.1,
       λ before beside.
-      cohere lives.first printed.0 text printed.1 (shown_of after) (record {
-        apart = lives.apart;
-        start = range.start;
-        stands = subst (λ (v : View). Stands range.start [] v) (sym lives.made)
-            (record { standing = refl; saved = refl; lists = refl; cache = refl; going = λ _. refl; said = tt; asked = tt });
-        resumable = range.resumable;
-        timed = range.timed;
-        before = shown_of before;
-        meets = deeds_too (λ (s : Served). shown_of s) (BefallsBench By) (Befalls By) (befalls_servers By) printed.1.deeds lives.first
-            printed.0 printed.1.carries before after beside;
-        history = is;
-      }),
+          cohere lives.first printed.0 text printed.1 (shown_of after) (record {
+            apart = lives.apart;
+            start = start_of lives.start;
+            stands = subst (λ (v : View). Stands (start_of lives.start) [] v) (sym lives.made)
+                (record { standing = refl; saved = refl; lists = refl; cache = refl; going = λ _. refl; said = tt; asked = tt });
+            resumable = range.resumable;
+            timed = range.timed;
+            before = shown_of before;
+            meets = deeds_too (λ (s : Served). shown_of s) (BefallsBench By) (Befalls By) (befalls_servers By) printed.1.deeds lives.first
+                printed.0 printed.1.carries before after beside;
+            history = is;
+          }),
     )

@@ -4,3 +4,4 @@ pub mod Lived
 pub mod Benched
 pub mod Starting
 pub mod Agreeing
+pub mod Waiting
