@@ -65,8 +65,8 @@ move_coheres : {A : Type 0} (move : Move A) (old new : Stand A) (does : Does old
     → GoesOn after.history history → IsHistory history → IsMoveCoherent history move old new does
 move_coheres (Takes turn text) old new does before after history meets bound goes is =
     let between = run_bound (flow_in old) (flow_in does.between) before meets.0 meets.1 bound in
-    let later =
-    goes_further meets.0.history after.history history (run_on ByDriver (flow_in does.between) (flow_in new) meets.0 after meets.2) goes in (
+    let later = goes_further meets.0.history after.history history
+    (run_on ByDriver (flow_in does.between) (flow_in new) meets.0 after meets.2) goes in (
       coheres does.between meets.0 history between later is,
       coheres new after history (run_bound (flow_in does.between) (flow_in new) meets.0 after meets.2 between) goes is,
     )

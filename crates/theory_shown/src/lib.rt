@@ -1,6 +1,6 @@
 //! What is printed of a client whose connections lead to servers of the model agrees with their history, wherever cuts fall. A driver whose
-//! connections lead to a server in memory was served from the bench's history, so what `watch` and `live` print over such connections agrees
-//! with it. The functions have empty bodies, or read a bench for what is known of it: their contracts are the laws.
+//! connections lead to a server in memory was served from the bench's history, so what `watch` and `live` print over such connections
+//! agrees with it. The functions have empty bodies, or read a bench for what is known of it: their contracts are the laws.
 #![tactic(auto)]
 
 ghost use Rattle.zk_history.specs.HistoryView.{history_of};
@@ -66,8 +66,8 @@ pub fn watches_agree<A: Allocator, B: Allocator + Copy>(bench: &Bench<B>)
     known_of(bench);
 }
 
-/// And so does what `live` prints: its lines are what a list of deeds of its client prints, and each good answer that this has after each of
-/// them, and that is looked up and printed, is what the history of the bench has at the last seen zxid. Nothing is asked of how it begins.
+/// And so does what `live` prints: it is what a list of deeds of its client prints, and each good answer that this has after each of them,
+/// and that is looked up and printed, is what the history of the bench has at the last seen zxid. Nothing is asked of how it begins.
 pub fn lives_agree<B: Allocator + Copy>(bench: &Bench<B>)
     ensures bytes { LifeAgrees ByClient bench.now }
     ensures known { LifeAgrees ByKnown bench.now }
