@@ -11,7 +11,7 @@ use Rattle.zk_client.specs.declared.saved_fault.SavedFault.{SavedFault}
 use Rattle.zk_agent.specs.declared.agent.Agent.{Agent}
 use Rattle.zk_agent.specs.Agents.{IsLed}
 use Rattle.zk_agent.specs.Calls.{IsInTime, IsServed}
-use Rattle.zk_line.specs.declared.line.Line.{Line}
+use Rattle.zk_calls.specs.declared.line.Line.{Line}
 use Rattle.zk_follow.specs.Following.{IsFollowed}
 use Rattle.ffi_device.specs.Refused.{RefusesTimeout}
 use Rattle.ffi_device.specs.Sessions.{put_start}

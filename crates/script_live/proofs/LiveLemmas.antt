@@ -6,8 +6,9 @@ use Rattle.zk_turns.specs.View.{View, view_at}
 use Rattle.script_words.specs.Pieces.{words_of}
 use Rattle.script_words.specs.Scripts.{end_at, progress, IsDue}
 use Rattle.script_words.specs.Scripts as scripts
-use Rattle.script_words.specs.Stops.{IfHalted, IsDueBy, IsWant}
-use Rattle.script_words.specs.declared.script.End.{End}
+use Rattle.script_words.specs.Stops.{IfHalted, IsWant}
+use Rattle.script_words.specs.inner.Stops.{IsDueBy}
+use Rattle.script_words.specs.declared.script.ScriptEnd.{ScriptEnd}
 use Rattle.script_words.specs.declared.stop.LineStop.{LineStop}
 use Rattle.script_words.specs.declared.stop.LineStop.TheVariants as stops
 use Rattle.script_replay.specs.ReplayLines.{BeginValue}
@@ -45,7 +46,7 @@ due line old flow after begun stops.Halted refused halted is = (after, rw (← i
 due line old flow after begun stops.Memory refused halted is = tt
 
 -- a client that was connected
-pub lived : (lines : List Text) (start : BeginValue) (first ready : Flow) (told text : List ℕ) (end : End)
+pub lived : (lines : List Text) (start : BeginValue) (first ready : Flow) (told text : List ℕ) (end : ScriptEnd)
     → begun_by lines ≡ Begins start → first.view ≡ view_at (start_of start) []
     → first.is_open ≡ false → Connects (tape (view_at (start_of start) []) []) (tape ready.view told) → Prints first ready [] told
     → scripts.IsTranscript rules (progress (position ready false) told) lines text end → IsTranscript lines text end
@@ -63,7 +64,7 @@ lived lines start first ready told text end begins made apart connects prints go
 })
 
 -- no client, and no text
-pub unlived : (lines : List Text) (text : List ℕ) (end : End) → text ≡ [] → IsUnread lines end → IsTranscript lines text end
+pub unlived : (lines : List Text) (text : List ℕ) (end : ScriptEnd) → text ≡ [] → IsUnread lines end → IsTranscript lines text end
 unlived lines text end none why = inr (none, why)
 
 -- a halt of a client that was made

@@ -5,8 +5,8 @@ use Rattle.zk_nodes.specs.Path.{Text}
 use Rattle.script_words.specs.Said.{DoesSome}
 use Rattle.script_words.specs.Scripts.{progress, Goes, Progress}
 use Rattle.script_words.specs.Scripts as scripts
-use Rattle.script_words.specs.declared.script.End.{End}
-use Rattle.script_words.specs.declared.script.End.TheVariants as ends
+use Rattle.script_words.specs.declared.script.ScriptEnd.{ScriptEnd}
+use Rattle.script_words.specs.declared.script.ScriptEnd.TheVariants as ends
 use Rattle.script_live.specs.Flowing.{Flow}
 use Rattle.script_live.specs.LiveLines.{LiveValue}
 use Rattle.script_live.specs.Lives.{position, rules, Does, LivesPrint, Position}
@@ -45,8 +45,8 @@ some_print : (lines : List Text) (text : List ℕ) (here : Progress Position) �
     → (last : Flow) × Prints here.position.flow last here.printed text
 some_print lines text here prints = (prints.end.flow, lines_print lines here (progress prints.end text) prints.taken)
 
-all_print : (lines : List Text) (text : List ℕ) (end : End) (here : Progress Position) → scripts.IsTranscript rules here lines text end
-    → (last : Flow) × Prints here.position.flow last here.printed text
+all_print : (lines : List Text) (text : List ℕ) (end : ScriptEnd) (here : Progress Position)
+    → scripts.IsTranscript rules here lines text end → (last : Flow) × Prints here.position.flow last here.printed text
 all_print lines text ends.Taken here is = some_print lines text here is
 all_print lines text (ends.Refused number why) here is = some_print is.before text here is.prints
 all_print lines text ends.Halted here is = some_print is.before text here is.prints

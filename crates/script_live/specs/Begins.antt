@@ -2,8 +2,8 @@
 use Rattle.std.specs.Prelude.{◌≡◌, ⊤, ℕ, ◌+◌, List, [], ◌∷◌, Option, Some, None, Result, Ok, Err}
 use Rattle.zk_nodes.specs.Path.{Text}
 use Rattle.script_words.specs.Pieces.{words_of}
-use Rattle.script_words.specs.declared.script.End.{End}
-use Rattle.script_words.specs.declared.script.End.TheVariants.{Taken, Refused, Halted, Memory}
+use Rattle.script_words.specs.declared.script.ScriptEnd.{ScriptEnd}
+use Rattle.script_words.specs.declared.script.ScriptEnd.TheVariants.{Taken, Refused, Halted, Memory}
 use Rattle.script_words.specs.declared.script_fault.ScriptFault.{ScriptFault}
 use Rattle.script_replay.specs.ReplayLines.{BeginValue}
 use Rattle.script_live.specs.LiveLines.{begins_at, fresh}
@@ -28,7 +28,7 @@ abbrev pub begun_by : List Text → Begun
 begun_by lines = begun_from 1 lines
 
 -- Nothing was printed: the first line that stands is refused, so that there is no client, or memory ran out.
-abbrev pub Nothing : List Text → End → Type 0
+abbrev pub Nothing : List Text → ScriptEnd → Type 0
 Nothing lines Taken = ⊥
 Nothing lines (Refused number why) = begun_by lines ≡ Spoilt number why
 Nothing lines Halted = ⊥

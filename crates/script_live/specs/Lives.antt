@@ -8,8 +8,8 @@ use Rattle.script_words.specs.Pieces.{words_of}
 use Rattle.script_words.specs.Said.{TakesSaid}
 use Rattle.script_words.specs.Scripts.{progress, Rules}
 use Rattle.script_words.specs.Scripts as scripts
-use Rattle.script_words.specs.declared.script.End.{End}
-use Rattle.script_words.specs.declared.script.End.TheVariants.{Halted}
+use Rattle.script_words.specs.declared.script.ScriptEnd.{ScriptEnd}
+use Rattle.script_words.specs.declared.script.ScriptEnd.TheVariants.{Halted}
 use Rattle.script_replay.specs.ClientLines.{CutLine, NowLine, CallLine}
 use Rattle.script_replay.specs.ReplayLines.{BeginValue}
 use Rattle.script_replay.specs.Played.{start_of, DoesClient, HaltsAt}
@@ -74,7 +74,7 @@ rules = record {
 }
 
 -- The client that lines ask for is made, without a connection; it is connected, and then takes them. The text is what all this prints.
-pub record Lives (lines : List Text) (text : List ℕ) (end : End) : Type 0 where
+pub record Lives (lines : List Text) (text : List ℕ) (end : ScriptEnd) : Type 0 where
   pub start : BeginValue
   pub begins : begun_by lines ≡ Begins start
   pub first : Flow
@@ -89,7 +89,7 @@ pub record Lives (lines : List Text) (text : List ℕ) (end : End) : Type 0 wher
 -- All that such lines print, from the first client on, is what a list of deeds prints: the client says it, which is handed the bytes of its
 -- streams and no others.
 abbrev pub LivesPrint : Type 0
-LivesPrint = (lines : List Text) (text : List ℕ) (end : End) (lives : Lives lines text end)
+LivesPrint = (lines : List Text) (text : List ℕ) (end : ScriptEnd) (lives : Lives lines text end)
     → (last : Flow) × Prints lives.first last [] text
 
 -- The client that lines ask for halts while it is connected.
@@ -100,10 +100,10 @@ pub record HaltsFirst (lines : List Text) : Type 0 where
   pub halts : HaltsLive OpensLine (view_at (start_of start) []) after
 
 -- no line is read
-abbrev pub IsUnread : List Text → End → Type 0
+abbrev pub IsUnread : List Text → ScriptEnd → Type 0
 IsUnread lines Halted = HaltsFirst lines
 IsUnread lines end = Nothing lines end
 
 -- what lines printed, by how they ended
-abbrev pub IsTranscript : List Text → List ℕ → End → Type 0
+abbrev pub IsTranscript : List Text → List ℕ → ScriptEnd → Type 0
 IsTranscript lines text end = Lives lines text end ⊎ ((text ≡ []) × IsUnread lines end)

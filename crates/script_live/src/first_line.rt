@@ -7,13 +7,13 @@ ghost use Rattle.script_live.specs.Begins.{begun_by, Begins, Nothing};
 
 use crate::live_line::{ASKED, parse_first_line};
 use script_replay::begin_line::BeginLine;
-use script_words::script::{End, end_at};
+use script_words::script::{ScriptEnd, end_at};
 use script_words::stop::LineStop;
 use std::alloc::Allocator;
 
 /// The client that lines ask for: the first that is neither empty nor a remark says which. An error where that line is refused,
 /// and for memory.
-pub fn begin_of<A: Allocator + Copy>(alloc: A, lines: &[&[u8]]) -> Result<BeginLine<A>, End>
+pub fn begin_of<A: Allocator + Copy>(alloc: A, lines: &[&[u8]]) -> Result<BeginLine<A>, ScriptEnd>
     ensures value { IfOk result (λ line. begun_by (map (λ l. l.now) lines.now) ≡ Begins (begin_value_of line)) }
     ensures can { IfOk result (λ line. CanBegin (begin_value_of line)) }
     ensures err { IfErr result (λ end. Nothing (map (λ l. l.now) lines.now) end) }

@@ -6,15 +6,17 @@ ghost use Rattle.zk_client.specs.Clients.{view_of};
 ghost use Rattle.zk_client.specs.Views.{input_view};
 ghost use Rattle.zk_turns.specs.Turns.{Call, Cut, Opened};
 ghost use Rattle.script_words.specs.Stops.{IfHalted, IsWant};
-ghost use Rattle.script_live.specs.Flowing.{flow_of, holding, piece_bytes, piece_in, Carries, Reads};
-ghost use Rattle.script_live.specs.Heard.{is_waiting, tape, Awaits, Brings, Connects, Halts, HaltsAmong, HaltsAwaiting, HaltsBrought};
+ghost use Rattle.script_live.specs.Flowing.{flow_of, holding, piece_in, Carries, Reads};
+ghost use Rattle.script_live.specs.inner.Flowing.{piece_bytes};
+ghost use Rattle.script_live.specs.Heard.{is_waiting, tape, Awaits, Brings, Connects, Halts, HaltsAmong, HaltsAwaiting};
+ghost use Rattle.script_live.specs.inner.Heard.{HaltsBrought};
 ghost use Rattle.script_live.specs.Heard.{HaltsConnecting, Hears, MayEnd, Takes};
 ghost use Rattle.script_live.specs.Printed.{HandsThen, Prints};
 
 use crate::heard::{cut, printed_step};
 use crate::joint::Joint;
 use crate::ring::Ring;
-use script_replay::call_line::Asked;
+use script_replay::call_line::AskedCall;
 use script_words::stop::LineStop;
 use std::alloc::{AllocError, Allocator};
 use zk_client::{Client, Input, Output};
@@ -242,7 +244,12 @@ impl<A: Allocator + Copy, S: Stream> Link<A, S> {
     }
 
     /// Asks the server, and waits for its answer.
-    pub fn ask(&mut self, alloc: A, asked: Asked<A>, text: &mut String<A>) -> Result<(), LineStop>
+    pub fn ask(
+        &mut self,
+        alloc: A,
+        asked: AskedCall<A>,
+        text: &mut String<A>,
+    ) -> Result<(), LineStop>
         ensures ok { OnOk result (Awaits (tape (view_of self.old.joint.client) (string_bytes text.old))
             (Call asked.ticket (call_view asked.call)) (tape (view_of self.new.joint.client) (string_bytes text.new))) }
         ensures flows { OnOk result (Prints (flow_of S.remaining S.contents self.old.joint) (flow_of S.remaining S.contents self.new.joint)

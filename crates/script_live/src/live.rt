@@ -5,13 +5,14 @@ ghost use Rattle.zk_turns.specs.View.{view_at};
 ghost use Rattle.zk_client.specs.Clients.{view_of};
 ghost use Rattle.script_words.specs.Pieces.{words_of};
 ghost use Rattle.script_words.specs.Scripts.{lines_of};
-ghost use Rattle.script_words.specs.Stops.{IfHalted, IsDueBy, IsWant};
+ghost use Rattle.script_words.specs.Stops.{IfHalted, IsWant};
+ghost use Rattle.script_words.specs.inner.Stops.{IsDueBy};
 ghost use Rattle.script_replay.specs.Lines.{begin_value_of, client_value_of};
 ghost use Rattle.script_replay.specs.ReplayLines.{BeginValue, CanBegin};
 ghost use Rattle.script_replay.specs.Played.{start_of};
 ghost use Rattle.script_live.specs.Begins.{begun_by, Begins};
 ghost use Rattle.script_live.specs.Flowing.{flow_of};
-ghost use Rattle.script_live.specs.Lines.{live_value_of};
+ghost use Rattle.script_live.specs.inner.Lines.{live_value_of};
 ghost use Rattle.script_live.specs.LiveLines.{DrivesLine, says_at};
 ghost use Rattle.script_live.specs.Lives.{position_of, rules, DoesLive, HaltsLine, HaltsLive, IsTranscript, Position, TakesLine};
 ghost use Rattle.script_live.specs.Printed.{Prints};
@@ -24,7 +25,7 @@ use script_replay::begin_line::BeginLine;
 use script_replay::client_line::ClientLine;
 use script_replay::driven::{driven, make_client};
 use script_words::pieces::lines_of;
-use script_words::script::{End, LineReader, Transcript, end_at, nothing, read_lines};
+use script_words::script::{LineReader, ScriptEnd, Transcript, end_at, nothing, read_lines};
 use script_words::stop::LineStop;
 use std::alloc::{AllocError, Allocator};
 use zk_client::Input;
@@ -181,7 +182,7 @@ fn live_from<A: Allocator + Copy, D: Dial>(
             drop(session);
             transcript
         }
-        Err(_) => nothing(alloc, End::Memory),
+        Err(_) => nothing(alloc, ScriptEnd::Memory),
     }
 }
 
@@ -217,6 +218,6 @@ pub fn live<A: Allocator + Copy, D: Dial>(
 {
     match lines_of(alloc, script) {
         Ok(lines) => live_lines(alloc, dial, addresses, lines.as_slice()),
-        Err(_) => nothing(alloc, End::Memory),
+        Err(_) => nothing(alloc, ScriptEnd::Memory),
     }
 }

@@ -1,34 +1,33 @@
 -- The lines of a rehearsal.
-use Rattle.std.specs.Prelude.{◌≡◌, ◌<ℤ◌, ℤ, pos, Bool, true, false, if◌then◌else◌, List, [], ◌∷◌, codes, Option, Some, None, Result, Ok}
+use Rattle.std.specs.Prelude.{◌<ℤ◌, ℤ, Bool, true, false, if◌then◌else◌, List, [], ◌∷◌, codes, Option, Some, None, Result, Ok}
 use Rattle.std.specs.Prelude.{Err, bytes_eq}
 use Rattle.std.specs.List.{list_all}
 use Rattle.std.specs.Option.{option_map}
 use Rattle.zk_nodes.specs.Path.{Text}
 use Rattle.script_words.specs.declared.script_fault.ScriptFault.{ScriptFault}
 use Rattle.script_words.specs.declared.script_fault.ScriptFault.TheVariants.{Unknown, Place, Words}
-use Rattle.script_story.specs.declared.history_line.Keyword.{Keyword as HistoryKeyword}
-use Rattle.script_story.specs.declared.history_line.Keyword.TheVariants.{Ask}
+use Rattle.script_story.specs.declared.history_line.HistoryKeyword.{HistoryKeyword}
+use Rattle.script_story.specs.declared.history_line.HistoryKeyword.TheVariants.{Ask}
 use Rattle.script_story.specs.HistoryLines.{keyword_of as history_keyword_of}
 use Rattle.script_words.specs.Reads.{◌>>=◌, is_printed}
 use Rattle.script_words.specs.Said.{says_by}
 use Rattle.script_replay.specs.Reads.{timeout_at}
-use Rattle.script_rehearse.specs.declared.keywords.Keyword.{Keyword}
-use Rattle.script_rehearse.specs.declared.keywords.Keyword.TheVariants as keyword
-use Rattle.script_rehearse.specs.declared.said.Said.{Said}
+use Rattle.script_rehearse.specs.declared.keywords.RehearseKeyword.{RehearseKeyword}
+use Rattle.script_rehearse.specs.declared.keywords.RehearseKeyword.TheVariants as keyword
 use Rattle.script_rehearse.specs.declared.said.Said.TheVariants as said
-use Rattle.script_rehearse.specs.BenchLines.{BenchValue, bench_keyword_of, bench_line_at, bench_value_of}
+use Rattle.script_rehearse.specs.BenchLines.{BenchValue, bench_keyword_of, bench_line_at}
 
 -- a word that is none of the history's
-abbrev pub other_keyword_of : Text → Option Keyword
+abbrev pub other_keyword_of : Text → Option RehearseKeyword
 other_keyword_of word = if bytes_eq word (codes "begin") then Some keyword.Begin else option_map keyword.Bench (bench_keyword_of word)
 
 -- a look-up of the history is no line of a rehearsal
-abbrev pub or_other : Option HistoryKeyword → Text → Option Keyword
+abbrev pub or_other : Option HistoryKeyword → Text → Option RehearseKeyword
 or_other None word = other_keyword_of word
 or_other (Some Ask) word = None
 or_other (Some history) word = Some keyword.History
 
-abbrev pub keyword_of : Text → Option Keyword
+abbrev pub keyword_of : Text → Option RehearseKeyword
 keyword_of word = or_other (history_keyword_of word) word
 
 -- A line of the history; the one that makes the client, with its timeout; or one after it.
@@ -36,17 +35,6 @@ pub data RehearseValue : Type 0 where
   HistoryLine : RehearseValue
   BeginLine : ℤ → RehearseValue
   BenchValueLine : BenchValue → RehearseValue
-
-abbrev pub said_value : {A : Type 0} → Said A → RehearseValue
-said_value said.History = HistoryLine
-said_value (said.Begin timeout) = BeginLine timeout
-said_value (said.Bench line) = BenchValueLine (bench_value_of line)
-
--- The line is allowed here, and the client can be made so.
-abbrev pub CanPlay : (begun : Bool) → RehearseValue → Type 0
-CanPlay begun HistoryLine = begun ≡ false
-CanPlay begun (BeginLine timeout) = (begun ≡ false) × (pos 0 <ℤ timeout)
-CanPlay begun (BenchValueLine value) = begun ≡ true
 
 abbrev pub begin_words_at : List Text → Result ℤ ScriptFault
 begin_words_at (timeout ∷ []) = timeout_at timeout
@@ -56,13 +44,13 @@ abbrev pub begin_at : List Text → Result ℤ ScriptFault
 begin_at words = if list_all is_printed words then begin_words_at words else Err Words
 
 -- the history is made before the client, and the client is driven after it
-abbrev pub placed_at : Keyword → (begun : Bool) → List Text → Result RehearseValue ScriptFault
+abbrev pub placed_at : RehearseKeyword → (begun : Bool) → List Text → Result RehearseValue ScriptFault
 placed_at keyword.History false words = Ok HistoryLine
 placed_at keyword.Begin false words = begin_at words >>= λ timeout. Ok (BeginLine timeout)
 placed_at (keyword.Bench word) true words = bench_line_at word words >>= λ value. Ok (BenchValueLine value)
 placed_at word begun words = Err Place
 
-abbrev pub known_at : Option Keyword → (begun : Bool) → List Text → Result RehearseValue ScriptFault
+abbrev pub known_at : Option RehearseKeyword → (begun : Bool) → List Text → Result RehearseValue ScriptFault
 known_at None begun words = Err Unknown
 known_at (Some word) begun words = placed_at word begun words
 

@@ -4,12 +4,12 @@ ghost use Rattle.std.specs.Prelude.{◌≡◌};
 ghost use Rattle.script_rehearse.specs.RehearseLines.{keyword_of};
 
 use crate::bench_line::BenchKeyword;
-use script_story::history_line::Keyword as HistoryKeyword;
+use script_story::history_line::HistoryKeyword;
 use script_words::reads::is_named;
 
 /// What a line does, by its first word.
 #[derive(Clone, Copy)]
-pub enum Keyword {
+pub enum RehearseKeyword {
     /// It makes the history.
     History,
     /// It makes the client.
@@ -18,20 +18,20 @@ pub enum Keyword {
     Bench(BenchKeyword),
 }
 
-impl Keyword {
+impl RehearseKeyword {
     /// The keyword that a word is. A look-up of the history is none.
-    pub fn named(word: &[u8]) -> Option<Keyword>
+    pub fn named(word: &[u8]) -> Option<RehearseKeyword>
         ensures { result ≡ keyword_of word.now }
     {
         match HistoryKeyword::named(word) {
             Some(HistoryKeyword::Ask) => None,
-            Some(_) => Some(Keyword::History),
+            Some(_) => Some(RehearseKeyword::History),
             None => {
                 if is_named(word, "begin") {
-                    return Some(Keyword::Begin);
+                    return Some(RehearseKeyword::Begin);
                 }
                 match BenchKeyword::named(word) {
-                    Some(word) => Some(Keyword::Bench(word)),
+                    Some(word) => Some(RehearseKeyword::Bench(word)),
                     None => None,
                 }
             }

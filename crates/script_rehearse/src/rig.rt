@@ -7,7 +7,7 @@ use crate::called::add_path;
 use crate::good::push_paths;
 use crate::heard::hear_all;
 use crate::server::Server;
-use script_replay::call_line::Asked;
+use script_replay::call_line::AskedCall;
 use script_replay::client_line::ClientLine;
 use script_replay::driven::driven;
 use script_replay::outputs::outputs_text;
@@ -38,9 +38,11 @@ impl<A: Allocator + Copy> Rig<A> {
     ghost use Rattle.script_replay.specs.Lines.{client_value_of, asked_of};
     ghost use Rattle.script_replay.specs.Played.{HaltsAt, HaltsClient};
     ghost use Rattle.script_words.specs.Stops.{IfHalted, IsWant};
-    ghost use Rattle.script_rehearse.specs.BenchLines.{TakeLine, ProcessLine, bench_value_of};
+    ghost use Rattle.script_rehearse.specs.BenchLines.{TakeLine, ProcessLine};
+    ghost use Rattle.script_rehearse.specs.inner.BenchLines.{bench_value_of};
     ghost use Rattle.script_rehearse.specs.Good.{TellsPaths};
-    ghost use Rattle.script_rehearse.specs.Scenes.{scene_of, first_scene, Plays, Delivers, Processes, TakesNext, Calls, Rejoins, TellsGood};
+    ghost use Rattle.script_rehearse.specs.inner.Scenes.{scene_of};
+    ghost use Rattle.script_rehearse.specs.Scenes.{first_scene, Plays, Delivers, Processes, TakesNext, Calls, Rejoins, TellsGood};
     ghost use Rattle.script_rehearse.specs.Scenes.{DoesBench, DoesClientLine, HaltsBench};
 
     /// A new client, and servers over a history. None is connected.
@@ -108,7 +110,7 @@ impl<A: Allocator + Copy> Rig<A> {
     }
 
     /// The client is asked. The path of the call is looked up by `good` from now on.
-    fn call(&mut self, alloc: A, asked: Asked<A>) -> Result<String<A>, LineStop>
+    fn call(&mut self, alloc: A, asked: AskedCall<A>) -> Result<String<A>, LineStop>
         ensures ok { IfOk result (λ text. Calls (asked_of asked) (scene_of self.old) (scene_of self.new) (string_bytes text)) }
         ensures err { IfErr result IsWant }
         ensures halt { IfErr result

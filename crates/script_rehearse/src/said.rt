@@ -3,10 +3,11 @@
 ghost use Rattle.std.specs.Prelude.{◌≡◌, ◌<ℤ◌, pos, map, IfOk, IfSome};
 ghost use Rattle.std.specs.Option.{option_map};
 ghost use Rattle.script_words.specs.Reads.{Reads};
-ghost use Rattle.script_rehearse.specs.RehearseLines.{begin_at, placed_at, says_at, said_value, CanPlay};
+ghost use Rattle.script_rehearse.specs.RehearseLines.{begin_at, placed_at, says_at};
+ghost use Rattle.script_rehearse.specs.inner.RehearseLines.{said_value, CanPlay};
 
 use crate::bench_line::{BenchLine, parse_bench_line};
-use crate::keywords::Keyword;
+use crate::keywords::RehearseKeyword;
 use script_replay::reads::parse_timeout;
 use script_words::reads::{are_printed, split_keyword};
 use script_words::script_fault::ScriptFault;
@@ -38,7 +39,7 @@ fn parse_begin(words: &[&[u8]]) -> Result<i32, ScriptFault>
 
 fn parse_placed<A: Allocator + Copy>(
     alloc: A,
-    keyword: Keyword,
+    keyword: RehearseKeyword,
     begun: bool,
     words: &[&[u8]],
 ) -> Result<Said<A>, ScriptFault>
@@ -46,12 +47,12 @@ fn parse_placed<A: Allocator + Copy>(
     ensures can { IfOk result (λ said. CanPlay begun (said_value said)) }
 {
     match keyword {
-        Keyword::History if !begun => Ok(Said::History),
-        Keyword::Begin if !begun => {
+        RehearseKeyword::History if !begun => Ok(Said::History),
+        RehearseKeyword::Begin if !begun => {
             let timeout = parse_begin(words)?;
             Ok(Said::Begin(timeout))
         }
-        Keyword::Bench(word) if begun => {
+        RehearseKeyword::Bench(word) if begun => {
             let line = parse_bench_line(alloc, word, words)?;
             Ok(Said::Bench(line))
         }
@@ -71,7 +72,7 @@ pub fn parse_said<A: Allocator + Copy>(
     let Some((first, behind)) = split_keyword(words) else {
         return Ok(None);
     };
-    let keyword = Keyword::named(first).ok_or(ScriptFault::Unknown)?;
+    let keyword = RehearseKeyword::named(first).ok_or(ScriptFault::Unknown)?;
     let line = parse_placed(alloc, keyword, begun, behind)?;
     Ok(Some(line))
 }

@@ -12,8 +12,8 @@ use Rattle.script_replay.specs.declared.begin_line.BeginKeyword.{BeginKeyword}
 use Rattle.script_replay.specs.declared.begin_line.BeginKeyword.TheVariants as begin_keyword
 use Rattle.script_replay.specs.declared.drive_line.DriveKeyword.{DriveKeyword}
 use Rattle.script_replay.specs.declared.drive_line.DriveKeyword.TheVariants as drive_keyword
-use Rattle.script_replay.specs.declared.player.Keyword.{Keyword}
-use Rattle.script_replay.specs.declared.player.Keyword.TheVariants as keyword
+use Rattle.script_replay.specs.declared.player.ReplayKeyword.{ReplayKeyword}
+use Rattle.script_replay.specs.declared.player.ReplayKeyword.TheVariants as keyword
 use Rattle.script_replay.specs.ClientLines.{ClientValue, keyword_or_client, client_line_at}
 use Rattle.script_replay.specs.Reads.{timeout_at, session_at, bytes_at, password_at}
 use Rattle.zk_limits.specs.declared.limits.TheConstants.{LONGEST_PASSWORD}
@@ -81,11 +81,11 @@ drive_line_at (drive_keyword.Client word) words = client_line_at word words >>= 
 
 -- A line
 
-abbrev pub or_drive : Option BeginKeyword → Option DriveKeyword → Option Keyword
+abbrev pub or_drive : Option BeginKeyword → Option DriveKeyword → Option ReplayKeyword
 or_drive (Some word) drive = Some (keyword.Begin word)
 or_drive None drive = option_map keyword.Drive drive
 
-abbrev pub keyword_of : Text → Option Keyword
+abbrev pub keyword_of : Text → Option ReplayKeyword
 keyword_of word = or_drive (begin_keyword_of word) (drive_keyword_of word)
 
 pub data ReplayValue : Type 0 where
@@ -93,13 +93,13 @@ pub data ReplayValue : Type 0 where
   Drives : DriveValue → ReplayValue
 
 -- the client is made by the first line alone
-abbrev pub placed_at : Keyword → (begun : Bool) → List Text → Result ReplayValue ScriptFault
+abbrev pub placed_at : ReplayKeyword → (begun : Bool) → List Text → Result ReplayValue ScriptFault
 placed_at (keyword.Begin word) false words = begin_line_at word words >>= λ value. Ok (Begins value)
 placed_at (keyword.Begin word) true words = Err Place
 placed_at (keyword.Drive word) true words = drive_line_at word words >>= λ value. Ok (Drives value)
 placed_at (keyword.Drive word) false words = Err Place
 
-abbrev pub known_at : Option Keyword → (begun : Bool) → List Text → Result ReplayValue ScriptFault
+abbrev pub known_at : Option ReplayKeyword → (begun : Bool) → List Text → Result ReplayValue ScriptFault
 known_at None begun words = Err Unknown
 known_at (Some word) begun words = placed_at word begun words
 

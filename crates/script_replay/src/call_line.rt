@@ -5,7 +5,8 @@ ghost use Rattle.std.specs.Option.{option_map};
 ghost use Rattle.zk_conversation.specs.Views.{call_view};
 ghost use Rattle.script_words.specs.Reads.{Reads};
 ghost use Rattle.script_replay.specs.CallLines.{kind_read, asks_at, content_at, on_path_at, close_at, kind_at, numbered_at, call_at};
-ghost use Rattle.script_replay.specs.Lines.{asked_of, asks_of};
+ghost use Rattle.script_replay.specs.Lines.{asked_of};
+ghost use Rattle.script_replay.specs.inner.Lines.{asks_of};
 
 use crate::reads::{parse_boolean, parse_mode, parse_natural, parse_version};
 use script_words::reads::{is_named, parse_data, parse_path, parse_text};
@@ -28,7 +29,7 @@ enum CallKind {
 
 /// A call, with its caller's number.
 #[derive(Drop)]
-pub struct Asked<A: Allocator> {
+pub struct AskedCall<A: Allocator> {
     pub ticket: u64,
     pub call: Call<A>,
 }
@@ -118,7 +119,7 @@ fn parse_on_path<A: Allocator + Copy>(
     path: &[u8],
     bytes: Option<&[u8]>,
     word: &[u8],
-) -> Result<Asked<A>, ScriptFault>
+) -> Result<AskedCall<A>, ScriptFault>
     ensures { Reads asked_of result (on_path_at kind ticket.now path.now (option_map (λ w. w.now) bytes.entry) word.now) }
 {
     let path = parse_text(alloc, path)?;
@@ -127,10 +128,13 @@ fn parse_on_path<A: Allocator + Copy>(
     let bytes = parse_content(alloc, bytes)?;
     let path = parse_path(alloc, path.as_str())?;
     let call = call_of(wish, path, bytes);
-    Ok(Asked { ticket, call })
+    Ok(AskedCall { ticket, call })
 }
 
-fn parse_close<A: Allocator + Copy>(ticket: &[u8], words: &[&[u8]]) -> Result<Asked<A>, ScriptFault>
+fn parse_close<A: Allocator + Copy>(
+    ticket: &[u8],
+    words: &[&[u8]],
+) -> Result<AskedCall<A>, ScriptFault>
     ensures { Reads asked_of result (close_at ticket.now (map (λ w. w.now) words.now)) }
 {
     let [] = words else {
@@ -138,7 +142,7 @@ fn parse_close<A: Allocator + Copy>(ticket: &[u8], words: &[&[u8]]) -> Result<As
     };
     let ticket = parse_natural(ticket)?;
     let call = Call::Close;
-    Ok(Asked { ticket, call })
+    Ok(AskedCall { ticket, call })
 }
 
 /// The call of a kind. Some bring data, between their path and their last word.
@@ -147,7 +151,7 @@ fn parse_kind<A: Allocator + Copy>(
     kind: CallKind,
     ticket: &[u8],
     words: &[&[u8]],
-) -> Result<Asked<A>, ScriptFault>
+) -> Result<AskedCall<A>, ScriptFault>
     ensures { Reads asked_of result (kind_at kind ticket.now (map (λ w. w.now) words.now)) }
 {
     match kind {
@@ -172,7 +176,7 @@ fn parse_numbered<A: Allocator + Copy>(
     alloc: A,
     ticket: &[u8],
     words: &[&[u8]],
-) -> Result<Asked<A>, ScriptFault>
+) -> Result<AskedCall<A>, ScriptFault>
     ensures { Reads asked_of result (numbered_at ticket.now (map (λ w. w.now) words.now)) }
 {
     let Some((kind, words)) = words.split_first() else {
@@ -186,7 +190,7 @@ fn parse_numbered<A: Allocator + Copy>(
 pub(crate) fn parse_call<A: Allocator + Copy>(
     alloc: A,
     words: &[&[u8]],
-) -> Result<Asked<A>, ScriptFault>
+) -> Result<AskedCall<A>, ScriptFault>
     ensures { Reads asked_of result (call_at (map (λ w. w.now) words.now)) }
 {
     let Some((ticket, words)) = words.split_first() else {

@@ -5,7 +5,7 @@ ghost use Rattle.script_words.specs.Reads.{Reads};
 ghost use Rattle.script_replay.specs.ClientLines.{client_keyword_of, now_at, peek_at, client_words_at, client_line_at};
 ghost use Rattle.script_replay.specs.Lines.{client_value_of};
 
-use crate::call_line::{Asked, parse_call};
+use crate::call_line::{AskedCall, parse_call};
 use crate::reads::parse_natural;
 use script_words::reads::{alone, are_printed, is_named, only, parse_path, parse_side, parse_text};
 use script_words::script_fault::ScriptFault;
@@ -57,7 +57,7 @@ pub enum ClientLine<A: Allocator> {
     /// The moment, in milliseconds.
     Now(u64),
     /// A call.
-    Call(Asked<A>),
+    Call(AskedCall<A>),
     /// A look-up of what is kept of a path on one side.
     Peek(Side, Path<A>),
     /// A look-up of the last seen zxid.

@@ -15,9 +15,9 @@ use zk_jute::TakeError;
 
 /// A fault of reading as it is told: its code, and its place where it has one.
 #[derive(Clone, Copy, Debug, PartialEq, Eq)]
-pub struct Told(pub TakeError);
+pub struct ToldFault(pub TakeError);
 
-impl fmt::Display for Told {
+impl fmt::Display for ToldFault {
     ghost use Rattle.std.specs.Prelude.{Some};
     ghost use Rattle.script_replay.specs.FaultTexts.{take_error_text};
 
@@ -50,8 +50,8 @@ fn push_talk_values<A: Allocator + Copy>(
             push_word(text, alloc, &awaited)?;
             push_word(text, alloc, &came)
         }
-        TalkFault::BadRecord(fault) => push_word(text, alloc, &Told(fault)),
-        TalkFault::BadNotice(fault) => push_word(text, alloc, &Told(fault)),
+        TalkFault::BadRecord(fault) => push_word(text, alloc, &ToldFault(fault)),
+        TalkFault::BadNotice(fault) => push_word(text, alloc, &ToldFault(fault)),
     }
 }
 

@@ -2,12 +2,16 @@
 
 ghost use Rattle.std.specs.Prelude.{◌≡◌, Option, None, IfOk, IfErr, is_some, map, string_bytes};
 ghost use Rattle.script_replay.specs.ReplayLines.{keyword_of, placed_at, says_at};
-ghost use Rattle.script_replay.specs.declared.player.Keyword.TheVariants as made;
+ghost use Rattle.script_replay.specs.declared.player.ReplayKeyword.TheVariants as made;
 ghost use Rattle.script_words.specs.Pieces.{words_of};
-ghost use Rattle.script_replay.specs.Played.{view_of_player, DoesSaid, HaltsLine, HaltsSaid, HaltsWords, TakesLine, TakesWords};
-ghost use Rattle.script_replay.specs.Courses.{Course, Follows, StandsBy};
-ghost use Rattle.script_replay.specs.Replays.{rules, IsAt, Position};
-ghost use Rattle.script_words.specs.Stops.{IfHalted, IsDueBy};
+ghost use Rattle.script_replay.specs.inner.Played.{view_of_player, DoesSaid, HaltsSaid};
+ghost use Rattle.script_replay.specs.Played.{HaltsLine, HaltsWords, TakesLine, TakesWords};
+ghost use Rattle.script_replay.specs.Courses.{Course, StandsBy};
+ghost use Rattle.script_replay.specs.inner.Courses.{Follows};
+ghost use Rattle.script_replay.specs.Replays.{rules, Position};
+ghost use Rattle.script_replay.specs.inner.Replays.{IsAt};
+ghost use Rattle.script_words.specs.Stops.{IfHalted};
+ghost use Rattle.script_words.specs.inner.Stops.{IsDueBy};
 
 use crate::begin_line::{BeginKeyword, parse_begin_line};
 use crate::drive_line::{DriveKeyword, parse_drive_line};
@@ -22,20 +26,20 @@ use zk_client::Client;
 
 /// What a line does, by its first word.
 #[derive(Clone, Copy)]
-pub enum Keyword {
+pub enum ReplayKeyword {
     Begin(BeginKeyword),
     Drive(DriveKeyword),
 }
 
-impl Keyword {
+impl ReplayKeyword {
     /// The keyword that a word is.
-    pub fn named(word: &[u8]) -> Option<Keyword>
+    pub fn named(word: &[u8]) -> Option<ReplayKeyword>
         ensures { result ≡ keyword_of word.now }
     {
         match BeginKeyword::named(word) {
-            Some(word) => Some(Keyword::Begin(word)),
+            Some(word) => Some(ReplayKeyword::Begin(word)),
             None => match DriveKeyword::named(word) {
-                Some(word) => Some(Keyword::Drive(word)),
+                Some(word) => Some(ReplayKeyword::Drive(word)),
                 None => None,
             },
         }
@@ -103,7 +107,7 @@ impl<A: Allocator + Copy> Player<A> {
     fn perform(
         &mut self,
         alloc: A,
-        keyword: Keyword,
+        keyword: ReplayKeyword,
         words: &[&[u8]],
     ) -> Result<String<A>, LineStop>
         ensures ok { IfOk result (λ text. DoesSaid (placed_at keyword (is_some (view_of_player self.old)) (map (λ w. w.now) words.now))
@@ -113,8 +117,8 @@ impl<A: Allocator + Copy> Player<A> {
             (map (λ w. w.now) words.now)) (view_of_player self.old) (view_of_player self.new))) }
     {
         match keyword {
-            Keyword::Begin(word) => self.begin(alloc, word, words),
-            Keyword::Drive(word) => self.drive(alloc, word, words),
+            ReplayKeyword::Begin(word) => self.begin(alloc, word, words),
+            ReplayKeyword::Drive(word) => self.drive(alloc, word, words),
         }
     }
 
@@ -129,7 +133,7 @@ impl<A: Allocator + Copy> Player<A> {
         let Some((first, behind)) = split_keyword(words) else {
             return Ok(String::new(alloc));
         };
-        let keyword = Keyword::named(first).ok_or(ScriptFault::Unknown)?;
+        let keyword = ReplayKeyword::named(first).ok_or(ScriptFault::Unknown)?;
         self.perform(alloc, keyword, behind)
     }
 

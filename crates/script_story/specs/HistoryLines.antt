@@ -1,20 +1,17 @@
 -- The lines of a script that make a history and ask it.
 use Rattle.std.specs.Prelude.{ℕ, ℤ, if◌then◌else◌, List, [], ◌∷◌, codes, Option, Result, Ok, Err}
-use Rattle.std.specs.Option.{option_map}
 use Rattle.std.specs.List.{list_all}
 use Rattle.zk_nodes.specs.Path.{Text, path_of}
 use Rattle.zk_nodes.specs.History.{Change, Creates, Sets, Deletes}
-use Rattle.zk_history.specs.Made.{change_of}
 use Rattle.zk_nodes.specs.declared.side.Side.{Side}
-use Rattle.script_story.specs.declared.history_line.HistoryLine.{HistoryLine}
 use Rattle.script_story.specs.declared.history_line.HistoryLine.TheVariants as line
-use Rattle.script_story.specs.declared.history_line.Keyword.{Keyword}
-use Rattle.script_story.specs.declared.history_line.Keyword.TheVariants as keyword
+use Rattle.script_story.specs.declared.history_line.HistoryKeyword.{HistoryKeyword}
+use Rattle.script_story.specs.declared.history_line.HistoryKeyword.TheVariants as keyword
 use Rattle.script_words.specs.declared.script_fault.ScriptFault.{ScriptFault}
 use Rattle.script_words.specs.declared.script_fault.ScriptFault.TheVariants.{Words}
 use Rattle.script_words.specs.Reads.{◌>>=◌, named, time_at, zxid_at, data_at, text_at, path_at, side_read, is_printed}
 
-abbrev pub keyword_of : Text → Option Keyword
+abbrev pub keyword_of : Text → Option HistoryKeyword
 keyword_of word =
     named
     ((codes "node", keyword.Node) ∷ (codes "tx", keyword.Tx) ∷ (codes "create", keyword.Create) ∷ (codes "set", keyword.Set)
@@ -27,12 +24,6 @@ pub data LineValue : Type 0 where
   BeginLine : ℤ → ℤ → LineValue
   ChangeLine : Change → LineValue
   AskLine : Side → ℤ → Text → LineValue
-
-abbrev pub value_of : {A : Type 0} → HistoryLine A → LineValue
-value_of (line.Node path bytes time) = NodeLine path (option_map (λ v. v.items) bytes) time
-value_of (line.Begin zxid time) = BeginLine zxid time
-value_of (line.Change change) = ChangeLine (change_of change)
-value_of (line.Ask side zxid path) = AskLine side zxid path
 
 -- a path, data and a number
 abbrev pub filled_at : (Text → Option (List ℕ) → ℤ → LineValue) → List Text → Result LineValue ScriptFault
@@ -84,7 +75,7 @@ abbrev pub ask_at : List Text → Result LineValue ScriptFault
 ask_at (zxid ∷ side ∷ path ∷ []) = look_up_at zxid side path
 ask_at words = Err Words
 
-abbrev pub words_at : Keyword → List Text → Result LineValue ScriptFault
+abbrev pub words_at : HistoryKeyword → List Text → Result LineValue ScriptFault
 words_at keyword.Node words = node_at words
 words_at keyword.Tx words = begin_at words
 words_at keyword.Create words = create_at words
@@ -93,5 +84,5 @@ words_at keyword.Delete words = delete_at words
 words_at keyword.Ask words = ask_at words
 
 -- what the words after a keyword say
-abbrev pub line_at : Keyword → List Text → Result LineValue ScriptFault
+abbrev pub line_at : HistoryKeyword → List Text → Result LineValue ScriptFault
 line_at word words = if list_all is_printed words then words_at word words else Err Words

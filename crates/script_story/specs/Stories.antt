@@ -10,8 +10,8 @@ use Rattle.zk_history.specs.declared.history_fault.HistoryFault.{HistoryFault}
 use Rattle.zk_history.specs.declared.history_fault.HistoryFault.TheVariants as refused
 use Rattle.zk_nodes.specs.declared.side.Side.{Side}
 use Rattle.zk_nodes.specs.declared.side.Side.TheVariants.{Data, Child}
-use Rattle.script_story.specs.declared.history_line.Keyword.{Keyword}
-use Rattle.script_story.specs.declared.history_line.Keyword.TheVariants as keyword
+use Rattle.script_story.specs.declared.history_line.HistoryKeyword.{HistoryKeyword}
+use Rattle.script_story.specs.declared.history_line.HistoryKeyword.TheVariants as keyword
 use Rattle.script_words.specs.declared.script_fault.ScriptFault.{ScriptFault}
 use Rattle.script_words.specs.declared.script_fault.ScriptFault.TheVariants.{Unknown, Place, Order, Illegal, Memory}
 use Rattle.script_story.specs.declared.story.Story.{Story}
@@ -35,7 +35,7 @@ abbrev pub first_position : Position
 first_position = record { history = empty_kept; begun = false; asked = false }
 
 -- whether a line may stand where a transaction was begun or not, and the history was asked or not
-abbrev pub may_stand : Keyword → Bool → Bool → Bool
+abbrev pub may_stand : HistoryKeyword → Bool → Bool → Bool
 may_stand keyword.Ask begun asked = true
 may_stand keyword.Tx begun asked = not asked
 may_stand keyword.Node begun asked = not asked && not begun
@@ -43,7 +43,7 @@ may_stand keyword.Create begun asked = not asked && begun
 may_stand keyword.Set begun asked = not asked && begun
 may_stand keyword.Delete begun asked = not asked && begun
 
-abbrev pub said_by : Option Keyword → List Text → Bool → Bool → Result LineValue ScriptFault
+abbrev pub said_by : Option HistoryKeyword → List Text → Bool → Bool → Result LineValue ScriptFault
 said_by None words begun asked = Err Unknown
 said_by (Some keyword) words begun asked = if may_stand keyword begun asked then line_at keyword words else Err Place
 
@@ -57,11 +57,6 @@ reason_of refused.Place = Place
 reason_of refused.Order = Order
 reason_of refused.Illegal = Illegal
 reason_of refused.Memory = Memory
-
--- what a history answers to a line
-abbrev pub allowed : {X : Type 0} → Result X HistoryFault → Result X ScriptFault
-allowed (Ok done) = Ok done
-allowed (Err why) = Err (reason_of why)
 
 -- what is answered at a zxid and a path
 abbrev pub IsAnswer : Side → HistoryView → ℕ → Text → List ℕ → Type 0

@@ -2,7 +2,8 @@
 
 ghost use Rattle.std.specs.Prelude.{◌≡◌, map};
 ghost use Rattle.script_words.specs.Reads.{Reads};
-ghost use Rattle.script_story.specs.HistoryLines.{keyword_of, value_of, node_at, begin_at, create_at, set_at, delete_at, look_up_at};
+ghost use Rattle.script_story.specs.HistoryLines.{keyword_of, node_at, begin_at, create_at, set_at, delete_at, look_up_at};
+ghost use Rattle.script_story.specs.inner.HistoryLines.{value_of};
 ghost use Rattle.script_story.specs.HistoryLines.{ask_at, line_at};
 
 use script_words::reads::{
@@ -15,7 +16,7 @@ use zk_nodes::{Path, Side};
 
 /// What a line does, by its first word.
 #[derive(Clone, Copy)]
-pub enum Keyword {
+pub enum HistoryKeyword {
     Node,
     Tx,
     Create,
@@ -24,23 +25,23 @@ pub enum Keyword {
     Ask,
 }
 
-impl Keyword {
+impl HistoryKeyword {
     /// The keyword that a word is.
-    pub fn named(word: &[u8]) -> Option<Keyword>
+    pub fn named(word: &[u8]) -> Option<HistoryKeyword>
         ensures { result ≡ keyword_of word.now }
     {
         if is_named(word, "node") {
-            Some(Keyword::Node)
+            Some(HistoryKeyword::Node)
         } else if is_named(word, "tx") {
-            Some(Keyword::Tx)
+            Some(HistoryKeyword::Tx)
         } else if is_named(word, "create") {
-            Some(Keyword::Create)
+            Some(HistoryKeyword::Create)
         } else if is_named(word, "set") {
-            Some(Keyword::Set)
+            Some(HistoryKeyword::Set)
         } else if is_named(word, "delete") {
-            Some(Keyword::Delete)
+            Some(HistoryKeyword::Delete)
         } else if is_named(word, "ask") {
-            Some(Keyword::Ask)
+            Some(HistoryKeyword::Ask)
         } else {
             None
         }
@@ -154,7 +155,7 @@ fn parse_ask<A: Allocator + Copy>(alloc: A, words: &[&[u8]]) -> Result<HistoryLi
 /// The line of a keyword and the words after it.
 pub(crate) fn parse_line<A: Allocator + Copy>(
     alloc: A,
-    keyword: Keyword,
+    keyword: HistoryKeyword,
     words: &[&[u8]],
 ) -> Result<HistoryLine<A>, ScriptFault>
     ensures { Reads value_of result (line_at keyword (map (λ w. w.now) words.now)) }
@@ -163,11 +164,11 @@ pub(crate) fn parse_line<A: Allocator + Copy>(
         return Err(ScriptFault::Words);
     }
     match keyword {
-        Keyword::Node => parse_node(alloc, words),
-        Keyword::Tx => parse_begin(words),
-        Keyword::Create => parse_create(alloc, words),
-        Keyword::Set => parse_set(alloc, words),
-        Keyword::Delete => parse_delete(alloc, words),
-        Keyword::Ask => parse_ask(alloc, words),
+        HistoryKeyword::Node => parse_node(alloc, words),
+        HistoryKeyword::Tx => parse_begin(words),
+        HistoryKeyword::Create => parse_create(alloc, words),
+        HistoryKeyword::Set => parse_set(alloc, words),
+        HistoryKeyword::Delete => parse_delete(alloc, words),
+        HistoryKeyword::Ask => parse_ask(alloc, words),
     }
 }

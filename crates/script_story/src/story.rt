@@ -4,13 +4,14 @@ ghost use Rattle.std.specs.Prelude.{◌≡◌, ◌≢◌, OnErr, IfOk, IfErr, ma
 ghost use Rattle.std.specs.Option.{option_map};
 ghost use Rattle.zk_history.specs.HistoryView.{natural};
 ghost use Rattle.zk_nodes.specs.declared.side.Side.TheVariants.{Data, Child};
-ghost use Rattle.script_story.specs.HistoryLines.{value_of};
+ghost use Rattle.script_story.specs.inner.HistoryLines.{value_of};
 ghost use Rattle.script_words.specs.Reads.{Reads};
-ghost use Rattle.script_story.specs.Stories.{Position, allowed, first_position, may_stand, position_of, rules, said, IsAnswer, IsRefused};
+ghost use Rattle.script_story.specs.Stories.{Position, first_position, may_stand, position_of, rules, said, IsAnswer, IsRefused};
+ghost use Rattle.script_story.specs.inner.Stories.{allowed};
 ghost use Rattle.script_story.specs.Stories.{RefusesLine, Takes, TakesLine};
 
 use crate::answers::{push_data, push_names};
-use crate::history_line::{HistoryLine, Keyword, parse_line};
+use crate::history_line::{HistoryKeyword, HistoryLine, parse_line};
 use script_words::pieces::words_of;
 use script_words::reads::split_keyword;
 use script_words::script::LineReader;
@@ -54,14 +55,15 @@ impl<A: Allocator + Copy> Story<A> {
     }
 
     /// Whether a line of this keyword is allowed here.
-    fn takes(&self, keyword: Keyword) -> bool
+    fn takes(&self, keyword: HistoryKeyword) -> bool
         ensures { result ≡ may_stand keyword self.now.begun self.now.asked }
     {
         match keyword {
-            Keyword::Ask => true,
-            Keyword::Tx => !self.asked,
-            Keyword::Node => !self.asked && !self.begun,
-            Keyword::Create | Keyword::Set | Keyword::Delete => !self.asked && self.begun,
+            HistoryKeyword::Ask => true,
+            HistoryKeyword::Tx => !self.asked,
+            HistoryKeyword::Node => !self.asked && !self.begun,
+            HistoryKeyword::Create | HistoryKeyword::Set | HistoryKeyword::Delete => !self.asked
+                && self.begun,
         }
     }
 
@@ -120,7 +122,7 @@ impl<A: Allocator + Copy> Story<A> {
         let Some((first, behind)) = split_keyword(words) else {
             return Ok(None);
         };
-        let keyword = Keyword::named(first).ok_or(ScriptFault::Unknown)?;
+        let keyword = HistoryKeyword::named(first).ok_or(ScriptFault::Unknown)?;
         if !self.takes(keyword) {
             return Err(ScriptFault::Place);
         }

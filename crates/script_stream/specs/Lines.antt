@@ -5,11 +5,10 @@ use Rattle.script_words.specs.Pieces.{words_of}
 use Rattle.script_words.specs.Reads.{◌>>=◌, alone, data_at, only}
 use Rattle.script_words.specs.Said.{says_by, TakesSaid}
 use Rattle.script_words.specs.Scripts.{IsTranscript, Rules, progress}
-use Rattle.script_words.specs.declared.script.End.{End as Ending}
+use Rattle.script_words.specs.declared.script.ScriptEnd.{ScriptEnd}
 use Rattle.script_words.specs.declared.script_fault.ScriptFault.{ScriptFault}
 use Rattle.script_words.specs.declared.script_fault.ScriptFault.TheVariants.{Unknown, Hex}
-use Rattle.script_stream.specs.declared.line.Line.{Line}
-use Rattle.script_stream.specs.declared.line.Line.TheVariants as lines
+use Rattle.script_stream.specs.declared.line.CaptureLine.TheVariants as lines
 use Rattle.script_stream.specs.declared.way.Way.{Way}
 use Rattle.script_stream.specs.declared.way.Way.TheVariants.{Client, Server}
 use Rattle.script_stream.specs.Streams.{Hears, Position, first_position, left_line}
@@ -19,10 +18,6 @@ use Rattle.script_stream.specs.Ways.{way_of}
 pub data Says : Type 0 where
   Came : Way → List ℕ → Says
   Over : Says
-
-abbrev pub says_of : {A : Type 0} → Line A → Says
-says_of (lines.Came way bytes) = Came way bytes.items
-says_of lines.Over = Over
 
 -- bytes, and null is none
 abbrev pub some_bytes : Option (List ℕ) → Result (List ℕ) ScriptFault
@@ -63,5 +58,5 @@ abbrev pub rules : Rules Position
 rules = record { Takes = TakesLine; Refuses = λ line old fault. said (words_of line) ≡ Err fault; Halts = λ line old. ⊥ }
 
 -- What is printed of the lines of a capture, whose end is told after them, by how they ended.
-abbrev pub IsShown : List Text → List ℕ → Ending → Type 0
+abbrev pub IsShown : List Text → List ℕ → ScriptEnd → Type 0
 IsShown lines text end = IsTranscript rules (progress first_position []) (lines ++ codes "end" ∷ []) text end

@@ -2,7 +2,8 @@
 
 ghost use Rattle.std.specs.Prelude.{◌≡◌, ◌++◌, [], OnOk, IsSome, unwrap_or, string_bytes};
 ghost use Rattle.script_words.specs.Words.{text_word};
-ghost use Rattle.script_stream.specs.Words.{count_word, field_word, fields_words, named, size_word};
+ghost use Rattle.script_stream.specs.Words.{count_word, named, size_word};
+ghost use Rattle.script_stream.specs.inner.Words.{field_word, fields_words};
 
 use script_words::words::{NULL, boolean_to_word, text_to_word};
 use std::alloc::{AllocError, Allocator};
@@ -11,7 +12,7 @@ use zk_jute::{Buffer, List, Record, Text};
 
 /// A field whose value is told. Of data it is how many bytes they are.
 #[derive(Drop)]
-pub enum Field<'a, A: Allocator> {
+pub enum ToldField<'a, A: Allocator> {
     Int(&'a i32),
     Long(&'a i64),
     Boolean(bool),
@@ -90,16 +91,16 @@ fn push_field<A: Allocator + Copy>(
     text: &mut String<A>,
     alloc: A,
     name: &str,
-    field: &Field<'_, A>,
+    field: &ToldField<'_, A>,
 ) -> Result<(), AllocError>
     ensures { OnOk result (string_bytes text.new ≡ string_bytes text.old ++ named name.now (field_word field.now)) }
 {
     match field {
-        Field::Int(number) => push_value(text, alloc, name, number),
-        Field::Long(number) => push_value(text, alloc, name, number),
-        Field::Boolean(flag) => push_named(text, name, boolean_to_word(*flag)),
-        Field::Size(bytes) => push_size(text, alloc, name, bytes),
-        Field::Text(value) => push_text(text, alloc, name, value),
+        ToldField::Int(number) => push_value(text, alloc, name, number),
+        ToldField::Long(number) => push_value(text, alloc, name, number),
+        ToldField::Boolean(flag) => push_named(text, name, boolean_to_word(*flag)),
+        ToldField::Size(bytes) => push_size(text, alloc, name, bytes),
+        ToldField::Text(value) => push_text(text, alloc, name, value),
     }
 }
 
@@ -107,7 +108,7 @@ fn push_field<A: Allocator + Copy>(
 pub fn push_fields<A: Allocator + Copy>(
     text: &mut String<A>,
     alloc: A,
-    fields: &[(&str, Field<'_, A>)],
+    fields: &[(&str, ToldField<'_, A>)],
 ) -> Result<(), AllocError>
     ensures { OnOk result (string_bytes text.new ≡ string_bytes text.old ++ fields_words fields.now) }
 {

@@ -3,7 +3,8 @@
 ghost use Rattle.std.specs.Prelude.{◌≡◌, map};
 ghost use Rattle.std.specs.Option.{option_map};
 ghost use Rattle.script_words.specs.Reads.{Reads};
-ghost use Rattle.script_stream.specs.Lines.{bytes_at, came_at, over_at, said, says_of};
+ghost use Rattle.script_stream.specs.Lines.{bytes_at, came_at, over_at, said};
+ghost use Rattle.script_stream.specs.inner.Lines.{says_of};
 
 use crate::way::Way;
 use script_words::reads::{is_named, only, parse_data, split_keyword};
@@ -12,7 +13,7 @@ use std::alloc::Allocator;
 
 /// A line of a capture.
 #[derive(Drop)]
-pub enum Line<A: Allocator> {
+pub enum CaptureLine<A: Allocator> {
     /// These bytes came.
     Came(Way, Vec<u8, A>),
     /// Nothing comes any more.
@@ -37,23 +38,26 @@ fn parse_came<A: Allocator + Copy>(
     alloc: A,
     way: Way,
     words: &[&[u8]],
-) -> Result<Line<A>, ScriptFault>
+) -> Result<CaptureLine<A>, ScriptFault>
     ensures { Reads says_of result (came_at way (map (λ w. w.now) words.now)) }
 {
     let word = only(words)?;
     let bytes = parse_bytes(alloc, word)?;
-    Ok(Line::Came(way, bytes))
+    Ok(CaptureLine::Came(way, bytes))
 }
 
 /// What the words of a line say that names no direction.
-fn parse_over<A: Allocator + Copy>(first: &[u8], words: &[&[u8]]) -> Result<Line<A>, ScriptFault>
+fn parse_over<A: Allocator + Copy>(
+    first: &[u8],
+    words: &[&[u8]],
+) -> Result<CaptureLine<A>, ScriptFault>
     ensures { Reads says_of result (over_at first.now (map (λ w. w.now) words.now)) }
 {
     if !is_named(first, "end") {
         return Err(ScriptFault::Unknown);
     }
     match words {
-        [] => Ok(Line::Over),
+        [] => Ok(CaptureLine::Over),
         _ => Err(ScriptFault::Words),
     }
 }
@@ -62,7 +66,7 @@ fn parse_over<A: Allocator + Copy>(first: &[u8], words: &[&[u8]]) -> Result<Line
 pub fn parse_line<A: Allocator + Copy>(
     alloc: A,
     words: &[&[u8]],
-) -> Result<Option<Line<A>>, ScriptFault>
+) -> Result<Option<CaptureLine<A>>, ScriptFault>
     ensures { Reads (option_map says_of) result (said (map (λ w. w.now) words.now)) }
 {
     let Some((first, behind)) = split_keyword(words) else {

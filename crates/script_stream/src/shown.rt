@@ -4,9 +4,9 @@ ghost use Rattle.std.specs.Prelude.{◌≡◌, ◌++◌, ◌∷◌, [], IfOk, co
 ghost use Rattle.script_words.specs.Scripts.{lines_of};
 ghost use Rattle.script_stream.specs.Lines.{IsShown};
 
-use crate::stream::Stream;
+use crate::stream::CaptureStream;
 use script_words::pieces::lines_of;
-use script_words::script::{End, Transcript, nothing, read_lines};
+use script_words::script::{ScriptEnd, Transcript, nothing, read_lines};
 use std::alloc::{AllocError, Allocator};
 
 /// The lines of a capture, and one after them that says that it ends.
@@ -28,11 +28,11 @@ pub fn shown_stream<A: Allocator + Copy>(alloc: A, script: &[u8]) -> Transcript<
 {
     match lines_and_end(alloc, script) {
         Ok(lines) => {
-            let mut stream = Stream::new(alloc);
+            let mut stream = CaptureStream::new(alloc);
             let transcript = read_lines(alloc, &mut stream, lines.as_slice(), String::new(alloc));
             drop(stream);
             transcript
         }
-        Err(_) => nothing(alloc, End::Memory),
+        Err(_) => nothing(alloc, ScriptEnd::Memory),
     }
 }

@@ -3,14 +3,17 @@
 ghost use Rattle.std.specs.Prelude.{◌≡◌, ◌≢◌, ◌+◌, ◌++◌, None, Err, length, IfErr, IfOk, OnOk, string_bytes};
 ghost use Rattle.script_words.specs.Pieces.{words_of};
 ghost use Rattle.script_stream.specs.Frames.{frame_line};
-ghost use Rattle.script_stream.specs.Lines.{Does, TakesLine, rules, said, says_of};
-ghost use Rattle.script_stream.specs.Streams.{Hears, Position, TellsAll, asked_after, course_of, fault_line, first_course, first_position};
-ghost use Rattle.script_stream.specs.Streams.{left_line, position_of, telling};
+ghost use Rattle.script_stream.specs.Lines.{Does, TakesLine, rules, said};
+ghost use Rattle.script_stream.specs.inner.Lines.{says_of};
+ghost use Rattle.script_stream.specs.Streams.{Hears, Position, TellsAll, asked_after, fault_line, first_course, first_position};
+ghost use Rattle.script_stream.specs.inner.Streams.{course_of};
+ghost use Rattle.script_stream.specs.Streams.{left_line, telling};
+ghost use Rattle.script_stream.specs.inner.Streams.{position_of};
 
 use crate::asked::note;
 use crate::fields::{push_named, push_value};
 use crate::frame::{push_frame, push_place};
-use crate::line::{Line, parse_line};
+use crate::line::{CaptureLine, parse_line};
 use crate::way::Way;
 use script_words::pieces::words_of;
 use script_words::script::LineReader;
@@ -30,7 +33,7 @@ pub struct Flow<A: Allocator> {
 
 /// Both directions of a connection, and the requests so far.
 #[derive(Drop)]
-pub struct Stream<A: Allocator> {
+pub struct CaptureStream<A: Allocator> {
     pub client: Flow<A>,
     pub server: Flow<A>,
     pub asked: Vec<RequestHeader, A>,
@@ -173,12 +176,12 @@ impl<A: Allocator + Copy> Flow<A> {
     }
 }
 
-impl<A: Allocator + Copy> Stream<A> {
+impl<A: Allocator + Copy> CaptureStream<A> {
     /// Nothing has come yet.
-    pub fn new(alloc: A) -> Stream<A>
+    pub fn new(alloc: A) -> CaptureStream<A>
         ensures { position_of result ≡ first_position }
     {
-        Stream {
+        CaptureStream {
             client: Flow::new(alloc),
             server: Flow::new(alloc),
             asked: Vec::new(alloc),
@@ -209,25 +212,25 @@ impl<A: Allocator + Copy> Stream<A> {
     }
 
     /// Does what a line says, and gives what is told.
-    fn perform(&mut self, alloc: A, line: Line<A>) -> Result<String<A>, AllocError>
+    fn perform(&mut self, alloc: A, line: CaptureLine<A>) -> Result<String<A>, AllocError>
         ensures { IfOk result (λ text. Does (says_of line) (position_of self.old) (position_of self.new) (string_bytes text)) }
     {
         match line {
-            Line::Came(Way::Client, bytes) => read_bytes(
+            CaptureLine::Came(Way::Client, bytes) => read_bytes(
                 alloc,
                 Way::Client,
                 &mut self.client,
                 &mut self.asked,
                 bytes.as_slice(),
             ),
-            Line::Came(Way::Server, bytes) => read_bytes(
+            CaptureLine::Came(Way::Server, bytes) => read_bytes(
                 alloc,
                 Way::Server,
                 &mut self.server,
                 &mut self.asked,
                 bytes.as_slice(),
             ),
-            Line::Over => self.left(alloc),
+            CaptureLine::Over => self.left(alloc),
         }
     }
 
@@ -244,7 +247,7 @@ impl<A: Allocator + Copy> Stream<A> {
     }
 }
 
-impl<A: Allocator + Copy> LineReader<A> for Stream<A> {
+impl<A: Allocator + Copy> LineReader<A> for CaptureStream<A> {
     ghost Position = { Position };
 
     ghost rules = { rules };

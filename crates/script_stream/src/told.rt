@@ -8,7 +8,7 @@ ghost use Rattle.script_stream.specs.Records.{Labels, connect_labels, create_lab
 ghost use Rattle.script_stream.specs.Records.{get_children2_labels, get_children_labels, get_data_labels, read_labels, set_data_labels};
 ghost use Rattle.script_stream.specs.Records.{set_watches_labels, stat_labels, words_of};
 
-use crate::fields::{Field, push_count, push_fields, push_size, push_text, push_value};
+use crate::fields::{ToldField, push_count, push_fields, push_size, push_text, push_value};
 use crate::names::event_name;
 use std::alloc::{AllocError, Allocator};
 use zk_jute::{Cursor, Readable, Record, TakeError, take};
@@ -19,7 +19,7 @@ use zk_records::{
 };
 
 /// A record whose fields are told.
-pub trait Told<A: Allocator + Copy>: Record<A> {
+pub trait ToldRecord<A: Allocator + Copy>: Record<A> {
     /// How its fields are told.
     ghost labels: { Labels };
 
@@ -40,7 +40,7 @@ pub fn push_fault<A: Allocator>(
 }
 
 /// Adds the words of the record at the cursor, or why it does not read.
-pub fn push_record<'a, A: Allocator + Copy, R: Readable<'a, A> + Told<A> + Drop>(
+pub fn push_record<'a, A: Allocator + Copy, R: Readable<'a, A> + ToldRecord<A> + Drop>(
     text: &mut String<A>,
     alloc: A,
     at: &mut Cursor<'a>,
@@ -56,47 +56,47 @@ pub fn push_record<'a, A: Allocator + Copy, R: Readable<'a, A> + Told<A> + Drop>
     }
 }
 
-impl<A: Allocator + Copy> Told<A> for ConnectRequest<A> {
+impl<A: Allocator + Copy> ToldRecord<A> for ConnectRequest<A> {
     ghost labels = { connect_labels };
 
     fn push_words(&self, text: &mut String<A>, alloc: A) -> Result<(), AllocError> {
         let fields = [
-            ("protocolVersion", Field::Int(&self.protocol_version)),
-            ("lastZxidSeen", Field::Long(&self.last_zxid_seen)),
-            ("timeOut", Field::Int(&self.time_out)),
-            ("sessionId", Field::Long(&self.session_id)),
-            ("readOnly", Field::Boolean(self.read_only)),
+            ("protocolVersion", ToldField::Int(&self.protocol_version)),
+            ("lastZxidSeen", ToldField::Long(&self.last_zxid_seen)),
+            ("timeOut", ToldField::Int(&self.time_out)),
+            ("sessionId", ToldField::Long(&self.session_id)),
+            ("readOnly", ToldField::Boolean(self.read_only)),
         ];
         push_fields(text, alloc, &fields)
     }
 }
 
-impl<A: Allocator + Copy> Told<A> for ReadRequest<A> {
+impl<A: Allocator + Copy> ToldRecord<A> for ReadRequest<A> {
     ghost labels = { read_labels };
 
     fn push_words(&self, text: &mut String<A>, alloc: A) -> Result<(), AllocError> {
         let fields = [
-            ("path", Field::Text(&self.path)),
-            ("watch", Field::Boolean(self.watch)),
+            ("path", ToldField::Text(&self.path)),
+            ("watch", ToldField::Boolean(self.watch)),
         ];
         push_fields(text, alloc, &fields)
     }
 }
 
-impl<A: Allocator + Copy> Told<A> for SetDataRequest<A> {
+impl<A: Allocator + Copy> ToldRecord<A> for SetDataRequest<A> {
     ghost labels = { set_data_labels };
 
     fn push_words(&self, text: &mut String<A>, alloc: A) -> Result<(), AllocError> {
         let fields = [
-            ("path", Field::Text(&self.path)),
-            ("data", Field::Size(&self.bytes)),
-            ("version", Field::Int(&self.version)),
+            ("path", ToldField::Text(&self.path)),
+            ("data", ToldField::Size(&self.bytes)),
+            ("version", ToldField::Int(&self.version)),
         ];
         push_fields(text, alloc, &fields)
     }
 }
 
-impl<A: Allocator + Copy> Told<A> for CreateRequest<A> {
+impl<A: Allocator + Copy> ToldRecord<A> for CreateRequest<A> {
     ghost labels = { create_labels };
 
     fn push_words(&self, text: &mut String<A>, alloc: A) -> Result<(), AllocError> {
@@ -107,19 +107,19 @@ impl<A: Allocator + Copy> Told<A> for CreateRequest<A> {
     }
 }
 
-impl<A: Allocator + Copy> Told<A> for DeleteRequest<A> {
+impl<A: Allocator + Copy> ToldRecord<A> for DeleteRequest<A> {
     ghost labels = { delete_labels };
 
     fn push_words(&self, text: &mut String<A>, alloc: A) -> Result<(), AllocError> {
         let fields = [
-            ("path", Field::Text(&self.path)),
-            ("version", Field::Int(&self.version)),
+            ("path", ToldField::Text(&self.path)),
+            ("version", ToldField::Int(&self.version)),
         ];
         push_fields(text, alloc, &fields)
     }
 }
 
-impl<A: Allocator + Copy> Told<A> for SetWatches<A> {
+impl<A: Allocator + Copy> ToldRecord<A> for SetWatches<A> {
     ghost labels = { set_watches_labels };
 
     fn push_words(&self, text: &mut String<A>, alloc: A) -> Result<(), AllocError> {
@@ -127,7 +127,7 @@ impl<A: Allocator + Copy> Told<A> for SetWatches<A> {
     }
 }
 
-impl<A: Allocator + Copy> Told<A> for WatcherEvent<A> {
+impl<A: Allocator + Copy> ToldRecord<A> for WatcherEvent<A> {
     ghost labels = { event_labels };
 
     fn push_words(&self, text: &mut String<A>, alloc: A) -> Result<(), AllocError> {
@@ -139,28 +139,28 @@ impl<A: Allocator + Copy> Told<A> for WatcherEvent<A> {
     }
 }
 
-impl<A: Allocator + Copy> Told<A> for Stat {
+impl<A: Allocator + Copy> ToldRecord<A> for Stat {
     ghost labels = { stat_labels };
 
     fn push_words(&self, text: &mut String<A>, alloc: A) -> Result<(), AllocError> {
         let fields = [
-            ("czxid", Field::Long(&self.czxid)),
-            ("mzxid", Field::Long(&self.mzxid)),
-            ("ctime", Field::Long(&self.ctime)),
-            ("mtime", Field::Long(&self.mtime)),
-            ("version", Field::Int(&self.version)),
-            ("cversion", Field::Int(&self.cversion)),
-            ("aversion", Field::Int(&self.aversion)),
-            ("ephemeralOwner", Field::Long(&self.ephemeral_owner)),
-            ("dataLength", Field::Int(&self.data_length)),
-            ("numChildren", Field::Int(&self.num_children)),
-            ("pzxid", Field::Long(&self.pzxid)),
+            ("czxid", ToldField::Long(&self.czxid)),
+            ("mzxid", ToldField::Long(&self.mzxid)),
+            ("ctime", ToldField::Long(&self.ctime)),
+            ("mtime", ToldField::Long(&self.mtime)),
+            ("version", ToldField::Int(&self.version)),
+            ("cversion", ToldField::Int(&self.cversion)),
+            ("aversion", ToldField::Int(&self.aversion)),
+            ("ephemeralOwner", ToldField::Long(&self.ephemeral_owner)),
+            ("dataLength", ToldField::Int(&self.data_length)),
+            ("numChildren", ToldField::Int(&self.num_children)),
+            ("pzxid", ToldField::Long(&self.pzxid)),
         ];
         push_fields(text, alloc, &fields)
     }
 }
 
-impl<A: Allocator + Copy> Told<A> for GetDataResponse<A> {
+impl<A: Allocator + Copy> ToldRecord<A> for GetDataResponse<A> {
     ghost labels = { get_data_labels };
 
     fn push_words(&self, text: &mut String<A>, alloc: A) -> Result<(), AllocError> {
@@ -169,7 +169,7 @@ impl<A: Allocator + Copy> Told<A> for GetDataResponse<A> {
     }
 }
 
-impl<A: Allocator + Copy> Told<A> for GetChildrenResponse<A> {
+impl<A: Allocator + Copy> ToldRecord<A> for GetChildrenResponse<A> {
     ghost labels = { get_children_labels };
 
     fn push_words(&self, text: &mut String<A>, alloc: A) -> Result<(), AllocError> {
@@ -177,7 +177,7 @@ impl<A: Allocator + Copy> Told<A> for GetChildrenResponse<A> {
     }
 }
 
-impl<A: Allocator + Copy> Told<A> for GetChildren2Response<A> {
+impl<A: Allocator + Copy> ToldRecord<A> for GetChildren2Response<A> {
     ghost labels = { get_children2_labels };
 
     fn push_words(&self, text: &mut String<A>, alloc: A) -> Result<(), AllocError> {
@@ -186,7 +186,7 @@ impl<A: Allocator + Copy> Told<A> for GetChildren2Response<A> {
     }
 }
 
-impl<A: Allocator + Copy> Told<A> for CreateResponse<A> {
+impl<A: Allocator + Copy> ToldRecord<A> for CreateResponse<A> {
     ghost labels = { created_labels };
 
     fn push_words(&self, text: &mut String<A>, alloc: A) -> Result<(), AllocError> {

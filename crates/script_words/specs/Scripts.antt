@@ -3,8 +3,8 @@ use Rattle.std.specs.Prelude.{◌≡◌, ⊤, ℕ, ◌+◌, List, [], ◌∷◌,
 use Rattle.std.specs.Fmt.{decimal}
 use Rattle.std.specs.List.{FoldsTo}
 use Rattle.zk_nodes.specs.Path.{Text}
-use Rattle.script_words.specs.declared.script.End.{End}
-use Rattle.script_words.specs.declared.script.End.TheVariants as ends
+use Rattle.script_words.specs.declared.script.ScriptEnd.{ScriptEnd}
+use Rattle.script_words.specs.declared.script.ScriptEnd.TheVariants as ends
 use Rattle.script_words.specs.declared.script_fault.ScriptFault.{ScriptFault}
 use Rattle.script_words.specs.declared.stop.LineStop.{LineStop}
 use Rattle.script_words.specs.declared.stop.LineStop.TheVariants as stops
@@ -63,7 +63,7 @@ pub record HaltsIn {S : Type 0} (rules : Rules S) (here : Progress S) (lines : L
   pub halts : rules.Halts line prints.end
 
 -- what lines printed from here on, by how they ended
-abbrev pub IsTranscript : {S : Type 0} → Rules S → Progress S → List Text → List ℕ → End → Type 0
+abbrev pub IsTranscript : {S : Type 0} → Rules S → Progress S → List Text → List ℕ → ScriptEnd → Type 0
 IsTranscript rules here lines text ends.Taken = Prints rules here lines text
 IsTranscript rules here lines text (ends.Refused number why) = StopsAt rules here lines number why text
 IsTranscript rules here lines text ends.Halted = HaltsIn rules here lines text
@@ -76,7 +76,7 @@ IsDue rules line old stops.Halted = rules.Halts line old
 IsDue rules line old stops.Memory = ⊤
 
 -- how lines end at the line of this number, which is not done
-abbrev pub end_at : ℕ → LineStop → End
+abbrev pub end_at : ℕ → LineStop → ScriptEnd
 end_at number (stops.Refused why) = ends.Refused number why
 end_at number stops.Halted = ends.Halted
 end_at number stops.Memory = ends.Memory

@@ -10,7 +10,7 @@ use std::alloc::Allocator;
 
 /// How the lines of a script ended.
 #[derive(Clone, Copy, PartialEq, Eq)]
-pub enum End {
+pub enum ScriptEnd {
     /// Each line was taken.
     Taken,
     /// The line of this number, counted from 1, was refused.
@@ -25,7 +25,7 @@ pub enum End {
 #[derive(Drop)]
 pub struct Transcript<A: Allocator> {
     pub text: String<A>,
-    pub end: End,
+    pub end: ScriptEnd,
 }
 
 /// What the lines of a script drive: it does what a line says.
@@ -67,13 +67,13 @@ fn read_line<A: Allocator + Copy, R: LineReader<A>>(
 }
 
 /// How lines end at the line of this number, which is not done.
-pub fn end_at(number: usize, stop: LineStop) -> End
+pub fn end_at(number: usize, stop: LineStop) -> ScriptEnd
     ensures { result ≡ end_at number stop }
 {
     match stop {
-        LineStop::Refused(why) => End::Refused { number, why },
-        LineStop::Halted => End::Halted,
-        LineStop::Memory => End::Memory,
+        LineStop::Refused(why) => ScriptEnd::Refused { number, why },
+        LineStop::Halted => ScriptEnd::Halted,
+        LineStop::Memory => ScriptEnd::Memory,
     }
 }
 
@@ -94,12 +94,12 @@ pub fn read_lines<A: Allocator + Copy, R: LineReader<A>>(
             return Transcript { text, end };
         }
     }
-    let end = End::Taken;
+    let end = ScriptEnd::Taken;
     Transcript { text, end }
 }
 
 /// Nothing is printed, and lines end so.
-pub fn nothing<A: Allocator + Copy>(alloc: A, end: End) -> Transcript<A>
+pub fn nothing<A: Allocator + Copy>(alloc: A, end: ScriptEnd) -> Transcript<A>
     ensures text { string_bytes result.text ≡ [] }
     ensures end { result.end ≡ end }
 {
@@ -118,6 +118,6 @@ pub fn read_script<A: Allocator + Copy, R: LineReader<A>>(
 {
     match lines_of(alloc, script) {
         Ok(lines) => read_lines(alloc, reader, lines.as_slice(), String::new(alloc)),
-        Err(_) => nothing(alloc, End::Memory),
+        Err(_) => nothing(alloc, ScriptEnd::Memory),
     }
 }

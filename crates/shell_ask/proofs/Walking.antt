@@ -8,15 +8,17 @@ use Rattle.zk_driver.proofs.Running.{runs_join, runs_same}
 use Rattle.zk_turns.specs.Turns.{Replied, ConnectionLoss, SessionExpired, SessionClosed, NotConnected, TooManyWatches, TooLarge}
 use Rattle.zk_turns.specs.Turns.{TooManyPending}
 use Rattle.zk_conversation.specs.Results.{NoNode, Refused, Found, Read, Listing, Made, Done}
-use Rattle.shell_ask.specs.declared.end.End.{End}
-use Rattle.shell_ask.specs.declared.end.End.TheVariants as ends
+use Rattle.shell_ask.specs.declared.end.CallEnd.{CallEnd}
+use Rattle.shell_ask.specs.declared.end.CallEnd.TheVariants as ends
 use Rattle.shell_ask.specs.declared.spots.Spot.{Spot as Place}
 use Rattle.shell_ask.specs.declared.walk.Bounds.{Bounds}
 use Rattle.shell_ask.specs.declared.walk.Ending.{Ending as Reached}
 use Rattle.shell_ask.specs.Asking.{Coming, Answered, Heard, Late}
 use Rattle.shell_ask.specs.Printing.{end_of, IsToldEnd}
-use Rattle.shell_ask.specs.Trees.{child_of, ending_end, ending_view, listing_of, names_within, spot_view, waiting_view, with_next}
-use Rattle.shell_ask.specs.Trees.{AreInOrder, EndsAt, Ending, Full, HasNoPath, IsGone, IsHeard, IsListed, IsUndone, Misnamed, Reaches, Spot}
+use Rattle.shell_ask.specs.Trees.{child_of, ending_end, listing_of, names_within}
+use Rattle.shell_ask.specs.inner.Trees.{ending_view, spot_view, waiting_view, with_next}
+use Rattle.shell_ask.specs.Trees.{AreInOrder, EndsAt, Ending, Full, HasNoPath, IsGone, IsHeard, IsListed, Misnamed, Reaches, Spot}
+use Rattle.shell_ask.specs.inner.Trees.{IsUndone}
 use Rattle.shell_ask.specs.Trees.{Stage, Steps, Stopped, Whole, WalksRun, begins, leaves_out, prints_leaf, prints_node, steps}
 
 -- ---- the nodes that wait
@@ -69,11 +71,11 @@ call_told (Answered TooManyPending) = inr ((λ e. cc), tt)
 call_told (Late was_sent false) = inr ((λ e. cc), tt)
 call_told (Late was_sent true) = inr ((λ e. cc), tt)
 
-told_end : (end : End) → (end ≡ ends.Done) ⊎ ((end ≢ ends.More) × IsToldEnd end) → (end ≡ ends.Done) ⊎ IsToldEnd end
+told_end : (end : CallEnd) → (end ≡ ends.Done) ⊎ ((end ≢ ends.More) × IsToldEnd end) → (end ≡ ends.Done) ⊎ IsToldEnd end
 told_end end (inl done) = inl done
 told_end end (inr told) = inr told.1
 
-not_more : (end : End) → (end ≡ ends.Done) ⊎ ((end ≢ ends.More) × IsToldEnd end) → end ≢ ends.More
+not_more : (end : CallEnd) → (end ≡ ends.Done) ⊎ ((end ≢ ends.More) × IsToldEnd end) → end ≢ ends.More
 not_more end (inl done) = λ more. cc
 not_more end (inr told) = told.0
 

@@ -21,8 +21,8 @@ use Rattle.script_words.specs.Lines.{line}
 use Rattle.script_words.specs.Words.{bytes_word, text_word}
 use Rattle.shell_ask.specs.declared.plan.Form.{Form}
 use Rattle.shell_ask.specs.declared.plan.Form.TheVariants.{Plain, Hex, Quiet, Json}
-use Rattle.shell_ask.specs.declared.end.End.{End}
-use Rattle.shell_ask.specs.declared.end.End.TheVariants as ends
+use Rattle.shell_ask.specs.declared.end.CallEnd.{CallEnd}
+use Rattle.shell_ask.specs.declared.end.CallEnd.TheVariants as ends
 use Rattle.shell_ask.specs.Asking.{Coming, Answered, Late}
 
 -- ---- what is printed
@@ -189,22 +189,22 @@ told name (Late was_sent was_heard) = fault_line (late_told was_sent was_heard).
 
 -- ---- how it ends
 
-abbrev pub result_end : Result → End
+abbrev pub result_end : Result → CallEnd
 result_end NoNode = ends.NoNode
 result_end (Refused number) = ends.Refused
 result_end _ = ends.Done
 
-abbrev pub outcome_end : Outcome → End
+abbrev pub outcome_end : Outcome → CallEnd
 outcome_end (Replied zxid result) = result_end result
 outcome_end outcome = if is_refused outcome then ends.Refused else ends.Unanswered
 
-abbrev pub end_of : Coming → End
+abbrev pub end_of : Coming → CallEnd
 end_of (Answered outcome) = outcome_end outcome
 end_of (Late was_sent false) = ends.Unconnected
 end_of (Late was_sent true) = ends.Unanswered
 
 -- it is told why a call is not done
-abbrev pub IsToldEnd : End → Type 0
+abbrev pub IsToldEnd : CallEnd → Type 0
 IsToldEnd ends.Done = ⊥
 IsToldEnd ends.Memory = ⊥
 IsToldEnd ends.Stream = ⊥

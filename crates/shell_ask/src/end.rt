@@ -2,7 +2,7 @@
 
 /// How a call ended, or a walk.
 #[derive(Clone, Copy, Debug, PartialEq, Eq)]
-pub enum End {
+pub enum CallEnd {
     /// It is done, and what was asked for is printed.
     Done,
     /// There is no such node.

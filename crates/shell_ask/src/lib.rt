@@ -1,7 +1,8 @@
 //! One call of a server, or the calls that list a tree, and the answers in words.
 //!
-//! [`ask`] begins a session by a driver, hands it the call of a [`Plan`], and prints what its answer brings, or tells why there is none. It
-//! waits for a moment at most, and then gives the call up. [`tree`] lists a node so, and then each node below it, and prints their paths.
+//! [`ask`] begins a session by a driver, hands it the call of a [`CallPlan`], and prints what its answer brings, or tells why there is
+//! none. It waits for a moment at most, and then gives the call up. [`tree`] lists a node so, and then each node below it, and prints their
+//! paths.
 #![tactic(auto)]
 
 mod answered;
@@ -22,6 +23,6 @@ mod tree_text;
 mod walk;
 
 pub use asked::ask;
-pub use end::End;
-pub use plan::{Form, Plan, TreePlan};
+pub use end::CallEnd;
+pub use plan::{CallPlan, Form, TreePlan};
 pub use toured::tree;

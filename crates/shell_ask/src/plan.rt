@@ -18,7 +18,7 @@ pub enum Form {
 
 /// A call, and how its answer is printed.
 #[derive(Drop)]
-pub struct Plan<'a, A: Allocator + Copy> {
+pub struct CallPlan<'a, A: Allocator + Copy> {
     /// What the dial takes: for `Tcp` a host and a port each.
     pub addresses: &'a [&'a str],
     pub call: Call<A>,

@@ -4,12 +4,12 @@ ghost use Rattle.std.specs.Prelude.{◌≡◌, ◌++◌, IfOk, OnOk, string_byte
 ghost use Rattle.zk_records.specs.Codes.{code_number};
 ghost use Rattle.zk_conversation.specs.Views.{code_result};
 ghost use Rattle.zk_client.specs.Views.{outcome_view};
-ghost use Rattle.shell_ask.specs.Asking.{came_view};
+ghost use Rattle.shell_ask.specs.inner.Asking.{came_view};
 ghost use Rattle.shell_ask.specs.Printing.{code_words, end_of, fault_line, is_refused, late_told, outcome_end, outcome_told, refusal_words};
 ghost use Rattle.shell_ask.specs.Printing.{result_told, told};
 
 use crate::came::Came;
-use crate::end::End;
+use crate::end::CallEnd;
 use script_words::values::push_value;
 use std::alloc::{AllocError, Allocator};
 use zk_client::{CallResult, Code, Outcome};
@@ -150,7 +150,7 @@ pub(crate) fn told<A: Allocator + Copy>(
 }
 
 /// How a call ends that is answered so.
-fn outcome_end<A: Allocator>(outcome: &Outcome<A>) -> End
+fn outcome_end<A: Allocator>(outcome: &Outcome<A>) -> CallEnd
     ensures { result ≡ outcome_end (outcome_view outcome.now) }
 {
     match outcome {
@@ -159,19 +159,19 @@ fn outcome_end<A: Allocator>(outcome: &Outcome<A>) -> End
             result: CallResult::Code(code),
         } => {
             if code.number() == NO_NODE {
-                End::NoNode
+                CallEnd::NoNode
             } else {
-                End::Refused
+                CallEnd::Refused
             }
         }
-        Outcome::Replied { .. } => End::Done,
-        _ if is_refused(outcome) => End::Refused,
-        _ => End::Unanswered,
+        Outcome::Replied { .. } => CallEnd::Done,
+        _ if is_refused(outcome) => CallEnd::Refused,
+        _ => CallEnd::Unanswered,
     }
 }
 
 /// How a call ends of which this came.
-pub(crate) fn end_of<A: Allocator>(came: &Came<A>) -> End
+pub(crate) fn end_of<A: Allocator>(came: &Came<A>) -> CallEnd
     ensures { result ≡ end_of (came_view came.now) }
 {
     match came {
@@ -179,10 +179,10 @@ pub(crate) fn end_of<A: Allocator>(came: &Came<A>) -> End
         Came::Late {
             was_heard: true,
             ..
-        } => End::Unanswered,
+        } => CallEnd::Unanswered,
         Came::Late {
             was_heard: false,
             ..
-        } => End::Unconnected,
+        } => CallEnd::Unconnected,
     }
 }

@@ -5,12 +5,14 @@ ghost use Rattle.std.specs.Io.KnownBytes.{Appends};
 ghost use Rattle.zk_nodes.specs.Path.{Text};
 ghost use Rattle.zk_driver.specs.Flowing.{flow_of};
 ghost use Rattle.shell_ask.specs.Printing.{IsToldEnd};
-ghost use Rattle.shell_ask.specs.Trees.{ending_end, ending_told, ending_view, root_of, scope_of, tree_text, waiting_view, Ending as Ends};
-ghost use Rattle.shell_ask.specs.Trees.{Full, IsUndone, Tours, WalksFrom, Whole};
+ghost use Rattle.shell_ask.specs.Trees.{ending_end, ending_told, root_of, scope_of, tree_text, Ending as Ends};
+ghost use Rattle.shell_ask.specs.inner.Trees.{ending_view, waiting_view};
+ghost use Rattle.shell_ask.specs.Trees.{Full, Tours, WalksFrom, Whole};
+ghost use Rattle.shell_ask.specs.inner.Trees.{IsUndone};
 
 use crate::answered::{TIMEOUT_MS, close};
 use crate::asked::write;
-use crate::end::End;
+use crate::end::CallEnd;
 use crate::plan::TreePlan;
 use crate::spots::{Spot, copied};
 use crate::tree_text::{ending_end, ending_told, tree_text};
@@ -94,13 +96,13 @@ fn make_tour<A: Allocator + Copy, D: Dial + Drop, C: Clock + Drop>(
 }
 
 /// Prints the paths of a walk that has printed as many as may be, and tells that there are more.
-fn print_most<O: Write, E: Write>(out: &mut O, errors: &mut E, text: &[u8], told: &[u8]) -> End
-    ensures written { result ≢ End.Stream → (result ≡ End.More) × Appends (O.contents out.old) (O.contents out.new) text.now
+fn print_most<O: Write, E: Write>(out: &mut O, errors: &mut E, text: &[u8], told: &[u8]) -> CallEnd
+    ensures written { result ≢ CallEnd.Stream → (result ≡ CallEnd.More) × Appends (O.contents out.old) (O.contents out.new) text.now
         × Appends (E.contents errors.old) (E.contents errors.new) told.now }
 {
-    match write(out, text, End::More) {
-        End::Stream => End::Stream,
-        _ => write(errors, told, End::More),
+    match write(out, text, CallEnd::More) {
+        CallEnd::Stream => CallEnd::Stream,
+        _ => write(errors, told, CallEnd::More),
     }
 }
 
@@ -111,27 +113,27 @@ fn finish<A: Allocator + Copy, O: Write, E: Write>(
     tour: &Tour<A>,
     out: &mut O,
     errors: &mut E,
-) -> End
+) -> CallEnd
     requires { IsUndone (ending_view tour.now.ending) }
-    ensures done { result ≡ End.Done → (ending_view tour.now.ending ≡ Whole)
+    ensures done { result ≡ CallEnd.Done → (ending_view tour.now.ending ≡ Whole)
         × Appends (O.contents out.old) (O.contents out.new) (tree_text plan.now.form tour.now.printed.items) × (errors.new ≡ errors.old) }
-    ensures more { result ≡ End.More → (ending_view tour.now.ending ≡ Full)
+    ensures more { result ≡ CallEnd.More → (ending_view tour.now.ending ≡ Full)
         × Appends (O.contents out.old) (O.contents out.new) (tree_text plan.now.form tour.now.printed.items)
         × Appends (E.contents errors.old) (E.contents errors.new) (ending_told plan.now.name plan.now.most Full) }
-    ensures told { IsToldEnd result → result ≢ End.More → (result ≡ ending_end (ending_view tour.now.ending))
+    ensures told { IsToldEnd result → result ≢ CallEnd.More → (result ≡ ending_end (ending_view tour.now.ending))
         × Appends (E.contents errors.old) (E.contents errors.new) (ending_told plan.now.name plan.now.most (ending_view tour.now.ending))
         × (out.new ≡ out.old) }
-    ensures memory { result ≡ End.Memory → (out.new ≡ out.old) × (errors.new ≡ errors.old) }
+    ensures memory { result ≡ CallEnd.Memory → (out.new ≡ out.old) × (errors.new ≡ errors.old) }
 {
     let Ok(text) = tree_text(alloc, plan.form, tour.printed.as_slice()) else {
-        return End::Memory;
+        return CallEnd::Memory;
     };
     let Ok(told) = ending_told(alloc, plan.name.as_str(), plan.most, &tour.ending) else {
-        return End::Memory;
+        return CallEnd::Memory;
     };
     match ending_end(&tour.ending) {
-        End::Done => write(out, text.as_slice(), End::Done),
-        End::More => print_most(out, errors, text.as_slice(), told.as_bytes()),
+        CallEnd::Done => write(out, text.as_slice(), CallEnd::Done),
+        CallEnd::More => print_most(out, errors, text.as_slice(), told.as_bytes()),
         end => write(errors, told.as_bytes(), end),
     }
 }
@@ -152,23 +154,23 @@ pub fn tree<A: Allocator + Copy, D: Dial + Drop, C: Clock + Drop, O: Write, E: W
     plan: TreePlan<'_, A>,
     out: &mut O,
     errors: &mut E,
-) -> End
+) -> CallEnd
     // It is whole, and this is printed.
-    ensures done { result ≡ End.Done → (printed : List Text) × Tours A (scope_of plan.entry) Whole printed
+    ensures done { result ≡ CallEnd.Done → (printed : List Text) × Tours A (scope_of plan.entry) Whole printed
         × Appends (O.contents out.old) (O.contents out.new) (tree_text plan.entry.form printed) × (errors.new ≡ errors.old) }
     // As many nodes as may be are printed, and that there are more is told.
-    ensures more { result ≡ End.More → (printed : List Text) × Tours A (scope_of plan.entry) Full printed
+    ensures more { result ≡ CallEnd.More → (printed : List Text) × Tours A (scope_of plan.entry) Full printed
         × Appends (O.contents out.old) (O.contents out.new) (tree_text plan.entry.form printed)
         × Appends (E.contents errors.old) (E.contents errors.new) (ending_told plan.entry.name plan.entry.most Full) }
     // It stopped, and this is told.
-    ensures told { IsToldEnd result → result ≢ End.More
+    ensures told { IsToldEnd result → result ≢ CallEnd.More
         → (ending : Ends) × (printed : List Text) × Tours A (scope_of plan.entry) ending printed
         × (result ≡ ending_end ending) × Appends (E.contents errors.old) (E.contents errors.new)
         (ending_told plan.entry.name plan.entry.most ending) × (out.new ≡ out.old) }
-    ensures memory { result ≡ End.Memory → (out.new ≡ out.old) × (errors.new ≡ errors.old) }
+    ensures memory { result ≡ CallEnd.Memory → (out.new ≡ out.old) × (errors.new ≡ errors.old) }
 {
     let Some(tour) = make_tour(alloc, dial, clock, &plan) else {
-        return End::Memory;
+        return CallEnd::Memory;
     };
     let end = finish(alloc, &plan, &tour, out, errors);
     drop(tour);

@@ -3,9 +3,10 @@
 ghost use Rattle.std.specs.Prelude.{◌≡◌, ◌⊎◌, codes, IfOk, string_bytes};
 ghost use Rattle.std.specs.List.{flat_map};
 ghost use Rattle.shell_ask.specs.Printing.{fault_line, name_line, text_line, IsToldEnd};
-ghost use Rattle.shell_ask.specs.Trees.{ending_end, ending_told, ending_view, most_words, tree_text, Full, IsUndone, Whole};
+ghost use Rattle.shell_ask.specs.Trees.{ending_end, ending_told, most_words, tree_text, Full, Whole};
+ghost use Rattle.shell_ask.specs.inner.Trees.{ending_view, IsUndone};
 
-use crate::end::End;
+use crate::end::CallEnd;
 use crate::json_lines::with_text;
 use crate::names::push_name;
 use crate::plan::Form;
@@ -82,16 +83,16 @@ pub(crate) fn ending_told<A: Allocator + Copy>(
 }
 
 /// How a walk ends.
-pub(crate) fn ending_end<A: Allocator>(ending: &Ending<A>) -> End
+pub(crate) fn ending_end<A: Allocator>(ending: &Ending<A>) -> CallEnd
     ensures end { result ≡ ending_end (ending_view ending.now) }
-    ensures told { (result ≡ End.Done) ⊎ IsToldEnd result }
-    ensures whole { result ≡ End.Done → IsUndone (ending_view ending.now) → ending_view ending.now ≡ Whole }
-    ensures full { result ≡ End.More → ending_view ending.now ≡ Full }
+    ensures told { (result ≡ CallEnd.Done) ⊎ IsToldEnd result }
+    ensures whole { result ≡ CallEnd.Done → IsUndone (ending_view ending.now) → ending_view ending.now ≡ Whole }
+    ensures full { result ≡ CallEnd.More → ending_view ending.now ≡ Full }
 {
     match ending {
-        Ending::Whole => End::Done,
-        Ending::Full => End::More,
+        Ending::Whole => CallEnd::Done,
+        Ending::Full => CallEnd::More,
         Ending::Stopped(_, came) => end_of(came),
-        Ending::Misnamed(_) => End::Refused,
+        Ending::Misnamed(_) => CallEnd::Refused,
     }
 }

@@ -5,15 +5,17 @@ ghost use Rattle.std.specs.Prelude.{length, map, string_bytes};
 ghost use Rattle.zk_nodes.specs.Path.{Text};
 ghost use Rattle.zk_driver.specs.Driving.{course_of};
 ghost use Rattle.zk_driver.specs.Flowing.{flow_of, Runs};
-ghost use Rattle.shell_ask.specs.Asking.{came_view, Heard};
+ghost use Rattle.shell_ask.specs.inner.Asking.{came_view};
+ghost use Rattle.shell_ask.specs.Asking.{Heard};
 ghost use Rattle.shell_ask.specs.Printing.{end_of};
-ghost use Rattle.shell_ask.specs.declared.end.End.TheVariants as ends;
-ghost use Rattle.shell_ask.specs.Trees.{child_of, ending_view, listing_of, names_within, spot_view, stage_of, waiting_view, with_next};
+ghost use Rattle.shell_ask.specs.declared.end.CallEnd.TheVariants as ends;
+ghost use Rattle.shell_ask.specs.Trees.{child_of, listing_of, names_within};
+ghost use Rattle.shell_ask.specs.inner.Trees.{ending_view, spot_view, stage_of, waiting_view, with_next};
 ghost use Rattle.shell_ask.specs.Trees.{AreInOrder, EndsAt, HasNoPath, IsGone, IsListed, Misnamed, Reaches, Stage, Steps};
 
 use crate::answered::{CALL, answered};
 use crate::came::Came;
-use crate::end::End;
+use crate::end::CallEnd;
 use crate::spots::{Spot, copied, is_of_text, put_first, spots_below};
 use crate::told::end_of;
 use std::alloc::Allocator;
@@ -82,7 +84,7 @@ fn is_done<A: Allocator>(came: &Came<A>) -> bool
     ensures undone { result ≡ false → end_of (came_view came.now) ≢ ends.Done }
 {
     match end_of(came) {
-        End::Done => true,
+        CallEnd::Done => true,
         _ => false,
     }
 }
@@ -93,7 +95,7 @@ fn is_gone<A: Allocator>(spot: &Spot<A>, came: &Came<A>) -> bool
     ensures stays { result ≡ false → IsGone (spot_view spot.now) (came_view came.now) → ⊥ }
 {
     match end_of(came) {
-        End::NoNode => spot.depth != 0,
+        CallEnd::NoNode => spot.depth != 0,
         _ => false,
     }
 }

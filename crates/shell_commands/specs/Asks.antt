@@ -7,8 +7,8 @@ use Rattle.clap.specs.declared.builder.action.ArgAction.TheVariants as action
 use Rattle.shell_ask.specs.declared.plan.Form.{Form}
 use Rattle.shell_ask.specs.declared.plan.Form.TheVariants.{Plain, Hex, Quiet, Json}
 use Rattle.zk_conversation.specs.Calls.{Call, Exists, GetData, GetChildren, SetData, Create, Delete}
-use Rattle.shell_ask.specs.declared.end.End.{End}
-use Rattle.shell_ask.specs.declared.end.End.TheVariants as ends
+use Rattle.shell_ask.specs.declared.end.CallEnd.{CallEnd}
+use Rattle.shell_ask.specs.declared.end.CallEnd.TheVariants as ends
 use Rattle.shell_ask.specs.Asking.{Coming, ComesOf}
 use Rattle.shell_ask.specs.Printing.{end_of, told, Prints}
 use Rattle.zk_limits.specs.declared.limits.TheConstants.{LONGEST_PATH}
@@ -212,7 +212,7 @@ form_for verb.Delete rows = Plain
 
 -- ---- how a call ends
 
-abbrev pub status_of : End → Status
+abbrev pub status_of : CallEnd → Status
 status_of ends.Done = status.Done
 status_of ends.NoNode = status.NoNode
 status_of ends.Refused = status.Refused

@@ -24,13 +24,13 @@ use Rattle.shell_watch.specs.Watching.{aims_of}
 use Rattle.shell_watch.specs.declared.plan.Style.{Style}
 use Rattle.shell_watch.specs.declared.plan.Style.TheVariants as style
 use Rattle.shell_commands.specs.declared.command.Command.{Command}
-use Rattle.shell_commands.specs.declared.command.Question.{Question}
+use Rattle.shell_commands.specs.declared.command.NodeQuestion.{NodeQuestion}
 use Rattle.shell_commands.specs.declared.command.Scope.{Scope}
 use Rattle.shell_commands.specs.declared.command.Tour.{Tour}
 use Rattle.shell_commands.specs.declared.command.Command.TheVariants.{Show, History, Replay, Rehearse, Live, Watch, Ask, Tree}
 use Rattle.shell_commands.specs.declared.line_fault.LineFault.{LineFault}
 use Rattle.shell_commands.specs.declared.line_fault.LineFault.TheVariants.{Help, Refused, Memory}
-use Rattle.shell_commands.specs.declared.kind.Kind.TheVariants as kind
+use Rattle.shell_commands.specs.declared.kind.FrameKind.TheVariants as kind
 use Rattle.shell_commands.specs.Kinds.{kind_word}
 use Rattle.shell_commands.specs.declared.verb.Verb.{Verb}
 use Rattle.shell_commands.specs.Asks.{AreServers, absolute, call_for, depth_read, form_for, form_or_json, verb_word, with_reads}
@@ -222,7 +222,7 @@ IsAsked verb addresses chroot name call from form wait_ms rows =
     × (option_and_then wait_at (first_of (codes "wait") rows) ≡ Some wait_ms)
 
 -- that is this question
-abbrev pub AsksQuestion : Verb → Question → List Row → Type 0
+abbrev pub AsksQuestion : Verb → NodeQuestion → List Row → Type 0
 AsksQuestion verb question rows =
     IsAsked verb (map (λ a. a.now) question.addresses.items) (string_bytes question.chroot) question.name.now (call_view question.call)
     (option_map (λ f. f.now) question.from) question.form question.wait_ms rows
@@ -267,23 +267,6 @@ AsksFor words command = (names : Bor (List (Bor Text))) × AreKinds names × IsF
 -- the words ask for no command
 abbrev pub AsksForNone : Option (Text × List Row) → Type 0
 AsksForNone found = (command : Command) → IsFound command found → ⊥
-
--- A refusal, or that memory ran out.
-abbrev pub IsNoHelp : LineFault → Type 0
-IsNoHelp (Help text) = ⊥
-IsNoHelp fault = Unit {0}
-
--- A refusal, where this holds; or that memory ran out.
-abbrev pub TellsIf : Type 0 → LineFault → Type 0
-TellsIf why (Help text) = ⊥
-TellsIf why (Refused text) = why
-TellsIf why Memory = Unit {0}
-
--- what `clap` says of the words is told so
-abbrev pub Tells : ErrorKind → LineFault → Type 0
-Tells kind (Help text) = (kind ≡ kinds.DisplayHelp) ⊎ (kind ≡ kinds.DisplayVersion)
-Tells kind (Refused text) = (kind ≢ kinds.DisplayHelp) × (kind ≢ kinds.DisplayVersion) × (kind ≢ kinds.OutOfMemory)
-Tells kind Memory = Unit {0}
 
 -- Help is told where `clap` answers the words with help, and a refusal where it refuses them, or where they ask for no command.
 abbrev pub IsDue : List Text → LineFault → Type 0

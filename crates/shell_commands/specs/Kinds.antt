@@ -1,10 +1,11 @@
 -- The words that name the kinds of payload.
 use Rattle.std.specs.Prelude.{ℕ, List, codes}
-use Rattle.shell_commands.specs.declared.kind.Kind.{Kind}
-use Rattle.shell_commands.specs.declared.kind.Kind.TheVariants.{Connect, Accepted, Request, Notice, ReplyExists, ReplySetData, ReplyGetData}
-use Rattle.shell_commands.specs.declared.kind.Kind.TheVariants.{ReplyGetChildren, ReplyGetChildren2, ReplyCreate, ReplyHeader}
+use Rattle.shell_commands.specs.declared.kind.FrameKind.{FrameKind}
+use Rattle.shell_commands.specs.declared.kind.FrameKind.TheVariants.{Connect, Accepted, Request, Notice, ReplyExists, ReplySetData}
+use Rattle.shell_commands.specs.declared.kind.FrameKind.TheVariants.{ReplyGetData, ReplyGetChildren, ReplyGetChildren2, ReplyCreate}
+use Rattle.shell_commands.specs.declared.kind.FrameKind.TheVariants.{ReplyHeader}
 
-abbrev pub kind_word : Kind → List ℕ
+abbrev pub kind_word : FrameKind → List ℕ
 kind_word Connect = codes "connect"
 kind_word Accepted = codes "accepted"
 kind_word Request = codes "request"

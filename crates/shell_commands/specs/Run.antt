@@ -4,11 +4,11 @@ use Rattle.std.specs.Borrow.{Bor}
 use Rattle.std.specs.Global.{Global, Vec}
 use Rattle.clap.specs.Words.{Text}
 use Rattle.script_words.specs.Scripts.{lines_of, refusal_text}
-use Rattle.script_words.specs.declared.script.End.{End}
-use Rattle.script_words.specs.declared.script.End.TheVariants as ends
+use Rattle.script_words.specs.declared.script.ScriptEnd.{ScriptEnd}
+use Rattle.script_words.specs.declared.script.ScriptEnd.TheVariants as ends
 use Rattle.script_words.specs.declared.script_fault.ScriptFault.{ScriptFault}
 use Rattle.shell_commands.specs.declared.command.Command.{Command}
-use Rattle.shell_commands.specs.declared.command.Question.{Question}
+use Rattle.shell_commands.specs.declared.command.NodeQuestion.{NodeQuestion}
 use Rattle.shell_commands.specs.declared.command.Scope.{Scope}
 use Rattle.shell_commands.specs.declared.command.Tour.{Tour}
 use Rattle.shell_commands.specs.Tours.{PrintsTree, TellsTree}
@@ -17,7 +17,7 @@ use Rattle.shell_commands.specs.declared.command.Command.TheVariants.{Show, Watc
 use Rattle.shell_commands.specs.declared.line_fault.LineFault.{LineFault}
 use Rattle.shell_commands.specs.declared.line_fault.LineFault.TheVariants.{Help, Refused}
 use Rattle.shell_commands.specs.declared.fault.ShowFault.{ShowFault}
-use Rattle.shell_commands.specs.declared.kind.Kind.{Kind}
+use Rattle.shell_commands.specs.declared.kind.FrameKind.{FrameKind}
 use Rattle.shell_commands.specs.CommandLine.{AsksFor, IsDue, asks_stream}
 use Rattle.script_stream.specs.Lines.{IsShown}
 use Rattle.zk_conversation.specs.Views.{call_view}
@@ -45,7 +45,7 @@ IsRefusalText fault told = ⊥
 -- for a command that takes a script, and it is what all lines of the input print; or for a watch, and it is what that prints; or for a
 -- call, and it is what its answer brings; or for a tree, and it has a line for each node; or for help.
 pub data IsDone (words : List Text) (files : Text → Option (List ℕ)) (input : Option (List ℕ)) (text : List ℕ) : Type 0 where
-  shows : (kind : Kind) (hex : Bor Text) → AsksFor words (Show kind hex) → ShowsFrame kind hex.now text → IsDone words files input text
+  shows : (kind : FrameKind) (hex : Bor Text) → AsksFor words (Show kind hex) → ShowsFrame kind hex.now text → IsDone words files input text
   tells : (script : List ℕ)
       → asks_stream words ≡ true → IsInput input script → IsShown (lines_of script) text ends.Taken → IsDone words files input text
   plays : (command : Command) (script : List ℕ)
@@ -55,7 +55,7 @@ pub data IsDone (words : List Text) (files : Text → Option (List ℕ)) (input 
       → AsksFor words (Watch addresses scope timeout_ms for_ms style)
       → IsWatched Global style (aims_of scope.subjects.items) scope.trees.items scope.most for_ms text true
       → IsDone words files input text
-  asks : (question : Question) (asked : Calls) → AsksFor words (Ask question)
+  asks : (question : NodeQuestion) (asked : Calls) → AsksFor words (Ask question)
       → IsAskedBy files input (option_map (λ f. f.now) question.from) (call_view question.call) asked
       → PrintsAnswer Global asked question.form (string_bytes question.chroot) text → IsDone words files input text
   tours : (tour : Tour) → AsksFor words (Tree tour) → PrintsTree tour Whole text → IsDone words files input text
@@ -64,7 +64,7 @@ pub data IsDone (words : List Text) (files : Text → Option (List ℕ)) (input 
 -- The words ask for a frame that is refused, and nothing is written; or for a command that takes a script or a capture, with a line that is
 -- refused, and the text is what stands before what that line would print. What is told is the first fault.
 pub data IsFaulty (words : List Text) (input : Option (List ℕ)) (text told : List ℕ) : Type 0 where
-  unshown : (kind : Kind) (hex : Bor Text) (fault : ShowFault) → AsksFor words (Show kind hex) → IsFault kind hex.now fault → text ≡ []
+  unshown : (kind : FrameKind) (hex : Bor Text) (fault : ShowFault) → AsksFor words (Show kind hex) → IsFault kind hex.now fault → text ≡ []
       → told ≡ fault_text fault ++ 10 ∷ [] → IsFaulty words input text told
   untold : (script : List ℕ) (number : ℕ) (why : ScriptFault) → asks_stream words ≡ true → IsInput input script
       → IsShown (lines_of script) text (ends.Refused number why) → told ≡ refusal_text number why → IsFaulty words input text told
@@ -75,7 +75,7 @@ pub data IsFaulty (words : List Text) (input : Option (List ℕ)) (text told : L
 -- The words ask for a call or a tree that is not done, or may not be, or is not asked for, and ends so; this is told.
 pub data IsUndoneBy (words : List Text) (files : Text → Option (List ℕ)) (input : Option (List ℕ)) (status : Status)
     (told : List ℕ) : Type 0 where
-  call : (question : Question) → AsksFor words (Ask question)
+  call : (question : NodeQuestion) → AsksFor words (Ask question)
       → TellsUndone Global files input (option_map (λ f. f.now) question.from) (call_view question.call) question.name.now status told
       → IsUndoneBy words files input status told
   tree : (tour : Tour) → AsksFor words (Tree tour) → TellsTree tour status told → IsUndoneBy words files input status told
@@ -104,10 +104,10 @@ IsRefusal words told = (fault : LineFault) × IsDue words fault × IsRefusalText
 -- No line's print is cut. The line of a halt stands after them where a step of the client halted.
 pub data IsWhole (words : List Text) (input : Option (List ℕ)) (text : List ℕ) : Type 0 where
   nothing : text ≡ [] → IsWhole words input text
-  starts : (script printed told : List ℕ) (end : End)
+  starts : (script printed told : List ℕ) (end : ScriptEnd)
       → asks_stream words ≡ true → IsInput input script → IsShown (lines_of script) printed end
       → RunsOut end told → text ≡ printed ++ told → IsWhole words input text
-  begins : (command : Command) (script printed told : List ℕ) (end : End) → AsksFor words command → IsInput input script
+  begins : (command : Command) (script printed told : List ℕ) (end : ScriptEnd) → AsksFor words command → IsInput input script
       → IsTranscriptOf command (lines_of script) printed end → RunsOut end told → text ≡ printed ++ told → IsWhole words input text
   ceases : (addresses : Vec (Bor Text)) (scope : Scope) (timeout_ms : ℤ) (for_ms : Option ℕ) (style : Style) (printed told : List ℕ)
       → AsksFor words (Watch addresses scope timeout_ms for_ms style)

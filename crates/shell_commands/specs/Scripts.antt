@@ -2,7 +2,7 @@
 use Rattle.std.specs.Prelude.{◌≡◌, ℕ, List, [], Option, IfSome}
 use Rattle.zk_nodes.specs.Path.{Text}
 use Rattle.script_words.specs.Scripts.{IsTranscript, progress}
-use Rattle.script_words.specs.declared.script.End.{End}
+use Rattle.script_words.specs.declared.script.ScriptEnd.{ScriptEnd}
 use Rattle.script_live.specs.Lives as sessions
 use Rattle.script_rehearse.specs.Scripts as rehearsals
 use Rattle.script_replay.specs.Replays as replays
@@ -16,7 +16,7 @@ IsInput given script = IfSome given (λ all. script ≡ all)
 
 -- What the lines of a command's script print, by how they ended, and by the rules of its lines. A live session connects its client
 -- before them. The other commands take no script.
-abbrev pub IsTranscriptOf : Command → List Text → List ℕ → End → Type 0
+abbrev pub IsTranscriptOf : Command → List Text → List ℕ → ScriptEnd → Type 0
 IsTranscriptOf History lines text end = IsTranscript stories.rules (progress stories.first_position []) lines text end
 IsTranscriptOf Replay lines text end = IsTranscript replays.rules (progress replays.first_position []) lines text end
 IsTranscriptOf Rehearse lines text end = IsTranscript rehearsals.rules (progress rehearsals.first_position []) lines text end

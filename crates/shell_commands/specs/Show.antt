@@ -15,7 +15,6 @@ use Rattle.zk_records.specs.Layouts.{connect_request, reply_header, watcher_even
 use Rattle.zk_records.specs.Layouts.{get_children2_response, create_response}
 use Rattle.zk_records.specs.Response.{Response, response_spelling, IsPayload, response_at}
 use Rattle.zk_records.specs.Reply.{ReplyValue, ReplyFits, reply_spelling, reply_at}
-use Rattle.zk_records.specs.declared.request_fault.RequestFault.{RequestFault}
 use Rattle.zk_records.specs.declared.request_fault.RequestFault.TheVariants as request
 use Rattle.zk_records.specs.Operations.{request_layout}
 use Rattle.zk_records.specs.Asked.{Asked, asked_value, request_at}
@@ -25,9 +24,10 @@ use Rattle.script_replay.specs.FaultTexts.{take_error_text}
 use Rattle.shell_commands.specs.declared.fault.ShowFault.{ShowFault}
 use Rattle.shell_commands.specs.declared.fault.ShowFault.TheVariants.{Hex, Incomplete, Negative, TooLong, BytesAfter, Unknown, Reading}
 use Rattle.shell_commands.specs.declared.fault.ShowFault.TheVariants.{Memory}
-use Rattle.shell_commands.specs.declared.kind.Kind.{Kind}
-use Rattle.shell_commands.specs.declared.kind.Kind.TheVariants.{Connect, Accepted, Request, Notice, ReplyExists, ReplySetData, ReplyGetData}
-use Rattle.shell_commands.specs.declared.kind.Kind.TheVariants.{ReplyGetChildren, ReplyGetChildren2, ReplyCreate, ReplyHeader}
+use Rattle.shell_commands.specs.declared.kind.FrameKind.{FrameKind}
+use Rattle.shell_commands.specs.declared.kind.FrameKind.TheVariants.{Connect, Accepted, Request, Notice, ReplyExists, ReplySetData}
+use Rattle.shell_commands.specs.declared.kind.FrameKind.TheVariants.{ReplyGetData, ReplyGetChildren, ReplyGetChildren2, ReplyCreate}
+use Rattle.shell_commands.specs.declared.kind.FrameKind.TheVariants.{ReplyHeader}
 use Rattle.shell_commands.specs.Frame.{payload_of}
 use Rattle.shell_commands.specs.Names.{connect_names, reply_header_names, stat_names, get_data_names, get_children_names}
 use Rattle.shell_commands.specs.Names.{get_children2_names, create_names, notice_names, request_names}
@@ -86,7 +86,7 @@ IsRequest lines spelled ignored =
     (λ asked. spelling (request_layout asked.operation) (asked_value asked)) request_lines lines spelled
 
 -- the values of a kind of payload
-abbrev pub IsOf : Kind → List ℕ → List ℕ → List ℕ → List ℕ → Type 0
+abbrev pub IsOf : FrameKind → List ℕ → List ℕ → List ℕ → List ℕ → Type 0
 IsOf Connect payload = IsRecord connect_request connect_names
 IsOf Accepted payload = IsResponse payload
 IsOf Request payload = IsRequest
@@ -100,7 +100,7 @@ IsOf ReplyCreate payload = IsReply create_response create_names
 IsOf ReplyHeader payload = IsRecord reply_header reply_header_names
 
 -- the fault that reading from left to right meets first in a payload of a kind
-abbrev pub FailsWith : Kind → List ℕ → TakeError → Type 0
+abbrev pub FailsWith : FrameKind → List ℕ → TakeError → Type 0
 FailsWith Connect payload e = reading connect_request (length payload) payload ≡ Err e
 FailsWith Accepted payload e = response_at (length payload) payload ≡ Err e
 FailsWith Request payload e = request_at (length payload) payload ≡ Err (request.Unread e)
@@ -114,22 +114,14 @@ FailsWith ReplyCreate payload e = reply_at create_response (length payload) payl
 FailsWith ReplyHeader payload e = reading reply_header (length payload) payload ≡ Err e
 
 -- a request's type that no operation has
-abbrev pub IsUnknown : Kind → List ℕ → ℤ → Type 0
+abbrev pub IsUnknown : FrameKind → List ℕ → ℤ → Type 0
 IsUnknown Request payload number = request_at (length payload) payload ≡ Err (request.Unknown number)
 IsUnknown kind payload number = ⊥
 
-abbrev pub IsPayloadFault : Kind → List ℕ → ShowFault → Type 0
+abbrev pub IsPayloadFault : FrameKind → List ℕ → ShowFault → Type 0
 IsPayloadFault kind payload (Reading e) = FailsWith kind payload e
 IsPayloadFault kind payload (Unknown number) = IsUnknown kind payload number
 IsPayloadFault kind payload fault = ⊥
-
-abbrev pub shown_fault : RequestFault → ShowFault
-shown_fault (request.Unknown number) = Unknown number
-shown_fault (request.Unread jute.Memory) = Memory
-shown_fault (request.Unread (jute.Short place)) = Reading (jute.Short place)
-shown_fault (request.Unread (jute.BadLength place)) = Reading (jute.BadLength place)
-shown_fault (request.Unread (jute.BadBool place)) = Reading (jute.BadBool place)
-shown_fault (request.Unread (jute.NotUtf8 place)) = Reading (jute.NotUtf8 place)
 
 pub record IsHexOf (bytes text : List ℕ) : Type 0 where
   pub decoded : decode_of text ≡ Ok bytes
@@ -143,7 +135,7 @@ abbrev pub PrintsAgain : List ℕ → List ℕ → List ℕ → Type 0
 PrintsAgain frame spelled ignored = ignored ≡ [] → frame_of spelled ≡ frame
 
 -- The text in hex is one whole frame, and what is shown is the print of what its payload spells.
-pub record ShowsFrame (kind : Kind) (hex text : List ℕ) : Type 0 where
+pub record ShowsFrame (kind : FrameKind) (hex text : List ℕ) : Type 0 where
   pub frame : List ℕ
   pub payload : List ℕ
   pub decoded : IsHexOf frame hex
@@ -152,7 +144,7 @@ pub record ShowsFrame (kind : Kind) (hex text : List ℕ) : Type 0 where
   pub again : PrintsAgain frame prints.spelled prints.ignored
 
 -- The first fault that applies: of the text, of the frame that it means, or of the frame's payload.
-pub data IsFault (kind : Kind) (hex : List ℕ) (fault : ShowFault) : Type 0 where
+pub data IsFault (kind : FrameKind) (hex : List ℕ) (fault : ShowFault) : Type 0 where
   no_hex : fault ≡ Hex → IsNotHex hex → IsFault kind hex fault
   no_frame : (frame : List ℕ) → IsHexOf frame hex → payload_of frame ≡ Err fault → IsFault kind hex fault
   no_payload : (frame payload : List ℕ)

@@ -9,11 +9,11 @@ ghost use Rattle.zk_conversation.specs.Views.{call_view};
 ghost use Rattle.shell_commands.specs.Asks.{IsUndone, PrintsAnswer, TellsWhy};
 ghost use Rattle.shell_commands.specs.Files.{IsAskedBy, TellsUndone, why_words};
 
-use crate::command::Question;
+use crate::command::NodeQuestion;
 use crate::files::{FileFault, Files, asked_by};
 use crate::status::Status;
 use crate::written::write_text;
-use shell_ask::{End, Plan, ask};
+use shell_ask::{CallEnd, CallPlan, ask};
 use std::alloc::{AllocError, Allocator, Global};
 use std::io::{Read, Write};
 use zk_link::{Clock, Dial};
@@ -23,7 +23,7 @@ pub fn ask_over<A: Allocator + Copy, D: Dial + Drop, C: Clock + Drop, O: Write, 
     alloc: A,
     dial: D,
     clock: C,
-    plan: Plan<'_, A>,
+    plan: CallPlan<'_, A>,
     out: &mut O,
     errors: &mut E,
 ) -> Status
@@ -39,14 +39,14 @@ pub fn ask_over<A: Allocator + Copy, D: Dial + Drop, C: Clock + Drop, O: Write, 
     ensures more { result ≢ Status.More }
 {
     match ask(alloc, dial, clock, plan, out, errors) {
-        End::Done => Status::Done,
-        End::NoNode => Status::NoNode,
-        End::Refused => Status::Refused,
-        End::Unconnected => Status::Unconnected,
-        End::Unanswered => Status::Unanswered,
-        End::More => Status::More,
-        End::Memory => Status::Memory,
-        End::Stream => Status::Stream,
+        CallEnd::Done => Status::Done,
+        CallEnd::NoNode => Status::NoNode,
+        CallEnd::Refused => Status::Refused,
+        CallEnd::Unconnected => Status::Unconnected,
+        CallEnd::Unanswered => Status::Unanswered,
+        CallEnd::More => Status::More,
+        CallEnd::Memory => Status::Memory,
+        CallEnd::Stream => Status::Stream,
     }
 }
 
@@ -97,7 +97,7 @@ pub fn ask_with<F: Files, D: Dial + Drop, C: Clock + Drop, I: Read, O: Write, E:
     files: &F,
     dial: D,
     clock: C,
-    question: Question<'_>,
+    question: NodeQuestion<'_>,
     input: &mut I,
     out: &mut O,
     errors: &mut E,
@@ -117,7 +117,7 @@ pub fn ask_with<F: Files, D: Dial + Drop, C: Clock + Drop, I: Read, O: Write, E:
     ensures never { result ≢ Status.NeverConnected }
     ensures more { result ≢ Status.More }
 {
-    let Question {
+    let NodeQuestion {
         addresses,
         chroot,
         name,
@@ -128,7 +128,7 @@ pub fn ask_with<F: Files, D: Dial + Drop, C: Clock + Drop, I: Read, O: Write, E:
     } = question;
     match asked_by(alloc, files, input, from, call) {
         Ok(call) => {
-            let plan = Plan {
+            let plan = CallPlan {
                 addresses: addresses.as_slice(),
                 call,
                 name,

@@ -7,7 +7,8 @@ ghost use Rattle.clap.specs.Words.{Text, app_of, found_of, first_value, kind_of,
 ghost use Rattle.script_live.specs.Addresses.{is_address};
 ghost use Rattle.shell_commands.specs.Kinds.{kind_word};
 ghost use Rattle.shell_commands.specs.CommandLine.{AreAddresses, AreKinds, AsksFor, AsksForNone, AsksQuestion, IsAsked, IsDue, IsFound};
-ghost use Rattle.shell_commands.specs.CommandLine.{IsWatch, Tells, TellsIf, Sights, sights_of, history_app, live_app, rehearse_app};
+ghost use Rattle.shell_commands.specs.CommandLine.{IsWatch, Sights, sights_of, history_app, live_app, rehearse_app};
+ghost use Rattle.shell_commands.specs.inner.CommandLine.{Tells, TellsIf};
 ghost use Rattle.shell_commands.specs.CommandLine.{replay_app, show_app, shell_app, shell_top, watch_app};
 ghost use Rattle.shell_ask.specs.declared.plan.Form.{Form};
 ghost use Rattle.zk_conversation.specs.Calls.{Call as Calls};
@@ -18,7 +19,7 @@ use crate::ask_forms::{with_reads, with_writes};
 use crate::ask_words::{form_for, node_of, servers_of, wait_of};
 use crate::data_words::call_of;
 use crate::help;
-use crate::kind::Kind;
+use crate::kind::FrameKind;
 use crate::line_fault::{LineFault, no_address, no_command};
 use crate::tree_words::tree_of;
 use crate::verb::Verb;
@@ -51,7 +52,7 @@ static KINDS: [&str; 11] = [
 pub enum Command<'a> {
     /// Shows one whole frame in hex.
     Show {
-        kind: Kind,
+        kind: FrameKind,
         hex: &'a str,
     },
     /// Answers data and names of a history.
@@ -74,7 +75,7 @@ pub enum Command<'a> {
         style: Style,
     },
     /// Asks one call of servers.
-    Ask(Question<'a>),
+    Ask(NodeQuestion<'a>),
     /// Lists a tree.
     Tree(Tour<'a>),
 }
@@ -90,7 +91,7 @@ pub struct Scope {
 
 /// A call of servers at these addresses, whose answer is waited for this many milliseconds. The node has this name below a chroot.
 #[derive(Drop)]
-pub struct Question<'a> {
+pub struct NodeQuestion<'a> {
     pub addresses: Vec<&'a str>,
     pub chroot: String,
     pub name: &'a str,
@@ -243,13 +244,14 @@ fn told_of(alloc: Global, error: &Error) -> LineFault
 
 /// The command that the matches of `show` give.
 fn show_of<'a>(matches: &ArgMatches<'a>) -> Option<Command<'a>>
-    ensures some { IfSome result (λ command. (kind : Kind) × (hex : Bor Text) × (command ≡ Command.Show kind hex)
+    ensures some { IfSome result (λ command. (kind : FrameKind) × (hex : Bor Text) × (command ≡ Command.Show kind hex)
         × (first_value (found_of matches.now) (codes "KIND") ≡ Some (kind_word kind))
         × (first_value (found_of matches.now) (codes "HEX") ≡ Some hex.now)) }
-    ensures none { IfNone result ((kind : Kind) (hex : Text) → first_value (found_of matches.now) (codes "KIND") ≡ Some (kind_word kind)
+    ensures none { IfNone result ((kind : FrameKind) (hex : Text)
+        → first_value (found_of matches.now) (codes "KIND") ≡ Some (kind_word kind)
         → first_value (found_of matches.now) (codes "HEX") ≡ Some hex → ⊥) }
 {
-    let kind = Kind::named(matches.get_str("KIND")?)?;
+    let kind = FrameKind::named(matches.get_str("KIND")?)?;
     let hex = matches.get_str("HEX")?;
     Some(Command::Show { kind, hex })
 }
@@ -313,7 +315,7 @@ fn watch_of<'a>(alloc: Global, matches: &ArgMatches<'a>) -> Result<Command<'a>, 
 
 /// The command that the matches of a command with this verb give.
 fn ask_of<'a>(alloc: Global, verb: Verb, matches: &ArgMatches<'a>) -> Result<Command<'a>, LineFault>
-    ensures ok { IfOk result (λ command. (question : Question) × (command ≡ Command.Ask question)
+    ensures ok { IfOk result (λ command. (question : NodeQuestion) × (command ≡ Command.Ask question)
         × AsksQuestion verb question (rows_of (found_of matches.now))) }
     ensures err { IfErr result
         (TellsIf ((addresses : List Text) (chroot name : Text) (call : Calls) (from : Option Text) (form : Form) (wait_ms : ℕ)
@@ -326,7 +328,7 @@ fn ask_of<'a>(alloc: Global, verb: Verb, matches: &ArgMatches<'a>) -> Result<Com
     let (addresses, chroot) = servers_of(alloc, matches)?;
     let path = node_of(alloc, chroot.as_str(), name)?;
     let call = call_of(alloc, verb, path, matches)?;
-    Ok(Command::Ask(Question {
+    Ok(Command::Ask(NodeQuestion {
         addresses,
         chroot,
         name,

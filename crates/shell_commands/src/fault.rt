@@ -1,6 +1,6 @@
 //! Why nothing could be shown.
 
-use script_replay::faults::Told;
+use script_replay::faults::ToldFault;
 use std::fmt;
 use zk_frames::FrameFault;
 use zk_jute::TakeError;
@@ -41,7 +41,7 @@ impl fmt::Display for ShowFault {
             ShowFault::TooLong => write!(f, "fault: {}", FrameFault::TooLong.code()),
             ShowFault::BytesAfter => write!(f, "fault: bytes after the frame"),
             ShowFault::Unknown(number) => write!(f, "fault: unknown type {number}"),
-            ShowFault::Reading(e) => write!(f, "fault: {}", Told(*e)),
+            ShowFault::Reading(e) => write!(f, "fault: {}", ToldFault(*e)),
             ShowFault::Memory => write!(f, "out of memory"),
         }
     }
@@ -49,7 +49,7 @@ impl fmt::Display for ShowFault {
 
 impl From<RequestFault> for ShowFault {
     ghost use Rattle.std.specs.Prelude.{◌≡◌};
-    ghost use Rattle.shell_commands.specs.Show.{shown_fault};
+    ghost use Rattle.shell_commands.specs.inner.Show.{shown_fault};
 
     ghost from_gives = { λ e f. f ≡ shown_fault e };
 

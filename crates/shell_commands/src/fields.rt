@@ -6,7 +6,7 @@ ghost use Rattle.zk_jute.specs.Layout.{vector, ustring};
 ghost use Rattle.script_words.specs.Words.{bytes_word, text_word, boolean_word, optional_boolean_word};
 ghost use Rattle.script_words.specs.Lines.{line};
 ghost use Rattle.shell_commands.specs.Print.{lines_of, numbered_lines, one};
-ghost use Rattle.shell_commands.specs.Fields.{field_word, fields_lines};
+ghost use Rattle.shell_commands.specs.inner.Fields.{field_word, fields_lines};
 
 use script_words::lines::{push_line, push_shown};
 use script_words::words::{NONE, NULL, boolean_to_word, bytes_to_word, text_to_word};
@@ -15,7 +15,7 @@ use zk_jute::{Buffer, List, Text};
 
 /// A field that is printed in one line.
 #[derive(Drop)]
-pub enum Field<'a, A: Allocator> {
+pub enum PrintedField<'a, A: Allocator> {
     Int(&'a i32),
     Long(&'a i64),
     Boolean(bool),
@@ -75,16 +75,16 @@ fn push_field<A: Allocator + Copy>(
     text: &mut String<A>,
     alloc: A,
     name: &str,
-    field: &Field<'_, A>,
+    field: &PrintedField<'_, A>,
 ) -> Result<(), AllocError>
     ensures { OnOk result (string_bytes text.new ≡ string_bytes text.old ++ line name.now (field_word field.now)) }
 {
     match field {
-        Field::Int(number) => push_shown(text, alloc, name, number),
-        Field::Long(number) => push_shown(text, alloc, name, number),
-        Field::Boolean(flag) => push_boolean(text, name, *flag),
-        Field::Buffer(bytes) => push_buffer(text, alloc, name, bytes),
-        Field::Text(value) => push_text(text, alloc, name, value),
+        PrintedField::Int(number) => push_shown(text, alloc, name, number),
+        PrintedField::Long(number) => push_shown(text, alloc, name, number),
+        PrintedField::Boolean(flag) => push_boolean(text, name, *flag),
+        PrintedField::Buffer(bytes) => push_buffer(text, alloc, name, bytes),
+        PrintedField::Text(value) => push_text(text, alloc, name, value),
     }
 }
 
@@ -92,7 +92,7 @@ fn push_field<A: Allocator + Copy>(
 pub fn push_fields<A: Allocator + Copy>(
     text: &mut String<A>,
     alloc: A,
-    fields: &[(&str, Field<'_, A>)],
+    fields: &[(&str, PrintedField<'_, A>)],
 ) -> Result<(), AllocError>
     ensures { OnOk result (string_bytes text.new ≡ string_bytes text.old ++ fields_lines fields.now) }
 {

@@ -5,7 +5,7 @@ ghost use Rattle.shell_commands.specs.Kinds.{kind_word};
 
 /// What kind of payload a frame has.
 #[derive(Clone, Copy, Debug, PartialEq, Eq)]
-pub enum Kind {
+pub enum FrameKind {
     /// A connection's first message, which has no header.
     Connect,
     /// The answer to it, which has no header.
@@ -30,24 +30,24 @@ pub enum Kind {
     ReplyHeader,
 }
 
-impl Kind {
+impl FrameKind {
     /// The kind that a word names.
-    pub fn named(word: &str) -> Option<Kind>
+    pub fn named(word: &str) -> Option<FrameKind>
         ensures some { IfSome result (λ kind. word.now ≡ kind_word kind) }
-        ensures none { IfNone result ((kind : Kind) → word.now ≢ kind_word kind) }
+        ensures none { IfNone result ((kind : FrameKind) → word.now ≢ kind_word kind) }
     {
         match word {
-            "connect" => Some(Kind::Connect),
-            "accepted" => Some(Kind::Accepted),
-            "request" => Some(Kind::Request),
-            "notice" => Some(Kind::Notice),
-            "reply-exists" => Some(Kind::ReplyExists),
-            "reply-setdata" => Some(Kind::ReplySetData),
-            "reply-getdata" => Some(Kind::ReplyGetData),
-            "reply-getchildren" => Some(Kind::ReplyGetChildren),
-            "reply-getchildren2" => Some(Kind::ReplyGetChildren2),
-            "reply-create" => Some(Kind::ReplyCreate),
-            "reply-header" => Some(Kind::ReplyHeader),
+            "connect" => Some(FrameKind::Connect),
+            "accepted" => Some(FrameKind::Accepted),
+            "request" => Some(FrameKind::Request),
+            "notice" => Some(FrameKind::Notice),
+            "reply-exists" => Some(FrameKind::ReplyExists),
+            "reply-setdata" => Some(FrameKind::ReplySetData),
+            "reply-getdata" => Some(FrameKind::ReplyGetData),
+            "reply-getchildren" => Some(FrameKind::ReplyGetChildren),
+            "reply-getchildren2" => Some(FrameKind::ReplyGetChildren2),
+            "reply-create" => Some(FrameKind::ReplyCreate),
+            "reply-header" => Some(FrameKind::ReplyHeader),
             _ => None,
         }
     }

@@ -9,7 +9,7 @@ ghost use Rattle.zk_records.specs.Views.{response_of};
 ghost use Rattle.shell_commands.specs.Print.{frame_of, print_of};
 ghost use Rattle.shell_commands.specs.Show.{Prints, IsRecord, IsResponse, IsReply, response_lines, reply_lines};
 
-use crate::fields::{Field, push_fields, push_optional_boolean};
+use crate::fields::{PrintedField, push_fields, push_optional_boolean};
 use crate::shown::Shown;
 use script_words::lines::{push_line, push_shown};
 use std::alloc::{AllocError, Allocator};
@@ -104,10 +104,13 @@ fn push_response<A: Allocator + Copy>(
     ensures { OnOk result (string_bytes text.new ≡ string_bytes text.old ++ response_lines (response_of response.now)) }
 {
     let fields = [
-        ("protocolVersion", Field::Int(&response.protocol_version)),
-        ("timeOut", Field::Int(&response.time_out)),
-        ("sessionId", Field::Long(&response.session_id)),
-        ("passwd", Field::Buffer(&response.passwd)),
+        (
+            "protocolVersion",
+            PrintedField::Int(&response.protocol_version),
+        ),
+        ("timeOut", PrintedField::Int(&response.time_out)),
+        ("sessionId", PrintedField::Long(&response.session_id)),
+        ("passwd", PrintedField::Buffer(&response.passwd)),
     ];
     push_fields(text, alloc, &fields)?;
     push_optional_boolean(text, "readOnly", response.read_only)

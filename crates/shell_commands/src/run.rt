@@ -20,7 +20,7 @@ use crate::status::Status;
 use crate::tree::tour_over;
 use crate::watch::watch_over;
 use crate::written::write_text;
-use shell_watch::{Plan, Style};
+use shell_watch::{Style, WatchPlan};
 use std::alloc::Global;
 use std::io::{Read, Write};
 use zk_link::{Clock, Dial};
@@ -32,7 +32,7 @@ fn plan_of<'a>(
     timeout_ms: i32,
     for_ms: Option<u64>,
     style: Style,
-) -> Plan<'a, Global>
+) -> WatchPlan<'a, Global>
     ensures subjects { result.subjects ≡ scope.subjects }
     ensures trees { result.trees ≡ scope.trees }
     ensures most { result.most ≡ scope.most }
@@ -44,7 +44,7 @@ fn plan_of<'a>(
         trees,
         most,
     } = scope;
-    Plan {
+    WatchPlan {
         addresses,
         subjects,
         trees,

@@ -4,8 +4,8 @@ ghost use Rattle.std.specs.Prelude.{◌≡◌, ◌≢◌, ◌⊎◌, ◌++◌, [
 ghost use Rattle.std.specs.Io.KnownBytes.{Appends};
 ghost use Rattle.zk_nodes.specs.Path.{Text};
 ghost use Rattle.script_words.specs.Scripts.{lines_of, refusal_text};
-ghost use Rattle.script_words.specs.declared.script.End.{End};
-ghost use Rattle.script_words.specs.declared.script.End.TheVariants as ends;
+ghost use Rattle.script_words.specs.declared.script.ScriptEnd.{ScriptEnd};
+ghost use Rattle.script_words.specs.declared.script.ScriptEnd.TheVariants as ends;
 ghost use Rattle.script_words.specs.declared.script_fault.ScriptFault.{ScriptFault as Why};
 ghost use Rattle.shell_commands.specs.Asks.{IsUndone};
 ghost use Rattle.shell_commands.specs.Scripts.{IsInput};
@@ -21,7 +21,7 @@ use std::io::{Read, Write};
 /// What a command makes of a script.
 pub trait Plays<A: Allocator + Copy>: Drop {
     /// What lines print, by how they ended.
-    ghost prints: { List Text → List ℕ → End → Type 0 };
+    ghost prints: { List Text → List ℕ → ScriptEnd → Type 0 };
 
     /// Plays a script up to the first line that is not done: what its lines print, and how they end.
     fn transcript(self, alloc: A, script: &[u8]) -> Transcript<A>
@@ -51,7 +51,7 @@ pub fn script_over<P: Plays<A>, A: Allocator + Copy, I: Read, O: Write, E: Write
         × P.prints (lines_of script) text (ends.Refused number why) × Appends (O.contents out.old) (O.contents out.new) text
         × Appends (E.contents errors.old) (E.contents errors.new) (refusal_text number why) }
     // What is written is what the first lines print: of no line a part. The line of a halt stands after it where a step halted.
-    ensures memory { result ≡ Status.Memory → (script text told : List ℕ) × (end : End) × IsInput (I.remaining input.old) script
+    ensures memory { result ≡ Status.Memory → (script text told : List ℕ) × (end : ScriptEnd) × IsInput (I.remaining input.old) script
         × P.prints (lines_of script) text end × RunsOut end told × Appends (O.contents out.old) (O.contents out.new) (text ++ told) }
     ensures silent { (result ≡ Status.Done) ⊎ (result ≡ Status.Memory) → errors.new ≡ errors.old }
     ensures usage { result ≢ Status.Usage }

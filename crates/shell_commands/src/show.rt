@@ -9,7 +9,7 @@ ghost use Rattle.zk_limits.specs.declared.limits.TheConstants.{LONGEST_INCOMING}
 use crate::asked::print_request;
 use crate::fault::ShowFault;
 use crate::frame::payload_of;
-use crate::kind::Kind;
+use crate::kind::FrameKind;
 use crate::printed::{print_record, print_reply, print_response};
 use crate::shown::Notice;
 use crate::status::Status;
@@ -36,7 +36,7 @@ fn decoded<A: Allocator + Copy>(alloc: A, hex: &str) -> Result<Vec<u8, A>, ShowF
 /// What is printed of a payload of this kind.
 fn print_payload<A: Allocator + Copy>(
     alloc: A,
-    kind: Kind,
+    kind: FrameKind,
     payload: &[u8],
 ) -> Result<String<A>, ShowFault>
     requires { length payload.now ≤ LONGEST_INCOMING }
@@ -44,23 +44,27 @@ fn print_payload<A: Allocator + Copy>(
     ensures fault { IfErr result (λ f. (f ≡ ShowFault.Memory) ⊎ IsPayloadFault kind payload.now f) }
 {
     let printed = match kind {
-        Kind::Connect => print_record::<A, ConnectRequest<A>>(alloc, payload),
-        Kind::Accepted => print_response(alloc, payload),
-        Kind::Request => return Ok(print_request(alloc, payload)?),
-        Kind::Notice => print_record::<A, Notice<A>>(alloc, payload),
-        Kind::ReplyExists => print_reply::<A, Stat>(alloc, payload),
-        Kind::ReplySetData => print_reply::<A, Stat>(alloc, payload),
-        Kind::ReplyGetData => print_reply::<A, GetDataResponse<A>>(alloc, payload),
-        Kind::ReplyGetChildren => print_reply::<A, GetChildrenResponse<A>>(alloc, payload),
-        Kind::ReplyGetChildren2 => print_reply::<A, GetChildren2Response<A>>(alloc, payload),
-        Kind::ReplyCreate => print_reply::<A, CreateResponse<A>>(alloc, payload),
-        Kind::ReplyHeader => print_record::<A, ReplyHeader>(alloc, payload),
+        FrameKind::Connect => print_record::<A, ConnectRequest<A>>(alloc, payload),
+        FrameKind::Accepted => print_response(alloc, payload),
+        FrameKind::Request => return Ok(print_request(alloc, payload)?),
+        FrameKind::Notice => print_record::<A, Notice<A>>(alloc, payload),
+        FrameKind::ReplyExists => print_reply::<A, Stat>(alloc, payload),
+        FrameKind::ReplySetData => print_reply::<A, Stat>(alloc, payload),
+        FrameKind::ReplyGetData => print_reply::<A, GetDataResponse<A>>(alloc, payload),
+        FrameKind::ReplyGetChildren => print_reply::<A, GetChildrenResponse<A>>(alloc, payload),
+        FrameKind::ReplyGetChildren2 => print_reply::<A, GetChildren2Response<A>>(alloc, payload),
+        FrameKind::ReplyCreate => print_reply::<A, CreateResponse<A>>(alloc, payload),
+        FrameKind::ReplyHeader => print_record::<A, ReplyHeader>(alloc, payload),
     };
     Ok(printed.map_err(RequestFault::Unread)?)
 }
 
 /// What is printed of one whole frame in hex.
-fn print_frame<A: Allocator + Copy>(alloc: A, kind: Kind, hex: &str) -> Result<String<A>, ShowFault>
+fn print_frame<A: Allocator + Copy>(
+    alloc: A,
+    kind: FrameKind,
+    hex: &str,
+) -> Result<String<A>, ShowFault>
     ensures shows { IfOk result (λ text. ShowsFrame kind hex.now (string_bytes text)) }
     ensures fault { IfErr result (λ f. (f ≡ ShowFault.Memory) ⊎ IsFault kind hex.now f) }
 {
@@ -76,7 +80,7 @@ pub fn show<A: Allocator + Copy, O: Write, E: Write>(
     alloc: A,
     out: &mut O,
     errors: &mut E,
-    kind: Kind,
+    kind: FrameKind,
     hex: &str,
 ) -> Status
     // What is written is the print of what the payload spells.

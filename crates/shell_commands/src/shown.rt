@@ -10,7 +10,7 @@ ghost use Rattle.shell_commands.specs.Names.{connect_names, reply_header_names, 
 ghost use Rattle.shell_commands.specs.Names.{get_children2_names, create_names, event_names, notice_names, read_request_names, acl_names};
 ghost use Rattle.shell_commands.specs.Names.{body_names};
 
-use crate::fields::{Field, push_boolean, push_buffer, push_fields, push_text, push_texts};
+use crate::fields::{PrintedField, push_boolean, push_buffer, push_fields, push_text, push_texts};
 use script_words::lines::{push_line, push_shown};
 use script_words::words::NULL;
 use std::alloc::{AllocError, Allocator};
@@ -36,12 +36,12 @@ impl<A: Allocator + Copy> Shown<A> for ConnectRequest<A> {
 
     fn push_lines(&self, text: &mut String<A>, alloc: A) -> Result<(), AllocError> {
         let fields = [
-            ("protocolVersion", Field::Int(&self.protocol_version)),
-            ("lastZxidSeen", Field::Long(&self.last_zxid_seen)),
-            ("timeOut", Field::Int(&self.time_out)),
-            ("sessionId", Field::Long(&self.session_id)),
-            ("passwd", Field::Buffer(&self.passwd)),
-            ("readOnly", Field::Boolean(self.read_only)),
+            ("protocolVersion", PrintedField::Int(&self.protocol_version)),
+            ("lastZxidSeen", PrintedField::Long(&self.last_zxid_seen)),
+            ("timeOut", PrintedField::Int(&self.time_out)),
+            ("sessionId", PrintedField::Long(&self.session_id)),
+            ("passwd", PrintedField::Buffer(&self.passwd)),
+            ("readOnly", PrintedField::Boolean(self.read_only)),
         ];
         push_fields(text, alloc, &fields)
     }
@@ -52,9 +52,9 @@ impl<A: Allocator + Copy> Shown<A> for ReplyHeader {
 
     fn push_lines(&self, text: &mut String<A>, alloc: A) -> Result<(), AllocError> {
         let fields = [
-            ("xid", Field::Int(&self.xid)),
-            ("zxid", Field::Long(&self.zxid)),
-            ("err", Field::Int(&self.err)),
+            ("xid", PrintedField::Int(&self.xid)),
+            ("zxid", PrintedField::Long(&self.zxid)),
+            ("err", PrintedField::Int(&self.err)),
         ];
         push_fields(text, alloc, &fields)
     }
@@ -65,17 +65,17 @@ impl<A: Allocator + Copy> Shown<A> for Stat {
 
     fn push_lines(&self, text: &mut String<A>, alloc: A) -> Result<(), AllocError> {
         let fields = [
-            ("czxid", Field::Long(&self.czxid)),
-            ("mzxid", Field::Long(&self.mzxid)),
-            ("ctime", Field::Long(&self.ctime)),
-            ("mtime", Field::Long(&self.mtime)),
-            ("version", Field::Int(&self.version)),
-            ("cversion", Field::Int(&self.cversion)),
-            ("aversion", Field::Int(&self.aversion)),
-            ("ephemeralOwner", Field::Long(&self.ephemeral_owner)),
-            ("dataLength", Field::Int(&self.data_length)),
-            ("numChildren", Field::Int(&self.num_children)),
-            ("pzxid", Field::Long(&self.pzxid)),
+            ("czxid", PrintedField::Long(&self.czxid)),
+            ("mzxid", PrintedField::Long(&self.mzxid)),
+            ("ctime", PrintedField::Long(&self.ctime)),
+            ("mtime", PrintedField::Long(&self.mtime)),
+            ("version", PrintedField::Int(&self.version)),
+            ("cversion", PrintedField::Int(&self.cversion)),
+            ("aversion", PrintedField::Int(&self.aversion)),
+            ("ephemeralOwner", PrintedField::Long(&self.ephemeral_owner)),
+            ("dataLength", PrintedField::Int(&self.data_length)),
+            ("numChildren", PrintedField::Int(&self.num_children)),
+            ("pzxid", PrintedField::Long(&self.pzxid)),
         ];
         push_fields(text, alloc, &fields)
     }
@@ -120,9 +120,9 @@ impl<A: Allocator + Copy> Shown<A> for WatcherEvent<A> {
 
     fn push_lines(&self, text: &mut String<A>, alloc: A) -> Result<(), AllocError> {
         let fields = [
-            ("type", Field::Int(&self.kind)),
-            ("state", Field::Int(&self.state)),
-            ("path", Field::Text(&self.path)),
+            ("type", PrintedField::Int(&self.kind)),
+            ("state", PrintedField::Int(&self.state)),
+            ("path", PrintedField::Text(&self.path)),
         ];
         push_fields(text, alloc, &fields)
     }
@@ -180,9 +180,9 @@ impl<A: Allocator + Copy> Shown<A> for SetDataRequest<A> {
 
     fn push_lines(&self, text: &mut String<A>, alloc: A) -> Result<(), AllocError> {
         let fields = [
-            ("path", Field::Text(&self.path)),
-            ("data", Field::Buffer(&self.bytes)),
-            ("version", Field::Int(&self.version)),
+            ("path", PrintedField::Text(&self.path)),
+            ("data", PrintedField::Buffer(&self.bytes)),
+            ("version", PrintedField::Int(&self.version)),
         ];
         push_fields(text, alloc, &fields)
     }
@@ -193,9 +193,9 @@ impl<A: Allocator + Copy> Shown<A> for Acl<A> {
 
     fn push_lines(&self, text: &mut String<A>, alloc: A) -> Result<(), AllocError> {
         let fields = [
-            ("perms", Field::Int(&self.perms)),
-            ("scheme", Field::Text(&self.id.scheme)),
-            ("id", Field::Text(&self.id.id)),
+            ("perms", PrintedField::Int(&self.perms)),
+            ("scheme", PrintedField::Text(&self.id.scheme)),
+            ("id", PrintedField::Text(&self.id.id)),
         ];
         push_fields(text, alloc, &fields)
     }

@@ -8,7 +8,7 @@ ghost use Rattle.shell_commands.specs.Tours.{PrintsTree, TellsTree};
 
 use crate::command::Tour;
 use crate::status::Status;
-use shell_ask::{End, TreePlan, tree};
+use shell_ask::{CallEnd, TreePlan, tree};
 use std::alloc::Global;
 use std::io::Write;
 use zk_link::{Clock, Dial};
@@ -56,13 +56,13 @@ pub fn tour_over<D: Dial + Drop, C: Clock + Drop, O: Write, E: Write>(
         wait_ms,
     };
     match tree(alloc, dial, clock, plan, out, errors) {
-        End::Done => Status::Done,
-        End::NoNode => Status::NoNode,
-        End::Refused => Status::Refused,
-        End::Unconnected => Status::Unconnected,
-        End::Unanswered => Status::Unanswered,
-        End::More => Status::More,
-        End::Memory => Status::Memory,
-        End::Stream => Status::Stream,
+        CallEnd::Done => Status::Done,
+        CallEnd::NoNode => Status::NoNode,
+        CallEnd::Refused => Status::Refused,
+        CallEnd::Unconnected => Status::Unconnected,
+        CallEnd::Unanswered => Status::Unanswered,
+        CallEnd::More => Status::More,
+        CallEnd::Memory => Status::Memory,
+        CallEnd::Stream => Status::Stream,
     }
 }

@@ -8,7 +8,7 @@ ghost use Rattle.shell_commands.specs.Written.{IsHalt};
 
 use crate::status::Status;
 use crate::written::halt;
-use shell_watch::{End, Plan, watch};
+use shell_watch::{WatchEnd, WatchPlan, watch};
 use std::alloc::Allocator;
 use std::io::Write;
 use zk_link::{Clock, Dial};
@@ -20,7 +20,7 @@ pub fn watch_over<A: Allocator + Copy, D: Dial + Drop, C: Clock + Drop, O: Write
     alloc: A,
     dial: D,
     clock: C,
-    plan: Plan<'_, A>,
+    plan: WatchPlan<'_, A>,
     out: &mut O,
 ) -> Status
     ensures done { result ≡ Status.Done → (text : List ℕ) × IsWatched A plan.entry.style (aims_of plan.entry.subjects.items)
@@ -37,10 +37,10 @@ pub fn watch_over<A: Allocator + Copy, D: Dial + Drop, C: Clock + Drop, O: Write
     ensures more { result ≢ Status.More }
 {
     match watch(alloc, dial, clock, plan, out) {
-        End::Over => Status::Done,
-        End::NeverConnected => Status::NeverConnected,
-        End::Halted => halt(out),
-        End::Memory => Status::Memory,
-        End::Stream => Status::Stream,
+        WatchEnd::Over => Status::Done,
+        WatchEnd::NeverConnected => Status::NeverConnected,
+        WatchEnd::Halted => halt(out),
+        WatchEnd::Memory => Status::Memory,
+        WatchEnd::Stream => Status::Stream,
     }
 }

@@ -5,11 +5,12 @@ ghost use Rattle.std.specs.Io.KnownBytes.{Appends};
 ghost use Rattle.script_words.specs.Scripts.{refusal_text};
 ghost use Rattle.script_words.specs.declared.script_fault.ScriptFault.{ScriptFault as Why};
 ghost use Rattle.shell_commands.specs.Asks.{IsUndone};
-ghost use Rattle.shell_commands.specs.Written.{unread, RunsOut};
+ghost use Rattle.shell_commands.specs.inner.Written.{unread};
+ghost use Rattle.shell_commands.specs.Written.{RunsOut};
 
 use crate::status::Status;
 use script_words::input::InputFault;
-use script_words::script::{End, Transcript};
+use script_words::script::{ScriptEnd, Transcript};
 use script_words::script_fault::ScriptFault;
 use std::alloc::Allocator;
 use std::io::Write;
@@ -66,8 +67,8 @@ pub(crate) fn write_transcript<A: Allocator, O: Write, E: Write>(
     transcript: &Transcript<A>,
 ) -> Status
     ensures done { result ≡ Status.Done
-        → (transcript.now.end ≡ End.Taken) × Appends (O.contents out.old) (O.contents out.new) (string_bytes transcript.now.text) }
-    ensures fault { result ≡ Status.Fault → (number : ℕ) × (why : Why) × (transcript.now.end ≡ End.Refused number why)
+        → (transcript.now.end ≡ ScriptEnd.Taken) × Appends (O.contents out.old) (O.contents out.new) (string_bytes transcript.now.text) }
+    ensures fault { result ≡ Status.Fault → (number : ℕ) × (why : Why) × (transcript.now.end ≡ ScriptEnd.Refused number why)
         × Appends (O.contents out.old) (O.contents out.new) (string_bytes transcript.now.text)
         × Appends (E.contents errors.old) (E.contents errors.new) (refusal_text number why) }
     ensures memory { result ≡ Status.Memory → (told : List ℕ) × RunsOut transcript.now.end told
@@ -82,9 +83,9 @@ pub(crate) fn write_transcript<A: Allocator, O: Write, E: Write>(
         return Status::Stream;
     }
     match transcript.end {
-        End::Taken => Status::Done,
-        End::Refused { number, why } => print_refusal(errors, number, why),
-        End::Halted => halt(out),
-        End::Memory => Status::Memory,
+        ScriptEnd::Taken => Status::Done,
+        ScriptEnd::Refused { number, why } => print_refusal(errors, number, why),
+        ScriptEnd::Halted => halt(out),
+        ScriptEnd::Memory => Status::Memory,
     }
 }

@@ -7,7 +7,7 @@ use zk_driver::Stop;
 
 /// How a watch ended.
 #[derive(Clone, Copy, Debug, PartialEq, Eq)]
-pub enum End {
+pub enum WatchEnd {
     /// Its time was over, and it is closed. A server has accepted its session.
     Over,
     /// Its time was over, and no server has ever accepted a session of it.
@@ -55,15 +55,15 @@ impl From<Stop> for Failure {
 
 impl Failure {
     /// How a watch ends that cannot go on.
-    pub(crate) fn end(self) -> End
-        ensures over { result ≢ End.Over }
-        ensures never { result ≢ End.NeverConnected }
-        ensures stream { result ≢ End.Stream → self ≢ Failure.Stream }
+    pub(crate) fn end(self) -> WatchEnd
+        ensures over { result ≢ WatchEnd.Over }
+        ensures never { result ≢ WatchEnd.NeverConnected }
+        ensures stream { result ≢ WatchEnd.Stream → self ≢ Failure.Stream }
     {
         match self {
-            Failure::Halted => End::Halted,
-            Failure::Memory => End::Memory,
-            Failure::Stream => End::Stream,
+            Failure::Halted => WatchEnd::Halted,
+            Failure::Memory => WatchEnd::Memory,
+            Failure::Stream => WatchEnd::Stream,
         }
     }
 }

@@ -22,7 +22,7 @@ mod turn_object;
 mod watcher;
 mod words;
 
-pub use end::End;
-pub use plan::{Plan, Style};
+pub use end::WatchEnd;
+pub use plan::{Style, WatchPlan};
 pub use planned::watch;
 pub use zk_trees::NodeSide;

@@ -18,7 +18,7 @@ pub enum Style {
 
 /// What to watch, for how long, by which timeout, and how it is printed.
 #[derive(Drop)]
-pub struct Plan<'a, A: Allocator + Copy> {
+pub struct WatchPlan<'a, A: Allocator + Copy> {
     /// What the dial takes: for `Tcp` a host and a port each.
     pub addresses: &'a [&'a str],
     pub subjects: Vec<NodeSide<A>, A>,

@@ -4,8 +4,8 @@ ghost use Rattle.std.specs.Prelude.{◌≡◌, ◌≢◌, ℕ, List, true, false
 ghost use Rattle.std.specs.Io.KnownBytes.{Appends};
 ghost use Rattle.shell_watch.specs.Watching.{aims_of, IsPrinted, IsWatched};
 
-use crate::end::End;
-use crate::plan::Plan;
+use crate::end::WatchEnd;
+use crate::plan::WatchPlan;
 use crate::trees::Trees;
 use crate::watcher::Watcher;
 use std::alloc::Allocator;
@@ -32,24 +32,24 @@ pub fn watch<A: Allocator + Copy, D: Dial + Drop, C: Clock + Drop, O: Write>(
     alloc: A,
     dial: D,
     clock: C,
-    plan: Plan<'_, A>,
+    plan: WatchPlan<'_, A>,
     out: &mut O,
-) -> End
+) -> WatchEnd
     // Its time is over. Each subject was followed; each turn of the driver was printed; after each, what was printed last of each subject
     // was what the client kept of it; and a server had accepted a session.
-    ensures over { result ≡ End.Over → (text : List ℕ) × IsWatched A plan.entry.style
+    ensures over { result ≡ WatchEnd.Over → (text : List ℕ) × IsWatched A plan.entry.style
         (aims_of plan.entry.subjects.items) plan.entry.trees.items plan.entry.most plan.entry.for_ms text true
         × Appends (O.contents out.old) (O.contents out.new) text }
     // The same, where none had.
-    ensures never { result ≡ End.NeverConnected → (text : List ℕ) × IsWatched A plan.entry.style
+    ensures never { result ≡ WatchEnd.NeverConnected → (text : List ℕ) × IsWatched A plan.entry.style
         (aims_of plan.entry.subjects.items) plan.entry.trees.items plan.entry.most plan.entry.for_ms text false
         × Appends (O.contents out.old) (O.contents out.new) text }
     // Turns are printed so, wherever it stopped.
-    ensures printed { result ≢ End.Stream
+    ensures printed { result ≢ WatchEnd.Stream
         → (text : List ℕ) × IsPrinted A plan.entry.style (aims_of plan.entry.subjects.items) plan.entry.trees.items plan.entry.most text
         × Appends (O.contents out.old) (O.contents out.new) text }
 {
-    let Plan {
+    let WatchPlan {
         addresses,
         mut subjects,
         trees,
@@ -59,10 +59,10 @@ pub fn watch<A: Allocator + Copy, D: Dial + Drop, C: Clock + Drop, O: Write>(
         style,
     } = plan;
     let Ok(()) = add_roots(alloc, &mut subjects, trees.as_slice()) else {
-        return End::Memory;
+        return WatchEnd::Memory;
     };
     let Ok(driver) = Driver::begin(alloc, timeout_ms.max(1), dial, clock, addresses) else {
-        return End::Memory;
+        return WatchEnd::Memory;
     };
     let mut watcher = Watcher {
         alloc,

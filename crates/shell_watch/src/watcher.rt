@@ -6,12 +6,15 @@ ghost use Rattle.zk_agent.specs.Telling.{told_by};
 ghost use Rattle.zk_client.specs.Clients.{view_of};
 ghost use Rattle.zk_driver.specs.Noting.{is_come};
 ghost use Rattle.zk_trees.specs.Trees.{wants_of};
-ghost use Rattle.shell_watch.specs.Watching.{accepts, aim_of, aims_of, end_of, stand_of, EndsFrom, FollowsAll, FollowsSo, HasCome, Closes};
-ghost use Rattle.shell_watch.specs.Watching.{Does, Grows, Heard, IsOver, LetsAllGo, LinesOf, PrintsFrom, ShowsThen, TakesAllOn, TakesOn};
-ghost use Rattle.shell_watch.specs.Watching.{TellsTurn, Tends, TendsSo, Writes, WritesEnd, WritesOn};
+ghost use Rattle.shell_watch.specs.Watching.{accepts, aim_of, aims_of, end_of, EndsFrom, FollowsAll, FollowsSo, HasCome, Closes};
+ghost use Rattle.shell_watch.specs.inner.Watching.{stand_of};
+ghost use Rattle.shell_watch.specs.Watching.{Does, Grows, IsOver, LetsAllGo, PrintsFrom, TakesAllOn, TakesOn};
+ghost use Rattle.shell_watch.specs.inner.Watching.{Heard, LinesOf, ShowsThen};
+ghost use Rattle.shell_watch.specs.Watching.{TellsTurn, Tends, TendsSo};
+ghost use Rattle.shell_watch.specs.inner.Watching.{Writes, WritesEnd, WritesOn};
 
 use crate::bound::bound_text;
-use crate::end::{End, Failure};
+use crate::end::{Failure, WatchEnd};
 use crate::plan::Style;
 use crate::shown::{Watched, show_all, watched_of};
 use crate::trees::Trees;
@@ -346,10 +349,10 @@ impl<'a, A: Allocator + Copy, D: Dial + Drop, C: Clock + Drop> Watcher<'a, A, D,
     }
 
     /// How a watch ends that cannot go on: where a write has failed, the session is ended first.
-    fn give_up(&mut self, why: Failure) -> End
-        ensures over { result ≢ End.Over }
-        ensures never { result ≢ End.NeverConnected }
-        ensures stream { result ≢ End.Stream → why ≢ Failure.Stream }
+    fn give_up(&mut self, why: Failure) -> WatchEnd
+        ensures over { result ≢ WatchEnd.Over }
+        ensures never { result ≢ WatchEnd.NeverConnected }
+        ensures stream { result ≢ WatchEnd.Stream → why ≢ Failure.Stream }
     {
         if matches!(why, Failure::Stream) {
             let _ = self.close(&mut io::sink());
@@ -411,15 +414,15 @@ impl<'a, A: Allocator + Copy, D: Dial + Drop, C: Clock + Drop> Watcher<'a, A, D,
     }
 
     /// How a watch ends whose time is over.
-    fn end(&self) -> End
-        ensures over { result ≡ End.Over → self.now.is_accepted ≡ true }
-        ensures never { result ≡ End.NeverConnected → self.now.is_accepted ≡ false }
-        ensures well { result ≢ End.Stream }
+    fn end(&self) -> WatchEnd
+        ensures over { result ≡ WatchEnd.Over → self.now.is_accepted ≡ true }
+        ensures never { result ≡ WatchEnd.NeverConnected → self.now.is_accepted ≡ false }
+        ensures well { result ≢ WatchEnd.Stream }
     {
         if self.is_accepted {
-            return End::Over;
+            return WatchEnd::Over;
         }
-        End::NeverConnected
+        WatchEnd::NeverConnected
     }
 
     /// Follows these subjects for this many milliseconds, and then ends the session.
@@ -428,14 +431,14 @@ impl<'a, A: Allocator + Copy, D: Dial + Drop, C: Clock + Drop> Watcher<'a, A, D,
         subjects: &[NodeSide<A>],
         for_ms: Option<u64>,
         out: &mut O,
-    ) -> End
-        ensures over { result ≡ End.Over → (text : List ℕ) × EndsFrom (aims_of subjects.now) for_ms (stand_of D.Stream.remaining
+    ) -> WatchEnd
+        ensures over { result ≡ WatchEnd.Over → (text : List ℕ) × EndsFrom (aims_of subjects.now) for_ms (stand_of D.Stream.remaining
             D.Stream.contents self.old.driver.engine self.old.watched.items self.old.is_accepted self.old.style self.old.trees) text true
             × Appends (O.contents out.old) (O.contents out.new) text }
-        ensures never { result ≡ End.NeverConnected → (text : List ℕ) × EndsFrom (aims_of subjects.now) for_ms (stand_of D.Stream.remaining
-            D.Stream.contents self.old.driver.engine self.old.watched.items self.old.is_accepted self.old.style self.old.trees) text false
-            × Appends (O.contents out.old) (O.contents out.new) text }
-        ensures printed { result ≢ End.Stream → (text : List ℕ) × ((text ≡ [])
+        ensures never { result ≡ WatchEnd.NeverConnected → (text : List ℕ) × EndsFrom (aims_of subjects.now) for_ms
+            (stand_of D.Stream.remaining D.Stream.contents self.old.driver.engine self.old.watched.items self.old.is_accepted self.old.style
+            self.old.trees) text false × Appends (O.contents out.old) (O.contents out.new) text }
+        ensures printed { result ≢ WatchEnd.Stream → (text : List ℕ) × ((text ≡ [])
             ⊎ PrintsFrom (aims_of subjects.now) (stand_of D.Stream.remaining D.Stream.contents self.old.driver.engine self.old.watched.items
             self.old.is_accepted self.old.style self.old.trees) text) × Appends (O.contents out.old) (O.contents out.new) text }
     {

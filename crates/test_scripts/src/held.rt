@@ -5,14 +5,14 @@ use crate::partner::{Partner, Partners};
 use crate::texts::add;
 use script_live::link::Link;
 use script_live::ring::Ring;
-use script_replay::call_line::Asked;
+use script_replay::call_line::AskedCall;
 use std::alloc::Global;
 use zk_client::{Call, Client, Path};
 
 /// The call that a link is handed.
-fn call(alloc: Global) -> Option<Asked<Global>> {
+fn call(alloc: Global) -> Option<AskedCall<Global>> {
     let path = Path::new(alloc, "/a").ok()?;
-    Some(Asked {
+    Some(AskedCall {
         ticket: 7,
         call: Call::GetData { path, watch: true },
     })

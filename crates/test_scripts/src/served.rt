@@ -3,7 +3,7 @@
 ghost use Rattle.std.specs.Prelude.{List, ℕ, OnOk};
 ghost use Rattle.std.specs.Io.KnownBytes.{Appends};
 ghost use Rattle.script_words.specs.Scripts.{lines_of};
-ghost use Rattle.script_words.specs.declared.script.End.{End};
+ghost use Rattle.script_words.specs.declared.script.ScriptEnd.{ScriptEnd};
 ghost use Rattle.script_live.specs.Lives.{IsTranscript};
 
 use crate::case::Case;
@@ -25,7 +25,7 @@ fn play<D: Dial, O: Write>(
     out: &mut O,
 ) -> io::Result<()>
     // What is written is the transcript of the script's lines.
-    ensures { OnOk result ((text : List ℕ) × (end : End) × IsTranscript (lines_of script.now) text end
+    ensures { OnOk result ((text : List ℕ) × (end : ScriptEnd) × IsTranscript (lines_of script.now) text end
         × Appends (O.contents out.old) (O.contents out.new) text) }
 {
     let transcript = live(alloc, server, &[ADDRESS], script);

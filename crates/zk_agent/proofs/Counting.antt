@@ -14,18 +14,19 @@ use Rattle.zk_dialler.specs.declared.dialler.DialDue.{DialDue}
 use Rattle.zk_dialler.specs.declared.dialler.DialDue.TheVariants.{Dial, GiveUp}
 use Rattle.zk_follow.specs.declared.news.News.{News}
 use Rattle.zk_follow.specs.Following.{news_in}
-use Rattle.zk_line.specs.declared.entry.Entry.{Entry}
-use Rattle.zk_line.specs.declared.entry.Ending.{Ending}
-use Rattle.zk_line.specs.declared.entry.Ending.TheVariants.{Lost, LostOf, Late, Expired}
-use Rattle.zk_line.specs.Lines.{after_answer, answered, ended, ended_of, first_handed, first_where, goes_back, is_ended, left, settles_one}
-use Rattle.zk_line.specs.Lines.{waits_turn}
+use Rattle.zk_calls.specs.declared.entry.Entry.{Entry}
+use Rattle.zk_calls.specs.declared.entry.Ending.{Ending}
+use Rattle.zk_calls.specs.declared.entry.Ending.TheVariants.{Lost, LostOf, Late, Expired}
+use Rattle.zk_calls.specs.Lines.{after_answer, answered, ended, ended_of, first_handed, first_where, goes_back, is_ended, left, settles_one}
+use Rattle.zk_calls.specs.Lines.{waits_turn}
 use Rattle.zk_dialler.specs.declared.dialler.Phase.{Phase}
 use Rattle.zk_dialler.specs.declared.dialler.Phase.TheVariants.{Waiting, Dialling, Open}
 use Rattle.zk_dialler.specs.Dialling.{is_open}
 use Rattle.zk_agent.specs.declared.input.AgentInput.{AgentInput}
 use Rattle.zk_agent.specs.declared.input.AgentInput.TheVariants as happens
 use Rattle.zk_agent.specs.Agents.{Comes, Move, Hears, Hands, Renews, Follows, Unfollows, Asks, GivesUp, Tires, Opened, Ended as Over}
-use Rattle.zk_agent.specs.Agents.{HungUp, Closes, Addressed, Decides, Does, HearsSo, LeavesWhere, LetsGoWhere, Trail, asks_for, bytes_at}
+use Rattle.zk_agent.specs.Agents.{HungUp, Closes, Addressed, Decides, Does, HearsSo, LeavesWhere, LetsGoWhere, Trail, bytes_at}
+use Rattle.zk_agent.specs.inner.Agents.{asks_for}
 use Rattle.zk_agent.specs.Agents.{given_of, how_many_asked, how_many_ended, is_given, opened_at}
 use Rattle.zk_agent.specs.Calls.{answers, closings, endings, handed, hears, hears_all, how_many, tells, tells_all}
 use Rattle.zk_agent.specs.Telling.{Told, Says, HangsUp, Begins, closed_told, due_told, ended_told, is_end_of, news_told}

@@ -8,11 +8,13 @@ use Rattle.zk_session.specs.declared.states.State.TheVariants.{Connected}
 use Rattle.zk_turns.specs.Turns.{Call}
 use Rattle.zk_turns.specs.View.{View}
 use Rattle.zk_follow.specs.declared.subject.Subject.{Subject}
-use Rattle.zk_line.specs.declared.entry.Entry.{Entry}
-use Rattle.zk_line.specs.Lines.{first_handed, next_call}
+use Rattle.zk_calls.specs.declared.entry.Entry.{Entry}
+use Rattle.zk_calls.specs.Lines.{first_handed, next_call}
 use Rattle.zk_agent.specs.declared.replies.Heard.{Heard}
-use Rattle.zk_agent.specs.Agents.{Comes, Hands, HandsOver, LetsGo, Sends, Trail, is_connected, noted, row_after}
-use Rattle.zk_agent.specs.Calls.{IsAsked, IsDone, IsInTime}
+use Rattle.zk_agent.specs.Agents.{Comes, Hands, LetsGo, Trail, is_connected, noted, row_after}
+use Rattle.zk_agent.specs.inner.Agents.{HandsOver, Sends}
+use Rattle.zk_agent.specs.inner.Calls.{IsAsked, IsDone}
+use Rattle.zk_agent.specs.Calls.{IsInTime}
 use Rattle.zk_agent.specs.Replies.{is_back}
 use Rattle.zk_agent.specs.Telling.{Told}
 use Rattle.zk_agent.specs.Waits.{waited_after}

@@ -13,9 +13,9 @@ use Rattle.zk_turns.specs.Turns.{Outcome, Output, Answer, Enters, Send, Report, 
 use Rattle.zk_turns.specs.View.{View}
 use Rattle.zk_turns.specs.Rule.{Rule}
 use Rattle.zk_follow.proofs.Waiting.{ends_wait, keeps_turn, Silent, Waits}
-use Rattle.zk_line.specs.declared.entry.Entry.{Entry}
-use Rattle.zk_line.specs.declared.entry.Ending.TheVariants.{Lost, LostOf}
-use Rattle.zk_line.specs.Lines.{after_answer, answered, goes_back, is_ended, left}
+use Rattle.zk_calls.specs.declared.entry.Entry.{Entry}
+use Rattle.zk_calls.specs.declared.entry.Ending.TheVariants.{Lost, LostOf}
+use Rattle.zk_calls.specs.Lines.{after_answer, answered, goes_back, is_ended, left}
 use Rattle.zk_agent.specs.Calls.{hears, hears_all, is_call_of, is_question, is_same, IsPending}
 
 -- ---- a call that waits is found, and one that is found waits

@@ -7,7 +7,7 @@ use Rattle.std.proofs.lemmas.List.{map-append, take_more}
 use Rattle.zk_turns.specs.Turns.{Output}
 use Rattle.zk_client.specs.declared.output.Output.{Output as Made}
 use Rattle.zk_client.specs.Views.{output_view, said}
-use Rattle.zk_line.specs.declared.entry.Entry.{Entry}
+use Rattle.zk_calls.specs.declared.entry.Entry.{Entry}
 use Rattle.zk_agent.specs.Calls.{hears, hears_all, tells, tells_all}
 use Rattle.zk_agent.specs.Telling.{Told}
 

@@ -7,9 +7,9 @@ use Rattle.zk_dialler.specs.declared.dialler.DialDue.{DialDue}
 use Rattle.zk_dialler.specs.declared.dialler.DialDue.TheVariants.{Dial, GiveUp}
 use Rattle.zk_follow.specs.declared.news.News.{News}
 use Rattle.zk_follow.specs.declared.news.News.TheVariants as news
-use Rattle.zk_line.specs.declared.entry.Ended.{Ended}
-use Rattle.zk_line.specs.declared.entry.Ending.{Ending}
-use Rattle.zk_line.specs.declared.entry.Ending.TheVariants as ending
+use Rattle.zk_calls.specs.declared.entry.Ended.{Ended}
+use Rattle.zk_calls.specs.declared.entry.Ending.{Ending}
+use Rattle.zk_calls.specs.declared.entry.Ending.TheVariants as ending
 use Rattle.zk_agent.specs.declared.action.Action.{Action}
 use Rattle.zk_agent.specs.declared.action.Action.TheVariants as action
 

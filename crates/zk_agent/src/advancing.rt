@@ -6,8 +6,9 @@ ghost use Rattle.zk_turns.specs.View.{view_at};
 ghost use Rattle.zk_client.specs.Clients.{renewed_start, view_of};
 ghost use Rattle.zk_client.specs.Views.{input_view, said};
 ghost use Rattle.zk_follow.specs.Following.{due_again, news_in, told_of, IsFollowed};
-ghost use Rattle.zk_line.specs.Lines.{left};
-ghost use Rattle.zk_agent.specs.Agents.{HandsOver, TakesSo};
+ghost use Rattle.zk_calls.specs.Lines.{left};
+ghost use Rattle.zk_agent.specs.inner.Agents.{HandsOver};
+ghost use Rattle.zk_agent.specs.Agents.{TakesSo};
 ghost use Rattle.zk_agent.specs.Calls.{endings, hears_all, tells_all};
 ghost use Rattle.zk_agent.specs.Telling.{news_told, told_by};
 
@@ -15,9 +16,9 @@ use crate::action::{Action, push_news};
 use crate::calls::{end_calls, push_outputs};
 use crate::replies::{Heard, heard_in};
 use std::alloc::{AllocError, Allocator};
+use zk_calls::{Ending, Line};
 use zk_client::{Input, Output};
 use zk_follow::{Follower, FollowerStop};
-use zk_line::{Ending, Line};
 
 /// Tells what the client has said, and then what there is to tell of the subjects. The line hears the answers.
 fn report<A: Allocator + Copy>(

@@ -52,7 +52,7 @@ impl<A: Allocator + Copy> Agent<A> {
     ghost use Rattle.zk_dialler.specs.declared.dialler.Phase.TheVariants.{Waiting};
     ghost use Rattle.zk_follow.specs.Following.{due_again, IsFollowed};
     ghost use Rattle.zk_conversation.specs.Views.{call_view};
-    ghost use Rattle.zk_line.specs.declared.entry.Ending.TheVariants as ending;
+    ghost use Rattle.zk_calls.specs.declared.entry.Ending.TheVariants as ending;
     ghost use Rattle.zk_agent.specs.Agents.{bytes_at, given_of, heard_after, how_many_asked, how_many_ended, is_closed, opened_at, over_at};
     ghost use Rattle.zk_agent.specs.Agents.{trail_of, Addressed, Asks, Comes, Follows, Hears, IsAnswered, IsDecided, IsLed, NothingAt};
     ghost use Rattle.zk_agent.specs.Agents.{NothingOpen, Unfollows};

@@ -2,15 +2,15 @@
 
 ghost use Rattle.std.specs.Prelude.{◌≡◌, ◌++◌, ◌∷◌, [], map, OnOk};
 ghost use Rattle.zk_client.specs.Views.{outcome_view, output_view, said};
-ghost use Rattle.zk_line.specs.Lines.{answered, left};
+ghost use Rattle.zk_calls.specs.Lines.{answered, left};
 ghost use Rattle.zk_agent.specs.Calls.{answers, closings, endings, hears, hears_all, tells, tells_all};
 ghost use Rattle.zk_agent.specs.Telling.{action_view, closed_told, ended_told, told_by, Says};
 
 use crate::action::{Action, push};
 use std::alloc::{AllocError, Allocator};
 use std::collections::VecDeque;
+use zk_calls::{Ended, Ending, Line};
 use zk_client::{Outcome, Output};
-use zk_line::{Ended, Ending, Line};
 
 /// What is told of a call that waits no more.
 fn action_of<A: Allocator>(ending: Ending, one: Ended) -> Action<A>

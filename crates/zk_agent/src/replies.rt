@@ -4,7 +4,7 @@ ghost use Rattle.std.specs.Prelude.{◌≡◌, false, fold};
 ghost use Rattle.std.specs.List.{list_any};
 ghost use Rattle.zk_records.specs.Codes.{code_number};
 ghost use Rattle.zk_client.specs.Views.{output_view, said};
-ghost use Rattle.zk_agent.specs.Waits.{none_sent, sent_by, sent_in};
+ghost use Rattle.zk_agent.specs.Waits.{sent_by, sent_in};
 ghost use Rattle.zk_agent.specs.Replies.{ends_row, heard_in, is_back, is_lost, is_over, is_reply, loses_session};
 
 use crate::sent::Sent;
@@ -82,53 +82,25 @@ fn is_back<A: Allocator>(output: &Output<A>) -> bool
     }
 }
 
-/// Whether one of these is the reply to a call.
-fn is_any_reply<A: Allocator>(outputs: &[Output<A>]) -> bool
-    ensures { result ≡ list_any (λ output. is_reply (output_view output)) outputs.now }
-{
-    outputs.iter().any(|output| is_reply(output))
-}
-
-/// Whether one of these is a reply that says that the session is not the server's own.
-fn is_any_lost<A: Allocator>(outputs: &[Output<A>]) -> bool
-    ensures { result ≡ list_any (λ output. is_lost (output_view output)) outputs.now }
-{
-    outputs.iter().any(|output| is_lost(output))
-}
-
-/// Whether the connection is over with one of these.
-fn is_any_over<A: Allocator>(outputs: &[Output<A>]) -> bool
-    ensures { result ≡ list_any (λ output. is_over (output_view output)) outputs.now }
-{
-    outputs.iter().any(|output| is_over(output))
-}
-
-/// Whether one of these is an answer with which a call may wait for its turn again.
-fn is_any_back<A: Allocator>(outputs: &[Output<A>]) -> bool
-    ensures { result ≡ list_any (λ output. is_back (output_view output)) outputs.now }
-{
-    outputs.iter().any(|output| is_back(output))
-}
-
 /// Whether the client says that a call had its reply.
 fn has_reply<A: Allocator>(outputs: &[Output<A>]) -> bool
     ensures { result ≡ list_any is_reply (said outputs.now) }
 {
-    is_any_reply(outputs)
+    outputs.iter().any(|output| is_reply(output))
 }
 
 /// Whether the client says that the session is not the server's own.
 fn has_lost<A: Allocator>(outputs: &[Output<A>]) -> bool
     ensures { result ≡ list_any is_lost (said outputs.now) }
 {
-    is_any_lost(outputs)
+    outputs.iter().any(|output| is_lost(output))
 }
 
 /// Whether the connection is over, by what the client says.
 fn has_end<A: Allocator>(outputs: &[Output<A>]) -> bool
     ensures { result ≡ list_any is_over (said outputs.now) }
 {
-    is_any_over(outputs)
+    outputs.iter().any(|output| is_over(output))
 }
 
 /// Whether a row of failures ends with what the client says.
@@ -142,7 +114,7 @@ fn ends_row<A: Allocator>(outputs: &[Output<A>]) -> bool
 fn has_back<A: Allocator>(outputs: &[Output<A>]) -> bool
     ensures { result ≡ list_any is_back (said outputs.now) }
 {
-    is_any_back(outputs)
+    outputs.iter().any(|output| is_back(output))
 }
 
 /// What is sent with an output too.
@@ -156,22 +128,16 @@ fn note_sent<A: Allocator>(sent: &mut Sent, output: &Output<A>)
     }
 }
 
-/// What is sent with all of these.
-fn sent_with<A: Allocator>(outputs: &[Output<A>]) -> Sent
-    ensures { result ≡ fold (λ sent output. sent_by sent (output_view output)) (none_sent false) outputs.now }
+/// What is sent, by what the client says.
+#[tactic(auto, using(crate::proofs::Saying::fold_said))]
+fn sent_in<A: Allocator>(outputs: &[Output<A>]) -> Sent
+    ensures { result ≡ sent_in (said outputs.now) }
 {
     let mut sent = Sent::new(false);
     for output in outputs {
         note_sent(&mut sent, output);
     }
     sent
-}
-
-/// What is sent, by what the client says.
-fn sent_in<A: Allocator>(outputs: &[Output<A>]) -> Sent
-    ensures { result ≡ sent_in (said outputs.now) }
-{
-    sent_with(outputs)
 }
 
 /// What the client says of its connection and of calls.

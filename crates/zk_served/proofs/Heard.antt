@@ -16,11 +16,11 @@ use Rattle.zk_dialler.specs.Dialling.{is_open}
 use Rattle.zk_follow.specs.declared.subject.Subject.{Subject}
 use Rattle.zk_follow.specs.declared.news.News.{News}
 use Rattle.zk_follow.specs.Following.{news_in, outputs_in, AreReads}
-use Rattle.zk_line.specs.declared.entry.Entry.{Entry}
-use Rattle.zk_line.specs.declared.entry.Ended.{Ended}
-use Rattle.zk_line.specs.declared.entry.Ending.{Ending}
-use Rattle.zk_line.specs.declared.entry.Ending.TheVariants as ending
-use Rattle.zk_line.specs.Lines.{answered, ended, ended_of, settles}
+use Rattle.zk_calls.specs.declared.entry.Entry.{Entry}
+use Rattle.zk_calls.specs.declared.entry.Ended.{Ended}
+use Rattle.zk_calls.specs.declared.entry.Ending.{Ending}
+use Rattle.zk_calls.specs.declared.entry.Ending.TheVariants as ending
+use Rattle.zk_calls.specs.Lines.{answered, ended, ended_of, settles}
 use Rattle.zk_agent.specs.Agents.{is_connected, noted, row_after, HearsSo, LetsGoWhere, Trail}
 use Rattle.zk_agent.specs.Calls.{answers, closings, endings, handed, hears, tells, tells_all}
 use Rattle.zk_agent.specs.Replies.{heard_in, is_lost, is_over}

@@ -22,7 +22,7 @@ use Rattle.zk_dialler.specs.declared.dialler.Dialler.{Dialler}
 use Rattle.zk_dialler.specs.declared.dialler.DialDue.{DialDue}
 use Rattle.zk_dialler.specs.declared.dialler.DialDue.TheVariants.{Dial, GiveUp}
 use Rattle.zk_dialler.specs.Dialling.{is_open, DialsWell}
-use Rattle.zk_line.specs.declared.entry.Ending.TheVariants as ending
+use Rattle.zk_calls.specs.declared.entry.Ending.TheVariants as ending
 use Rattle.zk_agent.specs.Agents.{is_given, Addressed, Asks, Closes, Decides, Does, Ended, Follows, GivesUp, Hands, Hears, HearsSo, HungUp}
 use Rattle.zk_agent.specs.Agents.{LeavesWhere, Move, Opened, Renews, Tires, Trail, Unfollows}
 use Rattle.zk_agent.specs.Calls.{closings, endings}

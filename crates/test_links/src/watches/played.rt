@@ -4,7 +4,7 @@ use crate::watches::streams::Fails;
 use crate::watches::world::{Event, World};
 use anyhow::Result;
 use example_world::{Moments, Shared};
-use shell_watch::{End, NodeSide, Plan, Style, watch};
+use shell_watch::{NodeSide, Style, WatchEnd, WatchPlan, watch};
 use std::alloc::{AllocError, Allocator, Global};
 use std::cell::RefCell;
 use std::io::Write;
@@ -130,15 +130,15 @@ fn watched<A: Allocator + Copy, W: Write>(
     row: &Row,
     piece: usize,
     out: &mut W,
-) -> Result<End> {
+) -> Result<WatchEnd> {
     let (world, moments) = (
         RefCell::new(World::new(global, row.events, row.taken, row.code, row.refusals, piece)?),
         Moments::new(),
     );
     let (Ok(subjects), Ok(trees)) = (subjects(alloc, row), trees(alloc, row)) else {
-        return Ok(End::Memory);
+        return Ok(WatchEnd::Memory);
     };
-    let plan = Plan {
+    let plan = WatchPlan {
         addresses: &ADDRESSES,
         subjects,
         trees,
@@ -232,8 +232,8 @@ fn fails_well(global: Global, row: &Row, whole: &[u8], passed: u32) -> Result<Op
     let mut out = Fails::after(Vec::new(global), passed);
     let end = watched(global, global, row, usize::MAX, &mut out)?;
     Ok(match end {
-        End::Over | End::NeverConnected => None,
-        end => Some(end == End::Stream && whole.starts_with(out.bytes())),
+        WatchEnd::Over | WatchEnd::NeverConnected => None,
+        end => Some(end == WatchEnd::Stream && whole.starts_with(out.bytes())),
     })
 }
 
@@ -246,7 +246,7 @@ fn refuses_well(global: Global, row: &Row, whole: &[u8], passed: u32) -> Result<
     if !alloc.has_refused() {
         return Ok(None);
     }
-    let is_told = matches!(end, End::Memory | End::Halted);
+    let is_told = matches!(end, WatchEnd::Memory | WatchEnd::Halted);
     Ok(Some(is_told && whole.starts_with(out.bytes())))
 }
 

@@ -1,7 +1,7 @@
 use Rattle.std.proofs.Common.{◌≡◌, ◌≢◌, true, false, sym, refl}
 use Rattle.shell_ask.specs.Asking.{Coming, Answered, Late}
 use Rattle.shell_ask.specs.Printing.{end_of}
-use Rattle.shell_ask.specs.declared.end.End.TheVariants as ends
+use Rattle.shell_ask.specs.declared.end.CallEnd.TheVariants as ends
 use Rattle.zk_conversation.specs.Results.{NoNode, Refused, Found, Read, Listing, Made, Done}
 use Rattle.zk_turns.specs.Turns.{Replied, ConnectionLoss, SessionExpired, SessionClosed, NotConnected, TooManyWatches, TooLarge}
 use Rattle.zk_turns.specs.Turns.{TooManyPending}

@@ -7,7 +7,7 @@ use Rattle.clap.specs.Words.{found_of, first_of, rows_of, subcommand_rows_of, Te
 use Rattle.clap.proofs.WalkLemmas.{first_value-rows}
 use Rattle.shell_commands.specs.declared.command.Command.{Command}
 use Rattle.shell_commands.specs.declared.command.Command.TheVariants.{Show, History, Replay, Rehearse, Live, Watch, Ask, Tree}
-use Rattle.shell_commands.specs.declared.kind.Kind.{Kind}
+use Rattle.shell_commands.specs.declared.kind.FrameKind.{FrameKind}
 use Rattle.shell_commands.specs.Kinds.{kind_word}
 use Rattle.shell_commands.specs.CommandLine.{AreAddresses, AsksForNone, AsksQuestion, AsksTour, IsAsked, IsTree, IsFound, IsWatch, Sights}
 use Rattle.shell_commands.specs.CommandLine.{sights_of}
@@ -38,7 +38,7 @@ apart {name = name} {other = other} one two differ =
 
 -- where `show` was found without its two values, the words ask for no command
 without_values : (found : Option (Text × List Row)) (rows : List Row) → found ≡ Some (codes "show", rows)
-    → ((kind : Kind) (hex : Text) → first_of (codes "KIND") rows ≡ Some (kind_word kind) → first_of (codes "HEX") rows ≡ Some hex → ⊥)
+    → ((kind : FrameKind) (hex : Text) → first_of (codes "KIND") rows ≡ Some (kind_word kind) → first_of (codes "HEX") rows ≡ Some hex → ⊥)
     → AsksForNone found
 without_values found rows is absent (Show kind hex) f =
     let same : rows ≡ f.0 = ap rows_in (sym is ∙ f.1) in

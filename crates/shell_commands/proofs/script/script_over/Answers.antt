@@ -1,6 +1,6 @@
 use Rattle.std.proofs.Common.{[], refl}
 use Rattle.script_words.specs.Scripts.{lines_of}
-use Rattle.script_words.specs.declared.script.End.TheVariants.{Memory}
+use Rattle.script_words.specs.declared.script.ScriptEnd.TheVariants.{Memory}
 use Rattle.shell_commands.proofs.ScriptLemmas.{appends_nothing, some_input}
 use Rattle.shell_commands.proofs.script.script_over.Goals as goal
 

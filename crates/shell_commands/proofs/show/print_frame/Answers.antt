@@ -3,14 +3,14 @@ use Rattle.std.proofs.lemmas.List.{append-nil}
 use Rattle.std.proofs.lemmas.Result.{err_from_is_err_and}
 use Rattle.shell_commands.specs.declared.fault.ShowFault.{ShowFault}
 use Rattle.shell_commands.specs.declared.fault.ShowFault.TheVariants.{Memory}
-use Rattle.shell_commands.specs.declared.kind.Kind.{Kind}
+use Rattle.shell_commands.specs.declared.kind.FrameKind.{FrameKind}
 use Rattle.shell_commands.specs.Frame.{payload_of}
 use Rattle.shell_commands.specs.Print.{frame_of}
 use Rattle.shell_commands.specs.Show.{IsHexOf, IsPayloadFault, IsFault, PrintsAgain, no_frame, no_payload}
 use Rattle.shell_commands.proofs.show.print_frame.Goals as goal
 
 -- a payload's fault is the frame's
-passed_on : (kind : Kind) (hex frame payload : List ℕ) (fault : ShowFault) → IsHexOf frame hex → payload_of frame ≡ Ok payload
+passed_on : (kind : FrameKind) (hex frame payload : List ℕ) (fault : ShowFault) → IsHexOf frame hex → payload_of frame ≡ Ok payload
     → (fault ≡ Memory) ⊎ IsPayloadFault kind payload fault → (fault ≡ Memory) ⊎ IsFault kind hex fault
 passed_on kind hex frame payload fault decoded whole (inl memory) = inl memory
 passed_on kind hex frame payload fault decoded whole (inr found) = inr (no_payload frame payload decoded whole found)

@@ -1,5 +1,5 @@
 use Rattle.std.proofs.Common.{◌++◌, map, ap, ◌∙◌}
-use Rattle.zk_line.specs.Lines.{ended_of}
+use Rattle.zk_calls.specs.Lines.{ended_of}
 use Rattle.zk_agent.specs.Telling.{closed_told, told_by}
 use Rattle.zk_agent.proofs.Lines.{all_at_expiry, none_at_expiry}
 use Rattle.zk_agent.proofs.Saying.{on_ok}

@@ -1,7 +1,7 @@
 use Rattle.std.proofs.Common.{◌≡◌, ◌∙◌, ◌++◌, ℕ, Bool, true, false, cond, [], ◌∷◌, Some, None, ap}
 use Rattle.zk_client.specs.Views.{outcome_view}
 use Rattle.zk_turns.specs.Turns.{Outcome, Answer}
-use Rattle.zk_line.specs.Lines.{settles}
+use Rattle.zk_calls.specs.Lines.{settles}
 use Rattle.zk_agent.specs.Telling.{told_by, Says}
 use Rattle.zk_agent.proofs.Saying.{on_ok}
 use Rattle.zk_agent.proofs.calls.push_answer.Goals as goal

@@ -3,7 +3,7 @@ use Rattle.std.specs.Prelude.{string_bytes}
 use Rattle.zk_turns.specs.Turns.{Now}
 use Rattle.zk_client.specs.Clients.{view_of}
 use Rattle.script_replay.specs.Lines.{client_value_of}
-use Rattle.script_replay.specs.declared.call_line.Asked.{Asked}
+use Rattle.script_replay.specs.declared.call_line.AskedCall.{AskedCall}
 use Rattle.script_replay.specs.declared.client_line.ClientLine.{ClientLine}
 use Rattle.script_replay.specs.declared.client_line.ClientLine.TheVariants as client
 use Rattle.script_live.specs.Flowing.{flow_of, IsLook}
@@ -11,7 +11,7 @@ use Rattle.script_live.proofs.Printing.{prints_from, prints_hands, prints_look}
 use Rattle.script_live.proofs.live.Session.drive.Goals as goal
 
 is_look : {A : Type 0} (line : ClientLine A) → (line ≡ client.Cut → ⊥) → ((x : ℕ) → line ≡ client.Now x → ⊥)
-    → ((x : Asked A) → line ≡ client.Call x → ⊥)
+    → ((x : AskedCall A) → line ≡ client.Call x → ⊥)
     → IsLook (client_value_of line)
 is_look client.Cut not_cut not_now not_call = absurd (not_cut refl)
 is_look (client.Now x) not_cut not_now not_call = absurd (not_now x refl)

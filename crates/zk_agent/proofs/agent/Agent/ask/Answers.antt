@@ -3,7 +3,7 @@ use Rattle.zk_turns.specs.Turns.{Now}
 use Rattle.zk_conversation.specs.Views.{call_view}
 use Rattle.zk_client.specs.Clients.{view_of}
 use Rattle.zk_follow.specs.declared.follower.Follower.{Follower}
-use Rattle.zk_line.specs.declared.entry.Entry.{Entry}
+use Rattle.zk_calls.specs.declared.entry.Entry.{Entry}
 use Rattle.zk_agent.specs.Agents.{trail_of, Asks, Hears}
 use Rattle.zk_agent.proofs.Moves.{gives, ok_after, trail_eq}
 use Rattle.zk_agent.proofs.agent.Agent.ask.Goals as goal

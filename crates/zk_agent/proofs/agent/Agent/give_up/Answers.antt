@@ -2,8 +2,8 @@ use Rattle.std.proofs.Common.{◌++◌, refl, sym, ap, subst, arith, ◌∙◌}
 use Rattle.std.specs.Prelude.{All}
 use Rattle.zk_client.specs.Clients.{view_of}
 use Rattle.zk_follow.specs.declared.follower.Follower.{Follower}
-use Rattle.zk_line.specs.declared.entry.Ending.TheVariants.{Late}
-use Rattle.zk_line.specs.Lines.{left}
+use Rattle.zk_calls.specs.declared.entry.Ending.TheVariants.{Late}
+use Rattle.zk_calls.specs.Lines.{left}
 use Rattle.zk_agent.specs.Agents.{trail_of, GivesUp}
 use Rattle.zk_agent.specs.Calls.{endings, IsInTime}
 use Rattle.zk_agent.proofs.Closing.{is_shut, not_closed}

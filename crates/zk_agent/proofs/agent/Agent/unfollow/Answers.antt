@@ -1,7 +1,7 @@
 use Rattle.std.proofs.Common.{[], ◌∷◌, refl, ap}
 use Rattle.zk_turns.specs.Turns.{Now}
 use Rattle.zk_client.specs.Clients.{view_of}
-use Rattle.zk_line.specs.declared.line.Line.{Line}
+use Rattle.zk_calls.specs.declared.line.Line.{Line}
 use Rattle.zk_agent.specs.Agents.{trail_of, Hears, Unfollows}
 use Rattle.zk_agent.proofs.Moves.{gives, ok_after, trail_eq}
 use Rattle.zk_agent.proofs.agent.Agent.unfollow.Goals as goal

@@ -2,10 +2,10 @@ use Rattle.std.proofs.Common.{not, sym, subst}
 use Rattle.std.specs.Prelude.{All}
 use Rattle.std.proofs.lemmas.List.Elements.{All-filter}
 use Rattle.zk_client.specs.Clients.{view_of}
-use Rattle.zk_line.specs.declared.entry.Entry.{Entry}
-use Rattle.zk_line.specs.declared.entry.Ending.TheVariants.{Late}
-use Rattle.zk_line.specs.Lines.{is_ended}
-use Rattle.zk_agent.specs.Calls.{IsAsked}
+use Rattle.zk_calls.specs.declared.entry.Entry.{Entry}
+use Rattle.zk_calls.specs.declared.entry.Ending.TheVariants.{Late}
+use Rattle.zk_calls.specs.Lines.{is_ended}
+use Rattle.zk_agent.specs.inner.Calls.{IsAsked}
 use Rattle.zk_agent.proofs.asker.Asker.give_up.Goals as goal
 
 pub invariant_of-self : goal.invariant_of-self

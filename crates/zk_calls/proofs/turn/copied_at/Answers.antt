@@ -1,0 +1,10 @@
+use Rattle.std.proofs.Common.{refl}
+use Rattle.zk_conversation.specs.Views.{call_view}
+use Rattle.zk_calls.proofs.Answering.{next_there}
+use Rattle.zk_calls.proofs.turn.copied_at.Goals as goal
+
+pub returns : goal.returns
+returns g c =
+    next_there c.args.entries.now.items c.args.place c.index.result.now c.index-2.result.now c.index.result.now.ticket
+    (call_view c.in_ok-call.call) c.requires c.index.ensures c.index-2.ensures
+    refl c.in_ok-call.ensures

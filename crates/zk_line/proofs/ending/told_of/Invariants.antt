@@ -1,7 +1,0 @@
-use Rattle.std.proofs.Common.{◌≡◌, map, take}
-use Rattle.zk_line.specs.Lines.{ended, ended_of}
-use Rattle.zk_line.proofs.ending.told_of.Given as goal
-
--- those so far are told
-abbrev pub invariant-loop-place : goal.invariant-loop-place
-invariant-loop-place g l = l.told.items ≡ map ended_of (ended l.ending (take l.place l.entries.items))

@@ -1,7 +1,0 @@
-use Rattle.std.proofs.Common.{◌≡◌, fold, take, None}
-use Rattle.zk_line.specs.Lines.{first_of}
-use Rattle.zk_line.proofs.order.limit_among.Given as goal
-
--- the first of those so far
-abbrev pub invariant-loop-place : goal.invariant-loop-place
-invariant-loop-place g l = l.first ≡ fold (λ first entry. first_of first entry.until) None (take l.place l.entries.items)

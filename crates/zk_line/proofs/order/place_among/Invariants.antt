@@ -1,9 +1,0 @@
-use Rattle.std.proofs.Common.{◌≡◌, ◌<◌, ℕ, false, get_or}
-use Rattle.zk_line.specs.declared.entry.Entry.{Entry}
-use Rattle.zk_line.specs.declared.entry.Ending.TheVariants.{LostOf}
-use Rattle.zk_line.specs.Lines.{is_ended}
-use Rattle.zk_line.proofs.order.place_among.Given as goal
-
--- none of those so far is it
-abbrev pub invariant-loop-place : goal.invariant-loop-place
-invariant-loop-place g l = (k : ℕ) (d : Entry g.row.A.Denot) → k < l.place → is_ended (LostOf l.ticket) (get_or l.entries.items k d) ≡ false

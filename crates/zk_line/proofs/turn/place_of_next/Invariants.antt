@@ -1,8 +1,0 @@
-use Rattle.std.proofs.Common.{◌≡◌, ◌<◌, ℕ, false, get_or}
-use Rattle.zk_line.specs.declared.entry.Entry.{Entry}
-use Rattle.zk_line.specs.Lines.{waits_turn}
-use Rattle.zk_line.proofs.turn.place_of_next.Given as goal
-
--- those so far were handed over
-abbrev pub invariant-loop-place : goal.invariant-loop-place
-invariant-loop-place g l = (k : ℕ) (d : Entry g.row.A.Denot) → k < l.place → waits_turn (get_or l.entries.items k d) ≡ false
