@@ -22,7 +22,12 @@ use Rattle.zk_driver.specs.Flowing.{Asked, Deed, Flow, Made, Passes}
 use Rattle.zk_served.specs.Acts.{Takes}
 use Rattle.zk_served.specs.Worlds.{ByDriver}
 use Rattle.zk_served.proofs.Turned.{goes_nowhere}
+use Rattle.zk_link.specs.Streams.{Exchanges, Known}
+use Rattle.script_live.specs.Flowing as live
+use Rattle.script_live.specs.Frames.{frames}
+use Rattle.theory_shown.specs.Agreeing.{BefallsBench, LivesWait, MeanwhileBench as LiveBench, NothingIsRead}
 use Rattle.theory_shown.specs.Benched.{BenchesWait, MeanwhileBench, MeetsBench, NothingComes}
+use Rattle.theory_shown.specs.Lived.{ByClient, DeedsMeet}
 
 -- ---- a bench stays ready
 
@@ -147,4 +152,89 @@ module _ {A : Type 0} where
 pub benches_wait : (A : Type 0) → BenchesWait A
 benches_wait A steps old new passes quiet before ready =
     let all = waits steps old new passes quiet before ready in
+    (all.after, all.meets, all.history)
+
+-- ---- a client that a script drives
+
+-- what a bench is after a stretch in which nothing came
+record LiveStretch (there : Bool) (unsent still piece : List ℕ) (old new : Known) (before : Served) : Type 0 where
+  after : Served
+  ready : IsReady after
+  meets : LiveBench ByClient there unsent still piece old new before after
+  history : after.history ≡ before.history
+
+live_there : (up : Bool) (written unsent still piece : List ℕ) (old new : Known) (before : Served) → is_open before.connection.phase ≡ up
+    → ByClient (written ++ []) [] unsent still piece old new → IsReady before → LiveStretch true unsent still piece old new before
+live_there true written unsent still piece old new before up by ready = record {
+  after = with_requests before written;
+  ready = received_ready before written ready;
+  meets = (
+    Takes written ∷ [],
+    (with_requests before written, (λ is. refl, λ down. let e : true ≡ false = sym up ∙ down in cc), refl),
+    by,
+  );
+  history = refl;
+}
+live_there false written unsent still piece old new before down by ready = record {
+  after = before;
+  ready = ready;
+  meets = (Takes written ∷ [], (before, (λ up. let e : true ≡ false = sym up ∙ down in cc, λ is. refl), refl), by);
+  history = refl;
+}
+
+live_stretch : (there : Bool) (unsent still piece : List ℕ) (old new : Known) (before : Served)
+    → (there ≡ true → Exchanges unsent still old new piece) → piece ≡ [] → IsReady before
+    → LiveStretch there unsent still piece old new before
+live_stretch true unsent still piece old new before exchanges quiet ready =
+    let sends = (exchanges refl).sends in
+    live_there (is_open before.connection.phase) sends.0 unsent still piece old new before refl
+    (record { wrote = sends.1 ∙ ap (λ took. took ++ still) (sym (append-nil sends.0)); read = quiet }) ready
+live_stretch false unsent still piece old new before exchanges quiet ready =
+    record { after = before; ready = ready; meets = goes_nowhere (history_of before.history); history = refl }
+
+record LiveWaits (deeds : List live.Deed) (old new : live.Flow) (carries : FoldsTo live.Carries old deeds new) (before : Served)
+    : Type 0 where
+  after : Served
+  meets : DeedsMeet (BefallsBench ByClient) deeds old new carries before after
+  history : after.history ≡ before.history
+
+live_waits : (deeds : List live.Deed) (old new : live.Flow) (carries : FoldsTo live.Carries old deeds new)
+    → NothingIsRead deeds old new carries → (before : Served) → IsReady before → LiveWaits deeds old new carries before
+live_waits [] old new carries quiet before ready = record { after = before; meets = refl; history = refl }
+live_waits (live.Reads ∷ deeds) old new carries quiet before ready =
+    let one = live_stretch old.is_open old.unsent carries.0.unsent carries.0.held old.known carries.0.known before
+    (λ there. carries.1.0) quiet.0 ready in
+    let rest = live_waits deeds carries.0 new carries.2 quiet.1 one.after one.ready in
+    record { after = rest.after; meets = (one.after, one.meets, rest.meets); history = rest.history ∙ one.history }
+live_waits (live.Hears turn ∷ deeds) old new carries quiet before ready =
+    let one = live_stretch carries.0.is_open (old.unsent ++ frames turn.outputs) carries.0.unsent [] old.known carries.0.known before
+    carries.1.0.4 refl ready in
+    let rest = live_waits deeds carries.0 new carries.2 quiet.1 one.after one.ready in
+    record { after = rest.after; meets = (one.after, (one.meets, quiet.0), rest.meets); history = rest.history ∙ one.history }
+live_waits (live.Begins turn ∷ deeds) old new carries quiet before ready =
+    let then_ready = connected_ready before ready in
+    let between = carries.1.0.0 in
+    let one = live_stretch carries.0.is_open (frames turn.outputs) carries.0.unsent [] between.known carries.0.known
+    (bench.connected before 0)
+    (λ there. subst (λ l. Exchanges (l ++ frames turn.outputs) carries.0.unsent between.known carries.0.known []) carries.1.0.1.2
+    (carries.1.0.2.4 there)) refl then_ready in
+    let rest = live_waits deeds carries.0 new carries.2 quiet one.after one.ready in
+    record {
+      after = rest.after;
+      meets = (one.after, (0, ready, then_ready, one.meets), rest.meets);
+      history = rest.history ∙ one.history;
+    }
+live_waits (live.Ends turn ∷ deeds) old new carries quiet before ready =
+    let rest = live_waits deeds carries.0 new carries.2 quiet before ready in
+    record { after = rest.after; meets = (before, goes_nowhere (history_of before.history), rest.meets); history = rest.history }
+live_waits (live.Fails ∷ deeds) old new carries quiet before ready =
+    let rest = live_waits deeds carries.0 new carries.2 quiet before ready in
+    record { after = rest.after; meets = (before, refl, rest.meets); history = rest.history }
+live_waits (live.Looks value text ∷ deeds) old new carries quiet before ready =
+    let rest = live_waits deeds carries.0 new carries.2 quiet before ready in
+    record { after = rest.after; meets = (before, refl, rest.meets); history = rest.history }
+
+pub lives_wait : LivesWait
+lives_wait deeds old new carries quiet before ready =
+    let all = live_waits deeds old new carries quiet before ready in
     (all.after, all.meets, all.history)

@@ -1,5 +1,5 @@
 -- What `watch` and `live` print over connections to a server in memory is what that server's history has.
-use Rattle.std.specs.Prelude.{◌≡◌, ◌<◌, ◌^◌, ◌++◌, ℕ, Bool, true, false, List, [], Option, unsigned_abs}
+use Rattle.std.specs.Prelude.{◌≡◌, ◌<◌, ◌^◌, ◌++◌, ⊤, ℕ, Bool, true, false, List, [], ◌∷◌, Option, unsigned_abs}
 use Rattle.std.specs.List.{FoldsTo}
 use Rattle.zk_nodes.specs.Path.{Text}
 use Rattle.zk_nodes.specs.declared.side.Side.{Side}
@@ -12,7 +12,7 @@ use Rattle.zk_link.specs.Streams.{Known}
 use Rattle.zk_driver.specs.Flowing.{Flow, Runs}
 use Rattle.zk_served.specs.Acts.{given_in, taken_in, Act}
 use Rattle.zk_served.specs.Asking.{IsFitInput, StepsFit}
-use Rattle.script_words.specs.declared.script.End.{End}
+use Rattle.script_words.specs.declared.script.ScriptEnd.{ScriptEnd}
 use Rattle.script_live.specs.Flowing as live
 use Rattle.script_live.specs.Frames.{frames}
 use Rattle.script_live.specs.Lives.{Lives}
@@ -20,7 +20,7 @@ use Rattle.script_live.specs.Printed as lived
 use Rattle.shell_watch.specs.declared.plan.Style.{Style}
 use Rattle.shell_watch.specs.Watching.{flow_in, EndsFrom, IsBegun, PrintsFrom, Stand}
 use Rattle.theory_shown.specs.Benched.{BenchDoes, MeetsBench}
-use Rattle.theory_shown.specs.Lived.{DeedsMeet}
+use Rattle.theory_shown.specs.Lived.{ByClient, DeedsMeet}
 use Rattle.theory_shown.specs.Lived as lived_so
 use Rattle.theory_shown.specs.Watched.{AllCohere, MovesMeet}
 
@@ -101,12 +101,26 @@ module _ (By : (took gave unsent still piece : List ℕ) → (old new : Known) �
   BefallsBench old (live.Ends turn) new carries before after = GoesOn (history_of before.history) (history_of after.history)
   BefallsBench old deed new carries before after = after ≡ before
 
+-- By these deeds nothing comes: no read brings a byte. What the client is asked is about paths, with values of their types.
+abbrev pub NothingIsRead : (deeds : List live.Deed) → (old new : live.Flow) → FoldsTo live.Carries old deeds new → Type 0
+NothingIsRead [] old new carries = ⊤
+NothingIsRead (live.Reads ∷ deeds) old new carries = (carries.0.held ≡ []) × NothingIsRead deeds carries.0 new carries.2
+NothingIsRead (live.Hears turn ∷ deeds) old new carries = IsFitInput turn.input × NothingIsRead deeds carries.0 new carries.2
+NothingIsRead (deed ∷ deeds) old new carries = NothingIsRead deeds carries.0 new carries.2
+
+-- Whatever a client does where nothing comes: each ready bench can go on beside it.
+abbrev pub LivesWait : Type 0
+LivesWait =
+    (deeds : List live.Deed) (old new : live.Flow) (carries : FoldsTo live.Carries old deeds new) → NothingIsRead deeds old new carries
+    → (before : Served) → IsReady before
+    → (after : Served) × DeedsMeet (BefallsBench ByClient) deeds old new carries before after × (after.history ≡ before.history)
+
 -- All that `live` prints of its lines, by its contract (`Lives`), is what a list of deeds prints. Where a bench goes on beside these, each
 -- good answer that the client has after each of them, and that is looked up and printed, is the answer of the bench's history at the last
 -- seen zxid, wherever pieces and cuts fall.
 abbrev pub LifeAgrees : ((took gave unsent still piece : List ℕ) → (old new : Known) → Type 0) → Served → Type 0
 LifeAgrees By after =
-    (lines : List Text) (text : List ℕ) (end : End) (lives : Lives lines text end)
+    (lines : List Text) (text : List ℕ) (end : ScriptEnd) (lives : Lives lines text end)
     → (last : live.Flow) × (prints : lived.Prints lives.first last [] text)
     × ((before : Served) → DeedsMeet (BefallsBench By) prints.deeds lives.first last prints.carries before after
     → lived_so.AllCohere (history_of after.history) prints.deeds lives.first last prints.carries)

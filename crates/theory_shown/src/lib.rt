@@ -6,7 +6,7 @@
 ghost use Rattle.zk_history.specs.HistoryView.{history_of};
 ghost use Rattle.zk_nodes.specs.History.{IsHistory};
 ghost use Rattle.zk_served.specs.Worlds.{ByDriver, ByStream};
-ghost use Rattle.theory_shown.specs.Agreeing.{LifeAgrees, WatchAgrees, WatchEndAgrees};
+ghost use Rattle.theory_shown.specs.Agreeing.{LifeAgrees, LivesWait, WatchAgrees, WatchEndAgrees};
 ghost use Rattle.theory_shown.specs.Benched.{BenchesCohere, BenchesMeet, BenchesReceive, BenchesServe, BenchesWait};
 ghost use Rattle.theory_shown.specs.Lived.{ByClient, ByKnown, LifeCoheres};
 ghost use Rattle.theory_shown.specs.Watched.{EndsCohere, PrintsCohere};
@@ -74,3 +74,9 @@ pub fn lives_agree<B: Allocator + Copy>(bench: &Bench<B>)
 {
     known_of(bench);
 }
+
+/// Beside whatever a client of `live` does where nothing comes, each ready bench can go on: what is premise of a bench asks nothing of it
+/// but what its reads bring.
+pub fn lives_wait()
+    ensures { LivesWait }
+{}
