@@ -15,7 +15,7 @@ ghost use Rattle.zk_turns.specs.View.{View, Cache};
 ghost use Rattle.zk_turns.specs.Past.{Past};
 ghost use Rattle.zk_turns.specs.Spelled.{IsHeaded};
 ghost use Rattle.zk_turns.specs.Rule.{Stands};
-ghost use Rattle.zk_laws.specs.Server.{Notice, IsOther};
+ghost use Rattle.zk_laws.specs.Server.{HasCode, IsOther, Notice};
 ghost use Rattle.zk_laws.specs.Messages.{Request, Ask, Restore, Notifies};
 ghost use Rattle.zk_laws.specs.ServerSteps.{ServerEnd, Serving, Answers, IsNext};
 ghost use Rattle.zk_laws.specs.Served.{Entry, items_in, wire_of, IsServing, Served, Wire, unread, first_xid, is_going, ArePayloads};
