@@ -3,6 +3,9 @@ use Rattle.std.proofs.Common.{◌≡◌, ◌∙◌, ℕ, inl, inr, Bool, true, f
 use Rattle.std.specs.Prelude.{take}
 use Rattle.std.specs.List.{FoldsTo}
 use Rattle.theory_serving.specs.Shown.{more_requests}
+use Rattle.zk_history.specs.HistoryView.{history_of}
+use Rattle.zk_client.specs.Clients.{view_of}
+use Rattle.zk_conclusions.proofs.Truths.{coherent}
 use Rattle.zk_bench.specs.declared.phase.Phase.{Phase}
 use Rattle.zk_bench.specs.declared.phase.Phase.TheVariants.{Accepted, Apart, Ended, Opening}
 use Rattle.zk_bench.specs.Served.{is_open, with_requests, Served}
@@ -55,7 +58,7 @@ act_done Serves old new (inr (inr (inr goes))) =
       output = ap (λ c. c.output) goes.1;
     }))
 
-acts_done : (acts : List Act) (old new : Served) → FoldsTo BenchDoes old acts new → FoldsTo Happens (shown_of old) acts (shown_of new)
+pub acts_done : (acts : List Act) (old new : Served) → FoldsTo BenchDoes old acts new → FoldsTo Happens (shown_of old) acts (shown_of new)
 acts_done [] old new same = ap (λ (s : Served). shown_of s) same
 acts_done (act ∷ acts) old new does =
     (shown_of does.0, act_done act old does.0 does.1, acts_done acts does.0 new does.2)
@@ -117,6 +120,10 @@ benches_serve_bytes A old new after drives = bytes_serve old new (shown_of after
 
 pub benches_cohere : (A : Type 0) → BenchesCohere A ByStream
 benches_cohere A old new after drives = streams_cohere old new (shown_of after) (as_servers ByStream old new after drives)
+
+pub benches_cohere_bytes : (A : Type 0) → BenchesCohere A ByDriver
+benches_cohere_bytes A old new after drives =
+    coherent (history_of after.history) (view_of new.course.agent.asker.follower.client) (benches_serve_bytes A old new after drives)
 
 -- ---- such a bench can be
 

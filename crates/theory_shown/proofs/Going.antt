@@ -13,7 +13,7 @@ use Rattle.zk_agent.specs.declared.input.AgentInput.TheVariants as happens
 use Rattle.zk_driver.specs.Driving.{Looked, Noted, Written}
 use Rattle.zk_driver.specs.Flowing.{Asked, Deed, Flow, Made, Passes}
 use Rattle.zk_served.specs.Acts.{Act, Gives, Happens, Serves, Takes}
-use Rattle.zk_served.specs.Worlds.{Befalls, ByStream, Meanwhile, Meets}
+use Rattle.zk_served.specs.Worlds.{Befalls, ByDriver, ByStream, Meanwhile, Meets}
 use Rattle.zk_served.proofs.Turned.{goes_nowhere, Kept}
 use Rattle.zk_served.proofs.Served.{meets_driver, steps_bound, Bound}
 use Rattle.theory_shown.specs.Watched.{RunMeets}
@@ -37,43 +37,53 @@ acts_on (act ∷ acts) old new happens =
 
 -- ---- a run
 
-meanwhile_on : {A : Type 0} (there : Bool) (old new : Flow A) (before after : Shown)
-    → Meanwhile ByStream there old new before after → GoesOn before.history after.history
-meanwhile_on true old new before after meets = acts_on meets.0 before after meets.1
-meanwhile_on false old new before after meets = meets
+module _ {A : Type 0} (By : List ℕ → List ℕ → Flow A → Flow A → Type 0) where
+  meanwhile_on : (there : Bool) (old new : Flow A) (before after : Shown)
+      → Meanwhile By there old new before after → GoesOn before.history after.history
+  meanwhile_on true old new before after meets = acts_on meets.0 before after meets.1
+  meanwhile_on false old new before after meets = meets
 
-befalls_on : {A : Type 0} (deed : Deed A) (old new : Flow A) (before after : Shown)
-    → Befalls ByStream old deed new before after → GoesOn before.history after.history
-befalls_on (Made Written) old new before after meets = meanwhile_on old.course.channel.is_open old new before after meets
-befalls_on (Made (Looked look)) old new before after meets = meanwhile_on old.course.channel.is_open old new before after meets
-befalls_on (Made (Noted now happens.Opened)) old new before after meets =
-    subst (λ (s : Shown). GoesOn before.history s.history) (sym meets.2) (goes_nowhere before.history)
-befalls_on (Made (Noted now happens.Failed)) old new before after meets = same_on before after meets
-befalls_on (Made (Noted now happens.Cut)) old new before after meets = same_on before after meets
-befalls_on (Made (Noted now (happens.Bytes bytes))) old new before after meets = same_on before after meets
-befalls_on (Made (Noted now happens.Moment)) old new before after meets = same_on before after meets
-befalls_on (Made (Noted now (happens.Addresses count))) old new before after meets = same_on before after meets
-befalls_on (Made (Noted now (happens.Call ticket call until))) old new before after meets = same_on before after meets
-befalls_on (Made (Noted now (happens.Follow ticket side path))) old new before after meets = same_on before after meets
-befalls_on (Made (Noted now (happens.Unfollow ticket))) old new before after meets = same_on before after meets
-befalls_on (Asked now input) old new before after meets = same_on before after meets
+  befalls_on : (deed : Deed A) (old new : Flow A) (before after : Shown)
+      → Befalls By old deed new before after → GoesOn before.history after.history
+  befalls_on (Made Written) old new before after meets = meanwhile_on old.course.channel.is_open old new before after meets
+  befalls_on (Made (Looked look)) old new before after meets = meanwhile_on old.course.channel.is_open old new before after meets
+  befalls_on (Made (Noted now happens.Opened)) old new before after meets =
+      subst (λ (s : Shown). GoesOn before.history s.history) (sym meets.2) (goes_nowhere before.history)
+  befalls_on (Made (Noted now happens.Failed)) old new before after meets = same_on before after meets
+  befalls_on (Made (Noted now happens.Cut)) old new before after meets = same_on before after meets
+  befalls_on (Made (Noted now (happens.Bytes bytes))) old new before after meets = same_on before after meets
+  befalls_on (Made (Noted now happens.Moment)) old new before after meets = same_on before after meets
+  befalls_on (Made (Noted now (happens.Addresses count))) old new before after meets = same_on before after meets
+  befalls_on (Made (Noted now (happens.Call ticket call until))) old new before after meets = same_on before after meets
+  befalls_on (Made (Noted now (happens.Follow ticket side path))) old new before after meets = same_on before after meets
+  befalls_on (Made (Noted now (happens.Unfollow ticket))) old new before after meets = same_on before after meets
+  befalls_on (Asked now input) old new before after meets = same_on before after meets
 
-steps_on : {A : Type 0} (steps : List (Option (Deed A))) (old new : Flow A) (passes : FoldsTo Passes old steps new) (before after : Shown)
-    → Meets ByStream steps old new passes before after
-    → GoesOn before.history after.history
-steps_on [] old new same before after meets = same_on before after meets
-steps_on (Some deed ∷ steps) old new passes before after meets =
-    goes_further before.history meets.0.history after.history (befalls_on deed old passes.0 before meets.0 meets.1)
-    (steps_on steps passes.0 new passes.2 meets.0 after meets.2)
-steps_on (None ∷ steps) old new passes before after meets = steps_on steps passes.0 new passes.2 before after meets
+  steps_on : (steps : List (Option (Deed A))) (old new : Flow A) (passes : FoldsTo Passes old steps new) (before after : Shown)
+      → Meets By steps old new passes before after
+      → GoesOn before.history after.history
+  steps_on [] old new same before after meets = same_on before after meets
+  steps_on (Some deed ∷ steps) old new passes before after meets =
+      goes_further before.history meets.0.history after.history (befalls_on deed old passes.0 before meets.0 meets.1)
+      (steps_on steps passes.0 new passes.2 meets.0 after meets.2)
+  steps_on (None ∷ steps) old new passes before after meets = steps_on steps passes.0 new passes.2 before after meets
 
-pub run_on : {A : Type 0} (old new : Flow A) (before after : Shown) → RunMeets old new before after → GoesOn before.history after.history
-run_on old new before after run = steps_on run.runs.steps old new run.runs.passes before after run.meets
+  pub run_on : (old new : Flow A) (before after : Shown) → RunMeets By old new before after → GoesOn before.history after.history
+  run_on old new before after run = steps_on run.runs.steps old new run.runs.passes before after run.meets
 
-pub run_bound : {A : Type 0} (old new : Flow A) (before after : Shown) → RunMeets old new before after → Bound old before → Bound new after
+pub run_bound : {A : Type 0} (old new : Flow A) (before after : Shown)
+    → RunMeets ByDriver old new before after → Bound old before → Bound new after
 run_bound old new before after run bound =
-    steps_bound run.runs.steps old new run.runs.passes before after run.fits
-    (meets_driver run.runs.steps old new run.runs.passes before after run.meets) bound
+    steps_bound run.runs.steps old new run.runs.passes before after run.fits run.meets bound
+
+-- by what streams know it is also by what was written and read
+pub run_driver : {A : Type 0} (old new : Flow A) (before after : Shown)
+    → RunMeets ByStream old new before after → RunMeets ByDriver old new before after
+run_driver old new before after run = record {
+  runs = run.runs;
+  fits = run.fits;
+  meets = meets_driver run.runs.steps old new run.runs.passes before after run.meets;
+}
 
 -- ---- what was good then
 

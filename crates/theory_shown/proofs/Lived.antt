@@ -28,7 +28,7 @@ use Rattle.script_live.specs.Frames.{frames}
 use Rattle.script_live.specs.Trails.{kept}
 use Rattle.script_live.specs.Flowing.{bytes_of, Begins, Carries, Deed, Ends, Fails, Flow, Hears, HearsSo, IsMidway, Looks, Reads}
 use Rattle.script_live.specs.Printed.{Prints}
-use Rattle.theory_shown.specs.Lived.{AllCohere, Befalls, DeedsMeet, LifeCoheres, LifeMeets, Meanwhile}
+use Rattle.theory_shown.specs.Lived.{AllCohere, Befalls, ByClient, ByKnown, DeedsMeet, LifeCoheres, LifeMeets, Meanwhile}
 use Rattle.theory_shown.proofs.Going.{acts_on, kept_coheres, same_on}
 
 -- ---- what is between a client and servers
@@ -68,15 +68,12 @@ there_before false is_there there = there
 
 -- some of what is unsent, and a piece, which is held after it
 passed : (view : View) (there : Bool) (unsent rest piece : List ℕ) (old new : Known) (before after : Shown)
-    → Exchanges unsent rest old new piece
-    → Meanwhile true old new before after → there ≡ true → Kept view there unsent [] before → Kept view there rest piece after
-passed view there unsent rest piece old new before after exchanges meets is k =
-    let took = known_took meets.2.before
-    (taken_in meets.0) exchanges.sends.0 old.took new.took meets.2.taken meets.2.then_taken exchanges.sends.2 in
-    let gave = known_gave (given_in meets.0) meets.2.rest piece old.left new.left meets.2.left meets.2.then_left exchanges.gives in
+    → Meanwhile ByClient true unsent rest piece old new before after → there ≡ true → Kept view there unsent [] before
+    → Kept view there rest piece after
+passed view there unsent rest piece old new before after meets is k =
     subst (λ b. Kept view b rest piece after) (sym is)
-    (subst (λ held. Kept view true rest held after) gave
-    (acts_keep view meets.0 unsent rest [] before after meets.1 (exchanges.sends.1 ∙ ap (λ l. l ++ rest) (sym took))
+    (subst (λ held. Kept view true rest held after) (sym meets.2.read)
+    (acts_keep view meets.0 unsent rest [] before after meets.1 meets.2.wrote
     (subst (λ b. Kept view b unsent [] before) is k)))
 
 -- a connection that is not there any more
@@ -88,7 +85,8 @@ left_kept view there unsent held rest before after goes k =
 -- ---- one deed
 
 module _ (old new : Flow) (before after : Shown) (bound : Bound old before) where
-  reads_bound : Carries old Reads new → Meanwhile old.is_open old.known new.known before after → Bound new after
+  reads_bound : Carries old Reads new
+      → Meanwhile ByClient old.is_open old.unsent new.unsent new.held old.known new.known before after → Bound new after
   reads_bound carries meets = record {
     here = subst (λ v. Kept v new.is_open new.unsent new.held after) (sym carries.3) (by old.is_open refl meets);
     tied = λ up. carries.4 ∙ bound.tied (ap is_up (sym carries.3) ∙ up);
@@ -97,10 +95,11 @@ module _ (old new : Flow) (before after : Shown) (bound : Bound old before) wher
       none : Kept old.view old.is_open old.unsent [] before
       none = subst (λ held. Kept old.view old.is_open old.unsent held before) carries.1 bound.here
 
-      by : (b : Bool) → old.is_open ≡ b → Meanwhile b old.known new.known before after → Kept old.view new.is_open new.unsent new.held after
+      by : (b : Bool) → old.is_open ≡ b → Meanwhile ByClient b old.unsent new.unsent new.held old.known new.known before after
+          → Kept old.view new.is_open new.unsent new.held after
       by true there meets =
           subst (λ b. Kept old.view b new.unsent new.held after) (sym (carries.4 ∙ there))
-          (passed old.view true old.unsent new.unsent new.held old.known new.known before after carries.0 meets refl
+          (passed old.view true old.unsent new.unsent new.held old.known new.known before after meets refl
           (subst (λ b. Kept old.view b old.unsent [] before) there none))
       by false shut meets =
           subst (λ b. Kept old.view b new.unsent new.held after) (sym (carries.4 ∙ shut))
@@ -111,28 +110,30 @@ module _ (old new : Flow) (before after : Shown) (bound : Bound old before) wher
   said_bound : (outputs : List Output) (there : Bool) (unsent : List ℕ) (known : Known) (shown : Shown)
       → Kept new.view there (unsent ++ sent_in outputs) [] shown
       → new.is_open ≡ kept outputs there → new.held ≡ []
-      → (new.is_open ≡ true → Exchanges (unsent ++ frames outputs) new.unsent known new.known [])
-      → Meanwhile new.is_open known new.known shown after → Kept new.view new.is_open new.unsent new.held after
-  said_bound outputs there unsent known shown k lasts none writes meets =
+      → Meanwhile ByClient new.is_open (unsent ++ frames outputs) new.unsent [] known new.known shown after
+      → Kept new.view new.is_open new.unsent new.held after
+  said_bound outputs there unsent known shown k lasts none meets =
       subst (λ held. Kept new.view new.is_open new.unsent held after) (sym none) (by new.is_open refl meets)
     where
-      by : (b : Bool) → new.is_open ≡ b → Meanwhile b known new.known shown after → Kept new.view new.is_open new.unsent [] after
+      by : (b : Bool) → new.is_open ≡ b → Meanwhile ByClient b (unsent ++ frames outputs) new.unsent [] known new.known shown after
+          → Kept new.view new.is_open new.unsent [] after
       by true open_now meets =
           let was : there ≡ true = there_before (list_any ends_connection outputs) there (sym lasts ∙ open_now) in
           subst (λ b. Kept new.view b new.unsent [] after) (was ∙ sym open_now)
           (passed new.view there (unsent ++ sent_in outputs) new.unsent [] known new.known shown after
-          (subst (λ l. Exchanges (unsent ++ l) new.unsent known new.known []) (frames_sent outputs) (writes open_now)) meets was k)
+          (subst (λ l. Meanwhile ByClient true (unsent ++ l) new.unsent [] known new.known shown after) (frames_sent outputs) meets) was k)
       by false shut meets =
           subst (λ b. Kept new.view b new.unsent [] after) (sym shut)
           (left_kept new.view there (unsent ++ sent_in outputs) [] new.unsent shown after meets k)
 
-  hears_bound : (turn : Turn) → HearsSo old turn new → IsMidway turn.input → Meanwhile new.is_open old.known new.known before after
+  hears_bound : (turn : Turn) → HearsSo old turn new → IsMidway turn.input
+      → Meanwhile ByClient new.is_open (old.unsent ++ frames turn.outputs) new.unsent [] old.known new.known before after
       → IsFitInput turn.input → Bound new after
   hears_bound turn hears midway meets fit = record {
     here = said_bound turn.outputs old.is_open old.unsent old.known before
         (input_keeps old.view new.view old.is_open old.unsent old.held [] before turn.input turn.outputs bound.here hears.0
         (within turn.input midway) fit (handed turn.input hears.2))
-        hears.1 hears.3 hears.4 meets;
+        hears.1 hears.3 meets;
     tied = λ up.
         let stays =
         stays_up old.view new.view bound.here.met bound.here.was turn.input turn.outputs hears.0 (within turn.input midway) up in
@@ -154,12 +155,10 @@ module _ (old new : Flow) (before after : Shown) (bound : Bound old before) wher
       handed (turns.Call ticket asked) is = is
 
   begins_bound : (turn : Turn) (carries : Carries old (Begins turn) new)
-      → Befalls old (Begins turn) new carries before after → Bound new after
+      → Befalls ByClient old (Begins turn) new carries before after → Bound new after
   begins_bound turn carries meets = record {
     here = said_bound turn.outputs true [] carries.0.0.known (connected meets.0 before) began
-        (carries.0.2.1 ∙ ap (kept turn.outputs) carries.0.1.1) carries.0.2.3
-        (λ there. subst (λ l. Exchanges (l ++ frames turn.outputs) new.unsent carries.0.0.known new.known []) carries.0.1.2
-        (carries.0.2.4 there)) meets.2;
+        (carries.0.2.1 ∙ ap (kept turn.outputs) carries.0.1.1) carries.0.2.3 meets.2;
     tied = λ up.
         carries.0.2.1 ∙ stays_there turn.outputs carries.0.0.is_open
         (opened_ends old.view new.view bound.here.met bound.here.was turn.outputs rule up) carries.0.1.1;
@@ -224,7 +223,7 @@ module _ (old new : Flow) (before after : Shown) (bound : Bound old before) wher
   looks_bound ForgetLine text carries is = forgets_bound carries.2 carries.0.0 is
 
 deed_bound : (deed : Deed) (old new : Flow) (carries : Carries old deed new) (before after : Shown)
-    → Befalls old deed new carries before after → Bound old before → Bound new after
+    → Befalls ByClient old deed new carries before after → Bound old before → Bound new after
 deed_bound Reads old new carries before after meets bound = reads_bound old new before after bound carries meets
 deed_bound (Hears turn) old new carries before after meets bound =
     hears_bound old new before after bound turn carries.0 carries.1 meets.0 meets.1
@@ -233,17 +232,19 @@ deed_bound (Ends turn) old new carries before after meets bound = ends_bound old
 deed_bound Fails old new carries before after meets bound = same_bound old new before after bound carries.0 meets
 deed_bound (Looks value text) old new carries before after meets bound = looks_bound old new before after bound value text carries meets
 
-meanwhile_on : (there : Bool) (old new : Known) (before after : Shown)
-    → Meanwhile there old new before after → GoesOn before.history after.history
-meanwhile_on true old new before after meets = acts_on meets.0 before after meets.1
-meanwhile_on false old new before after meets = meets
+meanwhile_on : (there : Bool) (unsent still piece : List ℕ) (old new : Known) (before after : Shown)
+    → Meanwhile ByClient there unsent still piece old new before after → GoesOn before.history after.history
+meanwhile_on true unsent still piece old new before after meets = acts_on meets.0 before after meets.1
+meanwhile_on false unsent still piece old new before after meets = meets
 
 deed_on : (deed : Deed) (old new : Flow) (carries : Carries old deed new) (before after : Shown)
-    → Befalls old deed new carries before after → GoesOn before.history after.history
-deed_on Reads old new carries before after meets = meanwhile_on old.is_open old.known new.known before after meets
-deed_on (Hears turn) old new carries before after meets = meanwhile_on new.is_open old.known new.known before after meets.0
+    → Befalls ByClient old deed new carries before after → GoesOn before.history after.history
+deed_on Reads old new carries before after meets =
+    meanwhile_on old.is_open old.unsent new.unsent new.held old.known new.known before after meets
+deed_on (Hears turn) old new carries before after meets =
+    meanwhile_on new.is_open (old.unsent ++ frames turn.outputs) new.unsent [] old.known new.known before after meets.0
 deed_on (Begins turn) old new carries before after meets =
-    meanwhile_on new.is_open carries.0.0.known new.known (connected meets.0 before) after meets.2
+    meanwhile_on new.is_open (frames turn.outputs) new.unsent [] carries.0.0.known new.known (connected meets.0 before) after meets.2
 deed_on (Ends turn) old new carries before after meets = meets
 deed_on Fails old new carries before after meets = same_on before after meets
 deed_on (Looks value text) old new carries before after meets = same_on before after meets
@@ -251,14 +252,14 @@ deed_on (Looks value text) old new carries before after meets = same_on before a
 -- ---- deeds
 
 deeds_on : (deeds : List Deed) (old new : Flow) (carries : FoldsTo Carries old deeds new) (before after : Shown)
-    → DeedsMeet deeds old new carries before after → GoesOn before.history after.history
+    → DeedsMeet (Befalls ByClient) deeds old new carries before after → GoesOn before.history after.history
 deeds_on [] old new carries before after meets = same_on before after meets
 deeds_on (deed ∷ deeds) old new carries before after meets =
     goes_further before.history meets.0.history after.history (deed_on deed old carries.0 carries.1 before meets.0 meets.1)
     (deeds_on deeds carries.0 new carries.2 meets.0 after meets.2)
 
 all_cohere : (deeds : List Deed) (old new : Flow) (carries : FoldsTo Carries old deeds new) (before after : Shown) (history : History)
-    → DeedsMeet deeds old new carries before after → Bound old before
+    → DeedsMeet (Befalls ByClient) deeds old new carries before after → Bound old before
     → GoesOn after.history history → IsHistory history → AllCohere history deeds old new carries
 all_cohere [] old new carries before after history meets bound goes is = tt
 all_cohere (deed ∷ deeds) old new carries before after history meets bound goes is =
@@ -269,7 +270,7 @@ all_cohere (deed ∷ deeds) old new carries before after history meets bound goe
     )
 
 begun_bound : (first last : Flow) (text : List ℕ) (prints : Prints first last [] text) (after : Shown)
-    (meets : LifeMeets first last text prints after) → Bound first meets.before
+    (meets : LifeMeets ByClient first last text prints after) → Bound first meets.before
 begun_bound first last text prints after meets = record {
   here = record {
     met = meets.before;
@@ -284,7 +285,68 @@ begun_bound first last text prints after meets = record {
     down : is_up first.view ≡ false
     down = ap (λ (t : Standing). is_going t.state && not t.halted) meets.stands.standing
 
-pub life_coheres : LifeCoheres
+pub life_coheres : LifeCoheres ByClient
 life_coheres first last text prints after meets =
     all_cohere prints.deeds first last prints.carries meets.before after after.history meets.meets
     (begun_bound first last text prints after meets) (goes_nowhere after.history) meets.history
+
+-- ---- what goes on otherwise
+
+-- Where each deed is beside another world too, so are deeds.
+module _ {World Other : Type 0} (seen : World → Other)
+    (Falls : (old : Flow) → (deed : Deed) → (new : Flow) → Carries old deed new → (before after : World) → Type 0)
+    (Too : (old : Flow) → (deed : Deed) → (new : Flow) → Carries old deed new → (before after : Other) → Type 0)
+    (each : (deed : Deed) (old new : Flow) (carries : Carries old deed new) (before after : World)
+    → Falls old deed new carries before after → Too old deed new carries (seen before) (seen after)) where
+  pub deeds_too : (deeds : List Deed) (old new : Flow) (carries : FoldsTo Carries old deeds new) (before after : World)
+      → DeedsMeet Falls deeds old new carries before after → DeedsMeet Too deeds old new carries (seen before) (seen after)
+  deeds_too [] old new carries before after same = ap seen same
+  deeds_too (deed ∷ deeds) old new carries before after meets = (
+    seen meets.0,
+    each deed old carries.0 carries.1 before meets.0 meets.1,
+    deeds_too deeds carries.0 new carries.2 meets.0 after meets.2,
+  )
+
+-- ---- by what streams know
+
+meanwhile_client : (there : Bool) (unsent still piece : List ℕ) (old new : Known) (before after : Shown)
+    → (there ≡ true → Exchanges unsent still old new piece) → Meanwhile ByKnown there unsent still piece old new before after
+    → Meanwhile ByClient there unsent still piece old new before after
+meanwhile_client true unsent still piece old new before after exchanges meets =
+    let sends = (exchanges refl).sends in
+    let took = known_took meets.2.before (taken_in meets.0) sends.0 old.took new.took meets.2.taken meets.2.then_taken sends.2 in
+    let gave = known_gave (given_in meets.0) meets.2.rest piece old.left new.left meets.2.left meets.2.then_left (exchanges refl).gives in
+    (meets.0, meets.1, record { wrote = sends.1 ∙ ap (λ l. l ++ still) (sym took); read = sym gave })
+meanwhile_client false unsent still piece old new before after exchanges meets = meets
+
+befalls_client : (deed : Deed) (old new : Flow) (carries : Carries old deed new) (before after : Shown)
+    → Befalls ByKnown old deed new carries before after → Befalls ByClient old deed new carries before after
+befalls_client Reads old new carries before after meets =
+    meanwhile_client old.is_open old.unsent new.unsent new.held old.known new.known before after (λ there. carries.0) meets
+befalls_client (Hears turn) old new carries before after meets = (
+  meanwhile_client new.is_open (old.unsent ++ frames turn.outputs) new.unsent [] old.known new.known before after carries.0.4 meets.0,
+  meets.1,
+)
+befalls_client (Begins turn) old new carries before after meets = (
+  meets.0,
+  meets.1,
+  meanwhile_client new.is_open (frames turn.outputs) new.unsent [] carries.0.0.known new.known (connected meets.0 before) after
+      (λ there. subst (λ l. Exchanges (l ++ frames turn.outputs) new.unsent carries.0.0.known new.known []) carries.0.1.2
+      (carries.0.2.4 there)) meets.2,
+)
+befalls_client (Ends turn) old new carries before after meets = meets
+befalls_client Fails old new carries before after meets = meets
+befalls_client (Looks value text) old new carries before after meets = meets
+
+pub known_coheres : LifeCoheres ByKnown
+known_coheres first last text prints after meets = life_coheres first last text prints after (record {
+  apart = meets.apart;
+  start = meets.start;
+  stands = meets.stands;
+  resumable = meets.resumable;
+  timed = meets.timed;
+  before = meets.before;
+  meets = deeds_too (λ (s : Shown). s) (Befalls ByKnown) (Befalls ByClient) befalls_client prints.deeds first last prints.carries
+      meets.before after meets.meets;
+  history = meets.history;
+})

@@ -1,5 +1,5 @@
 -- A driver whose connections lead to a server in memory was served from the bench's history.
-use Rattle.std.specs.Prelude.{◌≡◌, ◌<◌, ◌^◌, ◌⊎◌, ℕ, ℤ, Bool, true, false, List, [], ◌∷◌, ◌++◌, length, take, Option, Some, None}
+use Rattle.std.specs.Prelude.{◌≡◌, ◌<◌, ◌^◌, ◌⊎◌, ⊤, ℕ, ℤ, Bool, true, false, List, [], ◌∷◌, ◌++◌, length, take, Option, Some, None}
 use Rattle.std.specs.List.{FoldsTo}
 use Rattle.zk_frames.specs.Frame.{frame}
 use Rattle.zk_nodes.specs.History.{IsHistory}
@@ -117,3 +117,17 @@ BenchesReceive A =
     → passes.0.course.channel.is_open ≡ true → ByDriver bytes [] passes.0 passes.2.0
     → MeetsBench ByDriver (Some (Made (Noted now happens.Opened)) ∷ Some (Made Written) ∷ []) old new passes
     before (with_requests (bench.connected before server) bytes)
+
+-- In a run nothing comes: no read brings a byte.
+abbrev pub NothingComes : {A : Type 0} → (steps : List (Option (Deed A))) → (old new : Flow A) → FoldsTo Passes old steps new → Type 0
+NothingComes [] old new passes = ⊤
+NothingComes (Some (Made (Looked look)) ∷ steps) old new passes = (passes.0.held ≡ []) × NothingComes steps passes.0 new passes.2
+NothingComes (step ∷ steps) old new passes = NothingComes steps passes.0 new passes.2
+
+-- Whatever a driver does where nothing comes: each ready bench can go on beside it. Each connection that begins is one to its first server,
+-- and this has all that is written. So the premise on what befalls a bench asks nothing of a run but what its reads bring.
+abbrev pub BenchesWait : Type 0 → Type 0
+BenchesWait A =
+    (steps : List (Option (Deed A))) (old new : Flow A) (passes : FoldsTo Passes old steps new) → NothingComes steps old new passes
+    → (before : Served) → IsReady before
+    → (after : Served) × MeetsBench ByDriver steps old new passes before after × (after.history ≡ before.history)

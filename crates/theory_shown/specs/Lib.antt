@@ -1,3 +1,4 @@
 pub mod Watched
 pub mod Lived
 pub mod Benched
+pub mod Agreeing

@@ -9,53 +9,57 @@ use Rattle.theory_serving.specs.Shown.{Shown}
 use Rattle.zk_driver.specs.Flowing.{Flow, Runs}
 use Rattle.zk_served.specs.Asking.{StepsFit}
 use Rattle.zk_served.specs.ServedDrivers.{Begins}
-use Rattle.zk_served.specs.Worlds.{ByStream, Meets}
+use Rattle.zk_served.specs.Worlds.{Meets}
 use Rattle.shell_watch.specs.Watching.{flow_in, view_in, Closes, Does, EndsFrom, Move, PrintsFrom, Stand, Takes}
+
+-- ---- what goes on beside a watch
+
+-- Where it is known what goes on beside a driver that comes from one place to another: so it goes on beside a watch, by a move, up to where
+-- the move is printed, and on.
+module _ {A World : Type 0} (Beside : (old new : Flow A) → (before after : World) → Type 0) where
+  abbrev pub MoveMeets : (move : Move A) → (old new : Stand A) → Does old move new → (before after : World) → Type 0
+  MoveMeets (Takes turn text) old new does before after =
+      (between : World) × Beside (flow_in old) (flow_in does.between) before between
+      × Beside (flow_in does.between) (flow_in new) between after
+  MoveMeets (Closes until) old new does before after = Beside (flow_in old) (flow_in new) before after
+
+  -- and by some moves
+  abbrev pub MovesMeet : (moves : List (Move A)) → (old new : Stand A) → FoldsTo Does old moves new → (before after : World) → Type 0
+  MovesMeet [] old new does before after = after ≡ before
+  MovesMeet (move ∷ moves) old new does before after =
+      (between : World) × MoveMeets move old does.0 does.1 before between × MovesMeet moves does.0 new does.2 between after
 
 -- ---- servers beside a watch
 
--- A driver comes from one place to another by a run beside which servers go on so, over streams that know their bytes.
-pub record RunMeets {A : Type 0} (old new : Flow A) (before after : Shown) : Type 0 where
+-- A driver comes from one place to another by a run beside which servers go on so, with these bytes.
+pub record RunMeets {A : Type 0} (By : List ℕ → List ℕ → Flow A → Flow A → Type 0) (old new : Flow A) (before after : Shown) : Type 0 where
   pub runs : Runs old new
   pub fits : StepsFit runs.steps old new runs.passes
-  pub meets : Meets ByStream runs.steps old new runs.passes before after
-
--- So does a watch by a move: up to where the move is printed, and on.
-abbrev pub MoveMeets : {A : Type 0} → (move : Move A) → (old new : Stand A) → Does old move new → (before after : Shown) → Type 0
-MoveMeets (Takes turn text) old new does before after =
-    (between : Shown) × RunMeets (flow_in old) (flow_in does.between) before between
-    × RunMeets (flow_in does.between) (flow_in new) between after
-MoveMeets (Closes until) old new does before after = RunMeets (flow_in old) (flow_in new) before after
-
--- and by some moves
-abbrev pub MovesMeet : {A : Type 0} → (moves : List (Move A)) → (old new : Stand A)
-    → FoldsTo Does old moves new → (before after : Shown) → Type 0
-MovesMeet [] old new does before after = after ≡ before
-MovesMeet (move ∷ moves) old new does before after =
-    (between : Shown) × MoveMeets move old does.0 does.1 before between × MovesMeet moves does.0 new does.2 between after
+  pub meets : Meets By runs.steps old new runs.passes before after
 
 -- From its beginning on, up to where each subject is followed.
-pub record FollowsMeet {A : Type 0} (first ready : Stand A) (shown : Shown) : Type 0 where
+pub record FollowsMeet {A : Type 0} (By : List ℕ → List ℕ → Flow A → Flow A → Type 0) (first ready : Stand A) (shown : Shown) : Type 0 where
   pub begins : Begins (flow_in first)
   pub before : Shown
-  pub runs : RunMeets (flow_in first) (flow_in ready) before shown
+  pub runs : RunMeets By (flow_in first) (flow_in ready) before shown
 
 -- From its beginning up to where it has printed this, and what servers show then has a history.
-pub record PrintsMeet {A : Type 0} (aims : List (Side × Text)) (first : Stand A) (text : List ℕ) (from : PrintsFrom aims first text)
-    (after : Shown) : Type 0 where
+pub record PrintsMeet {A : Type 0} (By : List ℕ → List ℕ → Flow A → Flow A → Type 0) (aims : List (Side × Text)) (first : Stand A)
+    (text : List ℕ) (from : PrintsFrom aims first text) (after : Shown) : Type 0 where
   pub ready : Shown
-  pub follows : FollowsMeet first from.ready ready
-  pub prints : MovesMeet from.prints.moves from.ready from.last from.prints.does ready after
+  pub follows : FollowsMeet By first from.ready ready
+  pub prints : MovesMeet (RunMeets By) from.prints.moves from.ready from.last from.prints.does ready after
   pub history : IsHistory after.history
 
 -- And where its time is over: through the end of its session.
-pub record EndsMeet {A : Type 0} (aims : List (Side × Text)) (for_ms : Option ℕ) (first : Stand A) (text : List ℕ) (is_accepted : Bool)
-    (from : EndsFrom aims for_ms first text is_accepted) (after : Shown) : Type 0 where
+pub record EndsMeet {A : Type 0} (By : List ℕ → List ℕ → Flow A → Flow A → Type 0) (aims : List (Side × Text)) (for_ms : Option ℕ)
+    (first : Stand A) (text : List ℕ) (is_accepted : Bool) (from : EndsFrom aims for_ms first text is_accepted) (after : Shown)
+    : Type 0 where
   pub ready : Shown
   pub over : Shown
-  pub follows : FollowsMeet first from.ready ready
-  pub prints : MovesMeet from.over.prints.moves from.ready from.over.over from.over.prints.does ready over
-  pub closes : MovesMeet from.over.closes.moves from.over.over from.last from.over.closes.does over after
+  pub follows : FollowsMeet By first from.ready ready
+  pub prints : MovesMeet (RunMeets By) from.over.prints.moves from.ready from.over.over from.over.prints.does ready over
+  pub closes : MovesMeet (RunMeets By) from.over.closes.moves from.over.over from.last from.over.closes.does over after
   pub history : IsHistory after.history
 
 -- ---- what is printed
@@ -70,17 +74,17 @@ AllCohere history [] old new does = ⊤
 AllCohere history (move ∷ moves) old new does = IsMoveCoherent history move old does.0 does.1 × AllCohere history moves does.0 new does.2
 
 -- Whatever a watch has printed, wherever the cuts fell: by the history as it is in the end.
-abbrev pub PrintsCohere : Type 0 → Type 0
-PrintsCohere A =
+abbrev pub PrintsCohere : (A : Type 0) → (List ℕ → List ℕ → Flow A → Flow A → Type 0) → Type 0
+PrintsCohere A By =
     (aims : List (Side × Text)) (first : Stand A) (text : List ℕ) (from : PrintsFrom aims first text) (after : Shown)
-    → PrintsMeet aims first text from after
+    → PrintsMeet By aims first text from after
     → AllCohere after.history from.prints.moves from.ready from.last from.prints.does
 
 -- and of one whose time is over, what it has printed then and what it prints at the end
-abbrev pub EndsCohere : Type 0 → Type 0
-EndsCohere A =
+abbrev pub EndsCohere : (A : Type 0) → (List ℕ → List ℕ → Flow A → Flow A → Type 0) → Type 0
+EndsCohere A By =
     (aims : List (Side × Text)) (for_ms : Option ℕ) (first : Stand A) (text : List ℕ) (is_accepted : Bool)
     (from : EndsFrom aims for_ms first text is_accepted) (after : Shown)
-    → EndsMeet aims for_ms first text is_accepted from after
+    → EndsMeet By aims for_ms first text is_accepted from after
     → AllCohere after.history from.over.prints.moves from.ready from.over.over from.over.prints.does
     × AllCohere after.history from.over.closes.moves from.over.over from.last from.over.closes.does

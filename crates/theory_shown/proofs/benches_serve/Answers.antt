@@ -1,5 +1,7 @@
 use Rattle.zk_served.specs.Worlds.{ByDriver, ByStream}
-use Rattle.theory_shown.proofs.Benched.{benches_cohere, benches_meet, benches_receive, benches_serve, benches_serve_bytes}
+use Rattle.theory_shown.proofs.Benched.{benches_cohere, benches_cohere_bytes, benches_meet, benches_receive, benches_serve}
+use Rattle.theory_shown.proofs.Benched.{benches_serve_bytes}
+use Rattle.theory_shown.proofs.Waiting.{benches_wait}
 use Rattle.theory_shown.proofs.benches_serve.Goals as goal
 
 pub returns-clause-meets : goal.returns-clause-meets
@@ -17,5 +19,11 @@ returns-clause-served_bytes g c = benches_serve_bytes g.row.A.Denot
 pub returns-clause-coheres : goal.returns-clause-coheres
 returns-clause-coheres g c = benches_cohere g.row.A.Denot
 
+pub returns-clause-coheres_bytes : goal.returns-clause-coheres_bytes
+returns-clause-coheres_bytes g c = benches_cohere_bytes g.row.A.Denot
+
 pub returns-clause-receives : goal.returns-clause-receives
 returns-clause-receives g c = benches_receive g.row.A.Denot
+
+pub returns-clause-waits : goal.returns-clause-waits
+returns-clause-waits g c = benches_wait g.row.A.Denot

@@ -1,5 +1,8 @@
-use Rattle.theory_shown.proofs.Lived.{life_coheres}
+use Rattle.theory_shown.proofs.Lived.{known_coheres, life_coheres}
 use Rattle.theory_shown.proofs.lives_cohere.Goals as goal
 
-pub returns : goal.returns
-returns c = life_coheres
+pub returns-clause-known : goal.returns-clause-known
+returns-clause-known c = known_coheres
+
+pub returns-clause-bytes : goal.returns-clause-bytes
+returns-clause-bytes c = life_coheres

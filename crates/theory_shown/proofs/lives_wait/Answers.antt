@@ -1,0 +1,5 @@
+use Rattle.theory_shown.proofs.Waiting.{lives_wait}
+use Rattle.theory_shown.proofs.lives_wait.Goals as goal
+
+pub returns : goal.returns
+returns c = lives_wait
