@@ -109,7 +109,7 @@ class AioTest(unittest.IsolatedAsyncioTestCase, PartnerCase):
         await client.get_children("/a", watch=True)
         kept, children = client.kept("/a"), client.kept_children("/a")
         assert kept is not None and children is not None
-        self.assertEqual((kept.mark, kept.data, kept.last_zxid), (Mark.GOOD, b"one", 3))
+        self.assertEqual((kept.mark, kept.data, kept.last_zxid), (Mark.GOOD, b"one", 2))
         self.assertEqual((children.mark, children.names), (Mark.GOOD, ("b",)))
         partner.do("set /a two")
         await within(lambda: (kept := client.kept("/a")) and kept.mark is Mark.STALE)

@@ -16,7 +16,7 @@ import sys
 
 sys.dont_write_bytecode = True
 
-import partner  # noqa: E402
+import hostile  # noqa: E402
 
 
 def read_line(connection: socket.socket) -> str:
@@ -36,8 +36,8 @@ def run(connection: socket.socket) -> None:
     for number in (0, 1):
         os.dup2(connection.fileno(), number)
     connection.close()
-    sys.argv = ["partner.py", *words]
-    partner.main()
+    sys.argv = ["hostile.py", *words]
+    hostile.main()
     sys.stdout.flush()
 
 

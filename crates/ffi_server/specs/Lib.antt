@@ -1,0 +1,4 @@
+pub mod Changes
+pub mod Codes
+pub mod Moves
+pub mod Refused
