@@ -42,9 +42,10 @@ enum dw_bench_result DW_AS_INT32 {
   DW_BENCH_NOT_PATH = -5, /* the text is no path of a node */
   DW_BENCH_NO_SUCH_SERVER = -6, /* the servers are 1 to 8 */
   DW_BENCH_NO_SUCH_KIND = -7, /* no kind of change has this number */
-  DW_BENCH_BAD_ARGUMENTS = -8, /* the root is neither made nor deleted, or a version is at its end */
-  DW_BENCH_NO_TRANSACTION = -9, /* past the last zxid or moment, or of more changes than one */
+  DW_BENCH_BAD_ARGUMENTS = -8, /* the root is to be deleted, or a version is at its end */
+  DW_BENCH_NO_TRANSACTION = -9, /* past the last zxid or moment, or not of one change */
   DW_BENCH_NO_NODE = -101,
+  DW_BENCH_NO_CHILDREN_FOR_EPHEMERALS = -108,
   DW_BENCH_NODE_EXISTS = -110,
   DW_BENCH_NOT_EMPTY = -111
 };
@@ -69,7 +70,8 @@ void dw_bench_close(dw_bench *handle);
 enum dw_bench_result dw_bench_change(dw_bench *handle, uint64_t now_ms, enum dw_bench_change_kind kind, int64_t owner,
                                      const char *path, size_t length, const uint8_t *content, size_t count);
 
-/* Takes over the next transaction that the other one has and this one has not. DW_BENCH_NONE says that there is none. */
+/* Takes over the next transaction that the other one has and this one has not. DW_BENCH_NONE says that there is none. The tree has to admit it
+ * here too: so histories that are changed apart do not learn from one another. */
 enum dw_bench_result dw_bench_learn(dw_bench *handle, dw_bench *other);
 
 /* The zxid of the last transaction, or DW_BENCH_CLOSED. */

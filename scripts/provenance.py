@@ -6,11 +6,9 @@ from pathlib import Path
 
 TOP = Path(__file__).resolve().parent.parent
 PREBUILT = TOP / "prebuilt/x86_64-linux"
-ARCHIVE = TOP / "crates/ffi_c/out/libffi_c.a"
-BENCH_ARCHIVE = TOP / "crates/ffi_bench/out/libffi_bench.a"
 VERSION = (TOP / "VERSION").read_text(encoding="utf-8").strip()
-# the crates whose code is in the packages: the C interface, and the program; and that of the server in memory, which is for tests alone
-LIBRARY, PROGRAM, BENCH = "ffi_c", "zk_shell", "ffi_bench"
+# the crates whose code is in the packages: the C interface, and the program
+LIBRARY, PROGRAM = "ffi_c", "zk_shell"
 
 
 def crates_below(top: Path, *names: str) -> list[str]:
@@ -31,7 +29,7 @@ def sum_of(data: bytes) -> str:
     return hashlib.sha256(data).hexdigest()
 
 
-def sum_of_sources(name: str = LIBRARY) -> str:
+def sum_of_sources(name: str) -> str:
     """A checksum of all that an archive is made from: the sources, specifications and proofs of its crate and of the crates below it."""
     summed = hashlib.sha256()
     for crate in sorted(crates_below(TOP, name)):

@@ -94,6 +94,13 @@ def split(output: bytes) -> Iterator[bytes]:
         output = output[end:]
 
 
+def read_password(frame: bytes) -> Optional[bytes]:
+    """The password in the answer to a request to connect."""
+    record = Record(frame[4:])
+    record.take_int(), record.take_int(), record.take_long()
+    return record.take_buffer()
+
+
 def read_reply(frame: bytes) -> Reply:
     xid, zxid, code = struct.unpack(">iqi", frame[4:20])
     return Reply(xid, zxid, code, frame[20:])

@@ -19,6 +19,7 @@ NO_SUCH_KIND = -7
 BAD_ARGUMENTS = -8
 NO_TRANSACTION = -9
 NO_NODE = -101
+NO_CHILDREN_FOR_EPHEMERALS = -108
 NODE_EXISTS = -110
 NOT_EMPTY = -111
 MADE = 1
@@ -54,7 +55,7 @@ _FUNCTIONS: dict[str, tuple[Any, tuple[Any, ...]]] = {
 ROOM = 1 << 16
 _NAME = "libdirwolleu_bench.so"
 _CLIENTS = pathlib.Path(__file__).resolve().parents[1]
-_PLACES = (_CLIENTS / "out" / _NAME, _CLIENTS.parent / "prebuilt" / "x86_64-linux" / _NAME)
+_PLACES = (_CLIENTS / "out" / _NAME, _CLIENTS / "bench" / "x86_64-linux" / _NAME)
 
 
 class BenchError(Exception):

@@ -31,13 +31,15 @@ def now_ms() -> int:
 
 
 class Session:
-    """A session: its server in memory, which has the history that all have, its connection, and the paths of its ephemeral nodes.
+    """A session: its server in memory, which has the history that all have, the password that its client was told, its connection, and
+    the paths of its ephemeral nodes.
 
     It lasts until it is closed or `expire` comes, however long its client is silent.
     """
 
     def __init__(self, number: int) -> None:
         self.number = number
+        self.password: Optional[bytes] = None
         self.bench = Bench(number)
         self.connection: Optional[Connection] = None
         self.ephemerals: set[str] = set()
@@ -84,10 +86,10 @@ class Server:
         session.learn(self.log)
         return session
 
-    def session_of(self, number: int) -> Session:
-        """A new session for number 0, else the one of this number. One that nobody knows has expired."""
+    def session_of(self, number: int, password: Optional[bytes]) -> Session:
+        """A new session for number 0, else the one of this number and password. One that nobody knows has expired."""
         known = self.sessions.get(number)
-        if known is not None:
+        if known is not None and known.password == password:
             return known
         session = self.new_session(number or next(self._numbers))
         if number != 0:
@@ -258,13 +260,15 @@ class Connection(asyncio.Protocol):
         """Hands in the request to connect. The server admits the client, or says why not, or ends the connection."""
         record = Record(frame[4:])
         record.take_int(), record.take_long(), record.take_int()
-        session = self.server.session_of(record.take_long())
+        session = self.server.session_of(record.take_long(), record.take_buffer())
         if session.connection is not None:
             session.connection.abort()
         session.bench.connect(1)
-        self.send(b"".join(session.answer(frame)))
+        output = session.answer(frame)
+        self.send(b"".join(output))
         if not session.bench.is_open:
             return self.close()
+        session.password = frames.read_password(output[0])
         session.connection, self.session = self, session
         self.server.sessions[session.number] = session
 

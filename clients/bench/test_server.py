@@ -100,7 +100,8 @@ class ServerTest(unittest.TestCase):
         self.assertNotEqual(session, 0)
         self.assertEqual(self.peer().connect(session=session, password=first[16:36]), first)
         refused = struct.pack(">iiq", 0, 0, 0) + PASSWORD_OF_NONE
-        self.assertEqual(self.peer().connect(session=session + 1), refused)
+        self.assertEqual(self.peer().connect(session=session), refused)
+        self.assertEqual(self.peer().connect(session=session + 1, password=first[16:36]), refused)
 
     def test_a_client_that_is_ahead_is_not_admitted(self) -> None:
         self.start()
@@ -126,6 +127,8 @@ class ServerTest(unittest.TestCase):
         self.assertEqual(self.command("delete /a"), "refused: -111")
         self.assertEqual(self.command("set /c x"), "refused: -101")
         self.assertEqual(self.command("create a x"), "refused: -5")
+        self.assertEqual(self.command("create / x"), "refused: -110")
+        self.assertEqual(self.command("delete /"), "refused: -8")
         self.assertEqual(self.command("fly"), "unknown: fly")
         self.assertEqual(header(self.connected().ask(1, 77)), (1, 2, -6))
 

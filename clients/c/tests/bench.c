@@ -200,9 +200,10 @@ static void refuse(void)
         const char *path;
         enum dw_bench_result result;
     } rows[] = {
-        {DW_BENCH_MADE, "/", DW_BENCH_BAD_ARGUMENTS},
         {DW_BENCH_DELETED, "/", DW_BENCH_BAD_ARGUMENTS},
+        {DW_BENCH_MADE, "/", DW_BENCH_NODE_EXISTS},
         {DW_BENCH_MADE, "/a", DW_BENCH_NODE_EXISTS},
+        {DW_BENCH_MADE, "/mine/b", DW_BENCH_NO_CHILDREN_FOR_EPHEMERALS},
         {DW_BENCH_MADE, "/b/c", DW_BENCH_NO_NODE},
         {DW_BENCH_WRITTEN, "/b", DW_BENCH_NO_NODE},
         {DW_BENCH_DELETED, "/b", DW_BENCH_NO_NODE},
@@ -214,10 +215,11 @@ static void refuse(void)
     begin();
     change(DW_BENCH_MADE, "/a", "one");
     change(DW_BENCH_MADE, "/a/b", "two");
+    EXPECT_NUMBER(DW_BENCH_OK, dw_bench_change(&bench, now_ms, DW_BENCH_MADE, NUMBER, "/mine", 5, (const uint8_t *)"", 0));
     for (size_t i = 0; i < sizeof rows / sizeof rows[0]; i++) {
         enum dw_bench_change_kind kind = (enum dw_bench_change_kind)rows[i].kind;
         EXPECT_NUMBER(rows[i].result, dw_bench_change(&bench, now_ms, kind, 0, rows[i].path, strlen(rows[i].path), (const uint8_t *)"", 0));
-        EXPECT_NUMBER(2, dw_bench_zxid(&bench));
+        EXPECT_NUMBER(3, dw_bench_zxid(&bench));
     }
     EXPECT_NUMBER(DW_BENCH_NO_SUCH_SERVER, dw_bench_connect(&bench, 0));
     EXPECT_NUMBER(DW_BENCH_NO_SUCH_SERVER, dw_bench_take(&bench, 9));

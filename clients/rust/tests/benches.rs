@@ -187,8 +187,8 @@ fn what_is_refused_says_why() {
     bench.change("/a", &Change::Make(b"")).unwrap();
     bench.change("/a/b", &Change::Make(b"")).unwrap();
     for (path, change, why) in [
-        ("/", Change::Make(b""), bench::BAD_ARGUMENTS),
         ("/", Change::Delete, bench::BAD_ARGUMENTS),
+        ("/", Change::Make(b""), bench::NODE_EXISTS),
         ("/a", Change::Make(b""), bench::NODE_EXISTS),
         ("/b/c", Change::Make(b""), bench::NO_NODE),
         ("/b", Change::Write(b""), bench::NO_NODE),

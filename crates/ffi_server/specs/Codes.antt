@@ -2,7 +2,7 @@
 use Rattle.std.specs.Prelude.{⊤, ℤ, pos, negsuc, Result, Ok, Err}
 use Rattle.ffi_server.specs.declared.undone.Undone.{Undone}
 use Rattle.ffi_server.specs.declared.undone.Undone.TheVariants.{Nothing, Memory, NotText, NotPath, NoSuchServer, NoSuchKind, BadArguments}
-use Rattle.ffi_server.specs.declared.undone.Undone.TheVariants.{NoTransaction, NoNode, NodeExists, NotEmpty}
+use Rattle.ffi_server.specs.declared.undone.Undone.TheVariants.{NoTransaction, NoNode, NoChildrenForEphemerals, NodeExists, NotEmpty}
 
 -- The number of why nothing was done: 1 where there is nothing to do, and of what a tree does not admit those of servers.
 abbrev pub undone_code : Undone → ℤ
@@ -15,6 +15,7 @@ undone_code NoSuchKind = negsuc 6
 undone_code BadArguments = negsuc 7
 undone_code NoTransaction = negsuc 8
 undone_code NoNode = negsuc 100
+undone_code NoChildrenForEphemerals = negsuc 107
 undone_code NodeExists = negsuc 109
 undone_code NotEmpty = negsuc 110
 

@@ -1,5 +1,5 @@
 -- What becomes of a server in memory, by what is answered.
-use Rattle.std.specs.Prelude.{⊤, ◌≡◌, ◌≤◌, ◌+◌, ◌++◌, ℕ, suc, ℤ, pos, Bool, true, false, Result, Ok, Err}
+use Rattle.std.specs.Prelude.{⊤, ◌≡◌, ◌≤◌, ◌<◌, ◌+◌, ◌++◌, ℕ, suc, ℤ, pos, Bool, true, false, Result, Ok, Err}
 use Rattle.std.specs.Prelude.{List, [], ◌∷◌, drop, take, length, slice_get, Option, Some}
 use Rattle.zk_nodes.specs.History.{Change, Transaction, newest}
 use Rattle.zk_history.specs.HistoryView.{HistoryView, empty_kept}
@@ -13,9 +13,9 @@ use Rattle.zk_bench.specs.Served.{without_output}
 use Rattle.zk_bench.specs.Stepping.{IsReady, AnswersFirst, ProcessesFirst, TakesSome, shown_of}
 use Rattle.zk_bench.specs.Writing.{appended}
 use Rattle.ffi_server.specs.Changes.{change_told}
-use Rattle.ffi_server.specs.Refused.{IsPast, RefusesChange, RefusesNext, RefusesServer}
+use Rattle.ffi_server.specs.Refused.{tree_now, Admits, RefusesAppend, RefusesChange, RefusesNext, RefusesServer}
 use Rattle.ffi_server.specs.declared.undone.Undone.{Undone}
-use Rattle.ffi_server.specs.declared.undone.Undone.TheVariants.{Nothing, Memory, NoTransaction}
+use Rattle.ffi_server.specs.declared.undone.Undone.TheVariants.{Nothing, Memory}
 
 -- what was done, or why it was not
 abbrev pub Done : Type 0
@@ -40,16 +40,18 @@ pub record RanOut (before after : Served) : Type 0 where
 
 -- ---- what other sessions do
 
--- A change is appended; or memory ran out; or it would be past all zxids or times.
+-- A change that the tree admits is appended; or memory ran out; or nothing happened, for a reason.
 abbrev pub Appends : (now : ℕ) → Change → (before : Served) → Done → (after : Served) → Type 0
-Appends now change before (Ok done) after = after ≡ record (timed now before) { history = appended before.history now change }
+Appends now change before (Ok done) after =
+    Admits (tree_now before.history) change × (after ≡ record (timed now before) { history = appended before.history now change })
 Appends now change before (Err Memory) after = RanOut before after
-Appends now change before (Err why) after = (why ≡ NoTransaction) × IsPast now before.history × (after ≡ before)
+Appends now change before (Err why) after = RefusesAppend now change before.history why × (after ≡ before)
 
--- A change stands at the end of the history, as a transaction of its own.
+-- A change that the tree admits stands at the end of the history, as a transaction of its own.
 pub record Changed (now : ℕ) (told : Option Change) (before after : Served) : Type 0 where
   pub change : Change
   pub is : told ≡ Some change
+  pub admitted : Admits (tree_now before.history) change
   pub appends : after ≡ record (timed now before) { history = appended before.history now change }
 
 -- The change is made; or memory ran out; or nothing happened, for a reason.
@@ -63,12 +65,13 @@ Changes now kind owner path content before (Err why) after =
 abbrev pub next_of : (other mine : HistoryView) → Option Transaction
 next_of other mine = slice_get other.transactions (newest 0 mine.transactions)
 
--- A server has learned a transaction of one change.
+-- A server has learned a transaction of one change, which its tree admits.
 pub record Learned (next : Option Transaction) (before after : Served) : Type 0 where
   pub one : Transaction
   pub is : next ≡ Some one
   pub change : Change
   pub alone : one.changes ≡ change ∷ []
+  pub admitted : Admits (tree_now before.history) change
   pub time : ℕ
   pub timely : one.time ≡ pos time
   pub appends : after ≡ record (timed time before) { history = appended before.history time change }
@@ -76,7 +79,7 @@ pub record Learned (next : Option Transaction) (before after : Served) : Type 0 
 abbrev pub Learns : (other : Served) → (before : Served) → Done → (after : Served) → Type 0
 Learns other before (Ok done) after = Learned (next_of other.history before.history) before after
 Learns other before (Err Memory) after = RanOut before after
-Learns other before (Err why) after = RefusesNext (next_of other.history before.history) why × (after ≡ before)
+Learns other before (Err why) after = RefusesNext (next_of other.history before.history) before.history why × (after ≡ before)
 
 -- ---- the connection
 
@@ -143,9 +146,10 @@ pub record GaveUp (before after : Served) : Type 0 where
   pub history : Continues before.history after.history
   pub rest : after ≡ record before { history = after.history; taken = after.taken; connection = after.connection }
 
--- `Nothing` says that no bytes of a request were taken.
+-- Bytes of a request were taken; or `Nothing` says that none were.
 abbrev pub Processes : (now : ℕ) → (before : Served) → Done → (after : Served) → Type 0
-Processes now before (Ok done) after = Processed (timed now before) after
+Processes now before (Ok done) after =
+    Processed (timed now before) after × (length after.connection.requests < length before.connection.requests)
 Processes now before (Err Nothing) after =
     Processed (timed now before) after × (length before.connection.requests ≤ length after.connection.requests)
 Processes now before (Err why) after = (why ≡ Memory) × GaveUp (timed now before) after

@@ -1,6 +1,6 @@
 //! Which changes a tree admits.
 
-ghost use Rattle.std.specs.Prelude.{◌≡◌, ℕ, ℤ, List, Option, IfErr};
+ghost use Rattle.std.specs.Prelude.{◌≡◌, ℕ, ℤ, List, Option, IfErr, OnOk};
 ghost use Rattle.std.specs.Option.{option_map};
 ghost use Rattle.std.specs.FinSet as set;
 ghost use Rattle.zk_nodes.specs.Path.{path_of};
@@ -9,7 +9,7 @@ ghost use Rattle.zk_nodes.specs.Names.{Names};
 ghost use Rattle.zk_history.specs.HistoryView.{HasChildren};
 ghost use Rattle.zk_history.specs.Made.{change_of};
 ghost use Rattle.zk_history.specs.Shown.{IsStat, stat_of};
-ghost use Rattle.ffi_server.specs.Refused.{RefusesAt, tree_now};
+ghost use Rattle.ffi_server.specs.Refused.{Admits, RefusesAt, tree_now};
 
 use crate::undone::Undone;
 use std::alloc::Global;
@@ -27,27 +27,33 @@ fn newest_stat(history: &History<Global>, path: &Path<Global>) -> Option<Stat>
 
 // Whether a node may be made at this path.
 fn admit_new(alloc: Global, history: &History<Global>, path: &Path<Global>) -> Result<(), Undone>
-    ensures { (content : Option (List ℕ)) (owner : ℤ)
+    ensures admitted { (content : Option (List ℕ)) (owner : ℤ)
+        → OnOk result (Admits (tree_now history.now) (Creates (path_of path.now) content owner)) }
+    ensures refused { (content : Option (List ℕ)) (owner : ℤ)
         → IfErr result (RefusesAt (tree_now history.now) (Creates (path_of path.now) content owner)) }
 {
-    let Some(above) = path.parent() else {
-        return Err(Undone::BadArguments);
-    };
     if newest_stat(history, path).is_some() {
         return Err(Undone::NodeExists);
     }
+    let Some(above) = path.parent() else {
+        return Err(Undone::BadArguments);
+    };
     let Ok(parent) = Path::new(alloc, above) else {
         return Err(Undone::Memory);
     };
-    match newest_stat(history, &parent) {
-        Some(_) => Ok(()),
-        None => Err(Undone::NoNode),
+    let Some(stat) = newest_stat(history, &parent) else {
+        return Err(Undone::NoNode);
+    };
+    if stat.ephemeral_owner != 0 {
+        return Err(Undone::NoChildrenForEphemerals);
     }
+    Ok(())
 }
 
 // Whether the node at this path may be written.
 fn admit_data(history: &History<Global>, path: &Path<Global>) -> Result<(), Undone>
-    ensures { (content : Option (List ℕ)) → IfErr result (RefusesAt (tree_now history.now) (Sets (path_of path.now) content)) }
+    ensures admitted { (content : Option (List ℕ)) → OnOk result (Admits (tree_now history.now) (Sets (path_of path.now) content)) }
+    ensures refused { (content : Option (List ℕ)) → IfErr result (RefusesAt (tree_now history.now) (Sets (path_of path.now) content)) }
 {
     let Some(stat) = newest_stat(history, path) else {
         return Err(Undone::NoNode);
@@ -60,7 +66,8 @@ fn admit_data(history: &History<Global>, path: &Path<Global>) -> Result<(), Undo
 
 // Whether the node at this path may be deleted.
 fn admit_deletion(history: &History<Global>, path: &Path<Global>) -> Result<(), Undone>
-    ensures { IfErr result (RefusesAt (tree_now history.now) (Deletes (path_of path.now))) }
+    ensures admitted { OnOk result (Admits (tree_now history.now) (Deletes (path_of path.now))) }
+    ensures refused { IfErr result (RefusesAt (tree_now history.now) (Deletes (path_of path.now))) }
 {
     if path.is_root() {
         return Err(Undone::BadArguments);
@@ -80,7 +87,8 @@ pub(crate) fn admit(
     history: &History<Global>,
     change: &Change<Global>,
 ) -> Result<(), Undone>
-    ensures { IfErr result (RefusesAt (tree_now history.now) (change_of change.now)) }
+    ensures admitted { OnOk result (Admits (tree_now history.now) (change_of change.now)) }
+    ensures refused { IfErr result (RefusesAt (tree_now history.now) (change_of change.now)) }
 {
     match change {
         Change::Create(path, _, _) => admit_new(alloc, history, path),

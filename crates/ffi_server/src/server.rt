@@ -42,10 +42,14 @@ impl Server {
         Server { bench }
     }
 
-    // Appends a change that the tree admits, at this moment.
-    fn append(&mut self, now_ms: u64, change: Change<Global>) -> Result<(), Undone>
+    // Appends a change at this moment, if the tree admits it.
+    fn append(&mut self, alloc: Global, now_ms: u64, change: Change<Global>) -> Result<(), Undone>
         ensures { Appends now_ms (told_by change) self.old.bench result self.new.bench }
     {
+        if let Err(why) = admit(alloc, self.bench.history(), &change) {
+            drop(change);
+            return Err(why);
+        }
         if now_ms > i64::MAX as u64 {
             drop(change);
             return Err(Undone::NoTransaction);
@@ -77,11 +81,7 @@ impl Server {
             return Err(Undone::NoSuchKind);
         };
         let change = change_of(alloc, kind, owner, path, content)?;
-        if let Err(why) = admit(alloc, self.bench.history(), &change) {
-            drop(change);
-            return Err(why);
-        }
-        self.append(now_ms, change)
+        self.append(alloc, now_ms, change)
     }
 
     /// Takes over the next transaction that another server has and this one has not.
@@ -96,7 +96,7 @@ impl Server {
             return Err(Undone::NoTransaction);
         }
         let change = copied(alloc, &changes[0])?;
-        self.append(time as u64, change)
+        self.append(alloc, time as u64, change)
     }
 
     /// A new connection of the client to a server, 1 to 8.

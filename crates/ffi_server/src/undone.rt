@@ -5,7 +5,8 @@ ghost use Rattle.ffi_server.specs.Codes.{undone_code, code_of};
 
 use std::alloc::AllocError;
 
-/// Why a server in memory does not do what it is asked. Nothing happened then, except what is said of `Memory` where it may be told.
+/// Why a server in memory does not do what it is asked. Nothing happened then, except what is said of `Memory` where it may be told. What
+/// the tree does not admit has the number by which a server tells a client.
 #[derive(Clone, Copy, Debug, PartialEq, Eq)]
 pub enum Undone {
     /// There is nothing to do.
@@ -20,13 +21,14 @@ pub enum Undone {
     NoSuchServer,
     /// No kind of change has this number.
     NoSuchKind,
-    /// The tree does not admit the change, as a server would say it to a client: the root is neither made nor deleted, and a version is
-    /// at its end.
+    /// The root is to be deleted, or a version is at its end.
     BadArguments,
-    /// The zxid or the time would be past 2^63 - 1, or a transaction has not one change.
+    /// The zxid or the time would be past 2^63 - 1, or a transaction has not one change, or a time below 0.
     NoTransaction,
     /// No node is at the path, or at its parent's where one is to be made.
     NoNode,
+    /// The node below which one is to be made is ephemeral.
+    NoChildrenForEphemerals,
     /// A node is there already.
     NodeExists,
     /// The node has children.
@@ -48,6 +50,7 @@ impl Undone {
             Undone::BadArguments => -8,
             Undone::NoTransaction => -9,
             Undone::NoNode => -101,
+            Undone::NoChildrenForEphemerals => -108,
             Undone::NodeExists => -110,
             Undone::NotEmpty => -111,
         }

@@ -12,6 +12,7 @@ pub const NO_SUCH_KIND: i32 = -7;
 pub const BAD_ARGUMENTS: i32 = -8;
 pub const NO_TRANSACTION: i32 = -9;
 pub const NO_NODE: i32 = -101;
+pub const NO_CHILDREN_FOR_EPHEMERALS: i32 = -108;
 pub const NODE_EXISTS: i32 = -110;
 pub const NOT_EMPTY: i32 = -111;
 pub const MADE: i32 = 1;

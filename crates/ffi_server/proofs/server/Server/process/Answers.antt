@@ -1,4 +1,4 @@
-use Rattle.std.proofs.Common.{◌≤◌, ℕ, subst, length, arith}
+use Rattle.std.proofs.Common.{◌≤◌, ◌<◌, ℕ, subst, length, arith}
 use Rattle.zk_bench.specs.Served.{Served}
 use Rattle.ffi_server.specs.Moves.{GaveUp, Processed}
 use Rattle.ffi_server.proofs.Refusing.{gives_up}
@@ -14,16 +14,20 @@ returns-in_err-process c =
 pub returns-then-waiting-before : goal.returns-then-waiting-before
 returns-then-waiting-before c =
     let done = c.in_ok-process.ensures in
-    subst (λ (s : Served). Processed s c.process.new.self) c.now.ensures (record {
-      ready = done.ready;
-      serves = done.serves;
-      answers = done.answers;
-      takes = done.processed;
-      idle = done.idle;
-      waits = done.waits;
-      history = done.history;
-      rest = done.rest;
-    })
+    let low : c.waiting.result < c.waiting-before.result = omega arith in (
+      subst (λ (s : Served). Processed s c.process.new.self) c.now.ensures (record {
+        ready = done.ready;
+        serves = done.serves;
+        answers = done.answers;
+        takes = done.processed;
+        idle = done.idle;
+        waits = done.waits;
+        history = done.history;
+        rest = done.rest;
+      }),
+      subst (λ (n : ℕ). length c.process.new.self.connection.requests < n) c.waiting-before.ensures
+          (subst (λ (n : ℕ). n < c.waiting-before.result) c.waiting.ensures low),
+    )
 
 pub returns-else-waiting-before : goal.returns-else-waiting-before
 returns-else-waiting-before c =
