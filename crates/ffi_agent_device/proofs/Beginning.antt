@@ -4,12 +4,12 @@ use Rattle.std.specs.Prelude.{◌≡◌, ◌<ℤ◌, ℤ, pos, Result, Ok, Err, 
 use Rattle.zk_turns.specs.View.{View}
 use Rattle.ffi_device.specs.Codes.{refusal_code}
 use Rattle.ffi_device.specs.Refused.{RefusesTimeout}
-use Rattle.ffi_device.specs.declared.refusal.Refusal.{Refusal}
-use Rattle.ffi_device.specs.declared.refusal.Refusal.TheVariants.{Memory}
+use Rattle.ffi_device.specs.declared.refusal.DeviceRefusal.{DeviceRefusal}
+use Rattle.ffi_device.specs.declared.refusal.DeviceRefusal.TheVariants.{Memory}
 use Rattle.ffi_agent_device.specs.declared.device.AgentDevice.{AgentDevice}
 use Rattle.ffi_agent_device.specs.Steps.{BeginsWith}
 
-pub begins_with : (made : Result AgentDevice Refusal) (view other : View) (timeout : ℤ)
+pub begins_with : (made : Result AgentDevice DeviceRefusal) (view other : View) (timeout : ℤ)
     → view ≡ other → pos 0 <ℤ timeout → IfOk made (BeginsWith view) → IfErr made (λ refusal. refusal ≡ Memory)
     → MatchResult made (BeginsWith other) (λ refusal. RefusesTimeout timeout (refusal_code refusal))
 begins_with (Ok device) view other timeout same above begins refused = subst (λ v. BeginsWith v device) same begins

@@ -1,14 +1,14 @@
 -- A refusal that is none of a step leaves the device as it was.
 use mathlib.Core.Path.{refl}
 use Rattle.std.specs.Prelude.{ℕ, ℤ, negsuc}
-use Rattle.ffi_device.specs.declared.refusal.Refusal.{Refusal}
-use Rattle.ffi_device.specs.declared.refusal.Refusal.TheVariants.{Halted, Memory, NotText, NotPath, BadTimeout, NoSuchMode, NotSaved}
-use Rattle.ffi_device.specs.declared.refusal.Refusal.TheVariants.{NotWhole, TooMany, NotTexts}
+use Rattle.ffi_device.specs.declared.refusal.DeviceRefusal.{DeviceRefusal}
+use Rattle.ffi_device.specs.declared.refusal.DeviceRefusal.TheVariants.{Halted, Memory, NotText, NotPath, BadTimeout, NoSuchMode, NotSaved}
+use Rattle.ffi_device.specs.declared.refusal.DeviceRefusal.TheVariants.{NotWhole, TooMany, NotTexts}
 use Rattle.ffi_device.specs.Codes.{refusal_code}
 use Rattle.ffi_agent_device.specs.declared.device.AgentDevice.{AgentDevice}
 use Rattle.ffi_agent_device.specs.Steps.{Happening, Steps}
 
-pub refuses : (Refuses : ℤ → Type 0) (now : ℕ) (what : Happening) (device : AgentDevice) (refusal : Refusal)
+pub refuses : (Refuses : ℤ → Type 0) (now : ℕ) (what : Happening) (device : AgentDevice) (refusal : DeviceRefusal)
     → Refuses (refusal_code refusal) → (Refuses (negsuc 0) → ⊥) → Steps Refuses now what device (refusal_code refusal) device
 refuses Refuses now what device Halted is goes_on = absurd (goes_on is)
 refuses Refuses now what device Memory is goes_on = (is, refl)

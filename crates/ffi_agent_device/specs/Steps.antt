@@ -19,14 +19,14 @@ use Rattle.zk_dialler.specs.declared.dialler.Dialler.{Dialler}
 use Rattle.zk_dialler.specs.declared.dialler.Phase.TheVariants.{Waiting}
 use Rattle.zk_follow.specs.Following.{IsFollowed}
 use Rattle.zk_agent.specs.declared.agent.Agent.{Agent}
-use Rattle.zk_agent.specs.declared.input.Input.{Input}
-use Rattle.zk_agent.specs.declared.input.Input.TheVariants as input
+use Rattle.zk_agent.specs.declared.input.AgentInput.{AgentInput}
+use Rattle.zk_agent.specs.declared.input.AgentInput.TheVariants as input
 use Rattle.zk_agent.specs.Agents.{given_of, heard_after, how_many_asked, how_many_ended, trail_of, Comes, IsAnswered, IsDecided, IsLed}
 use Rattle.zk_agent.specs.Calls.{how_many, IsInTime, IsServed}
 use Rattle.zk_agent.specs.Telling.{told_by}
 use Rattle.zk_conclusions.specs.Revisions.{raised}
 use Rattle.ffi_device.specs.Codes.{refusal_code}
-use Rattle.ffi_device.specs.declared.refusal.Refusal.{Refusal}
+use Rattle.ffi_device.specs.declared.refusal.DeviceRefusal.{DeviceRefusal}
 use Rattle.ffi_agent_device.specs.Revisions.{revised}
 use Rattle.ffi_agent_device.specs.declared.device.AgentDevice.{AgentDevice}
 
@@ -41,7 +41,7 @@ pub data Happening : Type 0 where
   Follows : (ticket : ℕ) → Side → Text → Happening
   Unfollows : (ticket : ℕ) → Happening
 
-abbrev pub happening : {A : Type 0} → Input A → Happening
+abbrev pub happening : {A : Type 0} → AgentInput A → Happening
 happening input.Opened = Opened
 happening input.Failed = Failed
 happening (input.Bytes bytes) = Bytes bytes.items
@@ -69,7 +69,7 @@ AreFollowed agent = All (IsFollowed agent.latest (view_of agent.asker.follower.c
 
 -- The agent took an input that was noticed at a moment, by all that a step of it promises. What it said is there, in its order, and none of
 -- it was read.
-pub record Took (now : ℕ) (given : Input Global) (before after : AgentDevice) : Type 0 where
+pub record Took (now : ℕ) (given : AgentInput Global) (before after : AgentDevice) : Type 0 where
   pub went_on : before.is_over ≡ false
   pub goes_on : after.is_over ≡ false
   pub unread : after.read ≡ 0
@@ -92,7 +92,7 @@ pub record Took (now : ℕ) (given : Input Global) (before after : AgentDevice) 
 
 -- The same of an input that is this.
 pub record Stepped (now : ℕ) (what : Happening) (before after : AgentDevice) : Type 0 where
-  pub given : Input Global
+  pub given : AgentInput Global
   pub is : happening given ≡ what
   pub took : Took now given before after
 
@@ -142,7 +142,7 @@ pub record BeginsWith (view : View) (device : AgentDevice) : Type 0 where
   pub number : device.revision.number ≡ 1
 
 -- a device that has begun so, or a refusal for a reason that its number has
-abbrev pub Begins : (Refuses : ℤ → Type 0) → Start → Result AgentDevice Refusal → Type 0
+abbrev pub Begins : (Refuses : ℤ → Type 0) → Start → Result AgentDevice DeviceRefusal → Type 0
 Begins Refuses start made = MatchResult made (BeginsWith (view_at start [])) (λ refusal. Refuses (refusal_code refusal))
 
 -- Nothing was dialled yet, and this many addresses are there, in an order that is random by the seed.

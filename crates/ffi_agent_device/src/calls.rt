@@ -6,13 +6,13 @@ ghost use Rattle.zk_conversation.specs.Calls.{Exists, GetData, GetChildren, SetD
 ghost use Rattle.zk_conversation.specs.Views.{call_view};
 ghost use Rattle.ffi_device.specs.Codes.{code_of};
 ghost use Rattle.ffi_device.specs.Refused.{RefusesCreate, RefusesNothing, RefusesPath};
-ghost use Rattle.ffi_device.specs.declared.refusal.Refusal.TheVariants as refusals;
+ghost use Rattle.ffi_device.specs.declared.refusal.DeviceRefusal.TheVariants as refusals;
 ghost use Rattle.ffi_agent_device.specs.Steps.{Calls, Stepped, Steps, Stopped, limit_of};
 
 use crate::device::AgentDevice;
-use ffi_device::{Refusal, create, path_of, set_data};
+use ffi_device::{DeviceRefusal, create, path_of, set_data};
 use std::alloc::Global;
-use zk_agent::Input;
+use zk_agent::AgentInput;
 use zk_client::Call;
 
 // The limit of a call at this moment. At the last one of all there is none.
@@ -30,14 +30,14 @@ impl AgentDevice {
         ticket: u64,
         until: u64,
         call: Call<Global>,
-    ) -> Result<(), Refusal>
+    ) -> Result<(), DeviceRefusal>
         ensures stepped { OnOk result (Stepped now (Calls ticket (call_view call) (limit_of until)) self.old self.new) }
         ensures stopped { IfErr result (λ refusal. (refusal ≡ refusals.Halted) × Stopped self.old self.new) }
     {
         let until = limit_of(until);
         self.step_at(
             now,
-            Input::Call {
+            AgentInput::Call {
                 ticket,
                 call,
                 until,
@@ -56,7 +56,7 @@ impl AgentDevice {
         until: u64,
         path: &[u8],
         watch: bool,
-    ) -> Result<(), Refusal>
+    ) -> Result<(), DeviceRefusal>
         ensures { Steps (RefusesPath path.now) now (Calls ticket (Exists path.now watch) (limit_of until)) self.old
             (code_of result) self.new }
     {
@@ -74,7 +74,7 @@ impl AgentDevice {
         until: u64,
         path: &[u8],
         watch: bool,
-    ) -> Result<(), Refusal>
+    ) -> Result<(), DeviceRefusal>
         ensures { Steps (RefusesPath path.now) now (Calls ticket (GetData path.now watch) (limit_of until)) self.old
             (code_of result) self.new }
     {
@@ -92,7 +92,7 @@ impl AgentDevice {
         until: u64,
         path: &[u8],
         watch: bool,
-    ) -> Result<(), Refusal>
+    ) -> Result<(), DeviceRefusal>
         ensures { Steps (RefusesPath path.now) now (Calls ticket (GetChildren path.now watch) (limit_of until)) self.old
             (code_of result) self.new }
     {
@@ -111,7 +111,7 @@ impl AgentDevice {
         path: &[u8],
         bytes: Option<&[u8]>,
         version: i32,
-    ) -> Result<(), Refusal>
+    ) -> Result<(), DeviceRefusal>
         ensures { Steps (RefusesPath path.now) now (Calls ticket (SetData path.now (option_map (λ s. s.now) bytes.entry) version)
             (limit_of until)) self.old (code_of result) self.new }
     {
@@ -131,7 +131,7 @@ impl AgentDevice {
         path: &[u8],
         bytes: Option<&[u8]>,
         mode: u32,
-    ) -> Result<(), Refusal>
+    ) -> Result<(), DeviceRefusal>
         ensures { Steps (RefusesCreate path.now mode) now (Calls ticket (Create path.now (option_map (λ s. s.now) bytes.entry) mode)
             (limit_of until)) self.old (code_of result) self.new }
     {
@@ -149,7 +149,7 @@ impl AgentDevice {
         until: u64,
         path: &[u8],
         version: i32,
-    ) -> Result<(), Refusal>
+    ) -> Result<(), DeviceRefusal>
         ensures { Steps (RefusesPath path.now) now (Calls ticket (Delete path.now version) (limit_of until)) self.old
             (code_of result) self.new }
     {
@@ -158,7 +158,12 @@ impl AgentDevice {
     }
 
     /// Asks to end the session.
-    pub fn close_session_at(&mut self, now: u64, ticket: u64, until: u64) -> Result<(), Refusal>
+    pub fn close_session_at(
+        &mut self,
+        now: u64,
+        ticket: u64,
+        until: u64,
+    ) -> Result<(), DeviceRefusal>
         ensures { Steps RefusesNothing now (Calls ticket Close (limit_of until)) self.old (code_of result) self.new }
     {
         self.ask_at(now, ticket, until, Call::Close)

@@ -6,7 +6,7 @@ ghost use Rattle.zk_client.specs.Clients.{view_of};
 ghost use Rattle.zk_client.specs.SavedSessions.{PutAway, bytes_read};
 ghost use Rattle.zk_client.specs.declared.saved_fault.SavedFault.{SavedFault};
 ghost use Rattle.zk_client.specs.declared.saved_fault.SavedFault.TheVariants as saved_faults;
-ghost use Rattle.ffi_device.specs.declared.refusal.Refusal.TheVariants as refusals;
+ghost use Rattle.ffi_device.specs.declared.refusal.DeviceRefusal.TheVariants as refusals;
 ghost use Rattle.zk_conclusions.specs.Revisions.{raised};
 ghost use Rattle.ffi_device.specs.Codes.{code_of};
 ghost use Rattle.ffi_device.specs.Refused.{RefusesMemory, RefusesNothing, RefusesTimeout};
@@ -15,9 +15,9 @@ ghost use Rattle.ffi_agent_device.specs.Steps.{Addressed, Bytes, Cut, Dials, Fai
 ghost use Rattle.ffi_agent_device.specs.Steps.{Steps, Stopped, happening};
 
 use crate::revisions::{is_bytes, revise};
-use ffi_device::{Device, Refusal};
+use ffi_device::{Device, DeviceRefusal};
 use std::alloc::Global;
-use zk_agent::{Action, Agent, Input, Settings};
+use zk_agent::{Action, Agent, AgentInput, Settings};
 use zk_client::Client;
 use zk_conclusions::Revision;
 
@@ -42,14 +42,14 @@ impl AgentDevice {
         timeout_ms: i32,
         addresses: usize,
         seed: u64,
-    ) -> Result<AgentDevice, Refusal>
+    ) -> Result<AgentDevice, DeviceRefusal>
         ensures begins { Begins (RefusesTimeout timeout_ms) (new_start (unsigned_abs timeout_ms)) result }
         ensures accepted { OnOk result (pos 0 <ℤ timeout_ms) }
         ensures dials { IfOk result (λ device. Dials addresses seed device.agent.dialler) }
         ensures timeout { IfOk result (λ device. device.agent.timeout_ms ≡ timeout_ms) }
     {
         if timeout_ms <= 0 {
-            return Err(Refusal::BadTimeout);
+            return Err(DeviceRefusal::BadTimeout);
         }
         let settings = Settings {
             timeout_ms,
@@ -66,7 +66,7 @@ impl AgentDevice {
         addresses: usize,
         seed: u64,
         saved: &[u8],
-    ) -> Result<AgentDevice, Refusal>
+    ) -> Result<AgentDevice, DeviceRefusal>
         ensures begins { (put : PutAway) → bytes_read saved.now ≡ Ok put
             → Begins (RefusesTimeout timeout_ms) (put_start timeout_ms put) result }
         ensures accepted { OnOk result (pos 0 <ℤ timeout_ms) }
@@ -91,7 +91,11 @@ impl AgentDevice {
     }
 
     // An agent of this client, which has said nothing yet. The one refusal is `Memory`.
-    fn of(alloc: Global, client: Client<Global>, settings: Settings) -> Result<AgentDevice, Refusal>
+    fn of(
+        alloc: Global,
+        client: Client<Global>,
+        settings: Settings,
+    ) -> Result<AgentDevice, DeviceRefusal>
         requires { pos 0 <ℤ settings.timeout_ms }
         ensures begins { IfOk result (BeginsWith (view_of client)) }
         ensures dials { IfOk result (λ device. Dials settings.addresses settings.seed device.agent.dialler) }
@@ -106,12 +110,12 @@ impl AgentDevice {
                 is_over: false,
                 revision: Revision::new(),
             }),
-            Err(_) => Err(Refusal::Memory),
+            Err(_) => Err(DeviceRefusal::Memory),
         }
     }
 
     // Memory ran out, within this step or an earlier one.
-    fn stop(&mut self) -> Refusal
+    fn stop(&mut self) -> DeviceRefusal
         ensures halted { result ≡ refusals.Halted }
         ensures over { self.new.is_over ≡ true }
         ensures said { self.new.said ≡ self.old.said }
@@ -119,12 +123,16 @@ impl AgentDevice {
     {
         self.is_over = true;
         self.revision.raise();
-        Refusal::Halted
+        DeviceRefusal::Halted
     }
 
     /// Takes an input that is noticed at this moment. What was said before is forgotten. The one refusal is `Halted`, which each later step
     /// answers too.
-    pub(crate) fn step_at(&mut self, now: u64, input: Input<Global>) -> Result<(), Refusal>
+    pub(crate) fn step_at(
+        &mut self,
+        now: u64,
+        input: AgentInput<Global>,
+    ) -> Result<(), DeviceRefusal>
         ensures stepped { OnOk result (Stepped now (happening input) self.old self.new) }
         ensures stopped { IfErr result (λ refusal. (refusal ≡ refusals.Halted) × Stopped self.old self.new) }
     {
@@ -143,39 +151,39 @@ impl AgentDevice {
     }
 
     /// The connection that was asked for is there.
-    pub fn opened_at(&mut self, now: u64) -> Result<(), Refusal>
+    pub fn opened_at(&mut self, now: u64) -> Result<(), DeviceRefusal>
         ensures { Steps RefusesNothing now Opened self.old (code_of result) self.new }
     {
-        self.step_at(now, Input::Opened)
+        self.step_at(now, AgentInput::Opened)
     }
 
     /// The connection that was asked for could not be made.
-    pub fn failed_at(&mut self, now: u64) -> Result<(), Refusal>
+    pub fn failed_at(&mut self, now: u64) -> Result<(), DeviceRefusal>
         ensures { Steps RefusesNothing now Failed self.old (code_of result) self.new }
     {
-        self.step_at(now, Input::Failed)
+        self.step_at(now, AgentInput::Failed)
     }
 
     /// Bytes came from the server.
-    pub fn bytes_at(&mut self, alloc: Global, now: u64, bytes: &[u8]) -> Result<(), Refusal>
+    pub fn bytes_at(&mut self, alloc: Global, now: u64, bytes: &[u8]) -> Result<(), DeviceRefusal>
         ensures { Steps RefusesMemory now (Bytes bytes.now) self.old (code_of result) self.new }
     {
         let owned = Vec::from_slice(alloc, bytes)?;
-        self.step_at(now, Input::Bytes(owned))
+        self.step_at(now, AgentInput::Bytes(owned))
     }
 
     /// The connection is over.
-    pub fn cut_at(&mut self, now: u64) -> Result<(), Refusal>
+    pub fn cut_at(&mut self, now: u64) -> Result<(), DeviceRefusal>
         ensures { Steps RefusesNothing now Cut self.old (code_of result) self.new }
     {
-        self.step_at(now, Input::Cut)
+        self.step_at(now, AgentInput::Cut)
     }
 
     /// The moment, and nothing else.
-    pub fn tick(&mut self, now: u64) -> Result<(), Refusal>
+    pub fn tick(&mut self, now: u64) -> Result<(), DeviceRefusal>
         ensures { Steps RefusesNothing now Moment self.old (code_of result) self.new }
     {
-        self.step_at(now, Input::Moment)
+        self.step_at(now, AgentInput::Moment)
     }
 
     /// Takes the stale answers out of what the client keeps. It is no step: what was said is there still.
@@ -186,9 +194,9 @@ impl AgentDevice {
     }
 
     /// The list of addresses is another one, of this many.
-    pub fn addresses_at(&mut self, now: u64, count: usize) -> Result<(), Refusal>
+    pub fn addresses_at(&mut self, now: u64, count: usize) -> Result<(), DeviceRefusal>
         ensures { Steps RefusesNothing now (Addressed count) self.old (code_of result) self.new }
     {
-        self.step_at(now, Input::Addresses(count))
+        self.step_at(now, AgentInput::Addresses(count))
     }
 }

@@ -7,14 +7,14 @@ ghost use Rattle.ffi_agent_device.specs.Revisions.{is_another, revised};
 ghost use Rattle.ffi_agent_device.specs.Steps.{happening, is_bytes};
 
 use std::alloc::Global;
-use zk_agent::{Action, Input};
+use zk_agent::{Action, AgentInput};
 use zk_conclusions::Revision;
 
 /// Whether bytes came.
-pub(crate) fn is_bytes(input: &Input<Global>) -> bool
+pub(crate) fn is_bytes(input: &AgentInput<Global>) -> bool
     ensures { result ≡ is_bytes (happening input.now) }
 {
-    matches!(input, Input::Bytes(_))
+    matches!(input, AgentInput::Bytes(_))
 }
 
 /// Whether another state is told, or another session.

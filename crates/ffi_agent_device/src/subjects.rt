@@ -6,9 +6,9 @@ ghost use Rattle.ffi_device.specs.Refused.{RefusesNothing, RefusesPath};
 ghost use Rattle.ffi_agent_device.specs.Steps.{Follows, Steps, Unfollows};
 
 use crate::device::AgentDevice;
-use ffi_device::{Refusal, path_of};
+use ffi_device::{DeviceRefusal, path_of};
 use std::alloc::Global;
-use zk_agent::Input;
+use zk_agent::AgentInput;
 use zk_client::Side;
 
 impl AgentDevice {
@@ -20,12 +20,12 @@ impl AgentDevice {
         now: u64,
         ticket: u64,
         path: &[u8],
-    ) -> Result<(), Refusal>
+    ) -> Result<(), DeviceRefusal>
         ensures { Steps (RefusesPath path.now) now (Follows ticket Data path.now) self.old (code_of result) self.new }
     {
         let path = path_of(alloc, path)?;
         let side = Side::Data;
-        self.step_at(now, Input::Follow { ticket, side, path })
+        self.step_at(now, AgentInput::Follow { ticket, side, path })
     }
 
     /// Follows the names of the children of a node, or that there is no node.
@@ -36,18 +36,18 @@ impl AgentDevice {
         now: u64,
         ticket: u64,
         path: &[u8],
-    ) -> Result<(), Refusal>
+    ) -> Result<(), DeviceRefusal>
         ensures { Steps (RefusesPath path.now) now (Follows ticket Child path.now) self.old (code_of result) self.new }
     {
         let path = path_of(alloc, path)?;
         let side = Side::Child;
-        self.step_at(now, Input::Follow { ticket, side, path })
+        self.step_at(now, AgentInput::Follow { ticket, side, path })
     }
 
     /// Follows the subject of this ticket no more.
-    pub fn unfollow_at(&mut self, now: u64, ticket: u64) -> Result<(), Refusal>
+    pub fn unfollow_at(&mut self, now: u64, ticket: u64) -> Result<(), DeviceRefusal>
         ensures { Steps RefusesNothing now (Unfollows ticket) self.old (code_of result) self.new }
     {
-        self.step_at(now, Input::Unfollow { ticket })
+        self.step_at(now, AgentInput::Unfollow { ticket })
     }
 }

@@ -15,7 +15,7 @@ ghost use Rattle.ffi_c.specs.Stood.{FindsHolder, FindsStanding, TellsStands};
 
 use crate::handle::DwClient;
 use crate::taking::{CLOSED, NONE, WAITS, take_device};
-use ffi_device::{Contender, Refusal, Stands, holder, lacking, snapshot, standing, subtree};
+use ffi_device::{Contender, DeviceRefusal, Stands, holder, lacking, snapshot, standing, subtree};
 use std::alloc::Global;
 
 /// Copies all nodes at and below a path, of which there may be at most `most`, each after its parent, as many bytes of them as there is
@@ -114,7 +114,7 @@ pub extern "C" fn dw_snapshot(
 }
 
 // Writes where a session stands, or that nothing is told, and answers the number of it.
-fn write_stands(stands: Result<Stands, Refusal>, token: &mut i64, count: &mut usize) -> i32
+fn write_stands(stands: Result<Stands, DeviceRefusal>, token: &mut i64, count: &mut usize) -> i32
     ensures { TellsStands stands result token.new count.new }
 {
     (*token, *count) = (0, 0);

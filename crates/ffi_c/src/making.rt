@@ -6,7 +6,7 @@ ghost use Rattle.ffi_device.specs.Refused.{RefusesTimeout};
 ghost use Rattle.ffi_c.specs.Held.{Makes};
 
 use crate::handle::DwClient;
-use ffi_device::{Device, Refusal};
+use ffi_device::{Device, DeviceRefusal};
 use std::alloc::Global;
 
 /// Has a handle hold this client. Where there is no memory for it, the handle is left as it was.
@@ -21,7 +21,7 @@ pub fn hold(alloc: Global, handle: &mut DwClient, device: Device) -> i32
         }
         Err(failed) => {
             drop(failed);
-            Refusal::Memory.code()
+            DeviceRefusal::Memory.code()
         }
     }
 }

@@ -11,7 +11,7 @@ ghost use Rattle.ffi_c.specs.Kept.{FindsText};
 
 use crate::handle::DwClient;
 use crate::taking::{CLOSED, NONE, take_device};
-use ffi_device::{Flat, Refusal, copy_into};
+use ffi_device::{DeviceRefusal, Flat, copy_into};
 use std::alloc::Global;
 
 /// Writes the next output of the last step, as numbers. The one before is over. 1 says that there is none.
@@ -105,7 +105,7 @@ pub extern "C" fn dw_names(
             *count = length;
             0
         }
-        Err(_) => Refusal::Memory.code(),
+        Err(_) => DeviceRefusal::Memory.code(),
     }
 }
 
@@ -133,6 +133,6 @@ pub extern "C" fn dw_words(
             *count = copy_into(words.as_bytes(), out);
             0
         }
-        Err(_) => Refusal::Memory.code(),
+        Err(_) => DeviceRefusal::Memory.code(),
     }
 }

@@ -13,7 +13,7 @@ ghost use Rattle.ffi_c.specs.Held.{Holds, IsClosed, LeavesRoom, Makes, Writes};
 use crate::handle::DwClient;
 use crate::making::hold;
 use crate::taking::{CLOSED, NONE, drive, take_device};
-use ffi_device::{Device, Refusal, copy_into, saved, state};
+use ffi_device::{Device, DeviceRefusal, copy_into, saved, state};
 use std::alloc::Global;
 
 /// Makes a client that takes up the session of these bytes. What the handle held is freed first.
@@ -154,6 +154,6 @@ pub extern "C" fn dw_saved(
             *count = copy_into(bytes.as_slice(), out);
             0
         }
-        Err(_) => Refusal::Memory.code(),
+        Err(_) => DeviceRefusal::Memory.code(),
     }
 }

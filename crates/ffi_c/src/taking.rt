@@ -4,11 +4,11 @@ ghost use Rattle.std.specs.Prelude.{◌≡◌, ⊤, Result, Some, None, IfSome, 
 ghost use Rattle.std.specs.Fn.{FnOnceReturnsAtMut};
 ghost use Rattle.ffi_device.specs.Codes.{code_of};
 ghost use Rattle.ffi_device.specs.declared.device.Device.{Device};
-ghost use Rattle.ffi_device.specs.declared.refusal.Refusal.{Refusal};
+ghost use Rattle.ffi_device.specs.declared.refusal.DeviceRefusal.{DeviceRefusal};
 ghost use Rattle.ffi_c.specs.Held.{IsClosed};
 
 use crate::handle::DwClient;
-use ffi_device::{Device, Refusal, code_of};
+use ffi_device::{Device, DeviceRefusal, code_of};
 use std::alloc::Global;
 
 /// The handle holds no client.
@@ -30,14 +30,14 @@ pub fn take_device(alloc: Global, handle: &mut DwClient) -> Option<Box<Device, G
 }
 
 /// Does this with the device of a handle, if it has one, puts it back, and tells the number of what was done.
-pub fn drive<F: FnOnce(&mut Device) -> Result<(), Refusal>>(
+pub fn drive<F: FnOnce(&mut Device) -> Result<(), DeviceRefusal>>(
     alloc: Global,
     handle: &mut DwClient,
     step: F,
 ) -> i32
     requires { F.IsAlwaysCallable step }
     ensures closed { handle.old.slot.held ≡ None → IsClosed result handle.new.slot.held }
-    ensures done { (before : Device) → handle.old.slot.held ≡ Some before → (after : Device) × (done : Result ⊤ Refusal)
+    ensures done { (before : Device) → handle.old.slot.held ≡ Some before → (after : Device) × (done : Result ⊤ DeviceRefusal)
         × (handle.new.slot.held ≡ Some after) × (result ≡ code_of done) × FnOnceReturnsAtMut F.FnOnce step before done after }
 {
     let Some(mut device) = take_device(alloc, handle) else {

@@ -5,9 +5,9 @@ use Rattle.std.specs.Prelude.{◌≡◌, ◌∷◌, List, ℕ, ℤ, negsuc, Resu
 use Rattle.zk_turns.specs.Turns.{Input}
 use Rattle.zk_turns.specs.View.{Cache}
 use Rattle.ffi_device.specs.declared.device.Device.{Device}
-use Rattle.ffi_device.specs.declared.refusal.Refusal.{Refusal}
-use Rattle.ffi_device.specs.declared.refusal.Refusal.TheVariants.{Halted, Memory, NotText, NotPath, BadTimeout, NoSuchMode, NotSaved}
-use Rattle.ffi_device.specs.declared.refusal.Refusal.TheVariants.{NotWhole, TooMany, NotTexts}
+use Rattle.ffi_device.specs.declared.refusal.DeviceRefusal.{DeviceRefusal}
+use Rattle.ffi_device.specs.declared.refusal.DeviceRefusal.TheVariants.{Halted, Memory, NotText, NotPath, BadTimeout, NoSuchMode, NotSaved}
+use Rattle.ffi_device.specs.declared.refusal.DeviceRefusal.TheVariants.{NotWhole, TooMany, NotTexts}
 use Rattle.ffi_device.specs.Codes.{refusal_code, refusal_of}
 use Rattle.ffi_device.specs.Refused.{RefusesPath, RefusesCreate, RefusesNodes}
 use Rattle.zk_nodes.specs.PathFault.{IsPath}
@@ -19,7 +19,7 @@ use Rattle.ffi_device.specs.Standings.{RefusesStanding}
 use Rattle.ffi_device.specs.Steps.{Steps}
 use Rattle.ffi_device.specs.Texts.{RefusesPaths, RefusesTexts}
 
-pub refuses : (Refuses : ℤ → Type 0) (moment : ℕ) (input : Input) (device : Device) (refusal : Refusal)
+pub refuses : (Refuses : ℤ → Type 0) (moment : ℕ) (input : Input) (device : Device) (refusal : DeviceRefusal)
     → Refuses (refusal_code refusal) → (Refuses (negsuc 0) → ⊥) → Steps Refuses moment input device (refusal_code refusal) device
 refuses Refuses moment input device Halted is goes_on = absurd (goes_on is)
 refuses Refuses moment input device Memory is goes_on = (is, refl)
@@ -32,7 +32,7 @@ refuses Refuses moment input device NotWhole is goes_on = (is, refl)
 refuses Refuses moment input device TooMany is goes_on = (is, refl)
 refuses Refuses moment input device NotTexts is goes_on = (is, refl)
 
-pub refuses_create : (path : List ℕ) (mode : ℕ) (refusal : Refusal) → RefusesPath path (refusal_code refusal)
+pub refuses_create : (path : List ℕ) (mode : ℕ) (refusal : DeviceRefusal) → RefusesPath path (refusal_code refusal)
     → RefusesCreate path mode (refusal_code refusal)
 refuses_create path mode Halted is = is
 refuses_create path mode Memory is = is
@@ -46,7 +46,7 @@ refuses_create path mode TooMany is = is
 refuses_create path mode NotTexts is = is
 
 -- the same of a path for all nodes at and below it
-pub refuses_path : (lacking many : Type 0) (path : List ℕ) (refusal : Refusal) → RefusesPath path (refusal_code refusal)
+pub refuses_path : (lacking many : Type 0) (path : List ℕ) (refusal : DeviceRefusal) → RefusesPath path (refusal_code refusal)
     → RefusesNodes lacking many path (refusal_code refusal)
 refuses_path lacking many path Halted is = is
 refuses_path lacking many path Memory is = is
@@ -67,7 +67,7 @@ refuses_nodes lacking many path why.TooMany fine is = is
 refuses_nodes lacking many path why.Memory fine is = fine
 
 -- the same where it is handed on
-pub handed_on : {T : Type 0} (r : Result T Refusal) (why : NoSubtree) (lacking many : Type 0) (path : List ℕ)
+pub handed_on : {T : Type 0} (r : Result T DeviceRefusal) (why : NoSubtree) (lacking many : Type 0) (path : List ℕ)
     → IsErrAnd r (λ refusal. refusal ≡ refusal_of why) → IsPath path → Says why lacking many
     → IfErr r (λ refusal. RefusesNodes lacking many path (refusal_code refusal))
 handed_on (Ok x) why lacking many path is fine says = tt
@@ -75,7 +75,7 @@ handed_on (Err refusal) why lacking many path is fine says =
     subst (λ refusal. RefusesNodes lacking many path (refusal_code refusal)) (sym is) (refuses_nodes lacking many path why fine says)
 
 -- no markers are spelled so
-pub refuses_markers : (directory name names markers : List ℕ) (refusal : Refusal) → RefusesTexts markers (refusal_code refusal)
+pub refuses_markers : (directory name names markers : List ℕ) (refusal : DeviceRefusal) → RefusesTexts markers (refusal_code refusal)
     → RefusesStanding directory name names markers (refusal_code refusal)
 refuses_markers directory name names markers Halted is = absurd is
 refuses_markers directory name names markers Memory is = is
@@ -89,7 +89,7 @@ refuses_markers directory name names markers TooMany is = absurd is
 refuses_markers directory name names markers NotTexts is = inr (λ own against are. is (own ∷ against) are)
 
 -- what spells no nodes of a snapshot
-pub refuses_first : (cache : Cache) (nodes parents : List ℕ) (refusal : Refusal) → RefusesPaths nodes (refusal_code refusal)
+pub refuses_first : (cache : Cache) (nodes parents : List ℕ) (refusal : DeviceRefusal) → RefusesPaths nodes (refusal_code refusal)
     → RefusesSnapshot cache nodes parents (refusal_code refusal)
 refuses_first cache nodes parents Halted is = absurd is
 refuses_first cache nodes parents Memory is = absurd is
@@ -103,7 +103,7 @@ refuses_first cache nodes parents TooMany is = absurd is
 refuses_first cache nodes parents NotTexts is = inl is
 
 -- what spells no parents
-pub refuses_second : (cache : Cache) (nodes parents : List ℕ) (refusal : Refusal) → RefusesPaths parents (refusal_code refusal)
+pub refuses_second : (cache : Cache) (nodes parents : List ℕ) (refusal : DeviceRefusal) → RefusesPaths parents (refusal_code refusal)
     → RefusesSnapshot cache nodes parents (refusal_code refusal)
 refuses_second cache nodes parents Halted is = absurd is
 refuses_second cache nodes parents Memory is = absurd is
@@ -117,7 +117,7 @@ refuses_second cache nodes parents TooMany is = absurd is
 refuses_second cache nodes parents NotTexts is = inr is
 
 -- what is so of a refusal is so of what is handed on
-pub on_refused : {T : Type 0} (r : Result T Refusal) (refusal : Refusal) (P : Refusal → Type 0)
+pub on_refused : {T : Type 0} (r : Result T DeviceRefusal) (refusal : DeviceRefusal) (P : DeviceRefusal → Type 0)
     → IsErrAnd r (λ one. one ≡ refusal) → P refusal → IfErr r P
 on_refused (Ok x) refusal P is so = tt
 on_refused (Err one) refusal P is so = subst P (sym is) so

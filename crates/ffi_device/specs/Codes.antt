@@ -1,13 +1,13 @@
 -- The numbers that a caller is told.
 use Rattle.std.specs.Prelude.{⊤, ℤ, pos, negsuc, Result, Ok, Err}
-use Rattle.ffi_device.specs.declared.refusal.Refusal.{Refusal}
-use Rattle.ffi_device.specs.declared.refusal.Refusal.TheVariants.{Halted, Memory, NotText, NotPath, BadTimeout, NoSuchMode, NotSaved}
-use Rattle.ffi_device.specs.declared.refusal.Refusal.TheVariants.{NotWhole, TooMany, NotTexts}
+use Rattle.ffi_device.specs.declared.refusal.DeviceRefusal.{DeviceRefusal}
+use Rattle.ffi_device.specs.declared.refusal.DeviceRefusal.TheVariants.{Halted, Memory, NotText, NotPath, BadTimeout, NoSuchMode, NotSaved}
+use Rattle.ffi_device.specs.declared.refusal.DeviceRefusal.TheVariants.{NotWhole, TooMany, NotTexts}
 use Rattle.zk_conclusions.specs.declared.no_subtree.NoSubtree.{NoSubtree}
 use Rattle.zk_conclusions.specs.declared.no_subtree.NoSubtree.TheVariants as why
 
 -- the number of a refusal: -1, -2, and -4 to -11
-abbrev pub refusal_code : Refusal → ℤ
+abbrev pub refusal_code : DeviceRefusal → ℤ
 refusal_code Halted = negsuc 0
 refusal_code Memory = negsuc 1
 refusal_code NotText = negsuc 3
@@ -20,12 +20,12 @@ refusal_code TooMany = negsuc 9
 refusal_code NotTexts = negsuc 10
 
 -- why there is no subtree, as a refusal
-abbrev pub refusal_of : NoSubtree → Refusal
+abbrev pub refusal_of : NoSubtree → DeviceRefusal
 refusal_of why.NotWhole = NotWhole
 refusal_of why.TooMany = TooMany
 refusal_of why.Memory = Memory
 
 -- the number of what was done: 0 where nothing was refused
-abbrev pub code_of : Result ⊤ Refusal → ℤ
+abbrev pub code_of : Result ⊤ DeviceRefusal → ℤ
 code_of (Ok done) = pos 0
 code_of (Err refusal) = refusal_code refusal

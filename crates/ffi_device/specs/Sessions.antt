@@ -10,13 +10,13 @@ use Rattle.zk_client.specs.Clients.{view_of, renewed_start}
 use Rattle.zk_client.specs.SavedSessions.{PutAway}
 use Rattle.zk_conclusions.specs.Revisions.{raised}
 use Rattle.ffi_device.specs.declared.device.Device.{Device}
-use Rattle.ffi_device.specs.declared.refusal.Refusal.{Refusal}
+use Rattle.ffi_device.specs.declared.refusal.DeviceRefusal.{DeviceRefusal}
 use Rattle.ffi_device.specs.Codes.{refusal_code}
 use Rattle.ffi_device.specs.Refused.{RefusesTimeout}
 use Rattle.ffi_device.specs.Steps.{BeginsAt}
 
 -- a device that has begun so, at revision 1, or a refusal for a reason that its number has
-abbrev pub Begins : (Refuses : ℤ → Type 0) → Start → Result Device Refusal → Type 0
+abbrev pub Begins : (Refuses : ℤ → Type 0) → Start → Result Device DeviceRefusal → Type 0
 Begins Refuses start made = MatchResult made (BeginsAt start 1) (λ refusal. Refuses (refusal_code refusal))
 
 -- Another session: 0 where the client begins so, with no outputs and at the next revision, and any other number where nothing happened, for

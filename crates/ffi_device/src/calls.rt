@@ -11,7 +11,7 @@ ghost use Rattle.ffi_device.specs.Steps.{Halted, Heard, Steps};
 
 use crate::device::Device;
 use crate::paths::path_of;
-use crate::refusal::Refusal;
+use crate::refusal::DeviceRefusal;
 use std::alloc::Global;
 use zk_client::{Call, CreateMode, Input};
 use zk_nodes::copied_data;
@@ -22,7 +22,7 @@ pub fn set_data(
     path: &[u8],
     bytes: Option<&[u8]>,
     version: i32,
-) -> Result<Call<Global>, Refusal>
+) -> Result<Call<Global>, DeviceRefusal>
     ensures call { IfOk result (λ call. call_view call ≡ SetData path.now (option_map (λ s. s.now) bytes.entry) version) }
     ensures refused { IfErr result (λ refusal. RefusesPath path.now (refusal_code refusal)) }
 {
@@ -57,12 +57,12 @@ pub fn create(
     path: &[u8],
     bytes: Option<&[u8]>,
     mode: u32,
-) -> Result<Call<Global>, Refusal>
+) -> Result<Call<Global>, DeviceRefusal>
     ensures call { IfOk result (λ call. call_view call ≡ Create path.now (option_map (λ s. s.now) bytes.entry) mode) }
     ensures refused { IfErr result (λ refusal. RefusesCreate path.now mode (refusal_code refusal)) }
 {
     let Some(mode) = mode_of(mode) else {
-        return Err(Refusal::NoSuchMode);
+        return Err(DeviceRefusal::NoSuchMode);
     };
     let path = path_of(alloc, path)?;
     let bytes = copied_data(alloc, bytes)?;
@@ -71,9 +71,9 @@ pub fn create(
 
 impl Device {
     // A caller asks. The one refusal is `Halted`.
-    fn ask_at(&mut self, now: u64, ticket: u64, call: Call<Global>) -> Result<(), Refusal>
+    fn ask_at(&mut self, now: u64, ticket: u64, call: Call<Global>) -> Result<(), DeviceRefusal>
         ensures heard { OnOk result (Heard now (Calls ticket (call_view call)) self.old self.new) }
-        ensures halted { IfErr result (λ refusal. (refusal ≡ Refusal.Halted) × Halted now self.old self.new) }
+        ensures halted { IfErr result (λ refusal. (refusal ≡ DeviceRefusal.Halted) × Halted now self.old self.new) }
     {
         self.step_at(now, Input::Call(ticket, call))
     }
@@ -87,7 +87,7 @@ impl Device {
         ticket: u64,
         path: &[u8],
         watch: bool,
-    ) -> Result<(), Refusal>
+    ) -> Result<(), DeviceRefusal>
         ensures { Steps (RefusesPath path.now) now (Calls ticket (Exists path.now watch)) self.old (code_of result) self.new }
     {
         let path = path_of(alloc, path)?;
@@ -103,7 +103,7 @@ impl Device {
         ticket: u64,
         path: &[u8],
         watch: bool,
-    ) -> Result<(), Refusal>
+    ) -> Result<(), DeviceRefusal>
         ensures { Steps (RefusesPath path.now) now (Calls ticket (GetData path.now watch)) self.old (code_of result) self.new }
     {
         let path = path_of(alloc, path)?;
@@ -119,7 +119,7 @@ impl Device {
         ticket: u64,
         path: &[u8],
         watch: bool,
-    ) -> Result<(), Refusal>
+    ) -> Result<(), DeviceRefusal>
         ensures { Steps (RefusesPath path.now) now (Calls ticket (GetChildren path.now watch)) self.old (code_of result) self.new }
     {
         let path = path_of(alloc, path)?;
@@ -136,7 +136,7 @@ impl Device {
         path: &[u8],
         bytes: Option<&[u8]>,
         version: i32,
-    ) -> Result<(), Refusal>
+    ) -> Result<(), DeviceRefusal>
         ensures { Steps (RefusesPath path.now) now (Calls ticket (SetData path.now (option_map (λ s. s.now) bytes.entry) version)) self.old
             (code_of result) self.new }
     {
@@ -155,7 +155,7 @@ impl Device {
         path: &[u8],
         bytes: Option<&[u8]>,
         mode: u32,
-    ) -> Result<(), Refusal>
+    ) -> Result<(), DeviceRefusal>
         ensures { Steps (RefusesCreate path.now mode) now
             (Calls ticket (Create path.now (option_map (λ s. s.now) bytes.entry) mode)) self.old (code_of result) self.new }
     {
@@ -172,7 +172,7 @@ impl Device {
         ticket: u64,
         path: &[u8],
         version: i32,
-    ) -> Result<(), Refusal>
+    ) -> Result<(), DeviceRefusal>
         ensures { Steps (RefusesPath path.now) now (Calls ticket (Delete path.now version)) self.old (code_of result) self.new }
     {
         let path = path_of(alloc, path)?;
@@ -180,7 +180,7 @@ impl Device {
     }
 
     /// Asks to end the session.
-    pub fn close_session_at(&mut self, now: u64, ticket: u64) -> Result<(), Refusal>
+    pub fn close_session_at(&mut self, now: u64, ticket: u64) -> Result<(), DeviceRefusal>
         ensures { Steps RefusesNothing now (Calls ticket Close) self.old (code_of result) self.new }
     {
         self.ask_at(now, ticket, Call::Close)

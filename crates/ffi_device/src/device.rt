@@ -10,7 +10,7 @@ ghost use Rattle.ffi_device.specs.Refused.{RefusesMemory, RefusesNothing, Refuse
 ghost use Rattle.ffi_device.specs.Sessions.{Begins};
 ghost use Rattle.ffi_device.specs.Steps.{Halted, Heard, Steps, Ticks};
 
-use crate::refusal::Refusal;
+use crate::refusal::DeviceRefusal;
 use std::alloc::Global;
 use zk_client::{Client, Input, Output};
 use zk_conclusions::Revision;
@@ -29,12 +29,12 @@ pub struct Device {
 
 impl Device {
     /// A client of no session yet, which asks for this timeout in milliseconds.
-    pub fn new(alloc: Global, timeout_ms: i32) -> Result<Device, Refusal>
+    pub fn new(alloc: Global, timeout_ms: i32) -> Result<Device, DeviceRefusal>
         ensures begins { Begins (RefusesTimeout timeout_ms) (new_start (unsigned_abs timeout_ms)) result }
         ensures accepted { OnOk result (pos 0 <ℤ timeout_ms) }
     {
         if timeout_ms <= 0 {
-            return Err(Refusal::BadTimeout);
+            return Err(DeviceRefusal::BadTimeout);
         }
         Ok(Device::of(alloc, Client::new(alloc, timeout_ms)))
     }
@@ -64,20 +64,20 @@ impl Device {
     }
 
     // Memory ran out within a step.
-    fn stop(&mut self) -> Refusal
-        ensures halted { result ≡ Refusal.Halted }
+    fn stop(&mut self) -> DeviceRefusal
+        ensures halted { result ≡ DeviceRefusal.Halted }
         ensures client { self.new.client ≡ self.old.client }
         ensures said { self.new.said ≡ self.old.said }
         ensures number { self.new.revision.number ≡ raised self.old.revision.number }
     {
         self.revision.raise();
-        Refusal::Halted
+        DeviceRefusal::Halted
     }
 
     /// Takes an input that is noticed at this moment. What was said before is forgotten. The one refusal is `Halted`.
-    pub(crate) fn step_at(&mut self, now: u64, input: Input<Global>) -> Result<(), Refusal>
+    pub(crate) fn step_at(&mut self, now: u64, input: Input<Global>) -> Result<(), DeviceRefusal>
         ensures heard { OnOk result (Heard now (input_view input) self.old self.new) }
-        ensures halted { IfErr result (λ refusal. (refusal ≡ Refusal.Halted) × Halted now self.old self.new) }
+        ensures halted { IfErr result (λ refusal. (refusal ≡ DeviceRefusal.Halted) × Halted now self.old self.new) }
     {
         self.read = 0;
         let Ok(()) = self.client.step_at_into(now, input, &mut self.said) else {
@@ -88,21 +88,21 @@ impl Device {
     }
 
     /// A connection begins.
-    pub fn opened_at(&mut self, now: u64) -> Result<(), Refusal>
+    pub fn opened_at(&mut self, now: u64) -> Result<(), DeviceRefusal>
         ensures { Steps RefusesNothing now Opened self.old (code_of result) self.new }
     {
         self.step_at(now, Input::Opened)
     }
 
     /// The connection is over.
-    pub fn cut_at(&mut self, now: u64) -> Result<(), Refusal>
+    pub fn cut_at(&mut self, now: u64) -> Result<(), DeviceRefusal>
         ensures { Steps RefusesNothing now Cut self.old (code_of result) self.new }
     {
         self.step_at(now, Input::Cut)
     }
 
     /// The moment, and nothing else.
-    pub fn tick(&mut self, now: u64) -> Result<(), Refusal>
+    pub fn tick(&mut self, now: u64) -> Result<(), DeviceRefusal>
         ensures { Ticks now self.old (code_of result) self.new }
     {
         self.read = 0;
@@ -114,7 +114,7 @@ impl Device {
     }
 
     /// Bytes came from the server.
-    pub fn bytes_at(&mut self, alloc: Global, now: u64, bytes: &[u8]) -> Result<(), Refusal>
+    pub fn bytes_at(&mut self, alloc: Global, now: u64, bytes: &[u8]) -> Result<(), DeviceRefusal>
         ensures { Steps RefusesMemory now (Bytes bytes.now) self.old (code_of result) self.new }
     {
         let owned = Vec::from_slice(alloc, bytes)?;

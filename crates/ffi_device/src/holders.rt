@@ -6,7 +6,7 @@ ghost use Rattle.ffi_device.specs.Codes.{refusal_code};
 ghost use Rattle.ffi_device.specs.Holders.{ArePlace, RefusesHolder, TellsHolder};
 
 use crate::paths::{path_of, text_of};
-use crate::refusal::Refusal;
+use crate::refusal::DeviceRefusal;
 use std::alloc::Global;
 use zk_client::{Client, Path};
 use zk_conclusions::Holder;
@@ -34,7 +34,7 @@ pub fn holder(
     directory: &[u8],
     prefix: &[u8],
     path: &[u8],
-) -> Result<Option<i64>, Refusal>
+) -> Result<Option<i64>, DeviceRefusal>
     ensures tells { IfOk result (λ token. TellsHolder (view_of client.now) directory.now prefix.now path.now token) }
     ensures place { OnOk result (ArePlace directory.now prefix.now path.now) }
     ensures refused { IfErr result (λ refusal. RefusesHolder directory.now prefix.now path.now (refusal_code refusal)) }

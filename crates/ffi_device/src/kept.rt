@@ -16,7 +16,7 @@ ghost use Rattle.zk_turns.specs.Rule.{forgotten};
 
 use crate::copying::copy_into;
 use crate::paths::{path_of, refuse_no_path, text_of};
-use crate::refusal::Refusal;
+use crate::refusal::DeviceRefusal;
 use std::alloc::{AllocError, Global};
 use zk_client::{Client, DataAnswer, DataStat, Mark, Names};
 use zk_jute::Record;
@@ -213,12 +213,12 @@ pub(crate) fn names_text(
 fn data_at<'a>(
     client: &'a Client<Global>,
     path: &[u8],
-) -> Result<Option<(&'a DataAnswer<Global>, Mark)>, Refusal>
+) -> Result<Option<(&'a DataAnswer<Global>, Mark)>, DeviceRefusal>
     ensures found { IfOk result (λ found. option_map (λ kept. record { answer = answer_of kept.0.now; mark = kept.1 }) found
         ≡ (view_of client.now).cache.nodes path.now) }
     ensures checked { OnOk result ((view_of client.now).cache.nodes path.now ≡ None → IsPath path.now) }
     ensures refused { IfErr result (λ refusal. RefusesPath path.now (refusal_code refusal)) }
-    ensures memory { IfErr result (λ refusal. refusal ≢ Refusal.Memory) }
+    ensures memory { IfErr result (λ refusal. refusal ≢ DeviceRefusal.Memory) }
 {
     let text = text_of(path)?;
     let kept = client.peek_data_at(text);
@@ -232,12 +232,12 @@ fn data_at<'a>(
 fn children_at<'a>(
     client: &'a Client<Global>,
     path: &[u8],
-) -> Result<Option<(&'a Names<Global>, Mark)>, Refusal>
+) -> Result<Option<(&'a Names<Global>, Mark)>, DeviceRefusal>
     ensures found { IfOk result (λ found. option_map (λ kept. record { answer = names_in kept.0.now; mark = kept.1 }) found
         ≡ (view_of client.now).cache.children path.now) }
     ensures checked { OnOk result ((view_of client.now).cache.children path.now ≡ None → IsPath path.now) }
     ensures refused { IfErr result (λ refusal. RefusesPath path.now (refusal_code refusal)) }
-    ensures memory { IfErr result (λ refusal. refusal ≢ Refusal.Memory) }
+    ensures memory { IfErr result (λ refusal. refusal ≢ DeviceRefusal.Memory) }
 {
     let text = text_of(path)?;
     let kept = client.peek_children_at(text);
@@ -249,13 +249,17 @@ fn children_at<'a>(
 
 /// What is kept about the data of a path. The data are copied, as much of them as there is room for. A refusal is `NotText`,
 /// else `NotPath`. It takes no memory, and looks at the path only where nothing is kept of it.
-pub fn peek_data(client: &Client<Global>, path: &[u8], room: &mut [u8]) -> Result<KeptData, Refusal>
+pub fn peek_data(
+    client: &Client<Global>,
+    path: &[u8],
+    room: &mut [u8],
+) -> Result<KeptData, DeviceRefusal>
     ensures found { IfOk result (λ flat. flat ≡ data_flat ((view_of client.now).cache.nodes path.now)) }
     ensures copied { OnOk result (room.new ≡ take (length room.old) (data_text ((view_of client.now).cache.nodes path.now))
         ++ drop (length (data_text ((view_of client.now).cache.nodes path.now))) room.old) }
     ensures checked { OnOk result ((view_of client.now).cache.nodes path.now ≡ None → IsPath path.now) }
     ensures refused { IfErr result (λ refusal. RefusesPath path.now (refusal_code refusal)) }
-    ensures memory { IfErr result (λ refusal. refusal ≢ Refusal.Memory) }
+    ensures memory { IfErr result (λ refusal. refusal ≢ DeviceRefusal.Memory) }
     ensures same { OnErr result (room.new ≡ room.old) }
 {
     let kept = data_at(client, path)?;
@@ -264,11 +268,11 @@ pub fn peek_data(client: &Client<Global>, path: &[u8], room: &mut [u8]) -> Resul
 }
 
 /// What is kept about the children of a path. A refusal is as of [`peek_data`].
-pub fn peek_children(client: &Client<Global>, path: &[u8]) -> Result<KeptNames, Refusal>
+pub fn peek_children(client: &Client<Global>, path: &[u8]) -> Result<KeptNames, DeviceRefusal>
     ensures found { IfOk result (TellsNames ((view_of client.now).cache.children path.now)) }
     ensures checked { OnOk result ((view_of client.now).cache.children path.now ≡ None → IsPath path.now) }
     ensures refused { IfErr result (λ refusal. RefusesPath path.now (refusal_code refusal)) }
-    ensures memory { IfErr result (λ refusal. refusal ≢ Refusal.Memory) }
+    ensures memory { IfErr result (λ refusal. refusal ≢ DeviceRefusal.Memory) }
 {
     let kept = children_at(client, path)?;
     Ok(names_flat(kept))
@@ -281,11 +285,11 @@ pub fn peek_name(
     path: &[u8],
     index: usize,
     room: &mut [u8],
-) -> Result<usize, Refusal>
+) -> Result<usize, DeviceRefusal>
     ensures written { IfOk result (WritesName index ((view_of client.now).cache.children path.now) room.old room.new) }
     ensures checked { OnOk result ((view_of client.now).cache.children path.now ≡ None → IsPath path.now) }
     ensures refused { IfErr result (λ refusal. RefusesPath path.now (refusal_code refusal)) }
-    ensures memory { IfErr result (λ refusal. refusal ≢ Refusal.Memory) }
+    ensures memory { IfErr result (λ refusal. refusal ≢ DeviceRefusal.Memory) }
     ensures same { OnErr result (room.new ≡ room.old) }
 {
     let kept = children_at(client, path)?;
@@ -299,7 +303,7 @@ pub fn peek_names(
     client: &Client<Global>,
     path: &[u8],
     room: &mut [u8],
-) -> Result<usize, Refusal>
+) -> Result<usize, DeviceRefusal>
     ensures written { IfOk result (WritesNames ((view_of client.now).cache.children path.now) room.old room.new) }
     ensures refused { IfErr result (λ refusal. RefusesPath path.now (refusal_code refusal)) }
     ensures same { OnErr result (room.new ≡ room.old) }

@@ -31,7 +31,7 @@ pub use kept::{
 };
 pub use outputs::{outcome_name, outcome_names};
 pub use paths::path_of;
-pub use refusal::{Refusal, code_of};
+pub use refusal::{DeviceRefusal, code_of};
 pub use sessions::{saved, state};
 pub use snapshots::snapshot;
 pub use standings::{Contender, Stands, standing};

@@ -7,44 +7,44 @@ ghost use Rattle.zk_nodes.specs.PathFault.{IsPath, child_fault, fault_of};
 ghost use Rattle.ffi_device.specs.Codes.{refusal_code};
 ghost use Rattle.ffi_device.specs.Refused.{RefusesChild, RefusesPath, RefusesText};
 
-use crate::refusal::Refusal;
+use crate::refusal::DeviceRefusal;
 use std::alloc::Global;
 use zk_client::{Path, PathFault};
 use zk_nodes::text_fault;
 
 /// The path whose text these bytes are. A refusal is `NotText`, else `NotPath`, else `Memory`.
-pub fn path_of(alloc: Global, bytes: &[u8]) -> Result<Path<Global>, Refusal>
+pub fn path_of(alloc: Global, bytes: &[u8]) -> Result<Path<Global>, DeviceRefusal>
     ensures path { IfOk result (λ path. path ≡ bytes.now) }
     ensures accepted { OnOk result (IsPath bytes.now) }
     ensures refused { IfErr result (λ refusal. RefusesPath bytes.now (refusal_code refusal)) }
 {
     match Path::from_utf8(alloc, bytes) {
         Some(Ok(path)) => Ok(path),
-        Some(Err(PathFault::Memory)) => Err(Refusal::Memory),
-        Some(Err(_)) => Err(Refusal::NotPath),
-        None => Err(Refusal::NotText),
+        Some(Err(PathFault::Memory)) => Err(DeviceRefusal::Memory),
+        Some(Err(_)) => Err(DeviceRefusal::NotPath),
+        None => Err(DeviceRefusal::NotText),
     }
 }
 
 /// Refuses a text that is no path's, as `NotPath`. It takes no memory.
-pub(crate) fn refuse_no_path(text: &str) -> Result<(), Refusal>
+pub(crate) fn refuse_no_path(text: &str) -> Result<(), DeviceRefusal>
     ensures accepted { OnOk result (IsPath text.now) }
-    ensures refused { IfErr result (λ refusal. (refusal ≡ Refusal.NotPath) × IsSome (fault_of text.now)) }
+    ensures refused { IfErr result (λ refusal. (refusal ≡ DeviceRefusal.NotPath) × IsSome (fault_of text.now)) }
 {
     match text_fault(text) {
         None => Ok(()),
-        Some(_fault) => Err(Refusal::NotPath),
+        Some(_fault) => Err(DeviceRefusal::NotPath),
     }
 }
 
 /// The text that these bytes are. The one refusal is `NotText`. It takes no memory.
-pub(crate) fn text_of(bytes: &[u8]) -> Result<&str, Refusal>
+pub(crate) fn text_of(bytes: &[u8]) -> Result<&str, DeviceRefusal>
     ensures text { IfOk result (λ text. text.now ≡ bytes.now) }
     ensures refused { IfErr result (λ refusal. RefusesText bytes.now (refusal_code refusal)) }
 {
     match std::str::from_utf8(bytes) {
         Ok(text) => Ok(text),
-        Err(_) => Err(Refusal::NotText),
+        Err(_) => Err(DeviceRefusal::NotText),
     }
 }
 
@@ -53,14 +53,14 @@ pub(crate) fn child_of(
     alloc: Global,
     directory: &Path<Global>,
     name: &str,
-) -> Result<Path<Global>, Refusal>
+) -> Result<Path<Global>, DeviceRefusal>
     ensures path { IfOk result (λ path. path ≡ child_text directory.now name.now) }
     ensures accepted { OnOk result (child_fault directory.now name.now ≡ None) }
     ensures refused { IfErr result (λ refusal. RefusesChild directory.now name.now (refusal_code refusal)) }
 {
     match directory.join(alloc, name) {
         Ok(path) => Ok(path),
-        Err(PathFault::Memory) => Err(Refusal::Memory),
-        Err(_fault) => Err(Refusal::NotPath),
+        Err(PathFault::Memory) => Err(DeviceRefusal::Memory),
+        Err(_fault) => Err(DeviceRefusal::NotPath),
     }
 }

@@ -9,7 +9,7 @@ use zk_conclusions::NoSubtree;
 
 /// Why a device does not do what it is asked. But for `Halted`, nothing happened then.
 #[derive(Clone, Copy, Debug, PartialEq, Eq)]
-pub enum Refusal {
+pub enum DeviceRefusal {
     /// The client ran out of memory within a step. It has no use from then on, but its saved session can be taken.
     Halted,
     /// There was no memory for what was given.
@@ -32,65 +32,65 @@ pub enum Refusal {
     NotTexts,
 }
 
-impl Refusal {
+impl DeviceRefusal {
     /// Its number, below 0.
     pub fn code(self) -> i32
         ensures { result ≡ refusal_code self }
     {
         match self {
-            Refusal::Halted => -1,
-            Refusal::Memory => -2,
-            Refusal::NotText => -4,
-            Refusal::NotPath => -5,
-            Refusal::BadTimeout => -6,
-            Refusal::NoSuchMode => -7,
-            Refusal::NotSaved => -8,
-            Refusal::NotWhole => -9,
-            Refusal::TooMany => -10,
-            Refusal::NotTexts => -11,
+            DeviceRefusal::Halted => -1,
+            DeviceRefusal::Memory => -2,
+            DeviceRefusal::NotText => -4,
+            DeviceRefusal::NotPath => -5,
+            DeviceRefusal::BadTimeout => -6,
+            DeviceRefusal::NoSuchMode => -7,
+            DeviceRefusal::NotSaved => -8,
+            DeviceRefusal::NotWhole => -9,
+            DeviceRefusal::TooMany => -10,
+            DeviceRefusal::NotTexts => -11,
         }
     }
 }
 
-impl From<AllocError> for Refusal {
+impl From<AllocError> for DeviceRefusal {
     ghost use Rattle.std.specs.Prelude.{◌≡◌};
-    ghost use Rattle.ffi_device.specs.declared.refusal.Refusal.TheVariants.{Memory};
+    ghost use Rattle.ffi_device.specs.declared.refusal.DeviceRefusal.TheVariants.{Memory};
 
     ghost from_gives = { λ _ refusal. refusal ≡ Memory };
 
-    fn from(_error: AllocError) -> Refusal {
-        Refusal::Memory
+    fn from(_error: AllocError) -> DeviceRefusal {
+        DeviceRefusal::Memory
     }
 }
 
-impl From<Halt> for Refusal {
+impl From<Halt> for DeviceRefusal {
     ghost use Rattle.std.specs.Prelude.{◌≡◌};
-    ghost use Rattle.ffi_device.specs.declared.refusal.Refusal.TheVariants.{Halted};
+    ghost use Rattle.ffi_device.specs.declared.refusal.DeviceRefusal.TheVariants.{Halted};
 
     ghost from_gives = { λ _ refusal. refusal ≡ Halted };
 
-    fn from(_halt: Halt) -> Refusal {
-        Refusal::Halted
+    fn from(_halt: Halt) -> DeviceRefusal {
+        DeviceRefusal::Halted
     }
 }
 
-impl From<NoSubtree> for Refusal {
+impl From<NoSubtree> for DeviceRefusal {
     ghost use Rattle.std.specs.Prelude.{◌≡◌};
     ghost use Rattle.ffi_device.specs.Codes.{refusal_of};
 
     ghost from_gives = { λ why refusal. refusal ≡ refusal_of why };
 
-    fn from(why: NoSubtree) -> Refusal {
+    fn from(why: NoSubtree) -> DeviceRefusal {
         match why {
-            NoSubtree::NotWhole => Refusal::NotWhole,
-            NoSubtree::TooMany => Refusal::TooMany,
-            NoSubtree::Memory => Refusal::Memory,
+            NoSubtree::NotWhole => DeviceRefusal::NotWhole,
+            NoSubtree::TooMany => DeviceRefusal::TooMany,
+            NoSubtree::Memory => DeviceRefusal::Memory,
         }
     }
 }
 
 /// The number of what was done: that of the refusal, and 0 where there is none.
-pub fn code_of(done: Result<(), Refusal>) -> i32
+pub fn code_of(done: Result<(), DeviceRefusal>) -> i32
     ensures { result ≡ code_of done }
 {
     match done {

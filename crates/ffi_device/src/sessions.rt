@@ -5,18 +5,18 @@ ghost use Rattle.zk_client.specs.Clients.{view_of};
 ghost use Rattle.zk_client.specs.SavedSessions.{PutAway, bytes_read, saved_bytes};
 ghost use Rattle.zk_client.specs.declared.saved_fault.SavedFault.{SavedFault};
 ghost use Rattle.zk_client.specs.declared.saved_fault.SavedFault.TheVariants as saved_faults;
-ghost use Rattle.ffi_device.specs.declared.refusal.Refusal.TheVariants as refusals;
+ghost use Rattle.ffi_device.specs.declared.refusal.DeviceRefusal.TheVariants as refusals;
 ghost use Rattle.ffi_device.specs.Refused.{RefusesTimeout};
 ghost use Rattle.ffi_device.specs.Codes.{code_of};
 ghost use Rattle.ffi_device.specs.Sessions.{Begins, Renews, put_of, put_start, state_number};
 
 use crate::device::Device;
-use crate::refusal::Refusal;
+use crate::refusal::DeviceRefusal;
 use std::alloc::{AllocError, Global};
 use zk_client::{Client, SavedFault, SavedSession, State};
 
 // What was put away as these bytes.
-fn read_saved(alloc: Global, saved: &[u8]) -> Result<SavedSession<Global>, Refusal>
+fn read_saved(alloc: Global, saved: &[u8]) -> Result<SavedSession<Global>, DeviceRefusal>
     ensures found { (put : PutAway) → bytes_read saved.now ≡ Ok put
         → MatchResult result (λ session. session ≡ put) (λ refusal. refusal ≡ refusals.Memory) }
     ensures unread { (fault : SavedFault) → bytes_read saved.now ≡ Err fault → fault ≢ saved_faults.Memory
@@ -24,15 +24,15 @@ fn read_saved(alloc: Global, saved: &[u8]) -> Result<SavedSession<Global>, Refus
 {
     match SavedSession::from_bytes(alloc, saved) {
         Ok(session) => Ok(session),
-        Err(SavedFault::Memory) => Err(Refusal::Memory),
-        Err(_) => Err(Refusal::NotSaved),
+        Err(SavedFault::Memory) => Err(DeviceRefusal::Memory),
+        Err(_) => Err(DeviceRefusal::NotSaved),
     }
 }
 
 impl Device {
     /// A client that takes up the session of these bytes, with this timeout in milliseconds. A refusal is `BadTimeout`, else
     /// `NotSaved`, else `Memory`.
-    pub fn resume(alloc: Global, timeout_ms: i32, saved: &[u8]) -> Result<Device, Refusal>
+    pub fn resume(alloc: Global, timeout_ms: i32, saved: &[u8]) -> Result<Device, DeviceRefusal>
         ensures begins { (put : PutAway) → bytes_read saved.now ≡ Ok put
             → Begins (RefusesTimeout timeout_ms) (put_start timeout_ms put) result }
         ensures accepted { OnOk result (pos 0 <ℤ timeout_ms) }
@@ -40,7 +40,7 @@ impl Device {
             → result ≡ Err refusals.NotSaved }
     {
         if timeout_ms <= 0 {
-            return Err(Refusal::BadTimeout);
+            return Err(DeviceRefusal::BadTimeout);
         }
         let session = match read_saved(alloc, saved) {
             Ok(session) => session,
@@ -50,17 +50,17 @@ impl Device {
         drop(session);
         match client {
             Ok(client) => Ok(Device::of(alloc, client)),
-            Err(_) => Err(Refusal::Memory),
+            Err(_) => Err(DeviceRefusal::Memory),
         }
     }
 
     /// Begins a new session, which asks for this timeout in milliseconds. The last seen zxid is kept, and nothing else; the revision goes
     /// on, with the next number. A refusal is `BadTimeout`, else `Memory`.
-    pub fn renew(&mut self, alloc: Global, timeout_ms: i32) -> Result<(), Refusal>
+    pub fn renew(&mut self, alloc: Global, timeout_ms: i32) -> Result<(), DeviceRefusal>
         ensures { Renews timeout_ms self.old (code_of result) self.new }
     {
         if timeout_ms <= 0 {
-            return Err(Refusal::BadTimeout);
+            return Err(DeviceRefusal::BadTimeout);
         }
         let client = self.client.renewed(alloc, timeout_ms)?;
         let mut device = Device::of(alloc, client);

@@ -12,7 +12,7 @@ ghost use Rattle.ffi_device.specs.Subtrees.{AreRecords};
 
 use crate::copying::copy_into;
 use crate::kept::{data_flat, names_text};
-use crate::refusal::Refusal;
+use crate::refusal::DeviceRefusal;
 use crate::spelled_paths::{check_paths, collected_paths};
 use crate::subtrees::{bytes_in, pzxid_in, stat_in};
 use std::alloc::{AllocError, Global};
@@ -143,7 +143,7 @@ fn snapshot_text(
     client: &Client<Global>,
     nodes: &[u8],
     parents: &[u8],
-) -> Result<Vec<u8>, Refusal>
+) -> Result<Vec<u8>, DeviceRefusal>
     ensures text { IfOk result (λ text. IsSnapshotText (view_of client.now) nodes.now parents.now text.items) }
     ensures refused { IfErr result (λ refusal. RefusesSnapshot (view_of client.now).cache nodes.now parents.now (refusal_code refusal)) }
 {
@@ -152,7 +152,7 @@ fn snapshot_text(
     let paths = collected_paths(alloc, nodes)?;
     let above = collected_paths(alloc, parents)?;
     if !is_whole(client, paths.as_slice(), above.as_slice()) {
-        return Err(Refusal::NotWhole);
+        return Err(DeviceRefusal::NotWhole);
     }
     let text = spelled_whole(alloc, client, paths.as_slice(), above.as_slice())?;
     Ok(text)
@@ -167,7 +167,7 @@ pub fn snapshot(
     nodes: &[u8],
     parents: &[u8],
     room: &mut [u8],
-) -> Result<usize, Refusal>
+) -> Result<usize, DeviceRefusal>
     ensures written { IfOk result (WritesText (IsSnapshotText (view_of client.now) nodes.now parents.now) room.old room.new) }
     ensures refused { IfErr result (λ refusal. RefusesSnapshot (view_of client.now).cache nodes.now parents.now (refusal_code refusal)) }
     ensures same { OnErr result (room.new ≡ room.old) }

@@ -6,7 +6,7 @@ ghost use Rattle.zk_nodes.specs.PathFault.{IsPath, fault_of};
 ghost use Rattle.ffi_device.specs.Codes.{refusal_code};
 ghost use Rattle.ffi_device.specs.Texts.{ArePaths, RefusesPaths, SpellsPaths};
 
-use crate::refusal::Refusal;
+use crate::refusal::DeviceRefusal;
 use crate::texts::{lent_texts, next_text};
 use std::alloc::{AllocError, Global};
 use zk_client::{Path, PathFault};
@@ -21,7 +21,7 @@ fn is_path(alloc: Global, text: &str) -> bool
 }
 
 /// Sees that paths are spelled so, whether or not there is memory for them. A refusal is `NotTexts`, else `NotPath`.
-pub(crate) fn check_paths(alloc: Global, spelled: &[u8]) -> Result<(), Refusal>
+pub(crate) fn check_paths(alloc: Global, spelled: &[u8]) -> Result<(), DeviceRefusal>
     ensures paths { OnOk result (SpellsPaths spelled.now) }
     ensures refused { IfErr result (λ refusal. RefusesPaths spelled.now (refusal_code refusal)) }
 {
@@ -30,13 +30,13 @@ pub(crate) fn check_paths(alloc: Global, spelled: &[u8]) -> Result<(), Refusal>
     while !at.rest().is_empty() {
         match next_text(alloc, &mut at) {
             Some(text) => are_paths = is_path(alloc, text) && are_paths,
-            None => return Err(Refusal::NotTexts),
+            None => return Err(DeviceRefusal::NotTexts),
         }
     }
     if are_paths {
         Ok(())
     } else {
-        Err(Refusal::NotPath)
+        Err(DeviceRefusal::NotPath)
     }
 }
 

@@ -10,7 +10,7 @@ ghost use Rattle.ffi_device.specs.Standings.{AreNoMarkers, RefusesStanding, Stan
 
 use crate::copying::copy_into;
 use crate::paths::{child_of, path_of, text_of};
-use crate::refusal::Refusal;
+use crate::refusal::DeviceRefusal;
 use crate::texts::{lent_texts, owned_texts};
 use std::alloc::Global;
 use zk_client::{Client, Path};
@@ -79,7 +79,7 @@ fn stands_among(
     name: &str,
     contender: &Contender<'_>,
     room: &mut [u8],
-) -> Result<Stands, Refusal>
+) -> Result<Stands, DeviceRefusal>
     ensures stood { IfOk result (λ stands. Stood (view_of client.now) directory.now name.now contender.now.names.now contender.now.listed
         contender.now.markers.now stands room.old room.new) }
     ensures fine { OnOk result (child_fault directory.now name.now ≡ None) }
@@ -91,7 +91,7 @@ fn stands_among(
     let markers = lent_texts(alloc, contender.markers)?;
     let kind = match kind_in(markers.as_slice()) {
         Some(kind) => kind,
-        None => return Err(Refusal::NotTexts),
+        None => return Err(DeviceRefusal::NotTexts),
     };
     let names = owned_texts(alloc, contender.names)?;
     let listing = Listing {
@@ -116,7 +116,7 @@ pub fn standing(
     client: &Client<Global>,
     contender: &Contender<'_>,
     room: &mut [u8],
-) -> Result<Stands, Refusal>
+) -> Result<Stands, DeviceRefusal>
     ensures stood { IfOk result (λ stands. Stood (view_of client.now) contender.now.directory.now contender.now.name.now
         contender.now.names.now contender.now.listed contender.now.markers.now stands room.old room.new) }
     ensures refused { IfErr result (λ refusal. RefusesStanding contender.now.directory.now contender.now.name.now contender.now.names.now

@@ -15,7 +15,7 @@ ghost use Rattle.ffi_device.specs.Subtrees.{pzxid_in, read_layout, read_value, s
 
 use crate::copying::copy_into;
 use crate::paths::path_of;
-use crate::refusal::Refusal;
+use crate::refusal::DeviceRefusal;
 use std::alloc::{AllocError, Global};
 use zk_client::{Client, DataAnswer, DataStat, Mark, Names, Path, Side};
 use zk_conclusions::{Lacking, NoSubtree, Subtree};
@@ -185,7 +185,7 @@ pub fn subtree(
     path: &[u8],
     most: usize,
     room: &mut [u8],
-) -> Result<usize, Refusal>
+) -> Result<usize, DeviceRefusal>
     ensures written { IfOk result (WritesText (IsSubtreeText (view_of client.now) path.now most) room.old room.new) }
     ensures refused { IfErr result (λ refusal. RefusesNodes (¬ (IsWholeBelow (view_of client.now).cache path.now))
         (HasMoreNodes (view_of client.now).cache path.now most) path.now (refusal_code refusal)) }
@@ -204,7 +204,7 @@ pub fn lacking(
     path: &[u8],
     most: usize,
     room: &mut [u8],
-) -> Result<usize, Refusal>
+) -> Result<usize, DeviceRefusal>
     ensures written { IfOk result (WritesText (IsLackingText (view_of client.now).cache path.now most) room.old room.new) }
     ensures refused { IfErr result (λ refusal. RefusesNodes (HasNoPath (view_of client.now).cache path.now)
         (HasMoreNodes (view_of client.now).cache path.now most) path.now (refusal_code refusal)) }

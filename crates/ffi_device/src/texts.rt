@@ -7,7 +7,7 @@ ghost use Rattle.zk_jute.specs.Spelling.{Fits, spelling};
 ghost use Rattle.ffi_device.specs.Codes.{refusal_code};
 ghost use Rattle.ffi_device.specs.Texts.{AreTexts, RefusesTexts};
 
-use crate::refusal::Refusal;
+use crate::refusal::DeviceRefusal;
 use std::alloc::{AllocError, Global};
 use zk_jute::{Cursor, Record, TextRef, take};
 
@@ -38,7 +38,10 @@ pub(crate) fn next_text<'a>(alloc: Global, at: &mut Cursor<'a>) -> Option<&'a st
 }
 
 /// The texts that are spelled so, one after the other. A refusal is `NotTexts`, else `Memory`.
-pub(crate) fn lent_texts<'a>(alloc: Global, spelled: &'a [u8]) -> Result<Vec<&'a str>, Refusal>
+pub(crate) fn lent_texts<'a>(
+    alloc: Global,
+    spelled: &'a [u8],
+) -> Result<Vec<&'a str>, DeviceRefusal>
     ensures ok { IfOk result (λ texts. AreTexts (map (λ text. text.now) texts.items) spelled.now) }
     ensures refused { IfErr result (λ refusal. RefusesTexts spelled.now (refusal_code refusal)) }
 {
@@ -48,43 +51,46 @@ pub(crate) fn lent_texts<'a>(alloc: Global, spelled: &'a [u8]) -> Result<Vec<&'a
         match next_text(alloc, &mut at) {
             Some(text) => {
                 if texts.push(text).is_err() {
-                    return Err(Refusal::Memory);
+                    return Err(DeviceRefusal::Memory);
                 }
             }
-            None => return Err(Refusal::NotTexts),
+            None => return Err(DeviceRefusal::NotTexts),
         }
     }
     Ok(texts)
 }
 
 // A copy of a text.
-fn owned_text(alloc: Global, text: &str) -> Result<String<Global>, Refusal>
+fn owned_text(alloc: Global, text: &str) -> Result<String<Global>, DeviceRefusal>
     ensures text { IfOk result (λ copy. string_bytes copy ≡ text.now) }
-    ensures refused { IfErr result (λ refusal. refusal ≡ Refusal.Memory) }
+    ensures refused { IfErr result (λ refusal. refusal ≡ DeviceRefusal.Memory) }
 {
     match String::from_str(alloc, text) {
         Ok(copy) => Ok(copy),
-        Err(_) => Err(Refusal::Memory),
+        Err(_) => Err(DeviceRefusal::Memory),
     }
 }
 
 // Copies of the texts.
-fn copied_texts(alloc: Global, texts: &[&str]) -> Result<Vec<String<Global>>, Refusal>
+fn copied_texts(alloc: Global, texts: &[&str]) -> Result<Vec<String<Global>>, DeviceRefusal>
     ensures texts { IfOk result (λ copies. map string_bytes copies.items ≡ map (λ text. text.now) texts.now) }
-    ensures refused { IfErr result (λ refusal. refusal ≡ Refusal.Memory) }
+    ensures refused { IfErr result (λ refusal. refusal ≡ DeviceRefusal.Memory) }
 {
     let mut copies = Vec::new(alloc);
     for text in texts {
         let copy = owned_text(alloc, *text)?;
         if copies.push(copy).is_err() {
-            return Err(Refusal::Memory);
+            return Err(DeviceRefusal::Memory);
         }
     }
     Ok(copies)
 }
 
 /// The same texts, with memory of their own.
-pub(crate) fn owned_texts(alloc: Global, spelled: &[u8]) -> Result<Vec<String<Global>>, Refusal>
+pub(crate) fn owned_texts(
+    alloc: Global,
+    spelled: &[u8],
+) -> Result<Vec<String<Global>>, DeviceRefusal>
     ensures ok { IfOk result (λ texts. AreTexts (map string_bytes texts.items) spelled.now) }
     ensures refused { IfErr result (λ refusal. RefusesTexts spelled.now (refusal_code refusal)) }
 {

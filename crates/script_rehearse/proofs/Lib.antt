@@ -3,6 +3,6 @@ pub mod HeardLemmas
 pub mod DueLemmas
 pub mod RigLemmas
 pub mod Hearing
-pub mod Serving
+pub mod ServedLines
 pub mod Agreeing
 mod ScriptLemmas

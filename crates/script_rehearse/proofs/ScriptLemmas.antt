@@ -8,7 +8,7 @@ use Rattle.script_rehearse.specs.declared.rehearsal.Rehearsal.{Rehearsal}
 use Rattle.script_rehearse.specs.Rehearsed.{Position, position_of, IsServedAt, TakesLine}
 use Rattle.script_rehearse.specs.Scripts.{rules, IsAt}
 use Rattle.script_rehearse.proofs.Agreeing.{line_agrees}
-use Rattle.script_rehearse.proofs.Serving.{line_served}
+use Rattle.script_rehearse.proofs.ServedLines.{line_served}
 
 -- where servers of the laws have served the client, a line says so of it, and they have served it after the line too
 pub moved : {A Y : Type 0} (line : Text) (old before : Position) (after : Rehearsal A) (r : Result (String Y) LineStop)

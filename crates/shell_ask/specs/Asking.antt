@@ -8,7 +8,7 @@ use Rattle.zk_turns.specs.View.{view_at}
 use Rattle.zk_client.specs.Clients.{view_of}
 use Rattle.zk_client.specs.Views.{outcome_view}
 use Rattle.zk_agent.specs.Telling.{Told, Says, TimesOut}
-use Rattle.zk_agent.specs.declared.input.Input.TheVariants as happens
+use Rattle.zk_agent.specs.declared.input.AgentInput.TheVariants as happens
 use Rattle.zk_driver.specs.Driving.{closed, Course, Goes, Hands}
 use Rattle.zk_link.specs.Streams.{Known}
 use Rattle.zk_driver.specs.Flowing.{Flow, Runs}

@@ -3,7 +3,7 @@
 ghost use Rattle.std.specs.Prelude.{◌≡◌, ◌∷◌, [], IfOk, OnOk, None, Some};
 ghost use Rattle.std.specs.Option.{is_some};
 ghost use Rattle.zk_conversation.specs.Views.{call_view};
-ghost use Rattle.zk_agent.specs.declared.input.Input.TheVariants as happens;
+ghost use Rattle.zk_agent.specs.declared.input.AgentInput.TheVariants as happens;
 ghost use Rattle.zk_driver.specs.Driving.{course_of, Course, Hands};
 ghost use Rattle.zk_driver.specs.Flowing.{flow_of, Runs};
 ghost use Rattle.shell_ask.specs.Asking.{came_view, Hears};

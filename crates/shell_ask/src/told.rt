@@ -13,9 +13,7 @@ use crate::end::End;
 use script_words::values::push_value;
 use std::alloc::{AllocError, Allocator};
 use zk_client::{CallResult, Code, Outcome};
-
-/// The code of a node that is not there.
-const NO_NODE: i32 = -101;
+use zk_conversation::NO_NODE;
 
 /// What a code of a server means.
 fn code_words(code: Code) -> &'static str

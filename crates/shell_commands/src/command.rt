@@ -27,7 +27,7 @@ use clap::error::ErrorKind;
 use clap::{Arg, ArgMatches, Error};
 use script_live::address::is_address;
 use shell_ask::Form;
-use shell_watch::{Style, Subject};
+use shell_watch::{NodeSide, Style};
 use std::alloc::{AllocError, Global};
 use zk_client::Call;
 use zk_nodes::Path;
@@ -83,7 +83,7 @@ pub enum Command<'a> {
 /// on.
 #[derive(Drop)]
 pub struct Scope {
-    pub subjects: Vec<Subject<Global>>,
+    pub subjects: Vec<NodeSide<Global>>,
     pub trees: Vec<Path>,
     pub most: u64,
 }

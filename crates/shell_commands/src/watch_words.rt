@@ -20,7 +20,7 @@ use crate::line_fault::{LineFault, no_command, no_duration, no_path, no_timeout}
 use crate::tree_words::most_of;
 use clap::{Arg, ArgAction, ArgMatches};
 use script_words::numbers::natural_of;
-use shell_watch::{Style, Subject};
+use shell_watch::{NodeSide, Style};
 use std::alloc::{AllocError, Global};
 use zk_nodes::{Path, PathFault, Side};
 
@@ -193,7 +193,7 @@ pub(crate) fn path_of(alloc: Global, word: &str) -> Result<Path, LineFault>
 /// Adds what is watched of the nodes at these paths below a chroot.
 fn add_subjects(
     alloc: Global,
-    subjects: &mut Vec<Subject<Global>>,
+    subjects: &mut Vec<NodeSide<Global>>,
     chroot: &str,
     side: Side,
     words: &[&str],
@@ -205,7 +205,7 @@ fn add_subjects(
 {
     for word in words {
         let path = node_of(alloc, chroot, word)?;
-        if subjects.push(Subject { side, path }).is_err() {
+        if subjects.push(NodeSide { side, path }).is_err() {
             return Err(LineFault::Memory);
         }
     }
@@ -215,7 +215,7 @@ fn add_subjects(
 /// Adds what is watched of the nodes at the paths below a chroot that an option was given.
 fn add_given(
     alloc: Global,
-    subjects: &mut Vec<Subject<Global>>,
+    subjects: &mut Vec<NodeSide<Global>>,
     chroot: &str,
     side: Side,
     matches: &ArgMatches<'_>,
@@ -237,7 +237,7 @@ fn subjects_of(
     alloc: Global,
     chroot: &str,
     matches: &ArgMatches<'_>,
-) -> Result<Vec<Subject<Global>>, LineFault>
+) -> Result<Vec<NodeSide<Global>>, LineFault>
     ensures ok { IfOk result (λ subjects. AreAims chroot.now (aims_of subjects.items) (rows_of (found_of matches.now))) }
     ensures err { IfErr result (TellsIf ((aims : List (Sides × Text)) → AreAims chroot.now aims (rows_of (found_of matches.now)) → ⊥)) }
 {

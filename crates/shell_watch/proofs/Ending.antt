@@ -12,8 +12,8 @@ use Rattle.zk_turns.specs.Turns.{Start, new_start}
 use Rattle.zk_turns.specs.View.{view_at}
 use Rattle.zk_client.specs.Clients.{view_of}
 use Rattle.zk_agent.specs.Agents.{IsLed}
-use Rattle.zk_agent.specs.declared.input.Input.{Input}
-use Rattle.zk_agent.specs.declared.input.Input.TheVariants as happens
+use Rattle.zk_agent.specs.declared.input.AgentInput.{AgentInput}
+use Rattle.zk_agent.specs.declared.input.AgentInput.TheVariants as happens
 use Rattle.zk_driver.specs.Driving.{Course, Hands}
 use Rattle.zk_driver.specs.Noting.{is_come}
 use Rattle.zk_agent.specs.Telling.{Told}
@@ -107,7 +107,7 @@ prints_from aims first ready a b follows writes =
 
 -- ---- led
 
-hands_led : {A : Type 0} (input : Input A) (old new : Course A) → Hands input old new → IsLed (view_of old.agent.asker.follower.client)
+hands_led : {A : Type 0} (input : AgentInput A) (old new : Course A) → Hands input old new → IsLed (view_of old.agent.asker.follower.client)
     → IsLed (view_of new.agent.asker.follower.client)
 hands_led {A} input old new hands led =
     subst (λ (c : Course A). IsLed (view_of c.agent.asker.follower.client)) (sym hands.writes.1) (hands.takes.comes.led led)

@@ -11,7 +11,7 @@ use Rattle.zk_client.specs.Clients.{view_of}
 use Rattle.zk_agent.specs.Telling.{told_by}
 use Rattle.zk_driver.specs.declared.engine.Engine.{Engine}
 use Rattle.zk_driver.specs.declared.turn.Turn.{Turn}
-use Rattle.zk_agent.specs.declared.input.Input.TheVariants as happens
+use Rattle.zk_agent.specs.declared.input.AgentInput.TheVariants as happens
 use Rattle.zk_driver.specs.Driving.{course_of, Hands}
 use Rattle.zk_driver.specs.Flowing.{flow_of, Flows}
 use Rattle.zk_driver.proofs.Running.{calls_run, next_runs}
@@ -21,7 +21,7 @@ use Rattle.std.specs.declared.string.String.{String}
 use Rattle.zk_nodes.specs.Path.{Text}
 use Rattle.zk_nodes.specs.declared.side.Side.{Side}
 use Rattle.shell_watch.specs.declared.plan.Style.{Style}
-use Rattle.zk_trees.specs.declared.subject.Subject.{Subject}
+use Rattle.zk_trees.specs.declared.subject.NodeSide.{NodeSide}
 use Rattle.shell_watch.specs.declared.trees.Trees.{Trees}
 use Rattle.shell_watch.specs.Trees.{growth_of}
 use Rattle.zk_trees.proofs.Growing.{mapped_next}
@@ -113,7 +113,7 @@ err_after P (Err e) old between a b c first rest = λ well. on_after old between
 -- ---- followed
 
 -- one more
-pub follows_more : {A : Type 0} (subjects : List (Subject A)) (index : ℕ) (subject : Subject A) (first here new : Stand A)
+pub follows_more : {A : Type 0} (subjects : List (NodeSide A)) (index : ℕ) (subject : NodeSide A) (first here new : Stand A)
     → index < length subjects → subject ≡ get_or subjects index subject
     → FollowsAll (aims_of (take index subjects)) first here → FollowsSo false (aim_of subject) here new
     → FollowsAll (aims_of (take (index + 1) subjects)) first new

@@ -12,7 +12,7 @@ use Rattle.zk_turns.specs.View.{View, view_at}
 use Rattle.zk_client.specs.Clients.{view_of}
 use Rattle.zk_agent.specs.Agents.{IsLed}
 use Rattle.zk_agent.specs.Telling.{Told, Says, action_view}
-use Rattle.zk_agent.specs.declared.input.Input.TheVariants as happens
+use Rattle.zk_agent.specs.declared.input.AgentInput.TheVariants as happens
 use Rattle.zk_driver.specs.declared.engine.Engine.{Engine}
 use Rattle.zk_driver.specs.Driving.{closed, course_of, passed_by, AreFollowed, Course, Hands}
 use Rattle.zk_link.specs.Streams.{known_of, Known}
@@ -25,7 +25,7 @@ pub use Rattle.zk_trees.specs.Trees.{aim_of, aims_of}
 use Rattle.zk_trees.specs.Trees.{is_settled, roots_aims, stays, tickets_gone, AreWanted, Wants}
 use Rattle.shell_watch.specs.Trees.{bound_text, growth_of, Growth}
 use Rattle.shell_watch.specs.declared.plan.Style.{Style}
-use Rattle.zk_trees.specs.declared.subject.Subject.{Subject}
+use Rattle.zk_trees.specs.declared.subject.NodeSide.{NodeSide}
 use Rattle.zk_trees.specs.declared.member.Member.{Member}
 use Rattle.std.specs.declared.string.String.{String}
 use Rattle.shell_watch.specs.declared.trees.Trees.{Trees}

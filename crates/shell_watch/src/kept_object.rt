@@ -20,7 +20,7 @@ use script_words::words::bytes_to_word;
 use std::alloc::{AllocError, Allocator};
 use std::collections::BTreeSet;
 use zk_client::{Client, DataAnswer, DataStat, Mark, Names, Side};
-use zk_trees::{Subject, is_missing};
+use zk_trees::{NodeSide, is_missing};
 
 /// The word for a side.
 fn side_name(side: Side) -> &'static str
@@ -245,7 +245,7 @@ fn put_names<A: Allocator + Copy>(
 }
 
 /// What is kept of a subject: which kind of line tells it.
-fn kind_of<A: Allocator + Copy>(client: &Client<A>, subject: &Subject<A>) -> &'static str
+fn kind_of<A: Allocator + Copy>(client: &Client<A>, subject: &NodeSide<A>) -> &'static str
     ensures { result.now ≡ kind_of subject.now.side subject.now.path (view_of client.now) }
 {
     match subject.side {
@@ -261,7 +261,7 @@ fn put_kept<A: Allocator + Copy>(
     writer: &mut Writer<A>,
     alloc: A,
     client: &Client<A>,
-    subject: &Subject<A>,
+    subject: &NodeSide<A>,
 ) -> Result<(), AllocError>
     ensures { OnOk result ((members : List json.Token) × AreMembers subject.now.side subject.now.path (view_of client.now) members
         × (writer.new.before ≡ writer.old.before) × (writer.new.tokens ≡ writer.old.tokens ++ members)) }
@@ -277,7 +277,7 @@ fn put_kept<A: Allocator + Copy>(
 /// Writes which side of which path is watched.
 fn put_aim<A: Allocator + Copy>(
     writer: &mut Writer<A>,
-    subject: &Subject<A>,
+    subject: &NodeSide<A>,
 ) -> Result<(), AllocError>
     ensures { OnOk result ((writer.new.before ≡ writer.old.before)
         × (writer.new.tokens ≡ writer.old.tokens
@@ -292,7 +292,7 @@ fn put_known<A: Allocator + Copy>(
     writer: &mut Writer<A>,
     alloc: A,
     client: &Client<A>,
-    subject: &Subject<A>,
+    subject: &NodeSide<A>,
 ) -> Result<(), AllocError>
     ensures { OnOk result ((kept : List json.Token) × AreMembers subject.now.side subject.now.path (view_of client.now) kept
         × (writer.new.before ≡ writer.old.before)
@@ -307,7 +307,7 @@ fn put_subject<A: Allocator + Copy>(
     writer: &mut Writer<A>,
     alloc: A,
     client: &Client<A>,
-    subject: &Subject<A>,
+    subject: &NodeSide<A>,
 ) -> Result<(), AllocError>
     ensures { OnOk result ((kept : List json.Token) × AreMembers subject.now.side subject.now.path (view_of client.now) kept
         × (writer.new.before ≡ writer.old.before)
@@ -323,7 +323,7 @@ pub(crate) fn subject_object<A: Allocator + Copy>(
     alloc: A,
     ms: u64,
     client: &Client<A>,
-    subject: &Subject<A>,
+    subject: &NodeSide<A>,
 ) -> Result<String<A>, AllocError>
     ensures { IfOk result (λ text. IsSubjectObject ms subject.now.side subject.now.path (view_of client.now) (string_bytes text)) }
 {

@@ -16,7 +16,7 @@ use script_replay::words::push_spaced;
 use script_words::values::push_stat;
 use std::alloc::{AllocError, Allocator};
 use zk_client::{Client, DataAnswer, DataStat, Mark, Path, Side};
-use zk_trees::{Subject, is_missing};
+use zk_trees::{NodeSide, is_missing};
 
 /// The words where nothing is kept.
 pub(crate) fn none_words(side: Side) -> &'static str
@@ -39,7 +39,7 @@ fn words_of(line: &str) -> Option<&str>
 fn line_of<A: Allocator + Copy>(
     alloc: A,
     client: &Client<A>,
-    subject: &Subject<A>,
+    subject: &NodeSide<A>,
 ) -> Result<String<A>, AllocError>
     ensures { IfOk result
         (λ text. DoesClient (PeekLine subject.now.side subject.now.path) (view_of client.now) (view_of client.now) (string_bytes text)) }
@@ -54,7 +54,7 @@ fn line_of<A: Allocator + Copy>(
 pub(crate) fn look<A: Allocator + Copy>(
     alloc: A,
     client: &Client<A>,
-    subject: &Subject<A>,
+    subject: &NodeSide<A>,
 ) -> Result<String<A>, AllocError>
     ensures { IfOk result (λ text. Looks subject.now.side subject.now.path (view_of client.now) (string_bytes text)) }
 {
@@ -116,7 +116,7 @@ pub(crate) fn words_in<A: Allocator + Copy>(
     alloc: A,
     style: Style,
     client: &Client<A>,
-    subject: &Subject<A>,
+    subject: &NodeSide<A>,
     words: &str,
 ) -> Result<String<A>, AllocError>
     ensures { IfOk result

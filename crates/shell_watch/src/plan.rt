@@ -2,7 +2,7 @@
 
 use std::alloc::Allocator;
 use zk_client::Path;
-use zk_trees::Subject;
+use zk_trees::NodeSide;
 
 /// How lines are printed.
 #[derive(Clone, Copy, Debug, PartialEq, Eq)]
@@ -21,7 +21,7 @@ pub enum Style {
 pub struct Plan<'a, A: Allocator + Copy> {
     /// What the dial takes: for `Tcp` a host and a port each.
     pub addresses: &'a [&'a str],
-    pub subjects: Vec<Subject<A>, A>,
+    pub subjects: Vec<NodeSide<A>, A>,
     /// The roots of trees: the data of each and the names below it are watched, and those of each node below it, as it comes to be known.
     pub trees: Vec<Path<A>, A>,
     /// Of a tree that is known to have more nodes than this, no more are taken on.

@@ -14,7 +14,7 @@ use script_words::values::push_word;
 use script_words::words::text_to_word;
 use std::alloc::{AllocError, Allocator};
 use zk_client::Client;
-use zk_trees::{Member, Subject};
+use zk_trees::{Member, NodeSide};
 
 /// A subject that is watched. What is noted of it are the words that were printed of it last.
 pub(crate) type Watched<A> = Member<A, String<A>>;
@@ -41,7 +41,7 @@ fn line_of_words<A: Allocator + Copy>(
     style: Style,
     ms: u64,
     client: &Client<A>,
-    subject: &Subject<A>,
+    subject: &NodeSide<A>,
     words: &str,
 ) -> Result<String<A>, AllocError>
     ensures { IfOk result
@@ -59,7 +59,7 @@ fn subject_line<A: Allocator + Copy>(
     style: Style,
     ms: u64,
     client: &Client<A>,
-    subject: &Subject<A>,
+    subject: &NodeSide<A>,
     words: &str,
 ) -> Result<String<A>, AllocError>
     ensures { IfOk result
@@ -74,7 +74,7 @@ fn subject_line<A: Allocator + Copy>(
 /// A copy of a subject, as if nothing were kept of it and that were printed.
 pub(crate) fn watched_of<A: Allocator + Copy>(
     alloc: A,
-    subject: &Subject<A>,
+    subject: &NodeSide<A>,
     ticket: u64,
     is_found: bool,
 ) -> Result<Watched<A>, AllocError>
@@ -84,7 +84,7 @@ pub(crate) fn watched_of<A: Allocator + Copy>(
     ensures words { IfOk result (λ one. string_bytes one.note ≡ none_words subject.now.side) }
 {
     let note = String::from_str(alloc, none_words(subject.side))?;
-    let subject = Subject::of(alloc, subject.side, &subject.path)?;
+    let subject = NodeSide::of(alloc, subject.side, &subject.path)?;
     Ok(Member {
         subject,
         ticket,

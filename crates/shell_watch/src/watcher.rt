@@ -21,7 +21,7 @@ use std::io::{self, Write};
 use zk_client::{Call, State};
 use zk_driver::{Action, Driver, Stop, Turn};
 use zk_link::{Clock, Dial};
-use zk_trees::{Subject, Wanted, copy_of, drop_gone, is_settled, tickets_gone, wanted_of};
+use zk_trees::{NodeSide, Wanted, copy_of, drop_gone, is_settled, tickets_gone, wanted_of};
 
 /// The ticket of the call that ends the session. Those of subjects begin at 1.
 const CLOSE: u64 = 0;
@@ -185,7 +185,7 @@ impl<'a, A: Allocator + Copy, D: Dial + Drop, C: Clock + Drop> Watcher<'a, A, D,
     }
 
     /// Follows a subject that was found, where it is not settled.
-    fn take_on(&mut self, subject: &Subject<A>) -> Result<(), Stop>
+    fn take_on(&mut self, subject: &NodeSide<A>) -> Result<(), Stop>
         ensures { OnOk result (TakesOn (aim_of subject.now) (stand_of D.Stream.remaining D.Stream.contents self.old.driver.engine
             self.old.watched.items self.old.is_accepted self.old.style self.old.trees) (stand_of D.Stream.remaining D.Stream.contents
             self.new.driver.engine self.new.watched.items self.new.is_accepted self.new.style self.new.trees)) }
@@ -358,7 +358,7 @@ impl<'a, A: Allocator + Copy, D: Dial + Drop, C: Clock + Drop> Watcher<'a, A, D,
     }
 
     /// Follows a subject, by the next ticket.
-    fn follow(&mut self, subject: &Subject<A>, is_found: bool) -> Result<(), Stop>
+    fn follow(&mut self, subject: &NodeSide<A>, is_found: bool) -> Result<(), Stop>
         ensures { OnOk result (FollowsSo is_found (aim_of subject.now) (stand_of D.Stream.remaining D.Stream.contents self.old.driver.engine
             self.old.watched.items self.old.is_accepted self.old.style self.old.trees) (stand_of D.Stream.remaining D.Stream.contents
             self.new.driver.engine self.new.watched.items self.new.is_accepted self.new.style self.new.trees)) }
@@ -381,7 +381,7 @@ impl<'a, A: Allocator + Copy, D: Dial + Drop, C: Clock + Drop> Watcher<'a, A, D,
     }
 
     /// Follows each subject.
-    fn follow_all(&mut self, subjects: &[Subject<A>]) -> Result<(), Stop>
+    fn follow_all(&mut self, subjects: &[NodeSide<A>]) -> Result<(), Stop>
         ensures { OnOk result (FollowsAll (aims_of subjects.now) (stand_of D.Stream.remaining D.Stream.contents self.old.driver.engine
             self.old.watched.items self.old.is_accepted self.old.style self.old.trees) (stand_of D.Stream.remaining D.Stream.contents
             self.new.driver.engine self.new.watched.items self.new.is_accepted self.new.style self.new.trees)) }
@@ -425,7 +425,7 @@ impl<'a, A: Allocator + Copy, D: Dial + Drop, C: Clock + Drop> Watcher<'a, A, D,
     /// Follows these subjects for this many milliseconds, and then ends the session.
     pub(crate) fn watch_for<O: Write>(
         &mut self,
-        subjects: &[Subject<A>],
+        subjects: &[NodeSide<A>],
         for_ms: Option<u64>,
         out: &mut O,
     ) -> End

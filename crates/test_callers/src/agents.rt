@@ -3,7 +3,7 @@
 use crate::devices::told::{natural, tell_numbers};
 use anyhow::Result;
 use ffi_agent_device::AgentDevice;
-use ffi_device::{Flat, Refusal, code_of};
+use ffi_device::{DeviceRefusal, Flat, code_of};
 use std::alloc::Global;
 use std::fmt::Write;
 use std::io;
@@ -85,7 +85,7 @@ fn happen(
     now: u64,
     bench: &mut Bench<Global>,
     device: &mut AgentDevice,
-) -> Result<(), Refusal> {
+) -> Result<(), DeviceRefusal> {
     match event {
         Event::Moment => device.tick(now),
         Event::Opens => {

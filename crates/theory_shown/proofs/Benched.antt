@@ -8,11 +8,11 @@ use Rattle.zk_bench.specs.declared.phase.Phase.TheVariants.{Accepted, Apart, End
 use Rattle.zk_bench.specs.Served.{is_open, with_requests, Served}
 use Rattle.zk_bench.specs.Served as bench
 use Rattle.zk_bench.specs.Stepping.{phase_of, shown_of, IsReady}
-use Rattle.zk_agent.specs.declared.input.Input.TheVariants as happens
+use Rattle.zk_agent.specs.declared.input.AgentInput.TheVariants as happens
 use Rattle.zk_driver.specs.Driving.{Looked, Noted, Written}
 use Rattle.zk_driver.specs.Flowing.{Asked, Deed, Flow, Made}
 use Rattle.zk_served.specs.Acts.{Act, Gives, Happens, Serves, Takes}
-use Rattle.zk_served.specs.Serving.{MeetsServers}
+use Rattle.zk_served.specs.ServedDrivers.{MeetsServers}
 use Rattle.zk_served.specs.Worlds.{Befalls, ByDriver, ByStream, Meanwhile}
 use Rattle.zk_served.proofs.Benched.{bench_advances, bench_connects, bench_ends, bench_gives, bench_processes, bench_takes}
 use Rattle.zk_served.proofs.Served.{bytes_serve, streams_cohere, streams_serve}

@@ -9,7 +9,7 @@ use Rattle.theory_serving.specs.GoingOn.{GoesOn}
 use Rattle.theory_serving.specs.Shown.{Over, Shown}
 use Rattle.theory_serving.proofs.Views.{good_session, rests_session}
 use Rattle.zk_bench.proofs.Processed.{goes_further}
-use Rattle.zk_agent.specs.declared.input.Input.TheVariants as happens
+use Rattle.zk_agent.specs.declared.input.AgentInput.TheVariants as happens
 use Rattle.zk_driver.specs.Driving.{Looked, Noted, Written}
 use Rattle.zk_driver.specs.Flowing.{Asked, Deed, Flow, Made, Passes}
 use Rattle.zk_served.specs.Acts.{Act, Gives, Happens, Serves, Takes}

@@ -14,12 +14,12 @@ use Rattle.zk_bench.specs.declared.phase.Phase.TheVariants.{Ended}
 use Rattle.zk_bench.specs.Served.{ended, is_open, with_requests, without_output, Served}
 use Rattle.zk_bench.specs.Served as bench
 use Rattle.zk_bench.specs.Stepping.{shown_of, IsReady, ProcessesFirst, TakesSome}
-use Rattle.zk_agent.specs.declared.input.Input.TheVariants as happens
+use Rattle.zk_agent.specs.declared.input.AgentInput.TheVariants as happens
 use Rattle.zk_driver.specs.Driving.{Looked, Noted, Written}
 use Rattle.zk_driver.specs.Flowing.{Deed, Flow, Made, Passes, Runs}
 use Rattle.zk_served.specs.Acts.{given_in, taken_in, Act, Gives, Serves, Takes}
 use Rattle.zk_served.specs.Asking.{StepsFit}
-use Rattle.zk_served.specs.Serving.{Begins}
+use Rattle.zk_served.specs.ServedDrivers.{Begins}
 use Rattle.zk_served.specs.Worlds.{ByDriver, Meets}
 
 -- ---- what a bench does while a connection is there

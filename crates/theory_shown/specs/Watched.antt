@@ -8,7 +8,7 @@ use Rattle.zk_laws.specs.Headline.{IsCoherentWith}
 use Rattle.theory_serving.specs.Shown.{Shown}
 use Rattle.zk_driver.specs.Flowing.{Flow, Runs}
 use Rattle.zk_served.specs.Asking.{StepsFit}
-use Rattle.zk_served.specs.Serving.{Begins}
+use Rattle.zk_served.specs.ServedDrivers.{Begins}
 use Rattle.zk_served.specs.Worlds.{ByStream, Meets}
 use Rattle.shell_watch.specs.Watching.{flow_in, view_in, Closes, Does, EndsFrom, Move, PrintsFrom, Stand, Takes}
 

@@ -10,8 +10,8 @@ use Rattle.zk_conversation.specs.Views.{call_view}
 use Rattle.zk_turns.specs.Turns.{Input, Outcome, Output, Answer, Enters, Send, Report, Drop}
 use Rattle.zk_turns.specs.Turns as turns
 use Rattle.zk_dialler.specs.declared.dialler.Dialler.{Dialler}
-use Rattle.zk_dialler.specs.declared.dialler.Due.{Due}
-use Rattle.zk_dialler.specs.declared.dialler.Due.TheVariants.{Dial, GiveUp}
+use Rattle.zk_dialler.specs.declared.dialler.DialDue.{DialDue}
+use Rattle.zk_dialler.specs.declared.dialler.DialDue.TheVariants.{Dial, GiveUp}
 use Rattle.zk_follow.specs.declared.news.News.{News}
 use Rattle.zk_follow.specs.Following.{news_in}
 use Rattle.zk_line.specs.declared.entry.Entry.{Entry}
@@ -22,8 +22,8 @@ use Rattle.zk_line.specs.Lines.{waits_turn}
 use Rattle.zk_dialler.specs.declared.dialler.Phase.{Phase}
 use Rattle.zk_dialler.specs.declared.dialler.Phase.TheVariants.{Waiting, Dialling, Open}
 use Rattle.zk_dialler.specs.Dialling.{is_open}
-use Rattle.zk_agent.specs.declared.input.Input.{Input as Happens}
-use Rattle.zk_agent.specs.declared.input.Input.TheVariants as happens
+use Rattle.zk_agent.specs.declared.input.AgentInput.{AgentInput}
+use Rattle.zk_agent.specs.declared.input.AgentInput.TheVariants as happens
 use Rattle.zk_agent.specs.Agents.{Comes, Move, Hears, Hands, Renews, Follows, Unfollows, Asks, GivesUp, Tires, Opened, Ended as Over}
 use Rattle.zk_agent.specs.Agents.{HungUp, Closes, Addressed, Decides, Does, HearsSo, LeavesWhere, LetsGoWhere, Trail, asks_for, bytes_at}
 use Rattle.zk_agent.specs.Agents.{given_of, how_many_asked, how_many_ended, is_given, opened_at}
@@ -61,7 +61,7 @@ says_no_end ticket told none = count_cons (is_end_of ticket) told [] ∙ ap (λ 
 no_news : (ticket : ℕ) (news : List (ℕ × News)) → how_many_ended ticket (map news_told news) ≡ 0
 no_news ticket news = count_none (is_end_of ticket) news_told (λ one. refl) news
 
-no_due : (ticket : ℕ) (due : Option Due) → how_many_ended ticket (due_told due) ≡ 0
+no_due : (ticket : ℕ) (due : Option DialDue) → how_many_ended ticket (due_told due) ≡ 0
 no_due ticket None = refl
 no_due ticket (Some (Dial place within)) = refl
 no_due ticket (Some GiveUp) = refl
@@ -102,7 +102,7 @@ opened_ask ticket Waiting now = refl
 opened_ask ticket (Dialling began until) now = refl
 opened_ask ticket Open now = refl
 
-pub asks_its : {A : Type 0} (ticket : ℕ) (phase : Phase) (now : ℕ) (input : Happens A)
+pub asks_its : {A : Type 0} (ticket : ℕ) (phase : Phase) (now : ℕ) (input : AgentInput A)
     → count_by (asks_for ticket) (given_of phase now input) ≡ how_many_asked ticket input
 asks_its ticket phase now happens.Opened = opened_ask ticket phase now
 asks_its ticket phase now happens.Failed = refl

@@ -18,7 +18,7 @@ use Rattle.zk_dialler.specs.declared.dialler.Phase.{Phase}
 use Rattle.zk_dialler.specs.declared.dialler.Phase.TheVariants.{Waiting, Dialling, Open}
 use Rattle.zk_dialler.specs.Backoffs.{row_ended}
 use Rattle.zk_dialler.specs.Dialling.{is_due, is_open, AttemptEnds, DialsWell, Ends, Opens}
-use Rattle.zk_dialler.specs.declared.dialler.Due.{Due}
+use Rattle.zk_dialler.specs.declared.dialler.DialDue.{DialDue}
 use Rattle.zk_follow.specs.declared.subject.Subject.{Subject}
 use Rattle.zk_follow.specs.Following.{due_again, told_of, IsFollowed}
 use Rattle.zk_line.specs.declared.entry.Entry.{Entry}
@@ -311,7 +311,7 @@ pub ended : {A : Type 0} (old new : Trail A) (timeout now : ℕ)
 ended old new timeout now is ends rest =
     gives now (Ended now) old new refl refl (subst (λ t. Ends t now old.dialler new.dialler) is ends, rest)
 
-pub decided : {A : Type 0} (old new : Trail A) (timeout now : ℕ) (due : Option Due)
+pub decided : {A : Type 0} (old new : Trail A) (timeout now : ℕ) (due : Option DialDue)
     → old.view.standing.state ≢ Closed → timeout ≡ old.view.saved.session.timeout
     → DialsWell timeout now old.dialler new.dialler due → is_some due ≡ is_due now old.dialler
     → new ≡ record old { dialler = new.dialler; told = old.told ++ due_told due } → Comes now [] old new

@@ -17,7 +17,7 @@ use Rattle.zk_turns.specs.Rule.{Stands}
 use Rattle.zk_turns.specs.Taken.{NothingIsDue}
 use Rattle.zk_client.specs.Clients.{renewed_start, view_of}
 use Rattle.zk_dialler.specs.declared.dialler.Dialler.{Dialler}
-use Rattle.zk_dialler.specs.declared.dialler.Due.{Due}
+use Rattle.zk_dialler.specs.declared.dialler.DialDue.{DialDue}
 use Rattle.zk_dialler.specs.declared.dialler.Phase.{Phase}
 use Rattle.zk_dialler.specs.declared.dialler.Phase.TheVariants.{Waiting, Dialling}
 use Rattle.zk_dialler.specs.Backoffs.{connected_at, row_ended}
@@ -32,8 +32,8 @@ use Rattle.zk_line.specs.declared.entry.Ending.TheVariants as ending
 use Rattle.zk_line.specs.Lines.{first_handed, first_limit, left, next_call}
 use Rattle.zk_agent.specs.declared.action.Action.{Action}
 use Rattle.zk_agent.specs.declared.agent.Agent.{Agent}
-use Rattle.zk_agent.specs.declared.input.Input.{Input as Happens}
-use Rattle.zk_agent.specs.declared.input.Input.TheVariants as happens
+use Rattle.zk_agent.specs.declared.input.AgentInput.{AgentInput}
+use Rattle.zk_agent.specs.declared.input.AgentInput.TheVariants as happens
 use Rattle.zk_agent.specs.declared.replies.Heard.{Heard}
 use Rattle.zk_agent.specs.Calls.{closings, endings, handed, hears_all, how_many_wait, tells_all, IsDone, IsInTime}
 use Rattle.zk_agent.specs.Replies.{heard_in}
@@ -77,7 +77,7 @@ pub data Move : Type 0 where
   Opened Ended : (now : ℕ) → Move
   HungUp Renews Closes : Move
   Addressed : (count : ℕ) → Move
-  Decides : (now : ℕ) → Option Due → Move
+  Decides : (now : ℕ) → Option DialDue → Move
 
 -- The dialler after outputs, where the client is in this state then. A row of failures ends with a reply, and with a connection that has
 -- lived for a third of the timeout.
@@ -198,7 +198,7 @@ pub record ClosesSo {A : Type 0} (old new : Trail A) : Type 0 where
   pub last : new ≡ record old { line = []; told = old.told ++ closings old.line }
 
 -- An address is dialled, or an attempt given up, by the rule of the dialler alone: not before its moment, and not after a close.
-pub record DecidesSo {A : Type 0} (now : ℕ) (due : Option Due) (old new : Trail A) : Type 0 where
+pub record DecidesSo {A : Type 0} (now : ℕ) (due : Option DialDue) (old new : Trail A) : Type 0 where
   pub goes_on : old.view.standing.state ≢ Closed
   pub dials : DialsWell old.view.saved.session.timeout now old.dialler new.dialler due
   pub all : is_some due ≡ is_due now old.dialler
@@ -295,7 +295,7 @@ bytes_at true now bytes = Hears now (turns.Bytes bytes) ∷ []
 bytes_at false now bytes = Hears now (turns.Now now) ∷ []
 
 -- what an input makes at a moment, by where the connection is
-abbrev pub given_of : {A : Type 0} → Phase → (now : ℕ) → Happens A → List Move
+abbrev pub given_of : {A : Type 0} → Phase → (now : ℕ) → AgentInput A → List Move
 given_of phase now happens.Opened = opened_at phase now
 given_of phase now happens.Failed = over_at now
 given_of phase now happens.Cut = over_at now
@@ -320,7 +320,7 @@ pub record Comes {A : Type 0} (now : ℕ) (given : List Move) (old new : Trail A
 -- Nothing that was due of the connection at this moment is left undone: it was done last.
 pub record IsDecided {A : Type 0} (now : ℕ) (new : Trail A) : Type 0 where
   pub before : Dialler A
-  pub due : Option Due
+  pub due : Option DialDue
   pub dials : DialsWell new.view.saved.session.timeout now before new.dialler due
   pub all : is_some due ≡ is_due now before
   pub rest : List Told
@@ -352,7 +352,7 @@ abbrev pub asks_for : (ticket : ℕ) → Move → Bool
 asks_for ticket (Asks its asked until) = its == ticket
 asks_for ticket _ = false
 
-abbrev pub how_many_asked : {A : Type 0} → (ticket : ℕ) → Happens A → ℕ
+abbrev pub how_many_asked : {A : Type 0} → (ticket : ℕ) → AgentInput A → ℕ
 how_many_asked ticket (happens.Call its call until) = if its == ticket then 1 else 0
 how_many_asked ticket _ = 0
 
@@ -384,6 +384,6 @@ IsAnswered agent =
     has_come agent.latest (ends_at (view_of agent.asker.follower.client).saved.session.timeout (waited_of agent.waits)) ≡ false
 
 -- when the server was heard last, once bytes have come on a connection that is there
-abbrev pub heard_after : {A : Type 0} → (is_open : Bool) → (now : ℕ) → Happens A → Option ℕ → Option ℕ
+abbrev pub heard_after : {A : Type 0} → (is_open : Bool) → (now : ℕ) → AgentInput A → Option ℕ → Option ℕ
 heard_after true now (happens.Bytes bytes) was = Some now
 heard_after is_open now input was = was

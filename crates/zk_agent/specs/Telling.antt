@@ -3,8 +3,8 @@ use Rattle.std.specs.Prelude.{◌==◌, ℕ, Bool, false, List, [], ◌∷◌, m
 use Rattle.zk_turns.specs.Turns.{Output, ConnectionLoss, SessionExpired, SessionClosed}
 use Rattle.zk_turns.specs.Turns as turns
 use Rattle.zk_client.specs.Views.{fault_view, outcome_view}
-use Rattle.zk_dialler.specs.declared.dialler.Due.{Due}
-use Rattle.zk_dialler.specs.declared.dialler.Due.TheVariants.{Dial, GiveUp}
+use Rattle.zk_dialler.specs.declared.dialler.DialDue.{DialDue}
+use Rattle.zk_dialler.specs.declared.dialler.DialDue.TheVariants.{Dial, GiveUp}
 use Rattle.zk_follow.specs.declared.news.News.{News}
 use Rattle.zk_follow.specs.declared.news.News.TheVariants as news
 use Rattle.zk_line.specs.declared.entry.Ended.{Ended}
@@ -40,7 +40,7 @@ told_by actions = map action_view actions
 abbrev pub news_told : (ℕ × News) → Told
 news_told news = Tells news.0 news.1
 
-abbrev pub due_told : Option Due → List Told
+abbrev pub due_told : Option DialDue → List Told
 due_told None = []
 due_told (Some (Dial place within)) = Dials place within ∷ []
 due_told (Some GiveUp) = HangsUp ∷ []

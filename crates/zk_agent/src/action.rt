@@ -5,7 +5,7 @@ ghost use Rattle.zk_agent.specs.Telling.{action_view, due_told, news_told, told_
 
 use std::alloc::{AllocError, Allocator, Global};
 use zk_client::{Event, Fault, Outcome, Side, State};
-use zk_dialler::Due;
+use zk_dialler::DialDue;
 use zk_follow::{News, Refusal};
 
 /// What an agent asks of its program, and what it tells it.
@@ -88,14 +88,17 @@ pub(crate) fn push_news<A: Allocator>(
 
 /// Adds what a program is asked to do about the connection.
 pub(crate) fn push_due<A: Allocator>(
-    due: Option<Due>,
+    due: Option<DialDue>,
     actions: &mut Vec<Action<A>, A>,
 ) -> Result<(), AllocError>
     ensures { OnOk result (told_by actions.new.items ≡ told_by actions.old.items ++ due_told due) }
 {
     match due {
-        Some(Due::Dial { place, within_ms }) => push(actions, Action::Dial { place, within_ms }),
-        Some(Due::GiveUp) => push(actions, Action::HangUp),
+        Some(DialDue::Dial { place, within_ms }) => push(
+            actions,
+            Action::Dial { place, within_ms },
+        ),
+        Some(DialDue::GiveUp) => push(actions, Action::HangUp),
         None => Ok(()),
     }
 }

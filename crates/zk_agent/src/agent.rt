@@ -4,7 +4,7 @@ ghost use Rattle.std.specs.Prelude.{◌≡◌, ◌<ℤ◌, pos};
 
 use crate::action::{Action, push, push_due};
 use crate::asker::Asker;
-use crate::input::{Input, heard_moment};
+use crate::input::{AgentInput, heard_moment};
 use crate::moments::{first_of_five, is_closed};
 use crate::waits::Waits;
 use std::alloc::{AllocError, Allocator, Global};
@@ -103,14 +103,14 @@ impl<A: Allocator + Copy> Agent<A> {
     pub(crate) fn timeout_ms(&self) -> u32
         ensures { result ≡ (view_of self.now.asker.follower.client).saved.session.timeout }
     {
-        self.asker.client().timeout_ms()
+        self.asker.follower.client().timeout_ms()
     }
 
     /// Where the client stands.
     pub(crate) fn state(&self) -> State
         ensures { result ≡ (view_of self.now.asker.follower.client).standing.state }
     {
-        self.asker.client().state()
+        self.asker.follower.client().state()
     }
 
     /// Whether the session was closed.
@@ -124,7 +124,7 @@ impl<A: Allocator + Copy> Agent<A> {
     pub fn client(&self) -> &Client<A>
         ensures { view_of result.now ≡ view_of self.now.asker.follower.client }
     {
-        self.asker.client()
+        self.asker.follower.client()
     }
 
     /// The moment at which the server was heard last, on any connection, and none before it was. What is kept and good was so on the
@@ -154,8 +154,8 @@ impl<A: Allocator + Copy> Agent<A> {
         self.asker.forget_stale();
     }
 
-    /// The first moment at which something is due: at the latest then a step is to be made, by [`Input::Moment`] if nothing else happens.
-    /// It may be past; there is none where nothing will be due, as after a close.
+    /// The first moment at which something is due: at the latest then a step is to be made, by [`AgentInput::Moment`] if nothing else
+    /// happens. It may be past; there is none where nothing will be due, as after a close.
     pub fn deadline(&self) -> Option<u64>
         ensures before { IfSome result (λ first. (moment : ℕ) → moment < 2 ^ 64 → moment < first → NothingAt self.now moment) }
         ensures due { IfSome result (λ first. ¬ (NothingAt self.now first)) }
@@ -174,7 +174,7 @@ impl<A: Allocator + Copy> Agent<A> {
         ensures due { IfSome result (λ first. ¬ (NothingOpen self.now first)) }
         ensures never { result ≡ None → (moment : ℕ) → moment < 2 ^ 64 → NothingOpen self.now moment }
     {
-        let due = self.asker.client().deadline();
+        let due = self.asker.follower.client().deadline();
         let attempt = self.dialler.deadline();
         let again = self.asker.follower.deadline();
         let limit = self.asker.line.deadline();
@@ -186,7 +186,11 @@ impl<A: Allocator + Copy> Agent<A> {
     /// Takes what has happened, noticed at this moment, and gives what is to be done and what there is to tell, in order.
     ///
     /// An error means that memory ran out. The agent is of no use then: begin with another one, from what was saved.
-    pub fn step(&mut self, now: u64, input: Input<A>) -> Result<Vec<Action<A>, A>, FollowerStop>
+    pub fn step(
+        &mut self,
+        now: u64,
+        input: AgentInput<A>,
+    ) -> Result<Vec<Action<A>, A>, FollowerStop>
         ensures comes { IfOk result (λ actions. Comes (max self.old.latest now)
             (given_of self.old.dialler.phase (max self.old.latest now) input) (trail_of self.old []) (trail_of self.new actions.items)) }
         ensures followed { OnOk result
@@ -223,7 +227,7 @@ impl<A: Allocator + Copy> Agent<A> {
     fn apply_happening(
         &mut self,
         now: u64,
-        input: Input<A>,
+        input: AgentInput<A>,
         actions: &mut Vec<Action<A>, A>,
     ) -> Result<(), FollowerStop>
         ensures comes { OnOk result (Comes now (given_of self.old.dialler.phase now input) (trail_of self.old actions.old.items)
@@ -232,18 +236,20 @@ impl<A: Allocator + Copy> Agent<A> {
             (All (IsFollowed now (view_of self.new.asker.follower.client)) self.new.asker.follower.subjects.items) }
     {
         match input {
-            Input::Opened => self.open(now, actions),
-            Input::Failed | Input::Cut => self.end(now, actions),
-            Input::Bytes(bytes) => self.bytes(now, bytes, actions),
-            Input::Moment => self.step_client(now, zk_client::Input::Now(now), actions),
-            Input::Addresses(count) => self.set_addresses(now, count, actions),
-            Input::Call {
+            AgentInput::Opened => self.open(now, actions),
+            AgentInput::Failed | AgentInput::Cut => self.end(now, actions),
+            AgentInput::Bytes(bytes) => self.bytes(now, bytes, actions),
+            AgentInput::Moment => self.step_client(now, zk_client::Input::Now(now), actions),
+            AgentInput::Addresses(count) => self.set_addresses(now, count, actions),
+            AgentInput::Call {
                 ticket,
                 call,
                 until,
             } => self.ask(now, ticket, call, until, actions),
-            Input::Follow { ticket, side, path } => self.follow(now, ticket, side, path, actions),
-            Input::Unfollow { ticket } => self.unfollow(now, ticket, actions),
+            AgentInput::Follow { ticket, side, path } => self.follow(
+                now, ticket, side, path, actions,
+            ),
+            AgentInput::Unfollow { ticket } => self.unfollow(now, ticket, actions),
         }
     }
 

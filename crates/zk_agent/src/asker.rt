@@ -51,13 +51,6 @@ impl<A: Allocator + Copy> Asker<A> {
         }
     }
 
-    /// The client.
-    pub(crate) fn client(&self) -> &Client<A>
-        ensures { view_of result.now ≡ view_of self.now.follower.client }
-    {
-        self.follower.client()
-    }
-
     /// Hands the client an input, and tells what it says.
     pub(crate) fn step(
         &mut self,

@@ -8,7 +8,7 @@ use zk_client::{Call, Path, Side};
 
 /// What happens to a session.
 #[derive(Drop)]
-pub enum Input<A: Allocator + Copy = Global> {
+pub enum AgentInput<A: Allocator + Copy = Global> {
     /// The connection that was asked for is there. One that was not, as where the attempt was given up before, is hung up, and so is the
     /// one that is there then.
     Opened,
@@ -46,13 +46,13 @@ pub enum Input<A: Allocator + Copy = Global> {
 pub(crate) fn heard_moment<A: Allocator + Copy>(
     is_open: bool,
     now: u64,
-    input: &Input<A>,
+    input: &AgentInput<A>,
     was: Option<u64>,
 ) -> Option<u64>
     ensures { result ≡ heard_after is_open now input.now was }
 {
     match input {
-        Input::Bytes(_) if is_open => Some(now),
+        AgentInput::Bytes(_) if is_open => Some(now),
         _ => was,
     }
 }

@@ -3,7 +3,8 @@
 //!
 //! An [`Agent`] is told what happens, with the moment at which it was noticed, and says what is to be done, in order: dial this address,
 //! hang up, send these bytes. It names the place of an address in its program's list and never sees one. The program has the sockets and
-//! the clock, and no policy: [`Agent::step`] takes each [`Input`], and [`Agent::deadline`] tells when it is to be called at the latest.
+//! the clock, and no policy: [`Agent::step`] takes each [`AgentInput`], and [`Agent::deadline`] tells when it is to be called at the
+//! latest.
 //!
 //! Subjects that the program follows are kept good, as in `zk_follow`. After an expiry another session begins by itself, with the last
 //! seen zxid, so that no server which is behind it admits it.
@@ -32,5 +33,5 @@ mod waits;
 
 pub use action::Action;
 pub use agent::{Agent, Settings};
-pub use input::Input;
+pub use input::AgentInput;
 pub use renewal::admits_nothing_older;

@@ -39,7 +39,7 @@ fn side_of<A: Allocator + Copy>(call: &Call<A>) -> Option<Side>
     }
 }
 
-/// A version, read for what is known of it.
+/// Says of a version what its type makes sure of. It is called for its clause, and gives the version as it was.
 fn known_of_version(version: i32) -> i32
     ensures range { FitsSigned w32 version }
     ensures same { result ≡ version }
@@ -47,7 +47,8 @@ fn known_of_version(version: i32) -> i32
     version
 }
 
-/// How long the path of a call is. The call is read for what is known of its texts and numbers.
+/// Says of the texts and numbers of a call what their types make sure of. It is called for its clauses; the number, the length of the path,
+/// is of no use.
 pub(crate) fn known_of_call<A: Allocator + Copy>(call: &Call<A>) -> usize
     ensures asked { IsAskable (call_view call.now) }
     ensures typed { IsTyped (call_view call.now) }

@@ -13,6 +13,7 @@ mod arrivals;
 mod call_result;
 mod calls;
 mod client;
+mod conformance;
 mod connections;
 mod copies;
 mod fault;

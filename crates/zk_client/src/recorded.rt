@@ -1,9 +1,9 @@
 //! An outside in memory.
 
-ghost use Rattle.std.specs.Prelude.{◌≡◌, ◌≤◌, [], map, reverse, Some, None, IfOk, vec_len};
+ghost use Rattle.std.specs.Prelude.{◌≡◌, ◌≤◌, [], map, Some, None, IfOk, vec_len};
 ghost use Rattle.zk_client.specs.Views.{input_view, said};
 ghost use Rattle.zk_client.specs.Outsides.{IsGiven};
-ghost use Rattle.zk_client.specs.Records.{told_of, turn_view};
+ghost use Rattle.zk_client.specs.Records.{told_of};
 
 use crate::input::Input;
 use crate::input_copies::copied_inputs;
@@ -28,15 +28,6 @@ impl<A: Allocator + Copy> Recorded<A> {
             asked,
             turns,
         })
-    }
-}
-
-impl<A: Allocator + Copy> Recorded<A> {
-    /// The turns, the oldest first.
-    pub fn turns(&self) -> &[RecordedTurn<A>]
-        ensures { reverse (map turn_view result.now) ≡ (told_of self.now).turns }
-    {
-        &self.turns
     }
 }
 

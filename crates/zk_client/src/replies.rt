@@ -31,14 +31,11 @@ use crate::machine::{Core, say};
 use crate::output::{Outcome, Output};
 use std::alloc::{AllocError, Allocator};
 use zk_cache::{Cache, DataAnswer};
-use zk_conversation::{Question, ReplyResult};
+use zk_conversation::{NO_NODE, Question, ReplyResult};
 use zk_jute::TextRef;
 use zk_nodes::{DataStat, Path, Side, Stat, copied_data};
 use zk_records::Code;
 use zk_watches::Registry;
-
-// What a server answers where there is no node.
-const NO_NODE: i32 = -101;
 
 /// Whether the code says that there is no node.
 fn says_absent(code: Code) -> bool

@@ -22,7 +22,8 @@ use std::alloc::{AllocError, Allocator};
 use zk_frames::FrameReader;
 use zk_session::{Due, State};
 
-/// How long the path is that a caller asks about, if one does. It is read for what is known of its text.
+/// Says of the call in an input, if there is one, what its type makes sure of. It is called for its clauses; the number, the length of the
+/// path, is of no use.
 pub(crate) fn known_of_input<A: Allocator + Copy>(input: &Input<A>) -> usize
     ensures asked { IsAsked (input_view input.now) }
     ensures typed { AsksOf IsTyped (input_view input.now) }

@@ -72,7 +72,7 @@ fn push<A: Allocator>(
 #[derive(Drop)]
 pub struct Conversation<A: Allocator + Copy> {
     alloc: A,
-    phase: Phase,
+    pub(crate) phase: Phase,
     // The oldest stands first.
     pending: VecDeque<Awaited<A>, A>,
     counts: Counts,
@@ -118,13 +118,6 @@ impl<A: Allocator + Copy> Conversation<A> {
             counts: NONE,
             xid: 1,
         }
-    }
-
-    /// Where the connection is.
-    pub fn phase(&self) -> Phase
-        ensures { result ≡ self.now.phase }
-    {
-        self.phase
     }
 
     /// How much is pending. It is counted as requests come and go, so the call takes constant time.

@@ -4,8 +4,8 @@ use Rattle.std.specs.Prelude.{if◌then◌else◌}
 use Rattle.zk_dialler.specs.declared.dialler.Dialler.{Dialler}
 use Rattle.zk_dialler.specs.declared.dialler.Phase.{Phase}
 use Rattle.zk_dialler.specs.declared.dialler.Phase.TheVariants.{Waiting, Dialling, Open}
-use Rattle.zk_dialler.specs.declared.dialler.Due.{Due}
-use Rattle.zk_dialler.specs.declared.dialler.Due.TheVariants.{Dial, GiveUp}
+use Rattle.zk_dialler.specs.declared.dialler.DialDue.{DialDue}
+use Rattle.zk_dialler.specs.declared.dialler.DialDue.TheVariants.{Dial, GiveUp}
 use Rattle.zk_dialler.specs.Backoffs.{Attempts}
 use Rattle.zk_dialler.specs.Orders.{is_empty_list, turn_at}
 
@@ -60,7 +60,7 @@ pub record GivesUp {A : Type 0} (timeout now : ℕ) (old new : Dialler A) : Type
   pub ends : AttemptEnds timeout now began Waiting old new
 
 -- What is done at a moment.
-abbrev pub DialsWell : {A : Type 0} → (timeout now : ℕ) → (old new : Dialler A) → Option Due → Type 0
+abbrev pub DialsWell : {A : Type 0} → (timeout now : ℕ) → (old new : Dialler A) → Option DialDue → Type 0
 DialsWell timeout now old new None = new ≡ old
 DialsWell timeout now old new (Some (Dial place its)) = Dials timeout now old new place its
 DialsWell timeout now old new (Some GiveUp) = GivesUp timeout now old new

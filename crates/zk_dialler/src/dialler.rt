@@ -28,7 +28,7 @@ pub(crate) enum Phase {
 
 /// What is to be done about the connection.
 #[derive(Clone, Copy)]
-pub enum Due {
+pub enum DialDue {
     /// Connect to the address at this place of the caller's list. After this many milliseconds the attempt will be given up.
     Dial { place: usize, within_ms: u64 },
     /// Give the attempt up.
@@ -84,7 +84,7 @@ impl<A: Allocator> Dialler<A> {
     }
 
     /// What is to be done at this moment: an attempt for a third of the timeout, and for a second at least, or the end of one.
-    pub fn due(&mut self, timeout_ms: u32, now: u64) -> Option<Due>
+    pub fn due(&mut self, timeout_ms: u32, now: u64) -> Option<DialDue>
         ensures well { DialsWell timeout_ms now self.old self.new result }
         ensures told { is_some result ≡ is_due now self.old }
     {
@@ -96,12 +96,12 @@ impl<A: Allocator> Dialler<A> {
                     began: now,
                     until: now.saturating_add(within_ms),
                 };
-                Some(Due::Dial { place, within_ms })
+                Some(DialDue::Dial { place, within_ms })
             }
             Phase::Dialling { began, until } if until <= now => {
                 self.backoff.attempt(timeout_ms, began, now);
                 self.phase = Phase::Waiting;
-                Some(Due::GiveUp)
+                Some(DialDue::GiveUp)
             }
             _ => None,
         }

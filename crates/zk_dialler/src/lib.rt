@@ -15,5 +15,5 @@ mod ring;
 
 pub use backoff::Backoff;
 pub use chance::Chance;
-pub use dialler::{Dialler, Due};
+pub use dialler::{DialDue, Dialler};
 pub use pause::pause_after;

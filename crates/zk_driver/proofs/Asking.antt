@@ -1,11 +1,11 @@
 -- What a program asks for is handed in at a moment at which nothing is due on the connection.
 use Rattle.std.proofs.Common.{◌≡◌, ◌<◌, ℕ, true}
 use Rattle.zk_agent.specs.Agents.{NothingAt}
-use Rattle.zk_agent.specs.declared.input.Input.{Input}
-use Rattle.zk_agent.specs.declared.input.Input.TheVariants as happens
+use Rattle.zk_agent.specs.declared.input.AgentInput.{AgentInput}
+use Rattle.zk_agent.specs.declared.input.AgentInput.TheVariants as happens
 use Rattle.zk_driver.specs.Driving.{Course, IsAsked, IsPatient}
 
-pub asked_patiently : {A : Type 0} (now : ℕ) (input : Input A) (course : Course A)
+pub asked_patiently : {A : Type 0} (now : ℕ) (input : AgentInput A) (course : Course A)
     → IsAsked input → (course.channel.is_open ≡ true → 0 < now → NothingAt course.agent now)
     → IsPatient now input course
 asked_patiently now (happens.Call ticket call until) course asked quiet = quiet

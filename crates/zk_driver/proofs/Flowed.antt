@@ -8,8 +8,8 @@ use Rattle.std.specs.List.{flat_map, FoldsTo}
 use Rattle.std.specs.Io.KnownBytes.{Appends, Consumes}
 use Rattle.zk_turns.specs.Turns.{Send}
 use Rattle.zk_agent.specs.Telling.{Told, Says, Dials, HangsUp, told_by}
-use Rattle.zk_agent.specs.declared.input.Input.{Input}
-use Rattle.zk_agent.specs.declared.input.Input.TheVariants as happens
+use Rattle.zk_agent.specs.declared.input.AgentInput.{AgentInput}
+use Rattle.zk_agent.specs.declared.input.AgentInput.TheVariants as happens
 use Rattle.zk_driver.specs.Driving.{carried, closed, ChannelView, Course, Hands, IsAsked, Meets, Written, Looked, Noted, Takes}
 use Rattle.zk_link.specs.Streams.{Known, Sends}
 use Rattle.zk_driver.specs.Flowing.{bytes_in, frame_of, handed_by, sent_in, AreWithin, Asked, BytesComeWhole, BytesGoWhole, Carries, Deed}
@@ -41,7 +41,7 @@ ok_flow_after (Ok x) old between new first rest = flow_after old between new fir
 ok_flow_after (Err e) old between new first rest = tt
 
 -- what happened is told to the agent
-pub flow_noted : {A : Type 0} (input : Input A) (old new : Flow A) (channel : ChannelView) (known : Known)
+pub flow_noted : {A : Type 0} (input : AgentInput A) (old new : Flow A) (channel : ChannelView) (known : Known)
     → Meets old.course.channel input channel → bytes_in input ≡ old.held
     → ((between : Flow A) → (between.course.channel.is_open ≡ true → between.known ≡ known) → Lasts input old between)
     → HandsOver input (record { course = record old.course { channel = channel }; known = known; held = [] }) new → Flows old new
@@ -50,7 +50,7 @@ flow_noted input old new channel known meets bytes lasts hands = record {
   carries = (hands.between, ((channel, meets, hands.takes), lasts hands.between hands.lasts, bytes, hands.held), (new, hands.writes, refl));
 }
 
-pub ok_flow_noted : {A X E : Type 0} (result : Result X E) (input : Input A) (old new : Flow A) (channel : ChannelView) (known : Known)
+pub ok_flow_noted : {A X E : Type 0} (result : Result X E) (input : AgentInput A) (old new : Flow A) (channel : ChannelView) (known : Known)
     → Meets old.course.channel input channel → bytes_in input ≡ old.held
     → ((between : Flow A) → (between.course.channel.is_open ≡ true → between.known ≡ known) → Lasts input old between)
     → OnOk result (HandsOver input (record { course = record old.course { channel = channel }; known = known; held = [] }) new)
@@ -59,13 +59,14 @@ ok_flow_noted (Ok x) input old new channel known meets bytes lasts hands = flow_
 ok_flow_noted (Err e) input old new channel known meets bytes lasts hands = tt
 
 -- the program asks for something
-pub flow_asked : {A : Type 0} (input : Input A) (old new : Flow A) → old.held ≡ [] → IsAsked input → HandsOver input old new → Flows old new
+pub flow_asked : {A : Type 0} (input : AgentInput A) (old new : Flow A)
+    → old.held ≡ [] → IsAsked input → HandsOver input old new → Flows old new
 flow_asked input old new held asked hands = record {
   deeds = Asked hands.now input ∷ Made Written ∷ [];
   carries = (hands.between, (hands.takes, asked, hands.lasts, held, hands.held), (new, hands.writes, refl));
 }
 
-pub ok_flow_asked : {A X E : Type 0} (result : Result X E) (input : Input A) (old new : Flow A)
+pub ok_flow_asked : {A X E : Type 0} (result : Result X E) (input : AgentInput A) (old new : Flow A)
     → old.held ≡ [] → IsAsked input → OnOk result (HandsOver input old new)
     → OnOk result (Flows old new)
 ok_flow_asked (Ok x) input old new held asked hands = flow_asked input old new held asked hands
@@ -85,7 +86,8 @@ open_carried channel (Dials place within ∷ told) there =
 open_carried channel (_ ∷ told) there = open_carried channel told there
 
 -- the agent took an input
-open_taken : {A : Type 0} (now : ℕ) (input : Input A) (old new : Course A) (takes : Takes now input old new) → new.channel.is_open ≡ true
+open_taken : {A : Type 0} (now : ℕ) (input : AgentInput A) (old new : Course A) (takes : Takes now input old new)
+    → new.channel.is_open ≡ true
     → (old.channel.is_open ≡ true) × (new.channel.unsent ≡ old.channel.unsent ++ flat_map frame_of (told_by takes.actions))
 open_taken now input old new takes there =
     let was = open_carried old.channel (told_by takes.actions) (sym (ap (λ (c : ChannelView). c.is_open) takes.channel) ∙ there) in
@@ -96,7 +98,7 @@ unless_true : (b : Bool) → (b ≡ true → ⊥) → b ≡ false
 unless_true true never = absurd (never refl)
 unless_true false never = refl
 
-pub ok_stays_shut : {A X E : Type 0} (result : Result X E) (input : Input A) (old new : Course A)
+pub ok_stays_shut : {A X E : Type 0} (result : Result X E) (input : AgentInput A) (old new : Course A)
     → old.channel.is_open ≡ false → OnOk result (Hands input old new)
     → OnOk result (new.channel.is_open ≡ false)
 ok_stays_shut (Ok x) input old new shut hands = unless_true new.channel.is_open (λ there.
@@ -124,7 +126,7 @@ open_before (Made (Noted now input)) old new carries within there = absurd carri
 open_before (Asked now input) old new carries within there = (open_taken now input old.course new.course carries.0 there).0
 
 -- what is sent by one that leaves a connection there, which is the one that was there
-goes_on : {A : Type 0} (now : ℕ) (input : Input A) (old new : Flow A) (carries : Carries old (Made (Noted now input)) new)
+goes_on : {A : Type 0} (now : ℕ) (input : AgentInput A) (old new : Flow A) (carries : Carries old (Made (Noted now input)) new)
     → AreWithin (Made (Noted now input) ∷ [])
     → new.course.channel.is_open ≡ true
     → (new.known ≡ old.known) × (new.course.channel.unsent ≡ old.course.channel.unsent ++ flat_map frame_of (told_by carries.0.2.actions))
@@ -217,7 +219,7 @@ begins_handed held bytes handed None is begins = tt
 begins_handed held bytes handed (Some x) is begins =
     (begins.0, ap (λ l. l ++ x) (sym is) ∙ ap (λ l. bytes ++ l) begins.1 ∙ sym (append_assoc bytes handed begins.0))
 
-comes_noted : {A : Type 0} (now : ℕ) (input : Input A) (deeds : List (Deed A)) (old mid new : Flow A)
+comes_noted : {A : Type 0} (now : ℕ) (input : AgentInput A) (deeds : List (Deed A)) (old mid new : Flow A)
     (carries : Carries old (Made (Noted now input)) mid)
     → FoldsTo Carries mid deeds new → AreWithin (Made (Noted now input) ∷ []) → AreWithin deeds → (is_open : Bool)
     → mid.course.channel.is_open ≡ is_open
@@ -233,7 +235,7 @@ comes_noted now input deeds old mid new carries rest first within false shut beg
     (ap (λ l. bytes_in input ++ l) (none_through deeds mid new rest within (λ there. let e : true ≡ false = sym there ∙ shut in cc))
     ∙ append-nil (bytes_in input) ∙ carries.2)
 
-comes_asked : {A : Type 0} (now : ℕ) (input : Input A) (deeds : List (Deed A)) (old mid new : Flow A)
+comes_asked : {A : Type 0} (now : ℕ) (input : AgentInput A) (deeds : List (Deed A)) (old mid new : Flow A)
     (carries : Carries old (Asked now input) mid)
     → FoldsTo Carries mid deeds new → AreWithin deeds → (is_open : Bool) → mid.course.channel.is_open ≡ is_open
     → Begins mid.held (flat_map handed_by deeds) mid.known.left → Begins old.held (flat_map handed_by deeds) old.known.left

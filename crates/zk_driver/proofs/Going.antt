@@ -4,7 +4,7 @@ use Rattle.std.specs.Prelude.{Result, Ok, Err, OnOk}
 use Rattle.std.specs.List.{flat_map, FoldsTo}
 use Rattle.zk_client.specs.Clients.{view_of}
 use Rattle.zk_agent.specs.Agents.{IsLed}
-use Rattle.zk_agent.specs.declared.input.Input.{Input}
+use Rattle.zk_agent.specs.declared.input.AgentInput.{AgentInput}
 use Rattle.zk_driver.specs.Driving.{ChannelView, Course, AreFollowed, Does, Goes, Hands, IsShutAgent, Meets, Move, Notes, Written, Looked}
 use Rattle.zk_driver.specs.Driving.{Noted}
 use Rattle.zk_driver.specs.Noting.{notes_by, notes_in, GoesBy, Note}
@@ -142,20 +142,20 @@ pub written : {A : Type 0} (old new : Course A) → Does old Written new → Goe
 written old new writes = come (Written ∷ []) old new (new, writes, refl)
 
 -- something happened, and the agent was handed it
-pub noted_so : {A : Type 0} (input : Input A) (old new : Course A) (between : ChannelView)
+pub noted_so : {A : Type 0} (input : AgentInput A) (old new : Course A) (between : ChannelView)
     → Meets old.channel input between → Hands input (record old { channel = between }) new → GoesBy (notes_in input) old new
 noted_so input old new between meets hands =
     come_by (notes_in input) (Noted hands.now input ∷ Written ∷ []) old new
     (hands.between, (between, meets, hands.takes), (new, hands.writes, refl)) (append-nil (notes_in input))
 
-pub noted : {A X E : Type 0} (result : Result X E) (input : Input A) (old new : Course A) (between : ChannelView)
+pub noted : {A X E : Type 0} (result : Result X E) (input : AgentInput A) (old new : Course A) (between : ChannelView)
     → Meets old.channel input between
     → OnOk result (Hands input (record old { channel = between }) new) → OnOk result (GoesBy (notes_in input) old new)
 noted (Ok x) input old new between meets hands = noted_so input old new between meets hands
 noted (Err e) input old new between meets hands = tt
 
 -- and it was the first thing
-pub first_so : {A : Type 0} (input : Input A) (old new : Course A) (between : ChannelView)
+pub first_so : {A : Type 0} (input : AgentInput A) (old new : Course A) (between : ChannelView)
     → Meets old.channel input between → Hands input (record old { channel = between }) new → Notes input old new
 first_so input old new between meets hands =
     record {
@@ -165,13 +165,13 @@ first_so input old new between meets hands =
       rest = written hands.between new hands.writes;
     }
 
-pub first : {A X E : Type 0} (result : Result X E) (input : Input A) (old new : Course A) (between : ChannelView)
+pub first : {A X E : Type 0} (result : Result X E) (input : AgentInput A) (old new : Course A) (between : ChannelView)
     → Meets old.channel input between
     → OnOk result (Hands input (record old { channel = between }) new) → OnOk result (Notes input old new)
 first (Ok x) input old new between meets hands = first_so input old new between meets hands
 first (Err e) input old new between meets hands = tt
 
-pub first_then : {A X E : Type 0} (result : Result X E) (input : Input A) (old between new : Course A)
+pub first_then : {A X E : Type 0} (result : Result X E) (input : AgentInput A) (old between new : Course A)
     → Notes input old between → OnOk result (GoesBy [] between new) → OnOk result (Notes input old new)
 first_then (Ok x) input old between new notes rest =
     record {

@@ -9,8 +9,8 @@ use Rattle.zk_dialler.specs.Dialling.{is_open}
 use Rattle.zk_follow.specs.Following.{IsFollowed}
 use Rattle.zk_agent.specs.declared.action.Action.{Action}
 use Rattle.zk_agent.specs.declared.agent.Agent.{Agent}
-use Rattle.zk_agent.specs.declared.input.Input.{Input}
-use Rattle.zk_agent.specs.declared.input.Input.TheVariants as happens
+use Rattle.zk_agent.specs.declared.input.AgentInput.{AgentInput}
+use Rattle.zk_agent.specs.declared.input.AgentInput.TheVariants as happens
 use Rattle.zk_agent.specs.Agents.{given_of, heard_after, how_many_asked, how_many_ended, trail_of, Comes, IsAnswered, IsDecided, IsLed}
 use Rattle.zk_agent.specs.Agents.{IsShut, NothingAt}
 use Rattle.zk_agent.specs.Calls.{how_many, IsInTime, IsServed}
@@ -129,7 +129,7 @@ IsTimely now course = course.channel.is_open ≡ true → NothingAt course.agent
 
 -- What comes on a connection, its end, and what the program asks for while one is there, are handed in at a moment at which nothing is due.
 -- A moment itself is told where it may be.
-abbrev pub IsPatient : {A : Type 0} → (now : ℕ) → Input A → Course A → Type 0
+abbrev pub IsPatient : {A : Type 0} → (now : ℕ) → AgentInput A → Course A → Type 0
 IsPatient now happens.Moment course = IsTimely now course
 IsPatient now (happens.Bytes bytes) course = 0 < now → NothingAt course.agent now
 IsPatient now happens.Opened course = ⊤
@@ -141,7 +141,7 @@ IsPatient now _ course = course.channel.is_open ≡ true → 0 < now → Nothing
 -- settled once or waits, none waits past its limit or after a close, no server is kept that leaves a call or a ping without its answer for
 -- two thirds of the timeout, a session that has expired is over, and what was due of the connection is done. What it says is carried out,
 -- or put after what the program is told, each in its order.
-pub record Takes {A : Type 0} (now : ℕ) (input : Input A) (old new : Course A) : Type 0 where
+pub record Takes {A : Type 0} (now : ℕ) (input : AgentInput A) (old new : Course A) : Type 0 where
   pub patient : IsPatient now input old
   pub actions : List (Action A)
   pub comes : Comes (max old.agent.latest now) (given_of old.agent.dialler.phase (max old.agent.latest now) input) (trail_of old.agent [])
@@ -163,7 +163,7 @@ pub record Takes {A : Type 0} (now : ℕ) (input : Input A) (old new : Course A)
 
 -- What may happen on a connection, and the connection with it. An address that is to be dialled is dialled before anything else is noted,
 -- and that it could not be is noted too. Bytes come, and the end does, where a connection is.
-abbrev pub Meets : {A : Type 0} → ChannelView → Input A → ChannelView → Type 0
+abbrev pub Meets : {A : Type 0} → ChannelView → AgentInput A → ChannelView → Type 0
 Meets old happens.Opened new = (is_some old.attempt ≡ true) × (new ≡ opened)
 Meets old happens.Failed new = (is_some old.attempt ≡ true) × (new ≡ closed)
 Meets old (happens.Bytes bytes) new = (old.attempt ≡ None) × (old.is_open ≡ true) × (new ≡ old)
@@ -174,7 +174,7 @@ Meets old _ new = ⊥
 pub data Move (A : Type 0) : Type 0 where
   Written : Move A
   Looked : Look → Move A
-  Noted : (now : ℕ) → Input A → Move A
+  Noted : (now : ℕ) → AgentInput A → Move A
 
 -- What each move does.
 abbrev pub Does : {A : Type 0} → Course A → Move A → Course A → Type 0
@@ -192,14 +192,14 @@ pub record Goes {A : Type 0} (old new : Course A) : Type 0 where
   pub shut : IsShutAgent old.agent → IsShutAgent new.agent
 
 -- This is what the agent is handed first.
-pub record Notes {A : Type 0} (input : Input A) (old new : Course A) : Type 0 where
+pub record Notes {A : Type 0} (input : AgentInput A) (old new : Course A) : Type 0 where
   pub now : ℕ
   pub between : Course A
   pub noted : Does old (Noted now input) between
   pub rest : Goes between new
 
 -- what a read has brought, as the agent is handed it
-abbrev pub input_of : {A : Type 0} → Brought A → Input A
+abbrev pub input_of : {A : Type 0} → Brought A → AgentInput A
 input_of (brought.Piece bytes) = happens.Bytes bytes
 input_of brought.Nothing = happens.Moment
 input_of brought.End = happens.Cut
@@ -210,7 +210,7 @@ IsTaken now brought.Nothing course = IsTimely now course
 IsTaken now brought course = ⊤
 
 -- what a program asks for, and a driver hands in for it
-abbrev pub IsAsked : {A : Type 0} → Input A → Type 0
+abbrev pub IsAsked : {A : Type 0} → AgentInput A → Type 0
 IsAsked (happens.Call ticket call until) = ⊤
 IsAsked (happens.Follow ticket side path) = ⊤
 IsAsked (happens.Unfollow ticket) = ⊤
@@ -218,7 +218,7 @@ IsAsked (happens.Addresses count) = ⊤
 IsAsked _ = ⊥
 
 -- The program hands the agent an input, at the moment at which it does.
-pub record Hands {A : Type 0} (input : Input A) (old new : Course A) : Type 0 where
+pub record Hands {A : Type 0} (input : AgentInput A) (old new : Course A) : Type 0 where
   pub now : ℕ
   pub between : Course A
   pub takes : Takes now input old between

@@ -4,8 +4,8 @@ use Rattle.std.specs.List.{flat_map, FoldsTo}
 use Rattle.std.specs.Io.KnownBytes.{Appends}
 use Rattle.zk_turns.specs.Turns.{Send}
 use Rattle.zk_agent.specs.declared.action.Action.{Action}
-use Rattle.zk_agent.specs.declared.input.Input.{Input}
-use Rattle.zk_agent.specs.declared.input.Input.TheVariants as happens
+use Rattle.zk_agent.specs.declared.input.AgentInput.{AgentInput}
+use Rattle.zk_agent.specs.declared.input.AgentInput.TheVariants as happens
 use Rattle.zk_agent.specs.Telling.{Told, Says, told_by}
 use Rattle.zk_link.specs.Streams.{known_of, Exchanges, Known}
 use Rattle.zk_driver.specs.declared.engine.Engine.{Engine}
@@ -22,12 +22,12 @@ flow_of remaining contents engine passed =
     record { course = course_of engine passed; known = known_of remaining contents engine.channel.stream; held = [] }
 
 -- the bytes that the agent is handed by an input
-abbrev pub bytes_in : {A : Type 0} → Input A → List ℕ
+abbrev pub bytes_in : {A : Type 0} → AgentInput A → List ℕ
 bytes_in (happens.Bytes bytes) = bytes.items
 bytes_in input = []
 
 -- The stream is as it was, unless a connection begins or is over.
-abbrev pub Lasts : {A : Type 0} → Input A → (old new : Flow A) → Type 0
+abbrev pub Lasts : {A : Type 0} → AgentInput A → (old new : Flow A) → Type 0
 Lasts happens.Opened old new = ⊤
 Lasts happens.Failed old new = ⊤
 Lasts happens.Cut old new = ⊤
@@ -36,7 +36,7 @@ Lasts input old new = new.course.channel.is_open ≡ true → new.known ≡ old.
 -- A driver makes a move, or its program asks for something.
 pub data Deed (A : Type 0) : Type 0 where
   Made : Move A → Deed A
-  Asked : (now : ℕ) → Input A → Deed A
+  Asked : (now : ℕ) → AgentInput A → Deed A
 
 -- What each does. What a read brings is held, and is what the agent is handed next, whole; nothing else is handed to it as bytes, and
 -- nothing is read before that.
@@ -59,7 +59,7 @@ pub record Flows {A : Type 0} (old new : Flow A) : Type 0 where
   pub carries : FoldsTo Carries old deeds new
 
 -- The agent takes an input, and what it says is carried out; then some of what is unsent is written.
-pub record HandsOver {A : Type 0} (input : Input A) (old new : Flow A) : Type 0 where
+pub record HandsOver {A : Type 0} (input : AgentInput A) (old new : Flow A) : Type 0 where
   pub now : ℕ
   pub between : Flow A
   pub takes : Takes now input old.course between.course

@@ -3,8 +3,8 @@ use Rattle.std.specs.Prelude.{◌≡◌, Bool, true, false, List, [], ◌∷◌,
 use Rattle.std.specs.List.{flat_map, FoldsTo}
 use Rattle.zk_client.specs.Clients.{view_of}
 use Rattle.zk_agent.specs.declared.action.Action.{Action}
-use Rattle.zk_agent.specs.declared.input.Input.{Input}
-use Rattle.zk_agent.specs.declared.input.Input.TheVariants as happens
+use Rattle.zk_agent.specs.declared.input.AgentInput.{AgentInput}
+use Rattle.zk_agent.specs.declared.input.AgentInput.TheVariants as happens
 use Rattle.zk_agent.specs.Agents.{IsLed}
 use Rattle.zk_driver.specs.declared.turn.Event.{Event}
 use Rattle.zk_driver.specs.declared.turn.Event.TheVariants as event
@@ -16,7 +16,7 @@ use Rattle.zk_driver.specs.Driving.{AreFollowed, Course, Does, IsShutAgent, Move
 pub data Note : Type 0 where
   Made Missed Lost : Note
 
-abbrev pub notes_in : {A : Type 0} → Input A → List Note
+abbrev pub notes_in : {A : Type 0} → AgentInput A → List Note
 notes_in happens.Opened = Made ∷ []
 notes_in happens.Failed = Missed ∷ []
 notes_in happens.Cut = Lost ∷ []

@@ -6,7 +6,7 @@ ghost use Rattle.zk_turns.specs.Turns.{new_start};
 ghost use Rattle.zk_turns.specs.View.{view_at};
 ghost use Rattle.zk_client.specs.Clients.{view_of};
 ghost use Rattle.zk_agent.specs.Telling.{told_by};
-ghost use Rattle.zk_agent.specs.declared.input.Input.TheVariants as happens;
+ghost use Rattle.zk_agent.specs.declared.input.AgentInput.TheVariants as happens;
 ghost use Rattle.zk_driver.specs.Driving.{channel_view, closed, course_of, AreFollowed, Extends, Goes, Hands, IsAsked, IsShutAgent};
 ghost use Rattle.zk_driver.specs.Noting.{is_come, notes_of, notes_of_event, passed_in, GoesBy};
 ghost use Rattle.zk_driver.specs.Flowing.{flow_of, Flows};
@@ -17,7 +17,7 @@ use crate::reason::{Reason, reason_of};
 use crate::stop::Stop;
 use crate::turn::{Event, Glance, Turn};
 use std::alloc::{AllocError, Allocator};
-use zk_agent::{Action, Agent, Input, Settings};
+use zk_agent::{Action, Agent, AgentInput, Settings};
 use zk_client::{Call, Client, Path, Side};
 use zk_link::{Clock, Dial};
 
@@ -120,7 +120,7 @@ impl<'a, A: Allocator + Copy, D: Dial + Drop, C: Clock + Drop> Driver<'a, A, D, 
             (flow_of D.Stream.remaining D.Stream.contents self.new.engine None)) }
         ensures kept { Extends (told_by self.old.engine.waiting.items) (told_by self.new.engine.waiting.items) }
     {
-        self.hand(Input::Follow { ticket, side, path })
+        self.hand(AgentInput::Follow { ticket, side, path })
     }
 
     /// Follows the subject of this ticket no more.
@@ -130,7 +130,7 @@ impl<'a, A: Allocator + Copy, D: Dial + Drop, C: Clock + Drop> Driver<'a, A, D, 
             (flow_of D.Stream.remaining D.Stream.contents self.new.engine None)) }
         ensures kept { Extends (told_by self.old.engine.waiting.items) (told_by self.new.engine.waiting.items) }
     {
-        self.hand(Input::Unfollow { ticket })
+        self.hand(AgentInput::Unfollow { ticket })
     }
 
     /// Asks a call: it is answered once, by [`Action::Answer`], or times out once, at this moment of the clock where there is one. No other
@@ -142,7 +142,7 @@ impl<'a, A: Allocator + Copy, D: Dial + Drop, C: Clock + Drop> Driver<'a, A, D, 
             (flow_of D.Stream.remaining D.Stream.contents self.new.engine None)) }
         ensures kept { Extends (told_by self.old.engine.waiting.items) (told_by self.new.engine.waiting.items) }
     {
-        self.hand(Input::Call {
+        self.hand(AgentInput::Call {
             ticket,
             call,
             until,
@@ -158,12 +158,12 @@ impl<'a, A: Allocator + Copy, D: Dial + Drop, C: Clock + Drop> Driver<'a, A, D, 
         ensures kept { Extends (told_by self.old.engine.waiting.items) (told_by self.new.engine.waiting.items) }
     {
         self.addresses = addresses;
-        self.hand(Input::Addresses(addresses.len()))
+        self.hand(AgentInput::Addresses(addresses.len()))
     }
 
     /// Hands in what the program asks for, at the clock's moment; where something is due on the connection, at the last moment before that,
     /// so that what has come is read before the clock's moment is told.
-    fn hand(&mut self, input: Input<A>) -> Result<(), Stop>
+    fn hand(&mut self, input: AgentInput<A>) -> Result<(), Stop>
         requires { IsAsked input }
         ensures hands { OnOk result (Hands input (course_of self.old.engine None) (course_of self.new.engine None)) }
         ensures flows { OnOk result (Flows (flow_of D.Stream.remaining D.Stream.contents self.old.engine None)

@@ -4,7 +4,7 @@ ghost use Rattle.std.specs.Prelude.{◌≡◌, ◌≤◌, ◌<◌, ◌+◌, ◌+
 ghost use Rattle.std.specs.List.{filter};
 ghost use Rattle.zk_agent.specs.Agents.{NothingAt};
 ghost use Rattle.zk_agent.specs.Telling.{action_view, told_by};
-ghost use Rattle.zk_agent.specs.declared.input.Input.TheVariants as happens;
+ghost use Rattle.zk_agent.specs.declared.input.AgentInput.TheVariants as happens;
 ghost use Rattle.zk_driver.specs.Driving.{carried, channel_view, closed, course_of, input_of, is_passed, Extends, Goes, Hands, IsOverdue};
 ghost use Rattle.zk_driver.specs.Driving.{IsPatient, IsSeen, IsTaken, IsTimely, Notes};
 ghost use Rattle.zk_driver.specs.Noting.{notes_in, notes_of_event, Made, Missed, Lost, GoesBy};
@@ -16,7 +16,7 @@ use crate::turn::Event;
 use crate::wait::wait_between;
 use std::alloc::{AllocError, Allocator};
 use std::collections::VecDeque;
-use zk_agent::{Action, Agent, Input};
+use zk_agent::{Action, Agent, AgentInput};
 use zk_link::{Brought, Stream};
 
 /// The most reads of what a connection has before a moment is told, where something was due before it.
@@ -108,7 +108,7 @@ impl<A: Allocator + Copy, S: Stream> Engine<A, S> {
 
     /// Hands the agent an input that was noticed at this moment, and does what it says. The answer is the moment. That a write has failed
     /// is seen by the next read.
-    pub(crate) fn hand(&mut self, now: u64, input: Input<A>) -> Result<u64, Stop>
+    pub(crate) fn hand(&mut self, now: u64, input: AgentInput<A>) -> Result<u64, Stop>
         requires { IsPatient now input (course_of self.old None) }
         ensures hands { OnOk result (Hands input (course_of self.old None) (course_of self.new None)) }
         ensures flows { OnOk result
@@ -138,7 +138,7 @@ impl<A: Allocator + Copy, S: Stream> Engine<A, S> {
         ensures kept { Extends (told_by self.old.waiting.items) (told_by self.new.waiting.items) }
     {
         self.channel.hold(stream);
-        self.hand(now, Input::Opened)
+        self.hand(now, AgentInput::Opened)
     }
 
     /// The connection that was asked for could not be made.
@@ -152,7 +152,7 @@ impl<A: Allocator + Copy, S: Stream> Engine<A, S> {
         ensures kept { Extends (told_by self.old.waiting.items) (told_by self.new.waiting.items) }
     {
         self.channel.close();
-        self.hand(now, Input::Failed)
+        self.hand(now, AgentInput::Failed)
     }
 
     /// The connection is over, and the agent is told so with the moment of bytes: when it was over is not known where the program was
@@ -169,7 +169,7 @@ impl<A: Allocator + Copy, S: Stream> Engine<A, S> {
     {
         let moment = self.moment_of_bytes(now);
         self.channel.close();
-        self.hand(moment, Input::Cut)
+        self.hand(moment, AgentInput::Cut)
     }
 
     /// The connection is over. Where the agent was told that with a moment before this one, this one is told after it, unless an address is
@@ -201,7 +201,7 @@ impl<A: Allocator + Copy, S: Stream> Engine<A, S> {
         ensures noted { OnOk result (now ≤ self.new.agent.latest) }
         ensures kept { Extends (told_by self.old.waiting.items) (told_by self.new.waiting.items) }
     {
-        self.hand(now, Input::Moment)
+        self.hand(now, AgentInput::Moment)
     }
 
     /// How many milliseconds may be waited from one moment to another: an hour at most, and until something is due; none where either is
@@ -319,7 +319,7 @@ impl<A: Allocator + Copy, S: Stream> Engine<A, S> {
         ensures kept { Extends (told_by self.old.waiting.items) (told_by self.new.waiting.items) }
     {
         let moment = self.moment_of_bytes(now);
-        let told = self.hand(moment, Input::Bytes(bytes))?;
+        let told = self.hand(moment, AgentInput::Bytes(bytes))?;
         if told == now {
             return Ok(told);
         }

@@ -8,12 +8,10 @@ ghost use Rattle.zk_follow.specs.Following.{after_code, later, missing_after, pr
 
 use std::alloc::Allocator;
 use zk_client::{CallResult, Code, Outcome};
+use zk_conversation::NO_NODE;
 
 /// How long, in milliseconds, a subject waits whose read was refused.
 const PAUSE_MS: u64 = 1_000;
-
-/// What a server answers where there is no node.
-const NO_NODE: i32 = -101;
 
 /// Why a read was refused.
 #[derive(Clone, Copy)]

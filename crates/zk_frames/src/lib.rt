@@ -5,11 +5,13 @@
 //! what holds of any calls of a reader, one after the other. What a payload means is none of this crate's business.
 #![tactic(auto)]
 
+mod conformance;
 mod fault;
 pub mod laws;
 mod put;
 mod reader;
 
+pub use conformance::put_frame;
 pub use fault::{FrameFault, PutFault};
-pub use put::{put_frame, seal_frame};
+pub use put::seal_frame;
 pub use reader::FrameReader;

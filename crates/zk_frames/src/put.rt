@@ -1,27 +1,8 @@
 //! Writing frames.
-ghost use Rattle.std.specs.Prelude.{◌≡◌, ◌+◌, ◌-◌, ◌^◌, ◌<◌, ◌≤◌, ◌↔◌, ◌++◌, length, drop, OnOk, OnErr, IsErrOf, vec_len, vec_capacity};
+ghost use Rattle.std.specs.Prelude.{◌≡◌, ◌^◌, ◌<◌, ◌≤◌, length, drop, vec_len};
 ghost use Rattle.zk_frames.specs.Frame.{frame};
 
-use crate::PutFault;
 use std::alloc::Allocator;
-use zk_limits::LONGEST_OUTGOING;
-
-/// Appends the frame of the payload. A payload above [`LONGEST_OUTGOING`] is too large, and `out` stays as it was after
-/// any fault.
-pub fn put_frame<A: Allocator>(payload: &[u8], out: &mut Vec<u8, A>) -> Result<(), PutFault>
-    ensures ok { OnOk result (out.new.items ≡ out.old.items ++ frame payload.now) }
-    ensures too_large { IsErrOf result PutFault.TooLarge ↔ (LONGEST_OUTGOING < length payload.now) }
-    ensures err { OnErr result (out.new.items ≡ out.old.items) }
-{
-    if payload.len() > LONGEST_OUTGOING {
-        return Err(PutFault::TooLarge);
-    }
-    out.reserve(4 + payload.len())?;
-    let length = payload.len() as u32;
-    append(out, &length.to_be_bytes());
-    append(out, payload);
-    Ok(())
-}
 
 /// Makes a frame of a payload that was written after four bytes of room: these become its length. It is for a payload
 /// that is spelled where it is sent from, and admits any length that four bytes can say.
@@ -41,16 +22,4 @@ fn set_length(bytes: &mut [u8])
 {
     let length = (bytes.len() - 4) as u32;
     bytes[..4].copy_from_slice(&length.to_be_bytes());
-}
-
-// There is room.
-fn append<A: Allocator>(out: &mut Vec<u8, A>, bytes: &[u8])
-    requires { vec_len out.old + length bytes.now ≤ vec_capacity out.old }
-    ensures items { out.new.items ≡ out.old.items ++ bytes.now }
-    ensures len { vec_len out.new ≡ vec_len out.old + length bytes.now }
-    ensures capacity { vec_capacity out.old ≤ vec_capacity out.new }
-{
-    let Ok(()) = out.extend_from_slice(bytes) else {
-        unreachable!()
-    };
 }

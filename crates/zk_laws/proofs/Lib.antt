@@ -3,7 +3,7 @@ pub mod Tables
 pub mod Firing
 pub mod Stamps
 pub mod Ahead
-pub mod Serving
+pub mod ServerMoves
 pub mod Joining
 pub mod Whole
 pub mod More

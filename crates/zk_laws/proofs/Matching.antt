@@ -15,6 +15,7 @@ use Rattle.zk_laws.specs.Messages.{Message, Accepted, Expired, Replies, Watches_
 use Rattle.zk_laws.proofs.Steps.{Connection, Link, Up, World}
 use Rattle.zk_laws.proofs.Run.{Move, IsSchedule, run, start as from_start}
 use Rattle.zk_laws.proofs.Seen.{seen}
+use Rattle.zk_laws.specs.Server.{HasCode}
 use Rattle.zk_laws.specs.Served.{Sent, requests, unread, Wire, is_going, IsPayload}
 use Rattle.zk_limits.specs.declared.limits.TheConstants.{LONGEST_INCOMING}
 use Rattle.zk_turns.specs.Turns.{IsAskable, AllAskOf}

@@ -75,21 +75,6 @@ impl<A: Allocator + Copy> Line<A> {
         }
     }
 
-    /// The place of the call whose turn it is.
-    fn place_of_next(&self) -> Option<usize>
-        ensures { result ≡ position waits_turn self.now.entries.items }
-    {
-        place_of_next(&self.entries, self.handed)
-    }
-
-    /// A copy of the call at this place, with its ticket.
-    fn copied_at(&self, place: usize) -> Result<(u64, Call<A>), AllocError>
-        requires { position waits_turn self.now.entries.items ≡ Some place }
-        ensures { IfOk result (λ it. next_call self.now.entries.items ≡ Some (it.0, call_view it.1)) }
-    {
-        copied_at(self.alloc, &self.entries, place)
-    }
-
     /// The call at this place counts as handed over.
     fn hand(&mut self, place: usize)
         requires { position waits_turn self.old.entries.items ≡ Some place }
@@ -114,11 +99,11 @@ impl<A: Allocator + Copy> Line<A> {
         ensures entries { OnOk result (self.new.entries.items ≡ first_handed self.old.entries.items) }
         ensures same { OnErr result (self.new ≡ self.old) }
     {
-        let Some(place) = self.place_of_next() else {
+        let Some(place) = place_of_next(&self.entries, self.handed) else {
             self.note_all();
             return Ok(None);
         };
-        let next = self.copied_at(place)?;
+        let next = copied_at(self.alloc, &self.entries, place)?;
         self.hand(place);
         Ok(Some(next))
     }

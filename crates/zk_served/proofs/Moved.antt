@@ -19,8 +19,8 @@ use Rattle.zk_laws.proofs.Found.{last_counted}
 use Rattle.zk_laws.specs.Messages.{from_zero}
 use Rattle.zk_client.specs.Clients.{renewed_start}
 use Rattle.zk_dialler.specs.declared.dialler.Dialler.{Dialler}
-use Rattle.zk_dialler.specs.declared.dialler.Due.{Due}
-use Rattle.zk_dialler.specs.declared.dialler.Due.TheVariants.{Dial, GiveUp}
+use Rattle.zk_dialler.specs.declared.dialler.DialDue.{DialDue}
+use Rattle.zk_dialler.specs.declared.dialler.DialDue.TheVariants.{Dial, GiveUp}
 use Rattle.zk_dialler.specs.Dialling.{is_open, DialsWell}
 use Rattle.zk_line.specs.declared.entry.Ending.TheVariants as ending
 use Rattle.zk_agent.specs.Agents.{is_given, Addressed, Asks, Closes, Decides, Does, Ended, Follows, GivesUp, Hands, Hears, HearsSo, HungUp}
@@ -116,7 +116,7 @@ module _ {A : Type 0} (channel : ChannelView) (held : List ℕ) (shown : Shown) 
       (let_go new.view (left_by channel old).is_open (left_by channel old).unsent held [] shown shown
       (subst (λ v. Kept v (left_by channel old).is_open (left_by channel old).unsent held shown) (sym view) k) refl)
 
-  due_here : (due : Option Due) (old new : Trail A) → new.view ≡ old.view → new.told ≡ old.told ++ due_told due → Here old → Here new
+  due_here : (due : Option DialDue) (old new : Trail A) → new.view ≡ old.view → new.told ≡ old.told ++ due_told due → Here old → Here new
   due_here None old new view told k = same_here old new view (told_more old new [] told) k
   due_here (Some (Dial place within)) old new view told k =
       subst (λ (c : ChannelView). Kept new.view c.is_open c.unsent held shown)
@@ -209,7 +209,7 @@ module _ {A : Type 0} (channel : ChannelView) (held : List ℕ) (shown : Shown) 
     subst (λ (c : ChannelView). c.is_open ≡ true → c.unsent ≡ []) (sym (told_more old new (HangsUp ∷ []) told)) (λ there. refl),
   )
 
-  due_idle : (due : Option Due) (old new : Trail A) → new.view ≡ old.view → new.told ≡ old.told ++ due_told due → Idle old → Idle new
+  due_idle : (due : Option DialDue) (old new : Trail A) → new.view ≡ old.view → new.told ≡ old.told ++ due_told due → Idle old → Idle new
   due_idle None old new view told idle = same_idle old new view (told_more old new [] told) idle
   due_idle (Some (Dial place within)) old new view told idle = (
     ap is_up view ∙ idle.0,
@@ -321,7 +321,7 @@ module _ {A : Type 0} (channel : ChannelView) (held : List ℕ) (shown : Shown) 
       (λ is. hears_open channel now input old does.between does.hears held held shown fits.0 k within (nothing_handed input held mute)
       (unlost now input old does.between does.hears is) tied)
 
-  due_tied : (due : Option Due) (timeout now : ℕ) (old new : Trail A)
+  due_tied : (due : Option DialDue) (timeout now : ℕ) (old new : Trail A)
       → DialsWell timeout now old.dialler new.dialler due → new.view ≡ old.view → Tied old → Tied new
   due_tied None timeout now old new dials view tied = same_tied old new view (ap (λ (d : Dialler A). d.phase) dials) tied
   due_tied (Some (Dial place within)) timeout now old new dials view tied = λ up.

@@ -21,8 +21,8 @@ use Rattle.theory_serving.specs.Wires.{is_up}
 use Rattle.theory_serving.proofs.Entries.{served_so}
 use Rattle.theory_serving.proofs.Views.{first_session, good_session}
 use Rattle.zk_conclusions.specs.Seen.{IsServedFrom}
-use Rattle.zk_agent.specs.declared.input.Input.{Input}
-use Rattle.zk_agent.specs.declared.input.Input.TheVariants as happens
+use Rattle.zk_agent.specs.declared.input.AgentInput.{AgentInput}
+use Rattle.zk_agent.specs.declared.input.AgentInput.TheVariants as happens
 use Rattle.zk_agent.specs.Telling.{Told}
 use Rattle.zk_agent.specs.Agents.{bytes_at, given_of, opened_at, trail_of, Ended, Hears, HungUp, Move, Opened, Trail}
 use Rattle.zk_driver.specs.Driving.{closed, opened, ChannelView, Course, Looked, Noted, Takes, Written}
@@ -31,7 +31,7 @@ use Rattle.zk_driver.specs.Flowing.{Asked, Carries, Deed, Flow, Made, Passes}
 use Rattle.zk_served.specs.Asking.{DeedFits, StepsFit, MovesFit}
 use Rattle.zk_served.specs.Acts.{given_in, taken_in}
 use Rattle.zk_served.specs.Worlds.{Befalls, ByDriver, ByStream, Meanwhile, Meets}
-use Rattle.zk_served.specs.Serving.{Begins, MeetsServers}
+use Rattle.zk_served.specs.ServedDrivers.{Begins, MeetsServers}
 use Rattle.zk_served.proofs.Turned.{kept_down, let_go, Kept}
 use Rattle.zk_served.proofs.Heard.{left_by}
 use Rattle.zk_served.proofs.Moved.{all_apart, all_ready, bytes_noted, late_noted, opened_noted, over_noted, Apart, Given, IsFree, IsLater}
@@ -87,7 +87,7 @@ module _ {A : Type 0} (old new : Flow A) (before after : Shown) (course : new.co
 
 -- ---- the agent takes an input
 
-module _ {A : Type 0} (old new : Flow A) (now : ℕ) (input : Input A) (between : ChannelView)
+module _ {A : Type 0} (old new : Flow A) (now : ℕ) (input : AgentInput A) (between : ChannelView)
     (takes : Takes now input (record old.course { channel = between }) new.course)
     (fits : MovesFit takes.comes.moves (trail_of old.course.agent []) (trail_of new.course.agent takes.actions) takes.comes.does)
     (none : new.held ≡ []) where
@@ -223,7 +223,7 @@ module _ {A : Type 0} (old new : Flow A) (now : ℕ) (input : Input A) (between 
 
 -- ---- one deed
 
-noted_bound : {A : Type 0} (now : ℕ) (input : Input A) (old new : Flow A) (before after : Shown)
+noted_bound : {A : Type 0} (now : ℕ) (input : AgentInput A) (old new : Flow A) (before after : Shown)
     (carries : Carries old (Made (Noted now input)) new) → DeedFits old (Made (Noted now input)) new carries
     → Befalls ByDriver old (Made (Noted now input)) new before after → Bound old before → Bound new after
 noted_bound now happens.Opened old new before after carries fits meets bound =
@@ -249,8 +249,8 @@ noted_bound now (happens.Call ticket call until) old new before after carries fi
 noted_bound now (happens.Follow ticket side path) old new before after carries fits meets bound = absurd carries.0.1
 noted_bound now (happens.Unfollow ticket) old new before after carries fits meets bound = absurd carries.0.1
 
-asked_bound : {A : Type 0} (now : ℕ) (input : Input A) (old new : Flow A) (before : Shown) (carries : Carries old (Asked now input) new)
-    → DeedFits old (Asked now input) new carries → Bound old before → Bound new before
+asked_bound : {A : Type 0} (now : ℕ) (input : AgentInput A) (old new : Flow A) (before : Shown)
+    (carries : Carries old (Asked now input) new) → DeedFits old (Asked now input) new carries → Bound old before → Bound new before
 asked_bound now happens.Opened old new before carries fits bound = absurd carries.1
 asked_bound now happens.Failed old new before carries fits bound = absurd carries.1
 asked_bound now happens.Cut old new before carries fits bound = absurd carries.1

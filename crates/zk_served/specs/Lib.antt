@@ -1,5 +1,5 @@
 pub mod Acts
 pub mod Worlds
 pub mod Asking
-pub mod Serving
+pub mod ServedDrivers
 pub mod Benches

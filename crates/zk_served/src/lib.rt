@@ -3,7 +3,7 @@
 #![tactic(auto)]
 
 ghost use Rattle.zk_served.specs.Benches.{BenchAdvances, BenchConnects, BenchEnds, BenchGives, BenchProcesses, BenchTakes};
-ghost use Rattle.zk_served.specs.Serving.{BytesServe, StreamsCohere, StreamsServe};
+ghost use Rattle.zk_served.specs.ServedDrivers.{BytesServe, StreamsCohere, StreamsServe};
 
 use std::alloc::Allocator;
 

@@ -9,16 +9,16 @@ use Rattle.zk_follow.specs.Following.{is_kept, says_none}
 use Rattle.zk_conclusions.specs.Lacks.{lacks_data, lacks_names, AreLacking, HasNoMoreNodes, HasNoPath}
 use Rattle.zk_conclusions.specs.Subtrees.{HasMoreNodes}
 use Rattle.zk_trees.specs.declared.member.Member.{Member}
-use Rattle.zk_trees.specs.declared.subject.Subject.{Subject}
+use Rattle.zk_trees.specs.declared.subject.NodeSide.{NodeSide}
 use Rattle.zk_trees.specs.declared.wanting.Wanted.{Wanted}
 
 -- ---- sides of paths
 
 -- a side of a path
-abbrev pub aim_of : {A : Type 0} → Subject A → Side × Text
+abbrev pub aim_of : {A : Type 0} → NodeSide A → Side × Text
 aim_of subject = (subject.side, subject.path)
 
-abbrev pub aims_of : {A : Type 0} → List (Subject A) → List (Side × Text)
+abbrev pub aims_of : {A : Type 0} → List (NodeSide A) → List (Side × Text)
 aims_of subjects = map aim_of subjects
 
 abbrev pub aims_at : Side → List Text → List (Side × Text)

@@ -6,12 +6,12 @@ ghost use Rattle.zk_client.specs.Clients.{view_of};
 ghost use Rattle.zk_trees.specs.Trees.{aim_of, is_gone, is_member, is_settled, stays, tickets_gone};
 
 use crate::member::Member;
-use crate::subject::{Subject, is_missing};
+use crate::subject::{NodeSide, is_missing};
 use std::alloc::{AllocError, Allocator};
 use zk_client::Client;
 
 /// Whether a subject is that of a member.
-fn is_member<A: Allocator + Copy, N: Drop>(subject: &Subject<A>, members: &[Member<A, N>]) -> bool
+fn is_member<A: Allocator + Copy, N: Drop>(subject: &NodeSide<A>, members: &[Member<A, N>]) -> bool
     ensures { result ≡ is_member (aim_of subject.now) members.now }
 {
     members.iter().any(|one| one.subject.is_same(subject))
@@ -20,7 +20,7 @@ fn is_member<A: Allocator + Copy, N: Drop>(subject: &Subject<A>, members: &[Memb
 /// Whether a subject is not to be taken on: it is that of a member, or it is kept and good that there is no such node.
 pub fn is_settled<A: Allocator + Copy, N: Drop>(
     client: &Client<A>,
-    subject: &Subject<A>,
+    subject: &NodeSide<A>,
     members: &[Member<A, N>],
 ) -> bool
     ensures { result ≡ is_settled (view_of client.now) (aim_of subject.now) members.now }

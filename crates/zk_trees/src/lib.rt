@@ -12,5 +12,5 @@ mod wanting;
 
 pub use leaving::{drop_gone, is_settled, tickets_gone};
 pub use member::Member;
-pub use subject::{Subject, copy_of, is_missing};
+pub use subject::{NodeSide, copy_of, is_missing};
 pub use wanting::{Wanted, add_roots, wanted_of};

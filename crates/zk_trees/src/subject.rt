@@ -10,7 +10,7 @@ use zk_client::{Client, DataAnswer, Mark, Path, Side};
 
 /// What is followed: the data of a node, or the names below it.
 #[derive(Drop)]
-pub struct Subject<A: Allocator> {
+pub struct NodeSide<A: Allocator> {
     pub side: Side,
     pub path: Path<A>,
 }
@@ -45,17 +45,17 @@ fn is_side(side: Side, other: Side) -> bool
     )
 }
 
-impl<A: Allocator + Copy> Subject<A> {
+impl<A: Allocator + Copy> NodeSide<A> {
     /// A side of a copy of a path. An error means that memory ran out.
-    pub fn of(alloc: A, side: Side, path: &Path<A>) -> Result<Subject<A>, AllocError>
+    pub fn of(alloc: A, side: Side, path: &Path<A>) -> Result<NodeSide<A>, AllocError>
         ensures { IfOk result (λ subject. aim_of subject ≡ (side, path.now)) }
     {
         let path = copy_of(alloc, path)?;
-        Ok(Subject { side, path })
+        Ok(NodeSide { side, path })
     }
 
     /// Whether both are the same side of the same path.
-    pub fn is_same(&self, other: &Subject<A>) -> bool
+    pub fn is_same(&self, other: &NodeSide<A>) -> bool
         ensures { result ≡ (is_side self.now.side other.now.side && bytes_eq self.now.path other.now.path) }
     {
         is_side(self.side, other.side) && self.path.as_str() == other.path.as_str()

@@ -4,7 +4,7 @@ ghost use Rattle.std.specs.Prelude.{◌≡◌, ◌++◌, IfOk, OnOk};
 ghost use Rattle.zk_client.specs.Clients.{view_of};
 ghost use Rattle.zk_trees.specs.Trees.{aims_at, aims_of, roots_aims, wants_of, AreWanted, IsWanted};
 
-use crate::subject::Subject;
+use crate::subject::NodeSide;
 use std::alloc::{AllocError, Allocator};
 use zk_client::{Client, Path, Side};
 use zk_conclusions::{Lacking, NoSubtree};
@@ -12,21 +12,21 @@ use zk_conclusions::{Lacking, NoSubtree};
 /// What is wanted of trees, and whether one has more nodes than the most.
 #[derive(Drop)]
 pub struct Wanted<A: Allocator> {
-    pub subjects: Vec<Subject<A>, A>,
+    pub subjects: Vec<NodeSide<A>, A>,
     pub is_bounded: bool,
 }
 
 /// Adds this side of each of the paths.
 fn add_each<A: Allocator + Copy>(
     alloc: A,
-    subjects: &mut Vec<Subject<A>, A>,
+    subjects: &mut Vec<NodeSide<A>, A>,
     side: Side,
     paths: &[Path<A>],
 ) -> Result<(), AllocError>
     ensures { OnOk result (aims_of subjects.new.items ≡ aims_of subjects.old.items ++ aims_at side paths.now) }
 {
     for path in paths {
-        subjects.push(Subject::of(alloc, side, path)?)?;
+        subjects.push(NodeSide::of(alloc, side, path)?)?;
     }
     Ok(())
 }
@@ -34,14 +34,14 @@ fn add_each<A: Allocator + Copy>(
 /// Adds the data of each root, and the names below it. An error means that memory ran out.
 pub fn add_roots<A: Allocator + Copy>(
     alloc: A,
-    subjects: &mut Vec<Subject<A>, A>,
+    subjects: &mut Vec<NodeSide<A>, A>,
     roots: &[Path<A>],
 ) -> Result<(), AllocError>
     ensures { OnOk result (aims_of subjects.new.items ≡ aims_of subjects.old.items ++ roots_aims roots.now) }
 {
     for root in roots {
-        subjects.push(Subject::of(alloc, Side::Data, root)?)?;
-        subjects.push(Subject::of(alloc, Side::Child, root)?)?;
+        subjects.push(NodeSide::of(alloc, Side::Data, root)?)?;
+        subjects.push(NodeSide::of(alloc, Side::Child, root)?)?;
     }
     Ok(())
 }
@@ -49,7 +49,7 @@ pub fn add_roots<A: Allocator + Copy>(
 /// Adds what a tree lacks.
 fn add_lacking<A: Allocator + Copy>(
     alloc: A,
-    subjects: &mut Vec<Subject<A>, A>,
+    subjects: &mut Vec<NodeSide<A>, A>,
     lacking: &Lacking<A>,
 ) -> Result<(), AllocError>
     ensures { OnOk result (aims_of subjects.new.items

@@ -3,6 +3,7 @@
 //! It knows no server and no answers: it is told where a read left a watch, and which event came.
 #![tactic(auto)]
 
+mod conformance;
 mod in_order;
 pub mod laws;
 mod numbered;

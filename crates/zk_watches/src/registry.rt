@@ -1,14 +1,12 @@
 //! The registry: three lists of paths.
-ghost use Rattle.std.specs.Prelude.{◌≡◌, ◌<◌, ◌≤◌, length, true, false, ◌↔◌, IsOk, OnOk, OnErr, IsErrOf, IfOk};
+ghost use Rattle.std.specs.Prelude.{◌≡◌, ◌<◌, ◌≤◌, length, true, false, IsOk, OnOk, OnErr, IfOk};
 ghost use Rattle.zk_watches.specs.Lists.{no_lists, has, list_has, side_has, count_of, registered, fires, fired, without, IsSound};
-ghost use Rattle.zk_limits.specs.declared.limits.TheConstants.{LONGEST_PATH};
+ghost use Rattle.zk_limits.specs.declared.limits.TheConstants.{LONGEST_PATH, MOST_PATHS};
 
 use crate::in_order::InOrder;
 use crate::ordered::Ordered;
-use crate::register_fault::RegisterFault;
 use std::alloc::{AllocError, Allocator};
 use std::marker::Model;
-use zk_limits::MOST_PATHS;
 use zk_nodes::{Path, Side};
 use zk_records::Event;
 
@@ -73,29 +71,6 @@ impl<A: Allocator + Copy> Registry<A> {
             Side::Data => self.data_watches.contains(path) || self.exist_watches.contains(path),
             Side::Child => self.child_watches.contains(path),
         }
-    }
-
-    /// Puts the path on the side, where a watched read found the node there (`present`) or absent; on the child side that makes
-    /// no difference. A path of the same list keeps its place, one of the side's other list moves, and another goes last.
-    /// `Full` is for a path that is new to a side with 65,536 paths, and comes before `Memory`. After an error nothing has
-    /// changed.
-    pub fn register(
-        &mut self,
-        side: Side,
-        path: &Path<A>,
-        present: bool,
-    ) -> Result<(), RegisterFault>
-        ensures ok { OnOk result (self.new ≡ registered self.old side present path.now) }
-        ensures there { list_has self.old side present path.now ≡ true → IsOk result }
-        ensures full { IsErrOf result RegisterFault.Full
-            ↔ ((side_has self.old side path.now ≡ false) × (count_of self.old side ≡ MOST_PATHS)) }
-        ensures err { OnErr result (self.new ≡ self.old) }
-    {
-        if self.len(side) == MOST_PATHS && !self.contains(side, path.as_str()) {
-            return Err(RegisterFault::Full);
-        }
-        self.watch(side, path, present)?;
-        Ok(())
     }
 
     /// Puts the path on the side as [`register`](Registry::register) does, for a caller that has seen that there is room. An

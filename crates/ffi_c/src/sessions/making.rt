@@ -11,7 +11,7 @@ ghost use Rattle.ffi_c.specs.Sessions.{Makes};
 
 use crate::sessions::handle::DwSession;
 use ffi_agent_device::AgentDevice;
-use ffi_device::Refusal;
+use ffi_device::DeviceRefusal;
 use std::alloc::Global;
 
 /// Has a handle hold this session. Where there is no memory for it, the handle is left as it was.
@@ -26,7 +26,7 @@ fn hold(alloc: Global, handle: &mut DwSession, session: AgentDevice) -> i32
         }
         Err(failed) => {
             drop(failed);
-            Refusal::Memory.code()
+            DeviceRefusal::Memory.code()
         }
     }
 }

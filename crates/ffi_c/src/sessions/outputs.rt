@@ -13,7 +13,7 @@ ghost use Rattle.ffi_c.specs.Kept.{FindsText};
 use crate::sessions::handle::DwSession;
 use crate::sessions::taking::take_device;
 use crate::taking::{CLOSED, NONE};
-use ffi_device::{Flat, Refusal, copy_into};
+use ffi_device::{DeviceRefusal, Flat, copy_into};
 use std::alloc::Global;
 
 /// Writes the next action of the last step, as numbers. The one before is over. 1 says that there is none.
@@ -107,7 +107,7 @@ pub extern "C" fn dw_session_names(
             *count = length;
             0
         }
-        Err(_) => Refusal::Memory.code(),
+        Err(_) => DeviceRefusal::Memory.code(),
     }
 }
 
@@ -135,6 +135,6 @@ pub extern "C" fn dw_session_words(
             *count = copy_into(words.as_bytes(), out);
             0
         }
-        Err(_) => Refusal::Memory.code(),
+        Err(_) => DeviceRefusal::Memory.code(),
     }
 }

@@ -11,7 +11,7 @@ ghost use Rattle.ffi_c.specs.Sessions.{FirstDue, TellsMoment};
 use crate::sessions::handle::DwSession;
 use crate::sessions::taking::take_device;
 use crate::taking::{CLOSED, NONE};
-use ffi_device::{Refusal, copy_into, saved, state};
+use ffi_device::{DeviceRefusal, copy_into, saved, state};
 use std::alloc::Global;
 
 /// Where the client stands: 0 idle, 1 connecting, 2 connected, 3 expired, 4 closed.
@@ -154,6 +154,6 @@ pub extern "C" fn dw_session_saved(
             *count = copy_into(bytes.as_slice(), out);
             0
         }
-        Err(_) => Refusal::Memory.code(),
+        Err(_) => DeviceRefusal::Memory.code(),
     }
 }

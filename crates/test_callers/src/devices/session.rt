@@ -5,7 +5,7 @@ use crate::devices::told::{
     tell_collected, tell_holder, tell_kept, tell_number, tell_outputs, tell_shown, tell_standing,
 };
 use anyhow::Result;
-use ffi_device::{Device, Refusal, code_of, forget_stale, saved};
+use ffi_device::{Device, DeviceRefusal, code_of, forget_stale, saved};
 use std::alloc::Global;
 use zk_bench::{Bench, History};
 
@@ -31,14 +31,14 @@ struct Session {
 }
 
 /// A device that was put away, and taken up again.
-fn again(alloc: Global, device: &Device) -> Result<Device, Refusal> {
+fn again(alloc: Global, device: &Device) -> Result<Device, DeviceRefusal> {
     let saved = saved(alloc, &device.client)?;
     Device::resume(alloc, TIMEOUT_MS, saved.as_slice())
 }
 
 impl Session {
     /// Lets an event happen that is none of calls.
-    fn happen(&mut self, event: Event) -> Result<(), Refusal> {
+    fn happen(&mut self, event: Event) -> Result<(), DeviceRefusal> {
         match event {
             Event::Opens => {
                 self.bench.connect(1);
@@ -62,7 +62,7 @@ impl Session {
     }
 
     /// Makes a call, with the moment as its ticket.
-    fn ask(&mut self, event: Event) -> Result<(), Refusal> {
+    fn ask(&mut self, event: Event) -> Result<(), DeviceRefusal> {
         let (alloc, now, device) = (self.alloc, self.now, &mut self.device);
         match event {
             Event::Exists(path) => device.exists_at(alloc, now, now, path.as_bytes(), true),

@@ -2,7 +2,7 @@
 
 use anyhow::Result;
 use ffi_device::{
-    Contender, Device, Flat, Refusal, Stands, holder, lacking, peek_children, peek_data,
+    Contender, Device, DeviceRefusal, Flat, Stands, holder, lacking, peek_children, peek_data,
     peek_names, snapshot, standing, subtree,
 };
 use std::alloc::Global;
@@ -133,7 +133,7 @@ pub fn tell_kept(alloc: Global, device: &Device, path: &str, told: &mut String) 
 /// Bytes that were copied, or the number of the refusal.
 fn tell_copied(
     name: &str,
-    copied: Result<usize, Refusal>,
+    copied: Result<usize, DeviceRefusal>,
     room: &[u8],
     told: &mut String,
 ) -> Result<()> {

@@ -5,7 +5,7 @@ ghost use Rattle.std.specs.Prelude.{◌≤◌};
 use crate::rounds::kept::{are_data, are_names, has_data, has_names};
 use anyhow::Result;
 use ffi_agent_device::AgentDevice;
-use ffi_device::Refusal;
+use ffi_device::DeviceRefusal;
 use std::alloc::{AllocError, Global};
 use zk_bench::{Bench, Change, History};
 use zk_client::Path;
@@ -95,7 +95,7 @@ fn pass(left: &mut usize, count: usize) -> usize
 }
 
 /// A refusal is none of a server's: it ends the test.
-fn or_end(done: Result<(), Refusal>) -> Result<(), AllocError> {
+fn or_end(done: Result<(), DeviceRefusal>) -> Result<(), AllocError> {
     done.map_err(|_| AllocError)
 }
 
@@ -180,7 +180,7 @@ impl<'t> World<'t> {
     }
 
     /// Does what the device says at a step.
-    fn perform_actions(&mut self, done: Result<(), Refusal>) -> Result<(), AllocError> {
+    fn perform_actions(&mut self, done: Result<(), DeviceRefusal>) -> Result<(), AllocError> {
         or_end(done)?;
         let mut room = [0; ROOM];
         for _ in 0..ACTIONS {

@@ -4,7 +4,7 @@ use crate::watches::streams::Fails;
 use crate::watches::world::{Event, World};
 use anyhow::Result;
 use example_world::{Moments, Shared};
-use shell_watch::{End, Plan, Style, Subject, watch};
+use shell_watch::{End, NodeSide, Plan, Style, watch};
 use std::alloc::{AllocError, Allocator, Global};
 use std::cell::RefCell;
 use std::io::Write;
@@ -103,12 +103,12 @@ fn path<A: Allocator + Copy>(alloc: A, row: &Row) -> Result<Path<A>, AllocError>
 }
 
 /// The side of a node that a row watches.
-fn subjects<A: Allocator + Copy>(alloc: A, row: &Row) -> Result<Vec<Subject<A>, A>, AllocError> {
+fn subjects<A: Allocator + Copy>(alloc: A, row: &Row) -> Result<Vec<NodeSide<A>, A>, AllocError> {
     let mut subjects = Vec::new(alloc);
     if row.most.is_none() {
         let (side, path) = (row.side, path(alloc, row)?);
         subjects
-            .push(Subject { side, path })
+            .push(NodeSide { side, path })
             .map_err(AllocError::from)?;
     }
     Ok(subjects)

@@ -1,5 +1,5 @@
 use Rattle.std.proofs.Common.{None, Some, ap, refl, subst}
-use Rattle.zk_agent.specs.declared.input.Input.TheVariants as happens
+use Rattle.zk_agent.specs.declared.input.AgentInput.TheVariants as happens
 use Rattle.zk_conversation.specs.declared.call.Call.TheVariants as call
 use Rattle.zk_driver.specs.declared.engine.Engine.{Engine}
 use Rattle.zk_driver.specs.Driving.{course_of, Hands}

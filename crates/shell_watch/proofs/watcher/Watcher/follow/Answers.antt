@@ -1,7 +1,7 @@
 use Rattle.std.proofs.Common.{◌≡◌, ◌++◌, [], ◌∷◌, rules, None, subst}
 use Rattle.std.specs.Prelude.{OnOk}
 use Rattle.zk_nodes.specs.Path.{Text}
-use Rattle.zk_agent.specs.declared.input.Input.TheVariants as happens
+use Rattle.zk_agent.specs.declared.input.AgentInput.TheVariants as happens
 use Rattle.zk_driver.specs.Driving.{course_of, Hands}
 use Rattle.shell_watch.specs.Watching.{aim_of}
 use Rattle.shell_watch.proofs.Printing.{ok_follows}

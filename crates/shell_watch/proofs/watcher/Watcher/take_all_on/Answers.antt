@@ -1,7 +1,7 @@
 use Rattle.std.proofs.Common.{◌≤◌, List, arith, length, refl, subst}
 use Rattle.std.proofs.lemmas.List.{take_all}
 use Rattle.std.specs.List.{FoldsTo}
-use Rattle.zk_trees.specs.declared.subject.Subject.{Subject}
+use Rattle.zk_trees.specs.declared.subject.NodeSide.{NodeSide}
 use Rattle.shell_watch.specs.Watching.{aim_of, aims_of, stand_of, TakesOn}
 use Rattle.zk_trees.proofs.Growing.{mapped_next}
 use Rattle.shell_watch.proofs.watcher.Watcher.take_all_on.Goals as goal
@@ -30,7 +30,7 @@ returns g c =
     record {
       last = stand_of g.D.Stream.Read.remaining g.D.Stream.Write.contents here.driver.engine here.watched.items
           here.is_accepted here.style here.trees;
-      takes = subst (λ (l : List (Subject g.row.A.Denot)). FoldsTo (λ at aim after. TakesOn aim at after)
+      takes = subst (λ (l : List (NodeSide g.row.A.Denot)). FoldsTo (λ at aim after. TakesOn aim at after)
           (stand_of g.D.Stream.Read.remaining g.D.Stream.Write.contents first.driver.engine first.watched.items first.is_accepted
           first.style first.trees) (aims_of l)
           (stand_of g.D.Stream.Read.remaining g.D.Stream.Write.contents here.driver.engine here.watched.items here.is_accepted here.style

@@ -1,6 +1,6 @@
 use Rattle.std.proofs.Common.{[], ◌∷◌, None}
 use Rattle.zk_agent.specs.Telling.{told_by}
-use Rattle.zk_agent.specs.declared.input.Input.TheVariants as happens
+use Rattle.zk_agent.specs.declared.input.AgentInput.TheVariants as happens
 use Rattle.zk_driver.specs.Driving.{course_of}
 use Rattle.zk_driver.specs.Flowing.{flow_of}
 use Rattle.zk_driver.specs.Noting.{Lost}

@@ -1,5 +1,5 @@
 use Rattle.std.proofs.Common.{None, refl}
-use Rattle.zk_agent.specs.declared.input.Input.TheVariants as happens
+use Rattle.zk_agent.specs.declared.input.AgentInput.TheVariants as happens
 use Rattle.zk_driver.specs.Driving.{channel_view, course_of}
 use Rattle.zk_link.specs.Streams.{known_of}
 use Rattle.zk_driver.specs.Flowing.{flow_of}
