@@ -4,7 +4,8 @@ from __future__ import annotations
 
 import os
 import pathlib
-from ctypes import CDLL, POINTER, Structure, byref, c_bool, c_char, c_char_p, c_int32, c_int64, c_size_t, c_uint64, c_void_p, create_string_buffer, string_at
+from ctypes import CDLL, POINTER, Structure, byref, c_bool, c_char, c_char_p, c_int32, c_int64, c_size_t, c_uint64, c_void_p
+from ctypes import create_string_buffer, string_at
 from typing import Any
 
 # made by scripts/bench_interface from include/bench.toml

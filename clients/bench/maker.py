@@ -1,8 +1,8 @@
 #!/usr/bin/env python3
 """maker.py: makes servers in memory, each in a process of its own that is forked, so that it begins at once.
 
-It prints `making PORT`. A connection to that port of 127.0.0.1 is the standard input and output of a server, after a line with its words in JSON,
-and the server ends with it. No more are made after the end of standard input.
+It prints `making PORT`. A connection to that port of 127.0.0.1 is the standard input and output of a server, after a line with its words in
+JSON, and the server ends with it. No more are made after the end of standard input.
 """
 
 from __future__ import annotations

@@ -2,7 +2,8 @@
 
 from __future__ import annotations
 
-import os
+import json
+import pathlib
 import socket
 import struct
 import subprocess
@@ -11,10 +12,11 @@ import time
 import unittest
 from typing import Optional
 
-SERVER = os.path.join(os.path.dirname(os.path.abspath(__file__)), "hostile.py")
+MAKER = pathlib.Path(__file__).resolve().with_name("maker.py")
 PASSWORD_OF_NONE = struct.pack(">i", 16) + bytes(16)
 OPEN_ACL = struct.pack(">ii", 1, 31) + struct.pack(">i", 5) + b"world" + struct.pack(">i", 6) + b"anyone"
-WAIT = 5.0
+WAIT = 60.0
+"""The longest that a test waits for one thing, in seconds: a busy machine takes less."""
 
 
 def text(value: str) -> bytes:
@@ -64,22 +66,29 @@ def header(payload: Optional[bytes]) -> tuple[int, int, int]:
 
 
 class ServerTest(unittest.TestCase):
-    def start(self, *options: str) -> None:
-        self.process = subprocess.Popen(
-            [sys.executable, SERVER, *options], stdin=subprocess.PIPE, stdout=subprocess.PIPE, text=True
-        )
-        self.addCleanup(self.stop)
-        assert self.process.stdout is not None
-        self.port = int(self.process.stdout.readline().split()[1])
+    maker: subprocess.Popen[str]
+    making: int
 
-    def stop(self) -> None:
-        self.process.communicate(timeout=WAIT)
+    @classmethod
+    def setUpClass(cls) -> None:
+        cls.maker = subprocess.Popen([sys.executable, MAKER], stdin=subprocess.PIPE, stdout=subprocess.PIPE, text=True)
+        assert cls.maker.stdout is not None
+        cls.making = int(cls.maker.stdout.readline().split()[1])
+
+    @classmethod
+    def tearDownClass(cls) -> None:
+        cls.maker.communicate(timeout=WAIT)
+
+    def start(self, *options: str) -> None:
+        self.commands = socket.create_connection(("127.0.0.1", self.making), timeout=WAIT)
+        self.addCleanup(self.commands.close)
+        self.answers = self.commands.makefile()
+        self.addCleanup(self.answers.close)
+        self.port = int(self.command(json.dumps(options)).split()[1])
 
     def command(self, line: str) -> str:
-        assert self.process.stdin is not None and self.process.stdout is not None
-        self.process.stdin.write(line + "\n")
-        self.process.stdin.flush()
-        return self.process.stdout.readline().strip()
+        self.commands.sendall(f"{line}\n".encode())
+        return self.answers.readline().strip()
 
     def peer(self) -> Peer:
         peer = Peer(self.port)

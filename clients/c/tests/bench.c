@@ -1,4 +1,4 @@
-/* A client at the server in memory, which is proved to be one of the model: no socket and no clock, and bytes are cut where the test says. */
+/* A client at the server in memory, which is proved to be one of the model: no socket, no clock, and bytes are cut where the test says. */
 #include "dirwolleu.h"
 #include "dirwolleu_bench.h"
 #include "expect.h"

@@ -1,4 +1,7 @@
-"""A client at the server in memory within the test, which is proved to be one of the model: bytes come by single ones, and changes when the test says."""
+"""A client at the server in memory within the test, which is proved to be one of the model.
+
+Bytes come by single ones, and changes when the test says.
+"""
 
 from __future__ import annotations
 

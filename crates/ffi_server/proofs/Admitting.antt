@@ -40,7 +40,6 @@ is_free (Some node) count stat is free owned = owned (cc)
 
 -- Where a Stat tells a version that can rise, that of the node can.
 pub can_rise : (node : Option Node) (count : ℕ) (stat : Stat) → Some stat ≡ option_map (stat_of count) node
-    → (stat.version ≡ pos 2147483647 → ⊥) → int_le stat.version (pos 2147483647) ≡ true → IsAtEnd node → ⊥
-can_rise None count stat is low high end = end
-can_rise (Some node) count stat is low high end =
-    let same : stat.version ≡ pos node.version = cc in omega (arith, ints)
+    → (stat.version ≡ pos 2147483647 → ⊥) → IsAtEnd node → ⊥
+can_rise None count stat is low end = end
+can_rise (Some node) count stat is low end = low (cc)

@@ -53,7 +53,7 @@ HasChild tree change = ⊥
 -- A node that is there has a version that can't rise.
 abbrev pub IsAtEnd : Option Node → Type 0
 IsAtEnd None = ⊥
-IsAtEnd (Some node) = 2147483647 ≤ node.version
+IsAtEnd (Some node) = node.version ≡ 2147483647
 
 -- The root is neither made nor deleted, and a version is not at its end.
 abbrev pub IsForbidden : Tree → Change → Type 0

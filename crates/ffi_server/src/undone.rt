@@ -11,7 +11,7 @@ use std::alloc::AllocError;
 pub enum Undone {
     /// There is nothing to do.
     Nothing,
-    /// Memory ran out.
+    /// Memory ran out; or data are longer than a `Stat` can tell, or a node would have more children.
     Memory,
     /// The path is no UTF-8.
     NotText,

@@ -1,10 +1,7 @@
 //! A client at the server in memory, which is proved to be one of the model: no socket and no clock, and bytes are cut where the test says.
 //! It wants `libdirwolleu_bench.a` beside the library.
-#![cfg(dirwolleu_bench)]
 
-mod bench;
-
-use bench::{Bench, Change};
+use crate::bench::{self, Bench, Change};
 use dirwolleu::{
     Brought, Client, DataAnswer, Fault, Mark, Mode, Moment, NodeEvent, Output, Outputs, Side,
     State, Watch,
