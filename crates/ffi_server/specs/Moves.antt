@@ -13,7 +13,7 @@ use Rattle.zk_bench.specs.Served.{without_output}
 use Rattle.zk_bench.specs.Stepping.{IsReady, AnswersFirst, ProcessesFirst, TakesSome, shown_of}
 use Rattle.zk_bench.specs.Writing.{appended}
 use Rattle.ffi_server.specs.Changes.{change_told}
-use Rattle.ffi_server.specs.Refused.{tree_now, Admits, RefusesAppend, RefusesChange, RefusesNext, RefusesServer}
+use Rattle.ffi_server.specs.Refused.{IsNext, RefusesAppend, RefusesChange, RefusesNext, RefusesServer}
 use Rattle.ffi_server.specs.declared.undone.Undone.{Undone}
 use Rattle.ffi_server.specs.declared.undone.Undone.TheVariants.{Nothing, Memory}
 
@@ -40,18 +40,18 @@ pub record RanOut (before after : Served) : Type 0 where
 
 -- ---- what other sessions do
 
--- A change that the tree admits is appended; or memory ran out; or nothing happened, for a reason.
+-- A change is appended; or memory ran out; or nothing happened, for a reason.
 abbrev pub Appends : (now : ℕ) → Change → (before : Served) → Done → (after : Served) → Type 0
 Appends now change before (Ok done) after =
-    Admits (tree_now before.history) change × (after ≡ record (timed now before) { history = appended before.history now change })
+    IsNext now change before.history × (after ≡ record (timed now before) { history = appended before.history now change })
 Appends now change before (Err Memory) after = RanOut before after
 Appends now change before (Err why) after = RefusesAppend now change before.history why × (after ≡ before)
 
--- A change that the tree admits stands at the end of the history, as a transaction of its own.
+-- A change stands at the end of the history, as a transaction of its own.
 pub record Changed (now : ℕ) (told : Option Change) (before after : Served) : Type 0 where
   pub change : Change
   pub is : told ≡ Some change
-  pub admitted : Admits (tree_now before.history) change
+  pub next : IsNext now change before.history
   pub appends : after ≡ record (timed now before) { history = appended before.history now change }
 
 -- The change is made; or memory ran out; or nothing happened, for a reason.
@@ -65,15 +65,15 @@ Changes now kind owner path content before (Err why) after =
 abbrev pub next_of : (other mine : HistoryView) → Option Transaction
 next_of other mine = slice_get other.transactions (newest 0 mine.transactions)
 
--- A server has learned a transaction of one change, which its tree admits.
+-- A server has learned a transaction of one change.
 pub record Learned (next : Option Transaction) (before after : Served) : Type 0 where
   pub one : Transaction
   pub is : next ≡ Some one
   pub change : Change
   pub alone : one.changes ≡ change ∷ []
-  pub admitted : Admits (tree_now before.history) change
   pub time : ℕ
-  pub timely : one.time ≡ pos time
+  pub moment : one.time ≡ pos time
+  pub next : IsNext time change before.history
   pub appends : after ≡ record (timed time before) { history = appended before.history time change }
 
 abbrev pub Learns : (other : Served) → (before : Served) → Done → (after : Served) → Type 0

@@ -88,6 +88,11 @@ RefusesOf tree (Some change) why = RefusesAt tree change why
 abbrev pub IsPast : (now : ℕ) → HistoryView → Type 0
 IsPast now kept = (2 ^ 63 ≤ now) ⊎ (2 ^ 63 ≤ newest 0 kept.transactions + 1)
 
+-- A change can be the next transaction: it is past no zxid and no time, and the tree admits it.
+pub record IsNext (now : ℕ) (change : Change) (kept : HistoryView) : Type 0 where
+  pub timely : IsPast now kept → ⊥
+  pub admitted : Admits (tree_now kept) change
+
 -- Why a change is not appended: it would be past all zxids or times, or the tree does not admit it.
 abbrev pub RefusesAppend : (now : ℕ) → Change → HistoryView → Undone → Type 0
 RefusesAppend now change kept NoTransaction = IsPast now kept
