@@ -24,16 +24,10 @@ fn is_another(action: &Action<Global>) -> bool
     matches!(action, Action::State(_) | Action::Renewed)
 }
 
-fn is_any_another(actions: &[Action<Global>]) -> bool
-    ensures { result ≡ list_any (λ action. is_another (action_view action)) actions.now }
-{
-    actions.iter().any(|action| is_another(action))
-}
-
 fn has_another(actions: &[Action<Global>]) -> bool
     ensures { result ≡ list_any is_another (told_by actions.now) }
 {
-    is_any_another(actions)
+    actions.iter().any(|action| is_another(action))
 }
 
 /// Raises the revision where bytes came, or where another state is told, or another session.

@@ -5,3 +5,4 @@ pub mod Owned
 pub mod SessionLives
 pub mod Sessions
 pub mod Stood
+pub mod inner

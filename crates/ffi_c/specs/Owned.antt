@@ -6,7 +6,6 @@ use denote.RawPtr.{Ptr}
 use Rattle.std.specs.declared.alloc.Global.{Global}
 use Rattle.std.specs.contracts.impls.GlobalAllocator.TheImpl.{ghosts}
 use Rattle.std.specs.Box.Ownership.{box_owns}
-use Rattle.std.specs.Coded.{Coded, coded_option}
 use Rattle.ffi_device.specs.declared.device.Device.{Device}
 use Rattle.ffi_device.specs.contracts.device.Device.{the_row}
 use Rattle.ffi_agent_device.specs.declared.device.AgentDevice.{AgentDevice}
@@ -16,12 +15,6 @@ abbrev pub owned : Global → Ptr → Option Device → Fml
 owned a p None = ftrue
 owned a p (Some x) = box_owns (ghosts.dealloc_token a) the_row p x
 
-abbrev pub coded_held : Coded (Option Device)
-coded_held = coded_option the_row.coded
-
 abbrev pub owned_session : Global → Ptr → Option AgentDevice → Fml
 owned_session a p None = ftrue
 owned_session a p (Some x) = box_owns (ghosts.dealloc_token a) Session.the_row p x
-
-abbrev pub coded_session : Coded (Option AgentDevice)
-coded_session = coded_option Session.the_row.coded

@@ -1,21 +1,11 @@
 -- Where a session stands, and whether it holds, by the number that is answered.
-use Rattle.std.specs.Prelude.{◌≡◌, ℕ, zero, suc, ℤ, pos, List, Result, Ok, Err}
+use Rattle.std.specs.Prelude.{◌≡◌, ℕ, zero, suc, ℤ, pos, List}
 use Rattle.zk_nodes.specs.Path.{Text}
 use Rattle.zk_turns.specs.View.{View}
-use Rattle.ffi_device.specs.Codes.{refusal_code}
-use Rattle.ffi_device.specs.declared.refusal.DeviceRefusal.{DeviceRefusal}
 use Rattle.zk_conclusions.specs.Holders.{ShowsHolder}
 use Rattle.ffi_device.specs.Holders.{ArePlace, HoldsFirst, RefusesHolder}
 use Rattle.ffi_device.specs.Standings.{RefusesStanding, Stood}
-use Rattle.ffi_device.specs.declared.standings.Stands.{Stands}
 use Rattle.ffi_device.specs.declared.standings.Stands.TheVariants.{First, After, Unsure}
-
--- The number that is answered, the token and the count. Each of these two is 0 where it is not told.
-abbrev pub TellsStands : Result Stands DeviceRefusal → (code token : ℤ) (count : ℕ) → Type 0
-TellsStands (Ok (First first)) code token count = (code ≡ pos 0) × (token ≡ first) × (count ≡ 0)
-TellsStands (Ok (After length)) code token count = (code ≡ pos 2) × (token ≡ pos 0) × (count ≡ length)
-TellsStands (Ok Unsure) code token count = (code ≡ pos 1) × (token ≡ pos 0) × (count ≡ 0)
-TellsStands (Err refusal) code token count = (code ≡ refusal_code refusal) × (token ≡ pos 0) × (count ≡ 0)
 
 -- 0 where the session stands first, by the token; 2 where it waits for the rival whose name is written; 1 where neither is shown; and any
 -- other number where nothing is told, for a reason that it has.

@@ -2,7 +2,8 @@
 
 ghost use Rattle.std.specs.Prelude.{◌≡◌, Option, Some, None, IsSome};
 ghost use Rattle.ffi_device.specs.declared.device.Device.{Device};
-ghost use Rattle.ffi_c.specs.Owned.{owned, coded_held};
+ghost use Rattle.ffi_c.specs.Owned.{owned};
+ghost use Rattle.ffi_c.specs.inner.Owned.{coded_held};
 
 use crate::parts::Parts;
 use ffi_device::Device;

@@ -17,7 +17,7 @@ use Rattle.zk_conclusions.specs.declared.no_subtree.NoSubtree.TheVariants as why
 use Rattle.ffi_device.specs.Snapshots.{RefusesSnapshot}
 use Rattle.ffi_device.specs.Standings.{RefusesStanding}
 use Rattle.ffi_device.specs.Steps.{Steps}
-use Rattle.ffi_device.specs.Texts.{RefusesPaths, RefusesTexts}
+use Rattle.ffi_device.specs.inner.Texts.{RefusesPaths, RefusesTexts}
 
 pub refuses : (Refuses : ℤ → Type 0) (moment : ℕ) (input : Input) (device : Device) (refusal : DeviceRefusal)
     → Refuses (refusal_code refusal) → (Refuses (negsuc 0) → ⊥) → Steps Refuses moment input device (refusal_code refusal) device

@@ -2,7 +2,7 @@
 use Rattle.std.proofs.Common.{◌≡◌, ◌≢◌, ◌++◌, ◌∙◌, ℕ, List, [], ◌∷◌, Some, ◌+◌, ◌<◌, append_assoc, ap, arith, length, length-append, sym}
 use Rattle.std.specs.List.{AllByRecursion, flat_map}
 use Rattle.zk_jute.specs.Layout.{ustring}
-use Rattle.zk_jute.specs.Laws.{one_spelling}
+use Rattle.zk_jute.specs.inner.Laws.{one_spelling}
 use Rattle.zk_jute.specs.Spelling.{Fits, counted_bytes, int_bytes, spelling}
 use Rattle.ffi_device.specs.Standings.{AreNoMarkers}
 use Rattle.ffi_device.specs.Texts.{AreTexts}

@@ -10,3 +10,4 @@ pub mod Standings
 pub mod Steps
 pub mod Subtrees
 pub mod Texts
+pub mod inner

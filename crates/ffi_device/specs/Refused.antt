@@ -1,7 +1,7 @@
 -- When a number is told that is neither 0 nor that of a halt.
-use Rattle.std.specs.Prelude.{⊤, ◌≤ℤ◌, ◌<ℤ◌, ◌<◌, List, ℕ, zero, suc, ℤ, pos, negsuc, IsSome, ◌≢◌, None}
+use Rattle.std.specs.Prelude.{⊤, ◌≤ℤ◌, ◌<ℤ◌, ◌<◌, List, ℕ, zero, suc, ℤ, pos, negsuc, IsSome}
 use Rattle.std.specs.Str.{IsUtf8}
-use Rattle.zk_nodes.specs.PathFault.{IsPath, child_fault, fault_of}
+use Rattle.zk_nodes.specs.PathFault.{IsPath, fault_of}
 
 -- nothing is refused
 abbrev pub RefusesNothing : ℤ → Type 0
@@ -35,14 +35,3 @@ abbrev pub RefusesNodes : (lacking many : Type 0) (path : List ℕ) → ℤ → 
 RefusesNodes lacking many path (negsuc (suc (suc (suc (suc (suc (suc (suc (suc zero))))))))) = lacking
 RefusesNodes lacking many path (negsuc (suc (suc (suc (suc (suc (suc (suc (suc (suc zero)))))))))) = many
 RefusesNodes lacking many path code = RefusesPath path code
-
--- bytes for a text: -4 where they are no UTF-8
-abbrev pub RefusesText : (bytes : List ℕ) → ℤ → Type 0
-RefusesText bytes (negsuc (suc (suc (suc zero)))) = ¬ (IsUtf8 bytes)
-RefusesText bytes code = ⊥
-
--- a name below a path: -2, and -5 where it makes no path
-abbrev pub RefusesChild : (path name : List ℕ) → ℤ → Type 0
-RefusesChild path name (negsuc (suc zero)) = ⊤
-RefusesChild path name (negsuc (suc (suc (suc (suc zero))))) = child_fault path name ≢ None
-RefusesChild path name code = ⊥

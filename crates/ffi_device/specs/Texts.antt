@@ -1,5 +1,5 @@
 -- Texts that follow one another, each after its length.
-use Rattle.std.specs.Prelude.{◌≡◌, ⊤, ℕ, zero, suc, ℤ, negsuc, IsSome, List, Some}
+use Rattle.std.specs.Prelude.{◌≡◌, ℕ, IsSome, List, Some}
 use Rattle.std.specs.List.{flat_map, AllByRecursion}
 use Rattle.zk_jute.specs.Layout.{ustring}
 use Rattle.zk_jute.specs.Spelling.{Fits, spelling}
@@ -15,12 +15,6 @@ pub record AreTexts (texts : List (List ℕ)) (spelled : List ℕ) : Type 0 wher
 -- No texts are spelled so.
 abbrev pub AreNoTexts : List ℕ → Type 0
 AreNoTexts spelled = (texts : List (List ℕ)) → ¬ (AreTexts texts spelled)
-
--- bytes for texts: -2, and -11 where no texts are spelled so
-abbrev pub RefusesTexts : (spelled : List ℕ) → ℤ → Type 0
-RefusesTexts spelled (negsuc (suc zero)) = ⊤
-RefusesTexts spelled (negsuc (suc (suc (suc (suc (suc (suc (suc (suc (suc (suc zero))))))))))) = AreNoTexts spelled
-RefusesTexts spelled code = ⊥
 
 -- The texts are spelled so, and each is a path.
 pub record ArePaths (paths : List Text) (spelled : List ℕ) : Type 0 where
@@ -38,9 +32,3 @@ pub record SpellsNoPath (spelled : List ℕ) : Type 0 where
   pub text : List ℕ
   pub among : Among text texts
   pub fault : IsSome (fault_of text)
-
--- bytes for paths: -5 where one of the texts is no path, and -11 where no texts are spelled so
-abbrev pub RefusesPaths : (spelled : List ℕ) → ℤ → Type 0
-RefusesPaths spelled (negsuc (suc (suc (suc (suc zero))))) = SpellsNoPath spelled
-RefusesPaths spelled (negsuc (suc (suc (suc (suc (suc (suc (suc (suc (suc (suc zero))))))))))) = AreNoTexts spelled
-RefusesPaths spelled code = ⊥

@@ -5,7 +5,8 @@ ghost use Rattle.std.specs.Str.{IsUtf8};
 ghost use Rattle.zk_nodes.specs.Path.{child_text};
 ghost use Rattle.zk_nodes.specs.PathFault.{IsPath, child_fault, fault_of};
 ghost use Rattle.ffi_device.specs.Codes.{refusal_code};
-ghost use Rattle.ffi_device.specs.Refused.{RefusesChild, RefusesPath, RefusesText};
+ghost use Rattle.ffi_device.specs.inner.Refused.{RefusesChild, RefusesText};
+ghost use Rattle.ffi_device.specs.Refused.{RefusesPath};
 
 use crate::refusal::DeviceRefusal;
 use std::alloc::Global;

@@ -4,7 +4,8 @@ ghost use Rattle.std.specs.Prelude.{◌≡◌, ◌↔◌, false, true, IfErr, If
 ghost use Rattle.std.specs.List.{AllByRecursion};
 ghost use Rattle.zk_nodes.specs.PathFault.{IsPath, fault_of};
 ghost use Rattle.ffi_device.specs.Codes.{refusal_code};
-ghost use Rattle.ffi_device.specs.Texts.{ArePaths, RefusesPaths, SpellsPaths};
+ghost use Rattle.ffi_device.specs.Texts.{ArePaths, SpellsPaths};
+ghost use Rattle.ffi_device.specs.inner.Texts.{RefusesPaths};
 
 use crate::refusal::DeviceRefusal;
 use crate::texts::{lent_texts, next_text};

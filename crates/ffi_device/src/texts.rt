@@ -5,7 +5,8 @@ ghost use Rattle.zk_jute.specs.Cursor.{bytes_left};
 ghost use Rattle.zk_jute.specs.Layout.{ustring};
 ghost use Rattle.zk_jute.specs.Spelling.{Fits, spelling};
 ghost use Rattle.ffi_device.specs.Codes.{refusal_code};
-ghost use Rattle.ffi_device.specs.Texts.{AreTexts, RefusesTexts};
+ghost use Rattle.ffi_device.specs.Texts.{AreTexts};
+ghost use Rattle.ffi_device.specs.inner.Texts.{RefusesTexts};
 
 use crate::refusal::DeviceRefusal;
 use std::alloc::{AllocError, Global};

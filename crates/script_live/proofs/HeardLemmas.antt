@@ -11,7 +11,8 @@ use Rattle.script_live.specs.Trails.{is_given, Fails, Hears as JointHears, IsLou
 use Rattle.script_words.specs.declared.stop.LineStop.{LineStop}
 use Rattle.script_words.specs.declared.stop.LineStop.TheVariants as stops
 use Rattle.script_words.specs.Stops.{IfHalted, IsWant}
-use Rattle.script_live.specs.Heard.{is_waiting, tape, AllBrought, Awaits, Brings, Connects, Halts, HaltsAmong, HaltsAwaiting, HaltsBrought}
+use Rattle.script_live.specs.Heard.{is_waiting, tape, AllBrought, Awaits, Brings, Connects, Halts, HaltsAmong, HaltsAwaiting}
+use Rattle.script_live.specs.inner.Heard.{HaltsBrought}
 use Rattle.script_live.specs.Heard.{HaltsConnecting, Hears, IsBrought, MayEnd, Takes, Tape, TellsEach}
 
 -- one output, given or sent, and what is printed of it

@@ -6,7 +6,8 @@ use Rattle.zk_turns.specs.View.{View, view_at}
 use Rattle.script_words.specs.Pieces.{words_of}
 use Rattle.script_words.specs.Scripts.{end_at, progress, IsDue}
 use Rattle.script_words.specs.Scripts as scripts
-use Rattle.script_words.specs.Stops.{IfHalted, IsDueBy, IsWant}
+use Rattle.script_words.specs.Stops.{IfHalted, IsWant}
+use Rattle.script_words.specs.inner.Stops.{IsDueBy}
 use Rattle.script_words.specs.declared.script.End.{End}
 use Rattle.script_words.specs.declared.stop.LineStop.{LineStop}
 use Rattle.script_words.specs.declared.stop.LineStop.TheVariants as stops

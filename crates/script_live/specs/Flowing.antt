@@ -1,5 +1,5 @@
 -- What goes through a client's connection, byte by byte, over streams that know what they have still to give and what they took.
-use Rattle.std.specs.Prelude.{◌≡◌, ⊤, ℕ, Bool, true, false, List, [], ◌∷◌, ◌++◌, Vec, Option, Some, None, IfSome, is_some}
+use Rattle.std.specs.Prelude.{◌≡◌, ⊤, ℕ, Bool, true, false, List, [], ◌∷◌, ◌++◌, Option, IfSome, is_some}
 use Rattle.std.specs.List.{filter, flat_map, FoldsTo}
 use Rattle.std.specs.Io.KnownBytes.{Appends}
 use Rattle.zk_turns.specs.Turns.{Input, Output, Turn}
@@ -25,11 +25,6 @@ bytes_of input = []
 abbrev pub piece_in : {A : Type 0} → Brought A → List ℕ
 piece_in (brought.Piece bytes) = bytes.items
 piece_in brought = []
-
--- those of a piece, and none where there is none
-abbrev pub piece_bytes : {A : Type 0} → Option (Vec ℕ A) → List ℕ
-piece_bytes None = []
-piece_bytes (Some bytes) = bytes.items
 
 -- A client, whether it has a connection, what is left to be written, what the stream knows, and what was read and is not handed to the
 -- client yet.

@@ -99,12 +99,6 @@ abbrev pub HaltsAmong : Tape → List Input → Tape → Type 0
 HaltsAmong old [] new = ⊥
 HaltsAmong old (input ∷ inputs) new = Halts old input new ⊎ ((between : Tape) × Hears old input between × HaltsAmong between inputs new)
 
--- It halts at an input that comes from the connection.
-pub record HaltsBrought (old new : Tape) : Type 0 where
-  pub inputs : List Input
-  pub brought : AllBrought inputs
-  pub halts : HaltsAmong old inputs new
-
 -- It halts at an input, or at one that comes from the connection after it.
 pub record HaltsAwaiting (old : Tape) (input : Input) (new : Tape) : Type 0 where
   pub inputs : List Input

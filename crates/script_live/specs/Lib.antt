@@ -1,6 +1,5 @@
 pub mod Addresses
 pub mod LiveLines
-pub mod Lines
 pub mod Begins
 pub mod Heard
 pub mod Lives
@@ -8,3 +7,4 @@ pub mod Frames
 pub mod Trails
 pub mod Flowing
 pub mod Printed
+pub mod inner

@@ -16,18 +16,11 @@ fn is_given<A: Allocator>(output: &Output<A>) -> bool
     !matches!(output, Output::Send(_))
 }
 
-/// Whether one of the outputs ends the connection.
-fn is_any_end<A: Allocator>(outputs: &[Output<A>]) -> bool
-    ensures { result ≡ list_any (λ output. ends_connection (output_view output)) outputs.now }
-{
-    outputs.iter().any(|output| output.ends_connection())
-}
-
 /// Whether the connection is over with one of the outputs, by what they say.
 pub(crate) fn has_end<A: Allocator>(outputs: &[Output<A>]) -> bool
     ensures { result ≡ list_any ends_connection (said outputs.now) }
 {
-    is_any_end(outputs)
+    outputs.iter().any(|output| output.ends_connection())
 }
 
 /// Gives those that are for the caller, in order.

@@ -6,8 +6,10 @@ ghost use Rattle.zk_client.specs.Clients.{view_of};
 ghost use Rattle.zk_client.specs.Views.{input_view};
 ghost use Rattle.zk_turns.specs.Turns.{Call, Cut, Opened};
 ghost use Rattle.script_words.specs.Stops.{IfHalted, IsWant};
-ghost use Rattle.script_live.specs.Flowing.{flow_of, holding, piece_bytes, piece_in, Carries, Reads};
-ghost use Rattle.script_live.specs.Heard.{is_waiting, tape, Awaits, Brings, Connects, Halts, HaltsAmong, HaltsAwaiting, HaltsBrought};
+ghost use Rattle.script_live.specs.Flowing.{flow_of, holding, piece_in, Carries, Reads};
+ghost use Rattle.script_live.specs.inner.Flowing.{piece_bytes};
+ghost use Rattle.script_live.specs.Heard.{is_waiting, tape, Awaits, Brings, Connects, Halts, HaltsAmong, HaltsAwaiting};
+ghost use Rattle.script_live.specs.inner.Heard.{HaltsBrought};
 ghost use Rattle.script_live.specs.Heard.{HaltsConnecting, Hears, MayEnd, Takes};
 ghost use Rattle.script_live.specs.Printed.{HandsThen, Prints};
 

@@ -6,7 +6,7 @@ ghost use Rattle.script_words.specs.Pieces.{words_of};
 ghost use Rattle.script_words.specs.Reads.{Reads};
 ghost use Rattle.script_replay.specs.Lines.{begin_value_of};
 ghost use Rattle.script_replay.specs.ReplayLines.{CanBegin};
-ghost use Rattle.script_live.specs.Lines.{live_value_of};
+ghost use Rattle.script_live.specs.inner.Lines.{live_value_of};
 ghost use Rattle.script_live.specs.LiveLines.{begins_at, keyword_of, placed_at, resume_at, says_at};
 
 use script_replay::begin_line::{BeginKeyword, BeginLine, parse_begin_line};

@@ -25,8 +25,9 @@ use Rattle.script_rehearse.specs.RehearseLines.{RehearseValue, BenchValueLine, s
 use Rattle.script_rehearse.specs.Good.{agrees, AreSame, same_content, sight, if_good, verdict_line, kept_verdict, agreeing, agreeing_path}
 use Rattle.script_rehearse.specs.Good.{agreeing_paths, TellsNamesLine, TellsKeptNames, TellsPath, TellsPaths}
 use Rattle.script_rehearse.specs.Scenes.{Scene, TellsGood, TellsAgreeing}
-use Rattle.script_rehearse.specs.Coherent.{IsServed}
-use Rattle.script_rehearse.specs.Rehearsed.{Position, Told, Staged, Does, TakesLine, Agrees, IsServedAt}
+use Rattle.script_rehearse.specs.inner.Coherent.{IsServed}
+use Rattle.script_rehearse.specs.Rehearsed.{Position, Told, Staged, Does, TakesLine, Agrees}
+use Rattle.script_rehearse.specs.inner.Rehearsed.{IsServedAt}
 
 -- One answer
 

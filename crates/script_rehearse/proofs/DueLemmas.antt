@@ -5,14 +5,17 @@ use Rattle.std.specs.Prelude.{String, string_bytes, Option, Some, None, Result, 
 use Rattle.zk_nodes.specs.Path.{Text}
 use Rattle.script_words.specs.Pieces.{words_of}
 use Rattle.script_words.specs.Scripts.{IsDue}
-use Rattle.script_words.specs.Stops.{IfHalted, IsDueBy}
+use Rattle.script_words.specs.Stops.{IfHalted}
+use Rattle.script_words.specs.inner.Stops.{IsDueBy}
 use Rattle.script_words.specs.declared.stop.LineStop.{LineStop}
 use Rattle.script_words.specs.declared.stop.LineStop.TheVariants.{Refused, Halted, Memory}
 use Rattle.script_story.specs.Stories as story
 use Rattle.script_rehearse.specs.RehearseLines.{RehearseValue, HistoryLine, BeginLine, BenchValueLine, says_at}
 use Rattle.script_rehearse.specs.Scenes.{Scene}
-use Rattle.script_rehearse.specs.Rehearsed.{Position, position_by, is_begun, by_words, by_history, Does, DoesHistory, HaltsLine, HaltsSaid}
-use Rattle.script_rehearse.specs.Rehearsed.{IsDueOf, TakesLine}
+use Rattle.script_rehearse.specs.Rehearsed.{Position, is_begun, by_words, by_history, Does, DoesHistory, HaltsLine}
+use Rattle.script_rehearse.specs.inner.Rehearsed.{position_by, HaltsSaid}
+use Rattle.script_rehearse.specs.inner.Rehearsed.{IsDueOf}
+use Rattle.script_rehearse.specs.Rehearsed.{TakesLine}
 use Rattle.script_rehearse.specs.Scripts.{rules}
 
 -- A line of the history, where no client was made

@@ -21,7 +21,8 @@ use Rattle.zk_nodes.specs.declared.names.Names.{Names}
 use Rattle.zk_nodes.proofs.NamesLemmas.{contains-names_of}
 use Rattle.zk_cache.specs.Contents.{names_in}
 use Rattle.zk_turns.specs.View.{View}
-use Rattle.script_rehearse.specs.Good.{data_verdict, AgreesNames, HasNames, TellsPath, TellsVerdict}
+use Rattle.script_rehearse.specs.Good.{data_verdict, AgreesNames, HasNames, TellsPath}
+use Rattle.script_rehearse.specs.inner.Good.{TellsVerdict}
 
 -- whether a name is among texts
 abbrev has_text : {A : Type 0} → List (String A) → List ℕ → Bool

@@ -10,7 +10,8 @@ use Rattle.zk_session.specs.declared.fields.Saved.{Saved}
 use Rattle.zk_turns.specs.Ranges.{IsResumable}
 use Rattle.zk_turns.specs.Turns.{new_start}
 use Rattle.zk_turns.specs.View.{View, view_at}
-use Rattle.script_rehearse.specs.Rehearsed.{Staged, Begins, is_begun, position_by}
+use Rattle.script_rehearse.specs.Rehearsed.{Staged, Begins, is_begun}
+use Rattle.script_rehearse.specs.inner.Rehearsed.{position_by}
 use Rattle.script_rehearse.specs.Scenes.{Scene, first_scene, rejoined, taken_up}
 
 -- the scene that is made, in other words for the timeout and the history

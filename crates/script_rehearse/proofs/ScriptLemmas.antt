@@ -5,8 +5,10 @@ use Rattle.zk_nodes.specs.Path.{Text}
 use Rattle.script_words.specs.Scripts.{IsDue}
 use Rattle.script_words.specs.declared.stop.LineStop.{LineStop}
 use Rattle.script_rehearse.specs.declared.rehearsal.Rehearsal.{Rehearsal}
-use Rattle.script_rehearse.specs.Rehearsed.{Position, position_of, IsServedAt, TakesLine}
-use Rattle.script_rehearse.specs.Scripts.{rules, IsAt}
+use Rattle.script_rehearse.specs.Rehearsed.{Position, TakesLine}
+use Rattle.script_rehearse.specs.inner.Rehearsed.{position_of, IsServedAt}
+use Rattle.script_rehearse.specs.Scripts.{rules}
+use Rattle.script_rehearse.specs.inner.Scripts.{IsAt}
 use Rattle.script_rehearse.proofs.Agreeing.{line_agrees}
 use Rattle.script_rehearse.proofs.ServedLines.{line_served}
 

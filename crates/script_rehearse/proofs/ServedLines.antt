@@ -37,9 +37,10 @@ use Rattle.script_rehearse.specs.BenchLines.{ClientValueLine}
 use Rattle.script_rehearse.specs.Heard.{heard_all}
 use Rattle.script_rehearse.specs.Scenes.{Scene, first_scene, with_bench, Plays, Opens, TakesNext, Processes, Come, Delivers, Calls, Rejoins}
 use Rattle.script_rehearse.specs.Scenes.{taken_up, DoesClientLine, DoesBench}
-use Rattle.script_rehearse.specs.Coherent.{IsServed}
+use Rattle.script_rehearse.specs.inner.Coherent.{IsServed}
 use Rattle.script_rehearse.specs.RehearseLines.{RehearseValue, HistoryLine, BeginLine, BenchValueLine}
-use Rattle.script_rehearse.specs.Rehearsed.{Position, Told, Staged, Does, TakesLine, IsServedAt}
+use Rattle.script_rehearse.specs.Rehearsed.{Position, Told, Staged, Does, TakesLine}
+use Rattle.script_rehearse.specs.inner.Rehearsed.{IsServedAt}
 use Rattle.script_rehearse.proofs.Hearing.{hears_all, ready_all}
 
 -- Phases, and numbers above 0

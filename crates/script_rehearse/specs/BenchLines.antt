@@ -7,11 +7,9 @@ use Rattle.script_words.specs.declared.script_fault.ScriptFault.TheVariants.{Wor
 use Rattle.script_words.specs.Numbers.{natural_of}
 use Rattle.script_words.specs.Reads.{◌>>=◌, alone, only, is_printed}
 use Rattle.script_replay.specs.ClientLines.{ClientValue, keyword_or_client, client_line_at}
-use Rattle.script_replay.specs.Lines.{client_value_of}
 use Rattle.script_replay.specs.Reads.{natural_at}
 use Rattle.script_rehearse.specs.declared.bench_line.BenchKeyword.{BenchKeyword}
 use Rattle.script_rehearse.specs.declared.bench_line.BenchKeyword.TheVariants as keyword
-use Rattle.script_rehearse.specs.declared.bench_line.BenchLine.{BenchLine}
 use Rattle.script_rehearse.specs.declared.bench_line.BenchLine.TheVariants as line
 
 abbrev pub bench_keyword_of : Text → Option BenchKeyword
@@ -32,16 +30,6 @@ pub data BenchValue : Type 0 where
   GoodLine : BenchValue
   RejoinLine : BenchValue
   ClientValueLine : ClientValue → BenchValue
-
-abbrev pub bench_value_of : {A : Type 0} → BenchLine A → BenchValue
-bench_value_of (line.Open server) = OpenLine server.number
-bench_value_of (line.Take server) = TakeLine server.number
-bench_value_of line.Process = ProcessLine
-bench_value_of (line.Deliver most) = DeliverLine most
-bench_value_of line.Expire = ExpireLine
-bench_value_of line.Good = GoodLine
-bench_value_of line.Rejoin = RejoinLine
-bench_value_of (line.Client value) = ClientValueLine (client_value_of value)
 
 -- from 1 to 8
 abbrev pub server_read : Option ℕ → Result ℕ ScriptFault

@@ -80,11 +80,6 @@ TellsKeptNames (Some kept) path told text = TellsNamesLine kept.mark kept.answer
 abbrev pub TellsNamesVerdict : View → History → Text → List ℕ → Type 0
 TellsNamesVerdict client history path text = TellsKeptNames (client.cache.children path) path (sight Child client history path) text
 
--- What is printed of a path on one side.
-abbrev pub TellsVerdict : Side → View → History → Text → List ℕ → Type 0
-TellsVerdict Data client history path text = text ≡ data_verdict client history path
-TellsVerdict Child client history path text = TellsNamesVerdict client history path text
-
 -- What is printed of a path: data before names.
 abbrev pub TellsPath : View → History → Text → List ℕ → Type 0
 TellsPath client history path text =

@@ -3,6 +3,6 @@ pub mod RehearseLines
 pub mod Heard
 pub mod Good
 pub mod Scenes
-pub mod Coherent
 pub mod Rehearsed
 pub mod Scripts
+pub mod inner

@@ -1,5 +1,5 @@
 -- The lines of a rehearsal.
-use Rattle.std.specs.Prelude.{◌≡◌, ◌<ℤ◌, ℤ, pos, Bool, true, false, if◌then◌else◌, List, [], ◌∷◌, codes, Option, Some, None, Result, Ok}
+use Rattle.std.specs.Prelude.{◌<ℤ◌, ℤ, Bool, true, false, if◌then◌else◌, List, [], ◌∷◌, codes, Option, Some, None, Result, Ok}
 use Rattle.std.specs.Prelude.{Err, bytes_eq}
 use Rattle.std.specs.List.{list_all}
 use Rattle.std.specs.Option.{option_map}
@@ -14,9 +14,8 @@ use Rattle.script_words.specs.Said.{says_by}
 use Rattle.script_replay.specs.Reads.{timeout_at}
 use Rattle.script_rehearse.specs.declared.keywords.Keyword.{Keyword}
 use Rattle.script_rehearse.specs.declared.keywords.Keyword.TheVariants as keyword
-use Rattle.script_rehearse.specs.declared.said.Said.{Said}
 use Rattle.script_rehearse.specs.declared.said.Said.TheVariants as said
-use Rattle.script_rehearse.specs.BenchLines.{BenchValue, bench_keyword_of, bench_line_at, bench_value_of}
+use Rattle.script_rehearse.specs.BenchLines.{BenchValue, bench_keyword_of, bench_line_at}
 
 -- a word that is none of the history's
 abbrev pub other_keyword_of : Text → Option Keyword
@@ -36,17 +35,6 @@ pub data RehearseValue : Type 0 where
   HistoryLine : RehearseValue
   BeginLine : ℤ → RehearseValue
   BenchValueLine : BenchValue → RehearseValue
-
-abbrev pub said_value : {A : Type 0} → Said A → RehearseValue
-said_value said.History = HistoryLine
-said_value (said.Begin timeout) = BeginLine timeout
-said_value (said.Bench line) = BenchValueLine (bench_value_of line)
-
--- The line is allowed here, and the client can be made so.
-abbrev pub CanPlay : (begun : Bool) → RehearseValue → Type 0
-CanPlay begun HistoryLine = begun ≡ false
-CanPlay begun (BeginLine timeout) = (begun ≡ false) × (pos 0 <ℤ timeout)
-CanPlay begun (BenchValueLine value) = begun ≡ true
 
 abbrev pub begin_words_at : List Text → Result ℤ ScriptFault
 begin_words_at (timeout ∷ []) = timeout_at timeout

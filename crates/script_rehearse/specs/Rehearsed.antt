@@ -1,6 +1,5 @@
 -- What the lines of a rehearsal make of a history, and of a client with servers over it, and what they print.
-use Rattle.std.specs.Prelude.{◌≡◌, ◌<ℤ◌, pos, unsigned_abs, ⊤, ℕ, ℤ, Bool, true, false, List, [], Option, Some, None, Ok, Err}
-use Rattle.std.specs.Option.{option_map}
+use Rattle.std.specs.Prelude.{◌≡◌, ◌<ℤ◌, pos, unsigned_abs, ⊤, ℕ, ℤ, Bool, true, false, List, [], Some, Ok, Err}
 use Rattle.zk_nodes.specs.Path.{Text}
 use Rattle.script_words.specs.Pieces.{words_of}
 use Rattle.script_words.specs.Said.{TakesSaid}
@@ -8,25 +7,14 @@ use Rattle.script_story.specs.Stories as story
 use Rattle.zk_turns.specs.Ranges.{IsResumable}
 use Rattle.zk_turns.specs.Turns.{new_start}
 use Rattle.script_words.specs.declared.script_fault.ScriptFault.{ScriptFault}
-use Rattle.script_words.specs.declared.stop.LineStop.{LineStop}
-use Rattle.script_words.specs.declared.stop.LineStop.TheVariants.{Refused, Halted, Memory}
-use Rattle.script_rehearse.specs.declared.rehearsal.Rehearsal.{Rehearsal}
 use Rattle.script_rehearse.specs.BenchLines.{BenchValue, GoodLine}
 use Rattle.script_rehearse.specs.RehearseLines.{RehearseValue, HistoryLine, BeginLine, BenchValueLine, says_at}
-use Rattle.script_rehearse.specs.Coherent.{IsServed}
-use Rattle.script_rehearse.specs.Scenes.{Scene, scene_of, first_scene, DoesBench, HaltsBench, TellsAgreeing}
+use Rattle.script_rehearse.specs.Scenes.{Scene, first_scene, DoesBench, HaltsBench, TellsAgreeing}
 
 -- A history is told, and from the line on that makes the client there is a scene.
 pub data Position : Type 0 where
   Told : story.Position → Position
   Staged : Scene → Position
-
-abbrev pub position_by : story.Position → Option Scene → Position
-position_by told None = Told told
-position_by told (Some scene) = Staged scene
-
-abbrev pub position_of : {A : Type 0} → Rehearsal A → Position
-position_of rehearsal = position_by (story.position_of rehearsal.story) (option_map scene_of rehearsal.rig)
 
 abbrev pub is_begun : Position → Bool
 is_begun (Told told) = false
@@ -57,11 +45,6 @@ Does line (BenchValueLine value) old new text = DoesBenchLine value old new text
 abbrev pub TakesLine : Text → Position → Position → List ℕ → Type 0
 TakesLine line old new text = TakesSaid (says_at (words_of line) (is_begun old)) (Does line) old new text
 
--- Where a client was made, servers of the laws have served it.
-abbrev pub IsServedAt : Position → Type 0
-IsServedAt (Told told) = ⊤
-IsServedAt (Staged scene) = IsServed scene
-
 -- A line that looks the good answers up says of each that it agrees with the history.
 abbrev pub Agrees : Text → Position → List ℕ → Type 0
 Agrees line (Told told) text = ⊤
@@ -71,10 +54,6 @@ Agrees line (Staged scene) text = says_at (words_of line) true ≡ Ok (Some (Ben
 abbrev pub HaltsBenchLine : BenchValue → Position → Position → Type 0
 HaltsBenchLine value (Staged old) (Staged new) = HaltsBench value old new
 HaltsBenchLine value old new = ⊥
-
-abbrev pub HaltsSaid : RehearseValue → Position → Position → Type 0
-HaltsSaid (BenchValueLine value) old new = HaltsBenchLine value old new
-HaltsSaid value old new = ⊥
 
 -- So it does at a line.
 pub record HaltsLine (line : Text) (old new : Position) : Type 0 where
@@ -91,10 +70,3 @@ RefusesHistory line (Staged scene) fault = ⊥
 pub data RefusesLine (line : Text) (old : Position) (fault : ScriptFault) : Type 0 where
   by_words : says_at (words_of line) (is_begun old) ≡ Err fault → RefusesLine line old fault
   by_history : says_at (words_of line) (is_begun old) ≡ Ok (Some HistoryLine) → RefusesHistory line old fault → RefusesLine line old fault
-
--- why a line whose words say this is not done, if memory did not run out
-abbrev pub IsDueOf : Text → RehearseValue → Position → LineStop → Type 0
-IsDueOf line HistoryLine old (Refused fault) = RefusesHistory line old fault
-IsDueOf line value old (Refused fault) = ⊥
-IsDueOf line value old Halted = ⊤
-IsDueOf line value old Memory = ⊤

@@ -5,7 +5,7 @@ use Rattle.zk_frames.specs.Frame.{IsNegative}
 use Rattle.zk_nodes.specs.Path.{Text}
 use Rattle.zk_nodes.specs.History.{IsHistory}
 use Rattle.zk_history.specs.HistoryView.{HistoryView, history_of}
-use Rattle.zk_nodes.specs.Names.{names_of, Names as Texts}
+use Rattle.zk_nodes.specs.Names.{Names as Texts}
 use Rattle.zk_conversation.specs.Calls as call
 use Rattle.zk_laws.specs.Messages.{Request}
 use Rattle.theory_serving.specs.Wires.{IsPathCall, IsFor, StandsFirst}
@@ -13,7 +13,6 @@ use Rattle.zk_turns.specs.Ranges.{IsResumable, IsTyped, AsksOf}
 use Rattle.zk_turns.specs.Turns.{Input, Opened, Bytes, Cut, Now, Call, Output, Start, new_start}
 use Rattle.zk_turns.specs.View.{View, view_at}
 use Rattle.zk_turns.specs.Rule.{Rule}
-use Rattle.zk_client.specs.Clients.{view_of}
 use Rattle.zk_bench.specs.Front.{IsShort, IsWhole}
 use Rattle.zk_bench.specs.Stepping.{shown_of, IsReady, TakesSome, ProcessesFirst}
 use Rattle.zk_bench.specs.Served.{Served, started, connected, disconnected, ended, is_open, advanced, without_output, Continues}
@@ -22,7 +21,6 @@ use Rattle.script_replay.specs.CallLines.{Asked}
 use Rattle.script_replay.specs.ClientLines.{ClientValue, CutLine, NowLine, CallLine}
 use Rattle.script_replay.specs.Played.{DoesClient, HaltsAt, HaltsClient}
 use Rattle.script_replay.specs.Shown.{TellsAll}
-use Rattle.script_rehearse.specs.declared.rig.Rig.{Rig}
 use Rattle.script_rehearse.specs.BenchLines.{BenchValue, OpenLine, TakeLine, ProcessLine, DeliverLine, ExpireLine, GoodLine, RejoinLine}
 use Rattle.script_rehearse.specs.BenchLines.{ClientValueLine}
 use Rattle.script_rehearse.specs.Good.{TellsPaths, agreeing_paths}
@@ -34,9 +32,6 @@ pub record Scene : Type 0 where
   pub view : View
   pub bench : Served
   pub called : Texts
-
-abbrev pub scene_of : {A : Type 0} → Rig A → Scene
-scene_of rig = record { timeout = rig.timeout; view = view_of rig.client; bench = rig.bench; called = names_of rig.called }
 
 -- a new client, and servers over a history
 abbrev pub first_scene : ℤ → HistoryView → Scene

@@ -1,9 +1,7 @@
 -- The rules of a rehearsal's lines.
-use Rattle.std.specs.Prelude.{◌≡◌}
 use Rattle.script_words.specs.Scripts.{Rules}
 use Rattle.script_story.specs.Stories as story
-use Rattle.script_rehearse.specs.declared.rehearsal.Rehearsal.{Rehearsal}
-use Rattle.script_rehearse.specs.Rehearsed.{Position, Told, position_of, Agrees, HaltsLine, IsServedAt, TakesLine, RefusesLine}
+use Rattle.script_rehearse.specs.Rehearsed.{Position, Told, Agrees, HaltsLine, TakesLine, RefusesLine}
 
 -- before the first line
 abbrev pub first_position : Position
@@ -17,7 +15,3 @@ rules = record {
   Refuses = RefusesLine;
   Halts = λ line old. (after : Position) × HaltsLine line old after;
 }
-
--- A rehearsal is at a position where servers of the laws have served its client.
-abbrev pub IsAt : {A : Type 0} → Rehearsal A → Position → Type 0
-IsAt rehearsal position = (position_of rehearsal ≡ position) × IsServedAt position

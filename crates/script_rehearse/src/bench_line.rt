@@ -2,7 +2,8 @@
 
 ghost use Rattle.std.specs.Prelude.{◌≡◌, map};
 ghost use Rattle.script_words.specs.Reads.{Reads};
-ghost use Rattle.script_rehearse.specs.BenchLines.{bench_keyword_of, deliver_at, bench_words_at, bench_line_at, bench_value_of};
+ghost use Rattle.script_rehearse.specs.BenchLines.{bench_keyword_of, deliver_at, bench_words_at, bench_line_at};
+ghost use Rattle.script_rehearse.specs.inner.BenchLines.{bench_value_of};
 
 use crate::server::Server;
 use script_replay::client_line::{ClientKeyword, ClientLine, parse_client_line};

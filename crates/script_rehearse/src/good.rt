@@ -4,7 +4,8 @@ ghost use Rattle.std.specs.Prelude.{◌≡◌, ◌++◌, ℕ, List, OnOk, map, s
 ghost use Rattle.std.specs.BTreeSet.{IsOrdered};
 ghost use Rattle.std.specs.String.{string_cmp};
 ghost use Rattle.zk_client.specs.Clients.{view_of};
-ghost use Rattle.script_rehearse.specs.Good.{verdict_line, TellsPath, TellsPaths, TellsVerdict};
+ghost use Rattle.script_rehearse.specs.Good.{verdict_line, TellsPath, TellsPaths};
+ghost use Rattle.script_rehearse.specs.inner.Good.{TellsVerdict};
 
 use crate::agreement::{agrees, agrees_names};
 use script_words::values::push_name;

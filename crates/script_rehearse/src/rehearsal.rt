@@ -4,12 +4,17 @@ ghost use Rattle.std.specs.Prelude.{◌≡◌, ◌<ℤ◌, pos, true, false, Ok,
 ghost use Rattle.std.specs.Option.{option_map};
 ghost use Rattle.script_words.specs.Pieces.{words_of};
 ghost use Rattle.script_words.specs.Scripts.{IsDue};
-ghost use Rattle.script_words.specs.Stops.{IfHalted, IsDueBy, IsWant};
-ghost use Rattle.script_rehearse.specs.BenchLines.{bench_value_of};
-ghost use Rattle.script_rehearse.specs.RehearseLines.{said_value, says_at, BenchValueLine, HistoryLine, CanPlay};
-ghost use Rattle.script_rehearse.specs.Rehearsed.{Position, position_of, is_begun, Begins, Does, DoesBenchLine, DoesHistory};
-ghost use Rattle.script_rehearse.specs.Rehearsed.{HaltsBenchLine, HaltsLine, HaltsSaid, IsDueOf, TakesLine};
-ghost use Rattle.script_rehearse.specs.Scripts.{first_position, rules, IsAt};
+ghost use Rattle.script_words.specs.Stops.{IfHalted, IsWant};
+ghost use Rattle.script_words.specs.inner.Stops.{IsDueBy};
+ghost use Rattle.script_rehearse.specs.inner.BenchLines.{bench_value_of};
+ghost use Rattle.script_rehearse.specs.inner.RehearseLines.{said_value, CanPlay};
+ghost use Rattle.script_rehearse.specs.RehearseLines.{says_at, BenchValueLine, HistoryLine};
+ghost use Rattle.script_rehearse.specs.Rehearsed.{Position, is_begun, Begins, Does, DoesBenchLine, DoesHistory};
+ghost use Rattle.script_rehearse.specs.inner.Rehearsed.{position_of};
+ghost use Rattle.script_rehearse.specs.Rehearsed.{HaltsBenchLine, HaltsLine, TakesLine};
+ghost use Rattle.script_rehearse.specs.inner.Rehearsed.{HaltsSaid, IsDueOf};
+ghost use Rattle.script_rehearse.specs.Scripts.{first_position, rules};
+ghost use Rattle.script_rehearse.specs.inner.Scripts.{IsAt};
 
 use crate::bench_line::BenchLine;
 use crate::rig::Rig;

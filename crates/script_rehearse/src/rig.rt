@@ -38,9 +38,11 @@ impl<A: Allocator + Copy> Rig<A> {
     ghost use Rattle.script_replay.specs.Lines.{client_value_of, asked_of};
     ghost use Rattle.script_replay.specs.Played.{HaltsAt, HaltsClient};
     ghost use Rattle.script_words.specs.Stops.{IfHalted, IsWant};
-    ghost use Rattle.script_rehearse.specs.BenchLines.{TakeLine, ProcessLine, bench_value_of};
+    ghost use Rattle.script_rehearse.specs.BenchLines.{TakeLine, ProcessLine};
+    ghost use Rattle.script_rehearse.specs.inner.BenchLines.{bench_value_of};
     ghost use Rattle.script_rehearse.specs.Good.{TellsPaths};
-    ghost use Rattle.script_rehearse.specs.Scenes.{scene_of, first_scene, Plays, Delivers, Processes, TakesNext, Calls, Rejoins, TellsGood};
+    ghost use Rattle.script_rehearse.specs.inner.Scenes.{scene_of};
+    ghost use Rattle.script_rehearse.specs.Scenes.{first_scene, Plays, Delivers, Processes, TakesNext, Calls, Rejoins, TellsGood};
     ghost use Rattle.script_rehearse.specs.Scenes.{DoesBench, DoesClientLine, HaltsBench};
 
     /// A new client, and servers over a history. None is connected.

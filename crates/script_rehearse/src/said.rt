@@ -3,7 +3,8 @@
 ghost use Rattle.std.specs.Prelude.{◌≡◌, ◌<ℤ◌, pos, map, IfOk, IfSome};
 ghost use Rattle.std.specs.Option.{option_map};
 ghost use Rattle.script_words.specs.Reads.{Reads};
-ghost use Rattle.script_rehearse.specs.RehearseLines.{begin_at, placed_at, says_at, said_value, CanPlay};
+ghost use Rattle.script_rehearse.specs.RehearseLines.{begin_at, placed_at, says_at};
+ghost use Rattle.script_rehearse.specs.inner.RehearseLines.{said_value, CanPlay};
 
 use crate::bench_line::{BenchLine, parse_bench_line};
 use crate::keywords::Keyword;

@@ -16,9 +16,11 @@ use Rattle.script_replay.specs.Played.{start_of, TakesTurn, DoesClient, DoesDriv
 use Rattle.script_replay.specs.Replays.{Moves, Position, rules}
 use Rattle.script_words.specs.Scripts.{IsDue}
 use Rattle.script_words.specs.Said.{DoesSome}
-use Rattle.script_words.specs.Stops.{IfHalted, IsDueBy}
+use Rattle.script_words.specs.Stops.{IfHalted}
+use Rattle.script_words.specs.inner.Stops.{IsDueBy}
 use Rattle.script_words.specs.declared.stop.LineStop.TheVariants as stops
-use Rattle.script_replay.specs.Courses.{Course, and_then, due_to, AddsTurn, AddsClient, AddsDrive, Adds, StandsBy, Follows}
+use Rattle.script_replay.specs.Courses.{Course, and_then, due_to, AddsTurn, AddsClient, AddsDrive, Adds, StandsBy}
+use Rattle.script_replay.specs.inner.Courses.{Follows}
 
 -- nothing has happened to a client that was just made
 pub first : (start : Start) → Stands start [] (view_at start [])

@@ -10,7 +10,8 @@ use Rattle.script_replay.specs.declared.begin_line.BeginKeyword.{BeginKeyword}
 use Rattle.script_replay.specs.declared.player.Keyword.TheVariants as keyword
 use Rattle.script_replay.specs.ReplayLines.{BeginValue, ReplayValue, Begins, begin_line_at, placed_at, says_at}
 use Rattle.script_words.specs.Said.{something}
-use Rattle.script_replay.specs.Played.{DoesSaid, TakesWords, start_of}
+use Rattle.script_replay.specs.inner.Played.{DoesSaid}
+use Rattle.script_replay.specs.Played.{TakesWords, start_of}
 
 pub taken : {Y : Type 0} (words : List Text) (old new : Option View) (said : Result ReplayValue ScriptFault)
     (r : Result (String Y) LineStop)

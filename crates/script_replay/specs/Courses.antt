@@ -57,9 +57,3 @@ StandsBy None None = ⊤
 StandsBy None (Some view) = ⊥
 StandsBy (Some course) None = ⊥
 StandsBy (Some course) (Some view) = Stands course.start course.items view
-
--- A line takes a course to another one, where a client stands then that shows this.
-pub record Follows (line : Text) (old : Option Course) (view : Option View) (text : List ℕ) : Type 0 where
-  pub next : Option Course
-  pub adds : AddsLine line old next text
-  pub stands : StandsBy next view

@@ -8,3 +8,4 @@ pub mod Shown
 pub mod Played
 pub mod Courses
 pub mod Replays
+pub mod inner

@@ -1,32 +1,19 @@
 -- What the lines say that are read.
-use Rattle.std.specs.Prelude.{ℕ, List, Option}
-use Rattle.zk_nodes.specs.Path.{Text}
-use Rattle.zk_conversation.specs.Calls.{Call, Exists, GetData, GetChildren, SetData, Create, Delete}
-use Rattle.zk_conversation.specs.Views.{call_view, mode_number}
+use Rattle.zk_conversation.specs.Calls.{Call}
+use Rattle.zk_conversation.specs.Views.{call_view}
 use Rattle.script_replay.specs.declared.call_line.Asked.{Asked as RustAsked}
-use Rattle.script_replay.specs.declared.call_line.Wish.{Wish}
 use Rattle.script_replay.specs.declared.call_line.Wish.TheVariants as wish
 use Rattle.script_replay.specs.declared.client_line.ClientLine.{ClientLine}
 use Rattle.script_replay.specs.declared.client_line.ClientLine.TheVariants as client
 use Rattle.script_replay.specs.declared.begin_line.BeginLine.{BeginLine}
 use Rattle.script_replay.specs.declared.begin_line.BeginLine.TheVariants as begin
-use Rattle.script_replay.specs.declared.drive_line.DriveLine.{DriveLine}
 use Rattle.script_replay.specs.declared.drive_line.DriveLine.TheVariants as drive
 use Rattle.script_replay.specs.CallLines.{Asked}
 use Rattle.script_replay.specs.ClientLines.{ClientValue, CutLine, NowLine, CallLine, PeekLine, LastLine, ForgetLine, SavedLine}
-use Rattle.script_replay.specs.ReplayLines.{BeginValue, TimeoutLine, ResumeLine, DriveValue, OpenedLine, BytesLine, ClientValueLine}
+use Rattle.script_replay.specs.ReplayLines.{BeginValue, TimeoutLine, ResumeLine}
 
 abbrev pub asked_of : {A : Type 0} → RustAsked A → Asked
 asked_of asked = record { ticket = asked.ticket; call = call_view asked.call }
-
--- the call of a path, with these bytes
-abbrev pub asks_of : Wish → Text → Option (List ℕ) → Call
-asks_of (wish.Exists watch) = λ path bytes. Exists path watch
-asks_of (wish.GetData watch) = λ path bytes. GetData path watch
-asks_of (wish.GetChildren watch) = λ path bytes. GetChildren path watch
-asks_of (wish.SetData version) = λ path bytes. SetData path bytes version
-asks_of (wish.Create mode) = λ path bytes. Create path bytes (mode_number mode)
-asks_of (wish.Delete version) = λ path bytes. Delete path version
 
 abbrev pub client_value_of : {A : Type 0} → ClientLine A → ClientValue
 client_value_of client.Cut = CutLine
@@ -40,8 +27,3 @@ client_value_of client.Saved = SavedLine
 abbrev pub begin_value_of : {A : Type 0} → BeginLine A → BeginValue
 begin_value_of (begin.Timeout timeout) = TimeoutLine timeout
 begin_value_of (begin.Resume timeout session password last) = ResumeLine timeout session password.items last
-
-abbrev pub drive_value_of : {A : Type 0} → DriveLine A → DriveValue
-drive_value_of drive.Opened = OpenedLine
-drive_value_of (drive.Bytes bytes) = BytesLine bytes.items
-drive_value_of (drive.Client line) = ClientValueLine (client_value_of line)

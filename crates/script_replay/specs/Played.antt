@@ -1,25 +1,18 @@
 -- What the lines of a replay make of a client, and what they print.
-use Rattle.std.specs.Prelude.{◌≡◌, unsigned_abs, is_some, ℕ, List, [], Option, Some, None, Result, Ok, Err}
-use Rattle.std.specs.Option.{option_map}
+use Rattle.std.specs.Prelude.{◌≡◌, unsigned_abs, is_some, ℕ, List, [], Option, Some, None, Ok, Err}
 use Rattle.zk_nodes.specs.Path.{Text}
 use Rattle.zk_nodes.specs.declared.side.Side.TheVariants.{Data, Child}
 use Rattle.zk_turns.specs.Turns.{Input, Opened, Bytes, Cut, Now, Call, Output, Start, new_start}
 use Rattle.zk_turns.specs.View.{View, view_at}
 use Rattle.zk_turns.specs.Rule.{Rule, HaltsAs, forgotten}
-use Rattle.zk_client.specs.Clients.{view_of}
 use Rattle.zk_client.specs.Steps.{IsQuiet}
 use Rattle.script_words.specs.Pieces.{words_of}
 use Rattle.script_words.specs.Said.{TakesSaid}
 use Rattle.script_words.specs.declared.script_fault.ScriptFault.{ScriptFault}
-use Rattle.script_replay.specs.declared.player.Player.{Player}
 use Rattle.script_replay.specs.ClientLines.{ClientValue, CutLine, NowLine, CallLine, PeekLine, LastLine, ForgetLine, SavedLine}
 use Rattle.script_replay.specs.ReplayLines.{BeginValue, TimeoutLine, ResumeLine, DriveValue, OpenedLine, BytesLine, ClientValueLine}
 use Rattle.script_replay.specs.ReplayLines.{ReplayValue, Begins, Drives, says_at}
 use Rattle.script_replay.specs.Shown.{TellsAll, TellsKept, kept_line, last_line, saved_line}
-
--- the client that a player has, by its view
-abbrev pub view_of_player : {A : Type 0} → Player A → Option View
-view_of_player player = option_map view_of player.client
 
 -- what a client begins with
 abbrev pub start_of : BeginValue → Start
@@ -72,12 +65,6 @@ abbrev pub Does : ReplayValue → Option View → Option View → List ℕ → T
 Does (Begins value) old new text = (old ≡ None) × (new ≡ Some (view_at (start_of value) [])) × (text ≡ [])
 Does (Drives value) old new text = GoesOn (DoesDrive value) old new text
 
--- What was said is done.
-pub record DoesSaid (said : Result ReplayValue ScriptFault) (old new : Option View) (text : List ℕ) : Type 0 where
-  pub value : ReplayValue
-  pub says : said ≡ Ok value
-  pub does : Does value old new text
-
 -- What the words of a line make of a player, and what it prints.
 abbrev pub TakesWords : List Text → Option View → Option View → List ℕ → Type 0
 TakesWords words old new text = TakesSaid (says_at words (is_some old)) Does old new text
@@ -105,16 +92,6 @@ abbrev pub HaltsDrive : DriveValue → View → View → Type 0
 HaltsDrive OpenedLine old new = HaltsAt Opened old new
 HaltsDrive (BytesLine bytes) old new = HaltsAt (Bytes bytes) old new
 HaltsDrive (ClientValueLine value) old new = HaltsClient value old new
-
--- What was said is an input, and the client that was there halts at it.
-pub record HaltsSaid (said : Result ReplayValue ScriptFault) (old new : Option View) : Type 0 where
-  pub value : DriveValue
-  pub says : said ≡ Ok (Drives value)
-  pub before : View
-  pub after : View
-  pub was : old ≡ Some before
-  pub is : new ≡ Some after
-  pub halts : HaltsDrive value before after
 
 -- So do the words of a line.
 pub record HaltsWords (words : List Text) (old new : Option View) : Type 0 where

@@ -1,11 +1,10 @@
 -- The rules of a replay's lines.
-use Rattle.std.specs.Prelude.{◌≡◌, ℕ, List, Option, None}
+use Rattle.std.specs.Prelude.{ℕ, List, Option, None}
 use Rattle.zk_nodes.specs.Path.{Text}
 use Rattle.zk_turns.specs.View.{View}
 use Rattle.script_words.specs.Scripts.{Rules}
-use Rattle.script_replay.specs.declared.player.Player.{Player}
 use Rattle.script_replay.specs.Courses.{Course, AddsLine, StandsBy}
-use Rattle.script_replay.specs.Played.{view_of_player, HaltsLine, RefusesLine, TakesLine}
+use Rattle.script_replay.specs.Played.{HaltsLine, RefusesLine, TakesLine}
 
 -- Where a replay stands: its client, once there is one, and all that its lines made happen.
 pub record Position : Type 0 where
@@ -30,7 +29,3 @@ rules = record {
   Refuses = λ line old fault. RefusesLine line old.view fault;
   Halts = λ line old. (after : Option View) × HaltsLine line old.view after;
 }
-
--- A player is at a position where all that happened has led its client.
-abbrev pub IsAt : {A : Type 0} → Player A → Position → Type 0
-IsAt player position = (view_of_player player ≡ position.view) × StandsBy position.course position.view

@@ -5,7 +5,8 @@ ghost use Rattle.std.specs.Option.{option_map};
 ghost use Rattle.zk_conversation.specs.Views.{call_view};
 ghost use Rattle.script_words.specs.Reads.{Reads};
 ghost use Rattle.script_replay.specs.CallLines.{kind_read, asks_at, content_at, on_path_at, close_at, kind_at, numbered_at, call_at};
-ghost use Rattle.script_replay.specs.Lines.{asked_of, asks_of};
+ghost use Rattle.script_replay.specs.Lines.{asked_of};
+ghost use Rattle.script_replay.specs.inner.Lines.{asks_of};
 
 use crate::reads::{parse_boolean, parse_mode, parse_natural, parse_version};
 use script_words::reads::{is_named, parse_data, parse_path, parse_text};

@@ -2,7 +2,7 @@
 
 ghost use Rattle.std.specs.Prelude.{◌≡◌, map};
 ghost use Rattle.script_words.specs.Reads.{Reads};
-ghost use Rattle.script_replay.specs.Lines.{drive_value_of};
+ghost use Rattle.script_replay.specs.inner.Lines.{drive_value_of};
 ghost use Rattle.script_replay.specs.ReplayLines.{drive_keyword_of, piece_at, printed_piece_at, drive_line_at};
 
 use crate::client_line::{ClientKeyword, ClientLine, parse_client_line};

@@ -4,10 +4,14 @@ ghost use Rattle.std.specs.Prelude.{◌≡◌, Option, None, IfOk, IfErr, is_som
 ghost use Rattle.script_replay.specs.ReplayLines.{keyword_of, placed_at, says_at};
 ghost use Rattle.script_replay.specs.declared.player.Keyword.TheVariants as made;
 ghost use Rattle.script_words.specs.Pieces.{words_of};
-ghost use Rattle.script_replay.specs.Played.{view_of_player, DoesSaid, HaltsLine, HaltsSaid, HaltsWords, TakesLine, TakesWords};
-ghost use Rattle.script_replay.specs.Courses.{Course, Follows, StandsBy};
-ghost use Rattle.script_replay.specs.Replays.{rules, IsAt, Position};
-ghost use Rattle.script_words.specs.Stops.{IfHalted, IsDueBy};
+ghost use Rattle.script_replay.specs.inner.Played.{view_of_player, DoesSaid, HaltsSaid};
+ghost use Rattle.script_replay.specs.Played.{HaltsLine, HaltsWords, TakesLine, TakesWords};
+ghost use Rattle.script_replay.specs.Courses.{Course, StandsBy};
+ghost use Rattle.script_replay.specs.inner.Courses.{Follows};
+ghost use Rattle.script_replay.specs.Replays.{rules, Position};
+ghost use Rattle.script_replay.specs.inner.Replays.{IsAt};
+ghost use Rattle.script_words.specs.Stops.{IfHalted};
+ghost use Rattle.script_words.specs.inner.Stops.{IsDueBy};
 
 use crate::begin_line::{BeginKeyword, parse_begin_line};
 use crate::drive_line::{DriveKeyword, parse_drive_line};

@@ -1,12 +1,9 @@
 -- The lines of a script that make a history and ask it.
 use Rattle.std.specs.Prelude.{ℕ, ℤ, if◌then◌else◌, List, [], ◌∷◌, codes, Option, Result, Ok, Err}
-use Rattle.std.specs.Option.{option_map}
 use Rattle.std.specs.List.{list_all}
 use Rattle.zk_nodes.specs.Path.{Text, path_of}
 use Rattle.zk_nodes.specs.History.{Change, Creates, Sets, Deletes}
-use Rattle.zk_history.specs.Made.{change_of}
 use Rattle.zk_nodes.specs.declared.side.Side.{Side}
-use Rattle.script_story.specs.declared.history_line.HistoryLine.{HistoryLine}
 use Rattle.script_story.specs.declared.history_line.HistoryLine.TheVariants as line
 use Rattle.script_story.specs.declared.history_line.Keyword.{Keyword}
 use Rattle.script_story.specs.declared.history_line.Keyword.TheVariants as keyword
@@ -27,12 +24,6 @@ pub data LineValue : Type 0 where
   BeginLine : ℤ → ℤ → LineValue
   ChangeLine : Change → LineValue
   AskLine : Side → ℤ → Text → LineValue
-
-abbrev pub value_of : {A : Type 0} → HistoryLine A → LineValue
-value_of (line.Node path bytes time) = NodeLine path (option_map (λ v. v.items) bytes) time
-value_of (line.Begin zxid time) = BeginLine zxid time
-value_of (line.Change change) = ChangeLine (change_of change)
-value_of (line.Ask side zxid path) = AskLine side zxid path
 
 -- a path, data and a number
 abbrev pub filled_at : (Text → Option (List ℕ) → ℤ → LineValue) → List Text → Result LineValue ScriptFault

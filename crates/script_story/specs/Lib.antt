@@ -1,3 +1,4 @@
 pub mod HistoryLines
 pub mod Answers
 pub mod Stories
+pub mod inner

@@ -58,11 +58,6 @@ reason_of refused.Order = Order
 reason_of refused.Illegal = Illegal
 reason_of refused.Memory = Memory
 
--- what a history answers to a line
-abbrev pub allowed : {X : Type 0} → Result X HistoryFault → Result X ScriptFault
-allowed (Ok done) = Ok done
-allowed (Err why) = Err (reason_of why)
-
 -- what is answered at a zxid and a path
 abbrev pub IsAnswer : Side → HistoryView → ℕ → Text → List ℕ → Type 0
 IsAnswer Data kept zxid path answer = answer ≡ data_text (view Data (tree_at (history_of kept) zxid) (path_of path))

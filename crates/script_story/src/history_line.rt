@@ -2,7 +2,8 @@
 
 ghost use Rattle.std.specs.Prelude.{◌≡◌, map};
 ghost use Rattle.script_words.specs.Reads.{Reads};
-ghost use Rattle.script_story.specs.HistoryLines.{keyword_of, value_of, node_at, begin_at, create_at, set_at, delete_at, look_up_at};
+ghost use Rattle.script_story.specs.HistoryLines.{keyword_of, node_at, begin_at, create_at, set_at, delete_at, look_up_at};
+ghost use Rattle.script_story.specs.inner.HistoryLines.{value_of};
 ghost use Rattle.script_story.specs.HistoryLines.{ask_at, line_at};
 
 use script_words::reads::{

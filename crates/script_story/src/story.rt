@@ -4,9 +4,10 @@ ghost use Rattle.std.specs.Prelude.{◌≡◌, ◌≢◌, OnErr, IfOk, IfErr, ma
 ghost use Rattle.std.specs.Option.{option_map};
 ghost use Rattle.zk_history.specs.HistoryView.{natural};
 ghost use Rattle.zk_nodes.specs.declared.side.Side.TheVariants.{Data, Child};
-ghost use Rattle.script_story.specs.HistoryLines.{value_of};
+ghost use Rattle.script_story.specs.inner.HistoryLines.{value_of};
 ghost use Rattle.script_words.specs.Reads.{Reads};
-ghost use Rattle.script_story.specs.Stories.{Position, allowed, first_position, may_stand, position_of, rules, said, IsAnswer, IsRefused};
+ghost use Rattle.script_story.specs.Stories.{Position, first_position, may_stand, position_of, rules, said, IsAnswer, IsRefused};
+ghost use Rattle.script_story.specs.inner.Stories.{allowed};
 ghost use Rattle.script_story.specs.Stories.{RefusesLine, Takes, TakesLine};
 
 use crate::answers::{push_data, push_names};

@@ -3,7 +3,8 @@ use Rattle.std.proofs.Common.{◌≡◌, ◌++◌, [], ◌∷◌, List, ℕ, ref
 use Rattle.std.proofs.lemmas.List.{append-nil}
 use Rattle.std.specs.Borrow.{Bor}
 use Rattle.std.specs.List.{flat_map}
-use Rattle.script_stream.specs.Words.{field_word, fields_words, named}
+use Rattle.script_stream.specs.inner.Words.{field_word, fields_words}
+use Rattle.script_stream.specs.Words.{named}
 use Rattle.script_stream.specs.declared.fields.Field.{Field}
 
 -- the words of a field, with its name

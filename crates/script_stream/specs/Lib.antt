@@ -6,3 +6,4 @@ pub mod Asked
 pub mod Frames
 pub mod Streams
 pub mod Lines
+pub mod inner

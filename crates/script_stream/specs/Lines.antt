@@ -8,7 +8,6 @@ use Rattle.script_words.specs.Scripts.{IsTranscript, Rules, progress}
 use Rattle.script_words.specs.declared.script.End.{End as Ending}
 use Rattle.script_words.specs.declared.script_fault.ScriptFault.{ScriptFault}
 use Rattle.script_words.specs.declared.script_fault.ScriptFault.TheVariants.{Unknown, Hex}
-use Rattle.script_stream.specs.declared.line.Line.{Line}
 use Rattle.script_stream.specs.declared.line.Line.TheVariants as lines
 use Rattle.script_stream.specs.declared.way.Way.{Way}
 use Rattle.script_stream.specs.declared.way.Way.TheVariants.{Client, Server}
@@ -19,10 +18,6 @@ use Rattle.script_stream.specs.Ways.{way_of}
 pub data Says : Type 0 where
   Came : Way → List ℕ → Says
   Over : Says
-
-abbrev pub says_of : {A : Type 0} → Line A → Says
-says_of (lines.Came way bytes) = Came way bytes.items
-says_of lines.Over = Over
 
 -- bytes, and null is none
 abbrev pub some_bytes : Option (List ℕ) → Result (List ℕ) ScriptFault

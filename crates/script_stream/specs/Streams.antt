@@ -7,8 +7,6 @@ use Rattle.zk_frames.specs.FaultText.{frame_fault_words}
 use Rattle.zk_frames.specs.Frame.{IsUnfinished, joined}
 use Rattle.zk_frames.specs.Stream.{StandsNext}
 use Rattle.zk_records.specs.declared.request_header.RequestHeader.{RequestHeader}
-use Rattle.script_stream.specs.declared.stream.Flow.{Flow}
-use Rattle.script_stream.specs.declared.stream.Stream.{Stream}
 use Rattle.script_stream.specs.declared.way.Way.{Way}
 use Rattle.script_stream.specs.declared.way.Way.TheVariants.{Client, Server}
 use Rattle.script_stream.specs.Asked.{noted}
@@ -65,9 +63,6 @@ pub record Course : Type 0 where
   pub came : ℕ
   pub place : ℕ
 
-abbrev pub course_of : {A : Type 0} → Flow A → Course
-course_of flow = record { held = flow.reader.bytes; fault = flow.reader.fault; came = flow.came; place = flow.place }
-
 -- Bytes come in a direction: after a length that is none nothing is told of it.
 abbrev pub HearsBy : Option FrameFault → Way → (piece : List ℕ) → (old : Course) → List RequestHeader → (new : Course)
     → List RequestHeader → List ℕ → Type 0
@@ -85,9 +80,6 @@ pub record Position : Type 0 where
   pub client : Course
   pub server : Course
   pub asked : List RequestHeader
-
-abbrev pub position_of : {A : Type 0} → Stream A → Position
-position_of stream = record { client = course_of stream.client; server = course_of stream.server; asked = stream.asked.items }
 
 abbrev pub first_course : Course
 first_course = record { held = []; fault = None; came = 0; place = 0 }

@@ -2,7 +2,8 @@
 
 ghost use Rattle.std.specs.Prelude.{◌≡◌, ◌++◌, [], OnOk, IsSome, unwrap_or, string_bytes};
 ghost use Rattle.script_words.specs.Words.{text_word};
-ghost use Rattle.script_stream.specs.Words.{count_word, field_word, fields_words, named, size_word};
+ghost use Rattle.script_stream.specs.Words.{count_word, named, size_word};
+ghost use Rattle.script_stream.specs.inner.Words.{field_word, fields_words};
 
 use script_words::words::{NULL, boolean_to_word, text_to_word};
 use std::alloc::{AllocError, Allocator};

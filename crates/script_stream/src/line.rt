@@ -3,7 +3,8 @@
 ghost use Rattle.std.specs.Prelude.{◌≡◌, map};
 ghost use Rattle.std.specs.Option.{option_map};
 ghost use Rattle.script_words.specs.Reads.{Reads};
-ghost use Rattle.script_stream.specs.Lines.{bytes_at, came_at, over_at, said, says_of};
+ghost use Rattle.script_stream.specs.Lines.{bytes_at, came_at, over_at, said};
+ghost use Rattle.script_stream.specs.inner.Lines.{says_of};
 
 use crate::way::Way;
 use script_words::reads::{is_named, only, parse_data, split_keyword};

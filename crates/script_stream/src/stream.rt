@@ -3,9 +3,12 @@
 ghost use Rattle.std.specs.Prelude.{◌≡◌, ◌≢◌, ◌+◌, ◌++◌, None, Err, length, IfErr, IfOk, OnOk, string_bytes};
 ghost use Rattle.script_words.specs.Pieces.{words_of};
 ghost use Rattle.script_stream.specs.Frames.{frame_line};
-ghost use Rattle.script_stream.specs.Lines.{Does, TakesLine, rules, said, says_of};
-ghost use Rattle.script_stream.specs.Streams.{Hears, Position, TellsAll, asked_after, course_of, fault_line, first_course, first_position};
-ghost use Rattle.script_stream.specs.Streams.{left_line, position_of, telling};
+ghost use Rattle.script_stream.specs.Lines.{Does, TakesLine, rules, said};
+ghost use Rattle.script_stream.specs.inner.Lines.{says_of};
+ghost use Rattle.script_stream.specs.Streams.{Hears, Position, TellsAll, asked_after, fault_line, first_course, first_position};
+ghost use Rattle.script_stream.specs.inner.Streams.{course_of};
+ghost use Rattle.script_stream.specs.Streams.{left_line, telling};
+ghost use Rattle.script_stream.specs.inner.Streams.{position_of};
 
 use crate::asked::note;
 use crate::fields::{push_named, push_value};

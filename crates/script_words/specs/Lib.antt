@@ -9,3 +9,4 @@ pub mod Values
 pub mod Said
 pub mod Stops
 pub mod Scripts
+pub mod inner

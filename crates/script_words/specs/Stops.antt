@@ -1,5 +1,5 @@
 -- Why a line of a script is not done.
-use Rattle.std.specs.Prelude.{◌≡◌, ⊤, Result, Err}
+use Rattle.std.specs.Prelude.{⊤}
 use Rattle.script_words.specs.declared.script_fault.ScriptFault.{ScriptFault}
 use Rattle.script_words.specs.declared.script_fault.ScriptFault.TheVariants as faults
 use Rattle.script_words.specs.declared.stop.LineStop.{LineStop}
@@ -8,12 +8,6 @@ use Rattle.script_words.specs.declared.stop.LineStop.TheVariants.{Refused, Halte
 abbrev pub stop_of : ScriptFault → LineStop
 stop_of faults.Memory = Memory
 stop_of fault = Refused fault
-
--- what words say is refused for this reason, if memory did not run out
-abbrev pub IsDueBy : {X : Type 0} → Result X ScriptFault → LineStop → Type 0
-IsDueBy said (Refused fault) = said ≡ Err fault
-IsDueBy said Halted = ⊤
-IsDueBy said Memory = ⊤
 
 -- memory ran out, in a step of the client or elsewhere
 abbrev pub IsWant : LineStop → Type 0

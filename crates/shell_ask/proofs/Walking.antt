@@ -15,8 +15,10 @@ use Rattle.shell_ask.specs.declared.walk.Bounds.{Bounds}
 use Rattle.shell_ask.specs.declared.walk.Ending.{Ending as Reached}
 use Rattle.shell_ask.specs.Asking.{Coming, Answered, Heard, Late}
 use Rattle.shell_ask.specs.Printing.{end_of, IsToldEnd}
-use Rattle.shell_ask.specs.Trees.{child_of, ending_end, ending_view, listing_of, names_within, spot_view, waiting_view, with_next}
-use Rattle.shell_ask.specs.Trees.{AreInOrder, EndsAt, Ending, Full, HasNoPath, IsGone, IsHeard, IsListed, IsUndone, Misnamed, Reaches, Spot}
+use Rattle.shell_ask.specs.Trees.{child_of, ending_end, listing_of, names_within}
+use Rattle.shell_ask.specs.inner.Trees.{ending_view, spot_view, waiting_view, with_next}
+use Rattle.shell_ask.specs.Trees.{AreInOrder, EndsAt, Ending, Full, HasNoPath, IsGone, IsHeard, IsListed, Misnamed, Reaches, Spot}
+use Rattle.shell_ask.specs.inner.Trees.{IsUndone}
 use Rattle.shell_ask.specs.Trees.{Stage, Steps, Stopped, Whole, WalksRun, begins, leaves_out, prints_leaf, prints_node, steps}
 
 -- ---- the nodes that wait

@@ -6,23 +6,17 @@ use Rattle.zk_conversation.specs.declared.call.Call.{Call as Handed}
 use Rattle.zk_turns.specs.Turns.{Outcome, Answer, new_start}
 use Rattle.zk_turns.specs.View.{view_at}
 use Rattle.zk_client.specs.Clients.{view_of}
-use Rattle.zk_client.specs.Views.{outcome_view}
 use Rattle.zk_agent.specs.Telling.{Told, Says, TimesOut}
 use Rattle.zk_agent.specs.declared.input.AgentInput.TheVariants as happens
 use Rattle.zk_driver.specs.Driving.{closed, Course, Goes, Hands}
 use Rattle.zk_link.specs.Streams.{Known}
 use Rattle.zk_driver.specs.Flowing.{Flow, Runs}
-use Rattle.shell_ask.specs.declared.came.Came.{Came}
 use Rattle.shell_ask.specs.declared.came.Came.TheVariants as came
 
 -- What came of a call: its answer, or its limit, with whether it was sent and whether a server was heard by then.
 pub data Coming : Type 0 where
   Answered : Outcome → Coming
   Late : (was_sent was_heard : Bool) → Coming
-
-abbrev pub came_view : {A : Type 0} → Came A → Coming
-came_view (came.Answered outcome) = Answered (outcome_view outcome)
-came_view (came.Late was_sent was_heard) = Late was_sent was_heard
 
 -- The program hears this next: the driver goes on, and this is the first that is told.
 abbrev pub Tells : {A : Type 0} → (old : Course A) → Told → (new : Course A) → Type 0

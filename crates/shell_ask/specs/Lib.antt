@@ -1,3 +1,4 @@
 pub mod Asking
 pub mod Printing
 pub mod Trees
+pub mod inner

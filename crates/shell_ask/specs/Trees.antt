@@ -1,6 +1,6 @@
 -- What is printed of a tree: which answers, in which order, make which lines.
-use Rattle.std.specs.Prelude.{◌≡◌, ◌≢◌, ◌≤◌, ◌<◌, ◌⊎◌, ◌+◌, ◌-◌, ◌^◌, ⊤, ℕ, suc, false, if◌then◌else◌, nat_lt, List, [], ◌∷◌, ◌++◌, length}
-use Rattle.std.specs.Prelude.{map, min, reverse, Contains, None, codes}
+use Rattle.std.specs.Prelude.{◌≡◌, ◌≢◌, ◌≤◌, ◌<◌, ◌⊎◌, ◌+◌, ◌-◌, ◌^◌, ℕ, suc, false, if◌then◌else◌, nat_lt, List, [], ◌∷◌, ◌++◌, length}
+use Rattle.std.specs.Prelude.{map, min, Contains, None, codes}
 use Rattle.std.specs.Fmt.{decimal}
 use Rattle.std.specs.FinSet as set
 use Rattle.std.specs.List.{flat_map}
@@ -20,12 +20,9 @@ use Rattle.shell_ask.specs.declared.end.End.TheVariants as ends
 use Rattle.shell_ask.specs.declared.plan.Form.{Form}
 use Rattle.shell_ask.specs.declared.plan.Form.TheVariants as form
 use Rattle.shell_ask.specs.declared.plan.TreePlan.{TreePlan}
-use Rattle.shell_ask.specs.declared.spots.Spot.{Spot as Place}
 use Rattle.shell_ask.specs.declared.walk.Bounds.{Bounds}
-use Rattle.shell_ask.specs.declared.walk.Ending.{Ending as Reached}
 use Rattle.shell_ask.specs.declared.walk.Ending.TheVariants as reached
-use Rattle.shell_ask.specs.declared.walk.Walk.{Walk}
-use Rattle.shell_ask.specs.Asking.{came_view, Coming, Answered, Heard}
+use Rattle.shell_ask.specs.Asking.{Coming, Answered, Heard}
 use Rattle.shell_ask.specs.Printing.{end_of, fault_line, name_line, text_line, told}
 
 -- ---- what is asked for
@@ -49,13 +46,6 @@ pub record Spot : Type 0 where
   pub depth : ℕ
   pub path : Text
   pub name : Text
-
-abbrev pub spot_view : {A : Type 0} → Place A → Spot
-spot_view place = record { depth = place.depth; path = place.path; name = place.name }
-
--- nodes that wait, of which the next one comes last
-abbrev pub waiting_view : {A : Type 0} → List (Place A) → List Spot
-waiting_view places = reverse (map spot_view places)
 
 abbrev pub root_of : Scope → Spot
 root_of scope = record { depth = 0; path = scope.path; name = scope.name }
@@ -113,13 +103,6 @@ pub record Stage (A : Type 0) : Type 0 where
   pub waiting : List Spot
   pub printed : List Text
 
-abbrev pub stage_of : {A : Type 0} → Flow A → Walk A → Stage A
-stage_of flow walk = record { flow = flow; waiting = waiting_view walk.waiting.items; printed = walk.printed.items }
-
--- another node is the next one
-abbrev pub with_next : {A : Type 0} → Spot → Stage A → Stage A
-with_next spot stage = record stage { waiting = spot ∷ stage.waiting }
-
 abbrev pub Becomes : {A : Type 0} → Stage A → (flow : Flow A) (waiting : List Spot) (printed : List Text) → Type 0
 Becomes new flow waiting printed = (new.flow ≡ flow) × (new.waiting ≡ waiting) × (new.printed ≡ printed)
 
@@ -161,12 +144,6 @@ pub data Ending : Type 0 where
   Full : Ending
   Stopped : (name : Text) → Coming → Ending
   Misnamed : (name : Text) → Ending
-
-abbrev pub ending_view : {A : Type 0} → Reached A → Ending
-ending_view reached.Whole = Whole
-ending_view reached.Full = Full
-ending_view (reached.Stopped name came) = Stopped name (came_view came)
-ending_view (reached.Misnamed name) = Misnamed name
 
 pub record StopsAt {A : Type 0} (bounds : Bounds) (last : Stage A) (name : Text) (coming : Coming) : Type 0 where
   pub spot : Spot
@@ -250,8 +227,3 @@ ending_end Whole = ends.Done
 ending_end Full = ends.More
 ending_end (Stopped name coming) = end_of coming
 ending_end (Misnamed name) = ends.Refused
-
--- A call that stopped a walk is not done.
-abbrev pub IsUndone : Ending → Type 0
-IsUndone (Stopped name coming) = end_of coming ≢ ends.Done
-IsUndone _ = ⊤

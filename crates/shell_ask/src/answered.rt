@@ -4,7 +4,8 @@ ghost use Rattle.std.specs.Prelude.{None, IfOk, IfSome, OnOk};
 ghost use Rattle.zk_conversation.specs.Views.{call_view};
 ghost use Rattle.zk_driver.specs.Driving.{course_of};
 ghost use Rattle.zk_driver.specs.Flowing.{flow_of, Runs};
-ghost use Rattle.shell_ask.specs.Asking.{came_view, ComesOf, Heard};
+ghost use Rattle.shell_ask.specs.inner.Asking.{came_view};
+ghost use Rattle.shell_ask.specs.Asking.{ComesOf, Heard};
 
 use crate::came::{Came, wait_for_answer};
 use std::alloc::Allocator;

@@ -3,7 +3,8 @@
 ghost use Rattle.std.specs.Prelude.{◌≡◌, ◌≢◌, ◌⊎◌, ℕ, List};
 ghost use Rattle.std.specs.Io.KnownBytes.{Appends};
 ghost use Rattle.zk_conversation.specs.Views.{call_view};
-ghost use Rattle.shell_ask.specs.Asking.{came_view, ComesOf, Coming};
+ghost use Rattle.shell_ask.specs.inner.Asking.{came_view};
+ghost use Rattle.shell_ask.specs.Asking.{ComesOf, Coming};
 ghost use Rattle.shell_ask.specs.Printing.{end_of, told, IsToldEnd, Prints};
 
 use crate::answered::come;

@@ -6,7 +6,8 @@ ghost use Rattle.zk_conversation.specs.Views.{call_view};
 ghost use Rattle.zk_agent.specs.declared.input.AgentInput.TheVariants as happens;
 ghost use Rattle.zk_driver.specs.Driving.{course_of, Course, Hands};
 ghost use Rattle.zk_driver.specs.Flowing.{flow_of, Runs};
-ghost use Rattle.shell_ask.specs.Asking.{came_view, Hears};
+ghost use Rattle.shell_ask.specs.inner.Asking.{came_view};
+ghost use Rattle.shell_ask.specs.Asking.{Hears};
 
 use std::alloc::Allocator;
 use zk_client::{Call, Outcome};

@@ -2,7 +2,7 @@
 
 ghost use Rattle.std.specs.Prelude.{◌≡◌, ◌++◌, ℕ, List, IfOk, OnOk, string_bytes};
 ghost use Rattle.zk_client.specs.Views.{call_result_view};
-ghost use Rattle.shell_ask.specs.Asking.{came_view};
+ghost use Rattle.shell_ask.specs.inner.Asking.{came_view};
 ghost use Rattle.shell_ask.specs.Printing.{Prints, PrintsResult, PrintsWords};
 
 use crate::came::Came;

@@ -5,7 +5,8 @@ ghost use Rattle.std.specs.BTreeSet.{IsOrdered};
 ghost use Rattle.std.specs.String.{string_cmp};
 ghost use Rattle.zk_nodes.specs.Path.{Text};
 ghost use Rattle.zk_nodes.specs.PathFault.{fault_told};
-ghost use Rattle.shell_ask.specs.Trees.{child_of, spot_view, waiting_view, AreInOrder, HasNoPath};
+ghost use Rattle.shell_ask.specs.Trees.{child_of, AreInOrder, HasNoPath};
+ghost use Rattle.shell_ask.specs.inner.Trees.{spot_view, waiting_view};
 
 use crate::names::set_of;
 use std::alloc::{AllocError, Allocator};

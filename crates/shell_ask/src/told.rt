@@ -4,7 +4,7 @@ ghost use Rattle.std.specs.Prelude.{◌≡◌, ◌++◌, IfOk, OnOk, string_byte
 ghost use Rattle.zk_records.specs.Codes.{code_number};
 ghost use Rattle.zk_conversation.specs.Views.{code_result};
 ghost use Rattle.zk_client.specs.Views.{outcome_view};
-ghost use Rattle.shell_ask.specs.Asking.{came_view};
+ghost use Rattle.shell_ask.specs.inner.Asking.{came_view};
 ghost use Rattle.shell_ask.specs.Printing.{code_words, end_of, fault_line, is_refused, late_told, outcome_end, outcome_told, refusal_words};
 ghost use Rattle.shell_ask.specs.Printing.{result_told, told};
 

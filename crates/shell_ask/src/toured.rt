@@ -5,8 +5,10 @@ ghost use Rattle.std.specs.Io.KnownBytes.{Appends};
 ghost use Rattle.zk_nodes.specs.Path.{Text};
 ghost use Rattle.zk_driver.specs.Flowing.{flow_of};
 ghost use Rattle.shell_ask.specs.Printing.{IsToldEnd};
-ghost use Rattle.shell_ask.specs.Trees.{ending_end, ending_told, ending_view, root_of, scope_of, tree_text, waiting_view, Ending as Ends};
-ghost use Rattle.shell_ask.specs.Trees.{Full, IsUndone, Tours, WalksFrom, Whole};
+ghost use Rattle.shell_ask.specs.Trees.{ending_end, ending_told, root_of, scope_of, tree_text, Ending as Ends};
+ghost use Rattle.shell_ask.specs.inner.Trees.{ending_view, waiting_view};
+ghost use Rattle.shell_ask.specs.Trees.{Full, Tours, WalksFrom, Whole};
+ghost use Rattle.shell_ask.specs.inner.Trees.{IsUndone};
 
 use crate::answered::{TIMEOUT_MS, close};
 use crate::asked::write;

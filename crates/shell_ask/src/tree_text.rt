@@ -3,7 +3,8 @@
 ghost use Rattle.std.specs.Prelude.{◌≡◌, ◌⊎◌, codes, IfOk, string_bytes};
 ghost use Rattle.std.specs.List.{flat_map};
 ghost use Rattle.shell_ask.specs.Printing.{fault_line, name_line, text_line, IsToldEnd};
-ghost use Rattle.shell_ask.specs.Trees.{ending_end, ending_told, ending_view, most_words, tree_text, Full, IsUndone, Whole};
+ghost use Rattle.shell_ask.specs.Trees.{ending_end, ending_told, most_words, tree_text, Full, Whole};
+ghost use Rattle.shell_ask.specs.inner.Trees.{ending_view, IsUndone};
 
 use crate::end::End;
 use crate::json_lines::with_text;

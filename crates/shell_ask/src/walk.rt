@@ -5,10 +5,12 @@ ghost use Rattle.std.specs.Prelude.{length, map, string_bytes};
 ghost use Rattle.zk_nodes.specs.Path.{Text};
 ghost use Rattle.zk_driver.specs.Driving.{course_of};
 ghost use Rattle.zk_driver.specs.Flowing.{flow_of, Runs};
-ghost use Rattle.shell_ask.specs.Asking.{came_view, Heard};
+ghost use Rattle.shell_ask.specs.inner.Asking.{came_view};
+ghost use Rattle.shell_ask.specs.Asking.{Heard};
 ghost use Rattle.shell_ask.specs.Printing.{end_of};
 ghost use Rattle.shell_ask.specs.declared.end.End.TheVariants as ends;
-ghost use Rattle.shell_ask.specs.Trees.{child_of, ending_view, listing_of, names_within, spot_view, stage_of, waiting_view, with_next};
+ghost use Rattle.shell_ask.specs.Trees.{child_of, listing_of, names_within};
+ghost use Rattle.shell_ask.specs.inner.Trees.{ending_view, spot_view, stage_of, waiting_view, with_next};
 ghost use Rattle.shell_ask.specs.Trees.{AreInOrder, EndsAt, HasNoPath, IsGone, IsListed, Misnamed, Reaches, Stage, Steps};
 
 use crate::answered::{CALL, answered};

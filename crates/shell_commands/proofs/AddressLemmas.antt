@@ -7,7 +7,7 @@ use Rattle.clap.specs.Words.{Row, Text}
 use Rattle.shell_commands.specs.Asks.{AreServers, chroot_text, cut_at_slash}
 use Rattle.shell_commands.specs.declared.line_fault.LineFault.{LineFault}
 use Rattle.shell_commands.specs.declared.line_fault.LineFault.TheVariants.{Help, Refused, Memory}
-use Rattle.shell_commands.specs.CommandLine.{IsNoHelp, TellsIf}
+use Rattle.shell_commands.specs.inner.CommandLine.{IsNoHelp, TellsIf}
 
 -- the first word that is none of those that this admits
 abbrev pub stranger : (Text → Bool) → List (Bor Text) → Option (Bor Text)

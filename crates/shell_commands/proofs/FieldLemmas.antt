@@ -4,7 +4,7 @@ use Rattle.std.specs.Borrow.{Bor}
 use Rattle.std.specs.List.{flat_map}
 use Rattle.script_words.specs.Lines.{line}
 use Rattle.shell_commands.specs.declared.fields.Field.{Field}
-use Rattle.shell_commands.specs.Fields.{field_word, fields_lines}
+use Rattle.shell_commands.specs.inner.Fields.{field_word, fields_lines}
 
 -- the line of a field, with its name
 abbrev pub line_of : {A : Type 0} → Bor (List ℕ) × Field A → List ℕ

@@ -268,23 +268,6 @@ AsksFor words command = (names : Bor (List (Bor Text))) × AreKinds names × IsF
 abbrev pub AsksForNone : Option (Text × List Row) → Type 0
 AsksForNone found = (command : Command) → IsFound command found → ⊥
 
--- A refusal, or that memory ran out.
-abbrev pub IsNoHelp : LineFault → Type 0
-IsNoHelp (Help text) = ⊥
-IsNoHelp fault = Unit {0}
-
--- A refusal, where this holds; or that memory ran out.
-abbrev pub TellsIf : Type 0 → LineFault → Type 0
-TellsIf why (Help text) = ⊥
-TellsIf why (Refused text) = why
-TellsIf why Memory = Unit {0}
-
--- what `clap` says of the words is told so
-abbrev pub Tells : ErrorKind → LineFault → Type 0
-Tells kind (Help text) = (kind ≡ kinds.DisplayHelp) ⊎ (kind ≡ kinds.DisplayVersion)
-Tells kind (Refused text) = (kind ≢ kinds.DisplayHelp) × (kind ≢ kinds.DisplayVersion) × (kind ≢ kinds.OutOfMemory)
-Tells kind Memory = Unit {0}
-
 -- Help is told where `clap` answers the words with help, and a refusal where it refuses them, or where they ask for no command.
 abbrev pub IsDue : List Text → LineFault → Type 0
 IsDue words (Help text) = (names : Bor (List (Bor Text))) × AreKinds names

@@ -1,7 +1,5 @@
 -- What the file gives that a command line names, and the call that is asked with it.
 use Rattle.std.specs.Prelude.{◌≡◌, ◌≢◌, ◌≤◌, ◌<◌, ℕ, List, length, codes, bytes_eq, if◌then◌else◌, Option, Some, None, IfSome}
-use Rattle.std_io.specs.declared.io.kind.ErrorKind.{ErrorKind}
-use Rattle.std_io.specs.declared.io.kind.ErrorKind.TheVariants.{NotFound, PermissionDenied}
 use Rattle.clap.specs.Words.{Text}
 use Rattle.shell_ask.specs.Printing.{fault_line}
 use Rattle.zk_conversation.specs.Calls.{Call, SetData, Create}
@@ -24,12 +22,6 @@ AreWhole given bytes = IsInput given bytes × (length bytes ≤ LONGEST_OUTGOING
 -- it has more, where its bytes are known
 abbrev pub IsTooLong : Option (List ℕ) → Type 0
 IsTooLong given = IfSome given (λ all. LONGEST_OUTGOING < length all)
-
--- why a file is not opened
-abbrev pub fault_of : ErrorKind → FileFault
-fault_of NotFound = fault.Missing
-fault_of PermissionDenied = fault.Denied
-fault_of kind = fault.Unread
 
 -- a call with these data, where it has data
 abbrev pub with_data : List ℕ → Call → Call

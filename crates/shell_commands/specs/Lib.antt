@@ -2,7 +2,6 @@ pub mod Asks
 pub mod Files
 pub mod Print
 pub mod Names
-pub mod Fields
 pub mod Frame
 pub mod Kinds
 pub mod CommandLine
@@ -11,3 +10,4 @@ pub mod Scripts
 pub mod Written
 pub mod Tours
 pub mod Run
+pub mod inner

@@ -15,7 +15,6 @@ use Rattle.zk_records.specs.Layouts.{connect_request, reply_header, watcher_even
 use Rattle.zk_records.specs.Layouts.{get_children2_response, create_response}
 use Rattle.zk_records.specs.Response.{Response, response_spelling, IsPayload, response_at}
 use Rattle.zk_records.specs.Reply.{ReplyValue, ReplyFits, reply_spelling, reply_at}
-use Rattle.zk_records.specs.declared.request_fault.RequestFault.{RequestFault}
 use Rattle.zk_records.specs.declared.request_fault.RequestFault.TheVariants as request
 use Rattle.zk_records.specs.Operations.{request_layout}
 use Rattle.zk_records.specs.Asked.{Asked, asked_value, request_at}
@@ -122,14 +121,6 @@ abbrev pub IsPayloadFault : Kind → List ℕ → ShowFault → Type 0
 IsPayloadFault kind payload (Reading e) = FailsWith kind payload e
 IsPayloadFault kind payload (Unknown number) = IsUnknown kind payload number
 IsPayloadFault kind payload fault = ⊥
-
-abbrev pub shown_fault : RequestFault → ShowFault
-shown_fault (request.Unknown number) = Unknown number
-shown_fault (request.Unread jute.Memory) = Memory
-shown_fault (request.Unread (jute.Short place)) = Reading (jute.Short place)
-shown_fault (request.Unread (jute.BadLength place)) = Reading (jute.BadLength place)
-shown_fault (request.Unread (jute.BadBool place)) = Reading (jute.BadBool place)
-shown_fault (request.Unread (jute.NotUtf8 place)) = Reading (jute.NotUtf8 place)
 
 pub record IsHexOf (bytes text : List ℕ) : Type 0 where
   pub decoded : decode_of text ≡ Ok bytes

@@ -7,7 +7,8 @@ ghost use Rattle.clap.specs.Words.{Text, first_of, found_of, rows_of};
 ghost use Rattle.script_live.specs.Addresses.{is_server};
 ghost use Rattle.shell_commands.specs.Asks.{AreServers, absolute, chroot_text, cut_at_slash, data_form, flag, form_for, form_or_json};
 ghost use Rattle.shell_commands.specs.Asks.{is_root};
-ghost use Rattle.shell_commands.specs.CommandLine.{TellsIf, is_below, wait_at};
+ghost use Rattle.shell_commands.specs.inner.CommandLine.{TellsIf};
+ghost use Rattle.shell_commands.specs.CommandLine.{is_below, wait_at};
 
 use crate::line_fault::{LineFault, no_command, no_server, no_wait};
 use crate::verb::Verb;

@@ -7,7 +7,8 @@ ghost use Rattle.clap.specs.Words.{Text, app_of, found_of, first_value, kind_of,
 ghost use Rattle.script_live.specs.Addresses.{is_address};
 ghost use Rattle.shell_commands.specs.Kinds.{kind_word};
 ghost use Rattle.shell_commands.specs.CommandLine.{AreAddresses, AreKinds, AsksFor, AsksForNone, AsksQuestion, IsAsked, IsDue, IsFound};
-ghost use Rattle.shell_commands.specs.CommandLine.{IsWatch, Tells, TellsIf, Sights, sights_of, history_app, live_app, rehearse_app};
+ghost use Rattle.shell_commands.specs.CommandLine.{IsWatch, Sights, sights_of, history_app, live_app, rehearse_app};
+ghost use Rattle.shell_commands.specs.inner.CommandLine.{Tells, TellsIf};
 ghost use Rattle.shell_commands.specs.CommandLine.{replay_app, show_app, shell_app, shell_top, watch_app};
 ghost use Rattle.shell_ask.specs.declared.plan.Form.{Form};
 ghost use Rattle.zk_conversation.specs.Calls.{Call as Calls};

@@ -5,7 +5,7 @@ ghost use Rattle.std.specs.Option.{option_map};
 ghost use Rattle.clap.specs.Words.{found_of, rows_of};
 ghost use Rattle.zk_conversation.specs.Views.{call_view, mode_number};
 ghost use Rattle.shell_commands.specs.Asks.{call_for, data_given, data_in, data_with, mode_in, version_in};
-ghost use Rattle.shell_commands.specs.CommandLine.{TellsIf};
+ghost use Rattle.shell_commands.specs.inner.CommandLine.{TellsIf};
 
 use crate::ask_words::flag;
 use crate::line_fault::{LineFault, no_data, no_hex, no_version, two_data};

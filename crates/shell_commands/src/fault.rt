@@ -49,7 +49,7 @@ impl fmt::Display for ShowFault {
 
 impl From<RequestFault> for ShowFault {
     ghost use Rattle.std.specs.Prelude.{◌≡◌};
-    ghost use Rattle.shell_commands.specs.Show.{shown_fault};
+    ghost use Rattle.shell_commands.specs.inner.Show.{shown_fault};
 
     ghost from_gives = { λ e f. f ≡ shown_fault e };
 

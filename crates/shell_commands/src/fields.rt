@@ -6,7 +6,7 @@ ghost use Rattle.zk_jute.specs.Layout.{vector, ustring};
 ghost use Rattle.script_words.specs.Words.{bytes_word, text_word, boolean_word, optional_boolean_word};
 ghost use Rattle.script_words.specs.Lines.{line};
 ghost use Rattle.shell_commands.specs.Print.{lines_of, numbered_lines, one};
-ghost use Rattle.shell_commands.specs.Fields.{field_word, fields_lines};
+ghost use Rattle.shell_commands.specs.inner.Fields.{field_word, fields_lines};
 
 use script_words::lines::{push_line, push_shown};
 use script_words::words::{NONE, NULL, boolean_to_word, bytes_to_word, text_to_word};

@@ -4,7 +4,8 @@ ghost use Rattle.std.specs.Prelude.{◌≡◌, ◌≤◌, ◌<◌, List, ℕ, Op
 ghost use Rattle.std.specs.Option.{option_map};
 ghost use Rattle.zk_conversation.specs.Views.{call_view};
 ghost use Rattle.zk_limits.specs.declared.limits.TheConstants.{LONGEST_OUTGOING};
-ghost use Rattle.shell_commands.specs.Files.{AreWhole, IsAskedBy, IsTooLong, fault_of, given_by, with_data};
+ghost use Rattle.shell_commands.specs.Files.{AreWhole, IsAskedBy, IsTooLong, given_by, with_data};
+ghost use Rattle.shell_commands.specs.inner.Files.{fault_of};
 
 use script_words::input::{InputFault, read_whole};
 use std::alloc::{AllocError, Global};

@@ -1,7 +1,7 @@
 //! Why a command line asks for nothing.
 
 ghost use Rattle.std.specs.Prelude.{◌≡◌};
-ghost use Rattle.shell_commands.specs.CommandLine.{IsNoHelp};
+ghost use Rattle.shell_commands.specs.inner.CommandLine.{IsNoHelp};
 ghost use Rattle.shell_commands.specs.declared.line_fault.LineFault.TheVariants as faults;
 
 use std::alloc::{AllocError, Global};

@@ -5,7 +5,8 @@ ghost use Rattle.std.specs.Option.{option_and_then};
 ghost use Rattle.clap.specs.Words.{Text, app_of, first_of, found_of, rows_of, rule_of};
 ghost use Rattle.shell_ask.specs.declared.plan.Form.{Form as Forms};
 ghost use Rattle.shell_commands.specs.Asks.{absolute, depth_read, depth_rule, most_rule, tree_app};
-ghost use Rattle.shell_commands.specs.CommandLine.{AsksTour, IsTree, TellsIf, is_below, most_at};
+ghost use Rattle.shell_commands.specs.CommandLine.{AsksTour, IsTree, is_below, most_at};
+ghost use Rattle.shell_commands.specs.inner.CommandLine.{TellsIf};
 
 use crate::ask_forms::json_form;
 use crate::ask_words::{form_or_json, node_of, servers_of, wait_of};

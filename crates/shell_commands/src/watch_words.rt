@@ -7,7 +7,8 @@ ghost use Rattle.clap.specs.Words.{Text, app_of, new_app, first_of, found_of, ro
 ghost use Rattle.zk_nodes.specs.declared.side.Side.{Side as Sides};
 ghost use Rattle.shell_watch.specs.Watching.{aims_of};
 ghost use Rattle.shell_commands.specs.Asks.{absolute};
-ghost use Rattle.shell_commands.specs.CommandLine.{AreAims, IsDuration, IsTimeout, TellsIf, AreRoots, AreSights, Sights, address_rule};
+ghost use Rattle.shell_commands.specs.CommandLine.{AreAims, IsDuration, IsTimeout, AreRoots, AreSights, Sights, address_rule};
+ghost use Rattle.shell_commands.specs.inner.CommandLine.{TellsIf};
 ghost use Rattle.shell_commands.specs.CommandLine.{aims_at, bound_rule, scope_app, sights_of, count_at, duration_rule, duration_read};
 ghost use Rattle.shell_commands.specs.CommandLine.{given, is_below, is_path, option_rule, path_rule, style_in, timeout_at, timeout_rule};
 ghost use Rattle.shell_commands.specs.CommandLine.{watch_app};

@@ -5,7 +5,8 @@ ghost use Rattle.std.specs.Io.KnownBytes.{Appends};
 ghost use Rattle.script_words.specs.Scripts.{refusal_text};
 ghost use Rattle.script_words.specs.declared.script_fault.ScriptFault.{ScriptFault as Why};
 ghost use Rattle.shell_commands.specs.Asks.{IsUndone};
-ghost use Rattle.shell_commands.specs.Written.{unread, RunsOut};
+ghost use Rattle.shell_commands.specs.inner.Written.{unread};
+ghost use Rattle.shell_commands.specs.Written.{RunsOut};
 
 use crate::status::Status;
 use script_words::input::InputFault;

@@ -21,7 +21,8 @@ use Rattle.shell_watch.specs.declared.plan.Style.{Style}
 use Rattle.zk_trees.specs.Trees.{is_settled, roots_aims, stays, tickets_gone}
 use Rattle.shell_watch.specs.Watching.{view_in, AllStood, Grows, IsTurnLed, LetsGo, TakesOn, TakesOnWhere, Tends, TendsSo, end_of, Closes}
 use Rattle.shell_watch.specs.Watching.{Does, EndsFrom, FollowsAll, HasCome, IsBegun, IsOver, IsPrinted, IsWatched, Move, Prints, PrintsFrom}
-use Rattle.shell_watch.specs.Watching.{Stand, Takes, Writes, WritesEnd, WritesOn}
+use Rattle.shell_watch.specs.Watching.{Stand, Takes}
+use Rattle.shell_watch.specs.inner.Watching.{Writes, WritesEnd, WritesOn}
 use Rattle.shell_watch.proofs.Printing.{after, none, on_after, one, writes_none}
 
 -- ---- the end of a session

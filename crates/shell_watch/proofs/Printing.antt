@@ -23,11 +23,13 @@ use Rattle.zk_nodes.specs.declared.side.Side.{Side}
 use Rattle.shell_watch.specs.declared.plan.Style.{Style}
 use Rattle.zk_trees.specs.declared.subject.NodeSide.{NodeSide}
 use Rattle.shell_watch.specs.declared.trees.Trees.{Trees}
-use Rattle.shell_watch.specs.Trees.{growth_of}
+use Rattle.shell_watch.specs.inner.Trees.{growth_of}
 use Rattle.zk_trees.proofs.Growing.{mapped_next}
 use Rattle.shell_watch.specs.Lines.{none_words}
-use Rattle.shell_watch.specs.Watching.{accepts, aim_of, aims_of, stand_of, text_of, FollowsAll, FollowsSo, TellsTurn, TendsSo, Does}
-use Rattle.shell_watch.specs.Watching.{HasCome, Heard, Move, Prints, Stand, Takes, Writes, WritesOn}
+use Rattle.shell_watch.specs.Watching.{accepts, aim_of, aims_of, text_of, FollowsAll, FollowsSo, TellsTurn, TendsSo, Does}
+use Rattle.shell_watch.specs.inner.Watching.{stand_of}
+use Rattle.shell_watch.specs.Watching.{HasCome, Move, Prints, Stand, Takes}
+use Rattle.shell_watch.specs.inner.Watching.{Heard, Writes, WritesOn}
 
 pub does_on : {A : Type 0} (moves more : List (Move A)) (old between new : Stand A)
     → FoldsTo Does old moves between → FoldsTo Does between more new → FoldsTo Does old (moves ++ more) new

@@ -9,7 +9,8 @@ use Rattle.zk_driver.specs.declared.turn.Turn.{Turn}
 use Rattle.shell_watch.specs.declared.plan.Style.{Style}
 use Rattle.zk_trees.specs.declared.member.Member.{Member}
 use Rattle.std.specs.declared.string.String.{String}
-use Rattle.shell_watch.specs.Watching.{LinesOf, ShowsAll, ShowsThen, TellsTurn}
+use Rattle.shell_watch.specs.inner.Watching.{LinesOf, ShowsThen}
+use Rattle.shell_watch.specs.Watching.{ShowsAll, TellsTurn}
 
 -- where nothing is told, nothing waits
 pub none_told : {A : Type 0} (actions : List (Action A)) → told_by actions ≡ [] → actions ≡ []

@@ -13,7 +13,8 @@ use Rattle.std.specs.declared.string.String.{String}
 use Rattle.shell_watch.specs.declared.trees.Trees.{Trees}
 use Rattle.zk_trees.specs.Trees.{AreWanted, Wants}
 use Rattle.shell_watch.specs.Trees.{bound_text}
-use Rattle.shell_watch.specs.Watching.{stand_of, view_in, Grows, FollowsSo, LetsAllGo, Stand, TakesAllOn, TakesOnWhere, Tends, TendsSo}
+use Rattle.shell_watch.specs.inner.Watching.{stand_of}
+use Rattle.shell_watch.specs.Watching.{view_in, Grows, FollowsSo, LetsAllGo, Stand, TakesAllOn, TakesOnWhere, Tends, TendsSo}
 use Rattle.shell_watch.proofs.Telling.{none_told}
 
 -- the watch is over, and nothing is done

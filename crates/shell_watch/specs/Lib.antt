@@ -1,3 +1,4 @@
 pub mod Lines
 pub mod Trees
 pub mod Watching
+pub mod inner

@@ -5,7 +5,6 @@ use Rattle.zk_nodes.specs.Path.{Text}
 use Rattle.shell_watch.specs.Lines.{line_of, number_members, object_line, stamp_of}
 use Rattle.shell_watch.specs.declared.plan.Style.{Style}
 use Rattle.shell_watch.specs.declared.plan.Style.TheVariants as style_is
-use Rattle.shell_watch.specs.declared.trees.Trees.{Trees}
 
 -- ---- the trees of a watch
 
@@ -15,9 +14,6 @@ pub record Growth : Type 0 where
   pub most : ℕ
   pub is_bounded : Bool
   pub ticket : ℕ
-
-abbrev pub growth_of : {A : Type 0} → Trees A → Growth
-growth_of trees = record { roots = trees.roots.items; most = trees.most; is_bounded = trees.is_bounded; ticket = trees.ticket }
 
 -- ---- the bound
 

@@ -2,7 +2,6 @@
 use Rattle.std.specs.Prelude.{◌≡◌, ◌≢◌, ◌≤◌, ◌+◌, ◌||◌, min, ◌^◌, ◌-◌, ◌⊎◌, ⊤, ℕ, Bool, true, false, bytes_eq, List, [], ◌∷◌, ◌++◌, length}
 use Rattle.std.specs.Prelude.{map, Option, Some, None, string_bytes}
 use Rattle.std.specs.List.{filter, flat_map, FoldsTo}
-use Rattle.std.specs.Io.KnownBytes.{Appends}
 use Rattle.zk_nodes.specs.Path.{Text}
 use Rattle.zk_nodes.specs.declared.side.Side.{Side}
 use Rattle.zk_session.specs.declared.states.State.TheVariants.{Connected}
@@ -13,9 +12,8 @@ use Rattle.zk_client.specs.Clients.{view_of}
 use Rattle.zk_agent.specs.Agents.{IsLed}
 use Rattle.zk_agent.specs.Telling.{Told, Says, action_view}
 use Rattle.zk_agent.specs.declared.input.AgentInput.TheVariants as happens
-use Rattle.zk_driver.specs.declared.engine.Engine.{Engine}
-use Rattle.zk_driver.specs.Driving.{closed, course_of, passed_by, AreFollowed, Course, Hands}
-use Rattle.zk_link.specs.Streams.{known_of, Known}
+use Rattle.zk_driver.specs.Driving.{closed, passed_by, AreFollowed, Course, Hands}
+use Rattle.zk_link.specs.Streams.{Known}
 use Rattle.zk_driver.specs.Flowing.{Flow, Runs}
 use Rattle.zk_driver.specs.Noting.{is_come, notes_of, passed_in, GoesBy}
 use Rattle.zk_driver.specs.declared.turn.Turn.{Turn}
@@ -23,12 +21,11 @@ use Rattle.zk_driver.specs.declared.turn.Turn.TheVariants as turn
 use Rattle.shell_watch.specs.Lines.{none_words, turn_line, IsSubjectLine, Looks}
 pub use Rattle.zk_trees.specs.Trees.{aim_of, aims_of}
 use Rattle.zk_trees.specs.Trees.{is_settled, roots_aims, stays, tickets_gone, AreWanted, Wants}
-use Rattle.shell_watch.specs.Trees.{bound_text, growth_of, Growth}
+use Rattle.shell_watch.specs.Trees.{bound_text, Growth}
 use Rattle.shell_watch.specs.declared.plan.Style.{Style}
 use Rattle.zk_trees.specs.declared.subject.NodeSide.{NodeSide}
 use Rattle.zk_trees.specs.declared.member.Member.{Member}
 use Rattle.std.specs.declared.string.String.{String}
-use Rattle.shell_watch.specs.declared.trees.Trees.{Trees}
 
 -- ---- what is shown of subjects
 
@@ -65,17 +62,6 @@ pub record Stand (A : Type 0) : Type 0 where
   pub style : Style
   pub growth : Growth
 
-abbrev pub stand_of : {A S : Type 0} → (remaining contents : S → Option (List ℕ)) → Engine A S → List (Member A (String A))
-    → (is_accepted : Bool) → Style → Trees A → Stand A
-stand_of remaining contents engine watched is_accepted style trees = record {
-  course = course_of engine None;
-  known = known_of remaining contents engine.channel.stream;
-  watched = watched;
-  is_accepted = is_accepted;
-  style = style;
-  growth = growth_of trees;
-}
-
 abbrev pub view_in : {A : Type 0} → Stand A → View
 view_in stand = view_of stand.course.agent.asker.follower.client
 
@@ -91,18 +77,6 @@ accepts_by told = false
 abbrev pub accepts : {A : Type 0} → Turn A → Bool
 accepts (turn.Told action) = accepts_by (action_view action)
 accepts turn = false
-
--- The line of a turn, with some address.
-abbrev pub LinesOf : {A : Type 0} → Style → (ms : ℕ) → Turn A → View → List (Member A (String A)) → List ℕ → Type 0
-LinesOf style ms turn view watched text = (at : Text) × (text ≡ turn_line style ms watched at view turn)
-
--- Subjects are shown where nothing waits to be told, and this is added to a text.
-pub record ShowsThen {A : Type 0} (style : Style) (ms : ℕ) (view : View) (waits : List Told) (old new : List (Member A (String A)))
-    (before after : List ℕ) : Type 0 where
-  pub shown : List ℕ
-  pub shows : waits ≡ [] → ShowsAll style ms view old new shown
-  pub rests : waits ≢ [] → (new ≡ old) × (shown ≡ [])
-  pub added : after ≡ before ++ shown
 
 -- What is printed of a turn: its words, after some time. Where nothing waits to be told then, each subject is printed after them of which
 -- what the client keeps is not what was printed last: so what was printed last of each subject is the look-up then.
@@ -203,13 +177,6 @@ pub record Rounds {A : Type 0} (turn : Turn A) (old : Stand A) (text : List ℕ)
 
 -- ---- how a watch goes on
 
--- One turn, by whose moment this one may have come.
-pub record Heard {A : Type 0} (until : ℕ) (is_over : Bool) (old : Stand A) (text : List ℕ) (new : Stand A) : Type 0 where
-  pub turn : Turn A
-  pub turns : Turns turn old text new
-  pub over : is_over ≡ is_come turn
-  pub comes : is_over ≡ true → (until ≤ new.course.agent.latest) × (new.course.told ≡ [])
-
 pub data Move (A : Type 0) : Type 0 where
   Takes : (turn : Turn A) → (text : List ℕ) → Move A
   Closes : (until : ℕ) → Move A
@@ -232,14 +199,6 @@ pub record Prints {A : Type 0} (old : Stand A) (text : List ℕ) (new : Stand A)
   pub does : FoldsTo Does old moves new
   pub are : text ≡ flat_map text_of moves
 
--- They do, and it is written.
-abbrev pub Writes : {A : Type 0} → (old new : Stand A) → (before after : Option (List ℕ)) → Type 0
-Writes old new before after = (text : List ℕ) × Prints old text new × Appends before after text
-
--- some do, to where nobody sees
-abbrev pub WritesOn : {A : Type 0} → (old : Stand A) → (before after : Option (List ℕ)) → Type 0
-WritesOn {A} old before after = (last : Stand A) × Writes old last before after
-
 -- The moment has come, and nothing waits to be told.
 abbrev pub HasCome : {A : Type 0} → (until : ℕ) → Stand A → Type 0
 HasCome until stand = (until ≤ stand.course.agent.latest) × (stand.course.told ≡ [])
@@ -259,10 +218,6 @@ AsksFirst (Closes until ∷ moves) = ⊤
 pub record EndsBy {A : Type 0} (old : Stand A) (moves : List (Move A)) : Type 0 where
   pub asks : (view_in old).standing.state ≡ Connected → AsksFirst moves
   pub rests : (view_in old).standing.state ≢ Connected → moves ≡ []
-
--- The session is ended so, and that is written.
-abbrev pub WritesEnd : {A : Type 0} → (old new : Stand A) → (before after : Option (List ℕ)) → Type 0
-WritesEnd old new before after = (text : List ℕ) × (prints : Prints old text new) × EndsBy old prints.moves × Appends before after text
 
 -- The moment has come at which a watch is over, and then the session is ended.
 pub record IsOver {A : Type 0} (for_ms : Option ℕ) (ready last : Stand A) (text : List ℕ) : Type 0 where

@@ -6,9 +6,12 @@ ghost use Rattle.zk_agent.specs.Telling.{told_by};
 ghost use Rattle.zk_client.specs.Clients.{view_of};
 ghost use Rattle.zk_driver.specs.Noting.{is_come};
 ghost use Rattle.zk_trees.specs.Trees.{wants_of};
-ghost use Rattle.shell_watch.specs.Watching.{accepts, aim_of, aims_of, end_of, stand_of, EndsFrom, FollowsAll, FollowsSo, HasCome, Closes};
-ghost use Rattle.shell_watch.specs.Watching.{Does, Grows, Heard, IsOver, LetsAllGo, LinesOf, PrintsFrom, ShowsThen, TakesAllOn, TakesOn};
-ghost use Rattle.shell_watch.specs.Watching.{TellsTurn, Tends, TendsSo, Writes, WritesEnd, WritesOn};
+ghost use Rattle.shell_watch.specs.Watching.{accepts, aim_of, aims_of, end_of, EndsFrom, FollowsAll, FollowsSo, HasCome, Closes};
+ghost use Rattle.shell_watch.specs.inner.Watching.{stand_of};
+ghost use Rattle.shell_watch.specs.Watching.{Does, Grows, IsOver, LetsAllGo, PrintsFrom, TakesAllOn, TakesOn};
+ghost use Rattle.shell_watch.specs.inner.Watching.{Heard, LinesOf, ShowsThen};
+ghost use Rattle.shell_watch.specs.Watching.{TellsTurn, Tends, TendsSo};
+ghost use Rattle.shell_watch.specs.inner.Watching.{Writes, WritesEnd, WritesOn};
 
 use crate::bound::bound_text;
 use crate::end::{End, Failure};

@@ -8,7 +8,7 @@ use Rattle.std.specs.Ordering.{int_eq}
 use Rattle.std.proofs.lemmas.Bool.Decides.{Decides-int_eq}
 use Rattle.zk_nodes.specs.Path.{Text}
 use Rattle.zk_nodes.specs.History.{History}
-use Rattle.zk_jute.specs.Laws.{reads}
+use Rattle.zk_jute.specs.inner.Laws.{reads}
 use Rattle.zk_jute.specs.Reading.{reading as jute_reading}
 use Rattle.zk_records.specs.Layouts.{reply_header}
 use Rattle.zk_conversation.specs.Calls.{Call, part_xid}

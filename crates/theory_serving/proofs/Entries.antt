@@ -14,7 +14,8 @@ use Rattle.theory_serving.specs.GoingOn.{GoesOn}
 use Rattle.zk_laws.specs.Served.{Sent, Goes_on, items_in, wire_of, is_going, unread, Served}
 use Rattle.zk_laws.specs.Headline.{IsCoherentWith}
 use Rattle.zk_laws.proofs.Headlines.{coherent_client}
-use Rattle.theory_serving.specs.Steps.{Step, behind}
+use Rattle.theory_serving.specs.Steps.{Step}
+use Rattle.theory_serving.specs.inner.Steps.{behind}
 use Rattle.theory_serving.specs.Shown.{Shown, Apart, Open, Over, connected, with_output, Hears, Takes, Processes}
 use Rattle.theory_serving.specs.Wires.{Shows, IsServedBy, IsPathCall, StandsFirst, IsCutAt, IsFor}
 use Rattle.theory_serving.proofs.Stepping.{items_behind}

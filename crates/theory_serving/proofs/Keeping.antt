@@ -17,7 +17,8 @@ use Rattle.theory_serving.specs.GoingOn.{GoesOn}
 use Rattle.theory_serving.proofs.GoingOn.{goes_serving, goes_wire}
 use Rattle.zk_laws.specs.Served.{Sent, Entry, Goes_on, items_in, Wire, wire_past, new_wire, wire_of, is_going, unread, requests, MayEnter}
 use Rattle.zk_laws.specs.Served.{IsServing}
-use Rattle.theory_serving.specs.Steps.{Step, Moves, ended_by, sent_by, processed_by, behind}
+use Rattle.theory_serving.specs.Steps.{Step, Moves, ended_by, sent_by, processed_by}
+use Rattle.theory_serving.specs.inner.Steps.{behind}
 use Rattle.theory_serving.specs.Shown.{Shown, Apart, Open, Over, connected, with_output, more_requests, sent_in, Hears, GoesBy, Takes}
 use Rattle.theory_serving.specs.Shown.{Processes}
 use Rattle.theory_serving.specs.Wires.{IsWire, Shows}

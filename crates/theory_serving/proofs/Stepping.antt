@@ -13,7 +13,8 @@ use Rattle.zk_laws.specs.ServerSteps.{ServerEnd, ServerStep, Advances, Admits, R
 use Rattle.zk_laws.specs.ServerSteps.{messages_by, end_after}
 use Rattle.zk_laws.specs.Served.{Sent, Entry, Serves, items_in, Wire, wire_of, is_going, unread, first_xid, requests, ArePayloads}
 use Rattle.zk_laws.specs.Served.{IsServing}
-use Rattle.theory_serving.specs.Steps.{Step, used_by, Moves, ended_by, sent_by, processed_by, behind}
+use Rattle.theory_serving.specs.Steps.{Step, used_by, Moves, ended_by, sent_by, processed_by}
+use Rattle.theory_serving.specs.inner.Steps.{behind}
 
 -- ---- lists
 

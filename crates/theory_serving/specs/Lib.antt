@@ -3,3 +3,4 @@ pub mod Steps
 pub mod Shown
 pub mod Wires
 pub mod Whole_example
+pub mod inner

@@ -4,7 +4,7 @@ use Rattle.zk_frames.specs.Frame.{joined}
 use Rattle.zk_nodes.specs.History.{History}
 use Rattle.zk_laws.specs.Messages.{Request}
 use Rattle.zk_laws.specs.ServerSteps.{ServerEnd, ServerStep, Advances, MayDo, messages_by, end_after}
-use Rattle.zk_laws.specs.Served.{ArePayloads, Entry, Serves}
+use Rattle.zk_laws.specs.Served.{ArePayloads}
 
 -- a step, with the payloads of the messages that it sends
 pub record Step : Type 0 where
@@ -37,8 +37,3 @@ sent_by (one ∷ more) = joined one.payloads ++ sent_by more
 abbrev pub processed_by : List Step → ℕ
 processed_by [] = 0
 processed_by (one ∷ more) = used_by one.step + processed_by more
-
--- the steps as entries of a schedule, the newest first
-abbrev pub behind : List Step → List Entry → List Entry
-behind [] earlier = earlier
-behind (one ∷ more) earlier = behind more (Serves one.step one.payloads ∷ earlier)

@@ -25,7 +25,8 @@ use Rattle.zk_dialler.specs.Dialling.{is_open}
 use Rattle.zk_agent.specs.declared.input.AgentInput.{AgentInput}
 use Rattle.zk_agent.specs.declared.input.AgentInput.TheVariants as happens
 use Rattle.zk_agent.specs.Agents.{Comes, Move, Hears, Hands, Renews, Follows, Unfollows, Asks, GivesUp, Tires, Opened, Ended as Over}
-use Rattle.zk_agent.specs.Agents.{HungUp, Closes, Addressed, Decides, Does, HearsSo, LeavesWhere, LetsGoWhere, Trail, asks_for, bytes_at}
+use Rattle.zk_agent.specs.Agents.{HungUp, Closes, Addressed, Decides, Does, HearsSo, LeavesWhere, LetsGoWhere, Trail, bytes_at}
+use Rattle.zk_agent.specs.inner.Agents.{asks_for}
 use Rattle.zk_agent.specs.Agents.{given_of, how_many_asked, how_many_ended, is_given, opened_at}
 use Rattle.zk_agent.specs.Calls.{answers, closings, endings, handed, hears, hears_all, how_many, tells, tells_all}
 use Rattle.zk_agent.specs.Telling.{Told, Says, HangsUp, Begins, closed_told, due_told, ended_told, is_end_of, news_told}

@@ -11,8 +11,10 @@ use Rattle.zk_follow.specs.declared.subject.Subject.{Subject}
 use Rattle.zk_line.specs.declared.entry.Entry.{Entry}
 use Rattle.zk_line.specs.Lines.{first_handed, next_call}
 use Rattle.zk_agent.specs.declared.replies.Heard.{Heard}
-use Rattle.zk_agent.specs.Agents.{Comes, Hands, HandsOver, LetsGo, Sends, Trail, is_connected, noted, row_after}
-use Rattle.zk_agent.specs.Calls.{IsAsked, IsDone, IsInTime}
+use Rattle.zk_agent.specs.Agents.{Comes, Hands, LetsGo, Trail, is_connected, noted, row_after}
+use Rattle.zk_agent.specs.inner.Agents.{HandsOver, Sends}
+use Rattle.zk_agent.specs.inner.Calls.{IsAsked, IsDone}
+use Rattle.zk_agent.specs.Calls.{IsInTime}
 use Rattle.zk_agent.specs.Replies.{is_back}
 use Rattle.zk_agent.specs.Telling.{Told}
 use Rattle.zk_agent.specs.Waits.{waited_after}

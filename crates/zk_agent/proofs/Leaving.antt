@@ -4,7 +4,8 @@ use Rattle.std.specs.Prelude.{All}
 use Rattle.zk_turns.specs.Turns as turns
 use Rattle.zk_turns.specs.View.{View}
 use Rattle.zk_dialler.specs.Dialling.{has_come, Ends}
-use Rattle.zk_agent.specs.Agents.{ends_of, HearsSo, Tired, Tires, Trail}
+use Rattle.zk_agent.specs.Agents.{ends_of, HearsSo, Tires, Trail}
+use Rattle.zk_agent.specs.inner.Agents.{Tired}
 use Rattle.zk_agent.specs.Calls.{IsAway, IsInTime}
 use Rattle.zk_agent.specs.Telling.{HangsUp}
 use Rattle.zk_agent.specs.Waits.{nothing_waits}

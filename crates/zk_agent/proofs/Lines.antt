@@ -20,7 +20,8 @@ use Rattle.zk_line.specs.declared.entry.Entry.{Entry}
 use Rattle.zk_line.specs.declared.entry.Ending.{Ending}
 use Rattle.zk_line.specs.declared.entry.Ending.TheVariants.{Expired, Late, Lost, LostOf}
 use Rattle.zk_line.specs.Lines.{after_answer, answered, ended, first_handed, first_where, goes_back, is_ended, left, next_call, waits_turn}
-use Rattle.zk_agent.specs.Calls.{hears, hears_all, how_many_wait, IsAsked, IsDone, IsInTime, IsPending, IsServed}
+use Rattle.zk_agent.specs.Calls.{hears, hears_all, IsInTime, IsPending, IsServed}
+use Rattle.zk_agent.specs.inner.Calls.{how_many_wait, IsAsked, IsDone}
 use Rattle.zk_agent.specs.Replies.{is_back}
 use Rattle.zk_agent.proofs.Keeping.{all_heard_left, all_of, each_held, of_all, Held, Quiet}
 use Rattle.zk_agent.proofs.Turning.{steps_pending, steps_sent}

@@ -25,7 +25,8 @@ use Rattle.zk_line.specs.declared.entry.Entry.{Entry}
 use Rattle.zk_line.specs.declared.entry.Ending.TheVariants as ending
 use Rattle.zk_agent.specs.declared.replies.Heard.{Heard}
 use Rattle.zk_agent.specs.Agents.{Trail, Move, Hears, Hands, Renews, Follows, Unfollows, Asks, GivesUp, Tires, Opened, Ended, HungUp}
-use Rattle.zk_agent.specs.Agents.{Closes, Addressed, Decides, Does, IsAt, IsLed, IsShut, Comes, HearsSo, LeavesWhere, MayHear, MayTake}
+use Rattle.zk_agent.specs.Agents.{Closes, Addressed, Decides, Does, IsAt, IsLed, IsShut, Comes, HearsSo, LeavesWhere, MayHear}
+use Rattle.zk_agent.specs.inner.Agents.{MayTake}
 use Rattle.zk_agent.specs.Agents.{LetsGo, LetsGoWhere, TakesSo, is_connected, is_given, noted, opened_at, over_at, row_after}
 use Rattle.zk_agent.specs.Calls.{closings, endings, handed}
 use Rattle.zk_agent.specs.Replies.{is_over}

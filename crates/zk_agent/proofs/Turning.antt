@@ -22,7 +22,8 @@ use Rattle.zk_turns.specs.Rule.{after_all, next, says_all, Rule}
 use Rattle.zk_turns.proofs.Cases.{by_cond, by_due, by_open}
 use Rattle.zk_turns.proofs.Words.{calls, refusal_in}
 use Rattle.zk_follow.specs.declared.subject.Subject.{Subject}
-use Rattle.zk_follow.specs.Following.{outputs_in, AreReads, Asks, IsFull, Steps}
+use Rattle.zk_follow.specs.Following.{outputs_in, AreReads, IsFull, Steps}
+use Rattle.zk_follow.specs.inner.Following.{Asks}
 use Rattle.zk_follow.proofs.Asking.{full_on}
 use Rattle.zk_follow.proofs.Waiting.{Silent, Waits}
 use Rattle.zk_line.specs.declared.entry.Entry.{Entry}

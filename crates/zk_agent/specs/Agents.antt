@@ -1,5 +1,5 @@
 -- How far an agent has come, move by move.
-use Rattle.std.specs.Prelude.{◌≡◌, ◌≢◌, ◌<◌, ◌==◌, All, ⊤, ℕ, ℤ, ◌&&◌, Bool, true, false, if◌then◌else◌, List, [], ◌∷◌, ◌++◌, map, Option}
+use Rattle.std.specs.Prelude.{◌≡◌, ◌≢◌, ◌==◌, ⊤, ℕ, ℤ, ◌&&◌, Bool, true, false, if◌then◌else◌, List, [], ◌∷◌, ◌++◌, map, Option}
 use Rattle.std.specs.Prelude.{Some, None, is_some}
 use Rattle.std.specs.List.{count_by, filter, flat_map, AllByRecursion, FoldsTo}
 use Rattle.std.specs.List.Sorted.{IsPermutation}
@@ -9,7 +9,6 @@ use Rattle.zk_conversation.specs.Calls.{Call}
 use Rattle.zk_conversation.specs.Views.{call_view}
 use Rattle.zk_session.specs.declared.states.State.{State}
 use Rattle.zk_session.specs.declared.states.State.TheVariants.{Connected, Expired, Closed}
-use Rattle.zk_session.specs.States.{is_final}
 use Rattle.zk_turns.specs.Turns.{Output, Input, Item, Start}
 use Rattle.zk_turns.specs.Turns as turns
 use Rattle.zk_turns.specs.View.{View, view_at}
@@ -29,13 +28,13 @@ use Rattle.zk_follow.specs.declared.subject.Subject.{Subject}
 use Rattle.zk_follow.specs.Following.{due_again, first_again, news_in, told_of, unfollowed, Steps}
 use Rattle.zk_line.specs.declared.entry.Entry.{Entry}
 use Rattle.zk_line.specs.declared.entry.Ending.TheVariants as ending
-use Rattle.zk_line.specs.Lines.{first_handed, first_limit, left, next_call}
+use Rattle.zk_line.specs.Lines.{first_limit, left, next_call}
 use Rattle.zk_agent.specs.declared.action.Action.{Action}
 use Rattle.zk_agent.specs.declared.agent.Agent.{Agent}
 use Rattle.zk_agent.specs.declared.input.AgentInput.{AgentInput}
 use Rattle.zk_agent.specs.declared.input.AgentInput.TheVariants as happens
 use Rattle.zk_agent.specs.declared.replies.Heard.{Heard}
-use Rattle.zk_agent.specs.Calls.{closings, endings, handed, hears_all, how_many_wait, tells_all, IsDone, IsInTime}
+use Rattle.zk_agent.specs.Calls.{closings, endings, handed, hears_all, tells_all}
 use Rattle.zk_agent.specs.Replies.{heard_in}
 use Rattle.zk_agent.specs.Telling.{Told, HangsUp, Begins, due_told, is_end_of, news_told, told_by}
 use Rattle.zk_agent.specs.Waits.{Waited, ends_at, heard_input, nothing_waits, waited_after, waited_of}
@@ -113,13 +112,6 @@ MayHear (turns.Bytes bytes) old = is_open old.dialler.phase ≡ true
 MayHear (turns.Call ticket asked) old = (old.view.standing.state ≡ Connected) × (next_call old.line ≡ Some (ticket, asked))
 MayHear _ old = ⊤
 
--- what is heard and no call
-abbrev pub MayTake : Input → (is_open : Bool) → Type 0
-MayTake turns.Opened is_open = is_open ≡ true
-MayTake (turns.Bytes bytes) is_open = is_open ≡ true
-MayTake (turns.Call ticket asked) is_open = ⊥
-MayTake _ is_open = ⊤
-
 -- The client takes an input at a moment, and subjects are read. What it says is told, in order, and then what there is to tell of the
 -- subjects. The line, which is this one once the client takes the input, hears the answers, in the same order.
 pub record TakesSo {A : Type 0} (now : ℕ) (input : Input) (old_view : View) (old_subjects : List (Subject A))
@@ -132,15 +124,6 @@ pub record TakesSo {A : Type 0} (now : ℕ) (input : Input) (old_view : View) (o
   pub line : new_line ≡ hears_all old_line given
   pub told : new_told ≡ (old_told ++ tells_all old_line given) ++ map news_told (flat_map (news_in new_view given) stepped)
   pub heard : says ≡ heard_in given
-
--- The call is handed over whose turn it is, if there is one.
-abbrev pub HandsOver : {A : Type 0} → (now : ℕ) → View → List (Subject A) → List (Entry A) → List Told → View → List (Subject A)
-    → List (Entry A) → List Told → Option Heard → Type 0
-HandsOver now view subjects line told new_view new_subjects new_line new_told None =
-    (next_call line ≡ None) × (new_view ≡ view) × (new_subjects ≡ subjects) × (new_line ≡ line) × (new_told ≡ told)
-HandsOver now view subjects line told new_view new_subjects new_line new_told (Some heard) =
-    (ticket : ℕ) × (asked : Call) × (next_call line ≡ Some (ticket, asked))
-    × TakesSo now (turns.Call ticket asked) view subjects (first_handed line) told new_view new_subjects new_line new_told heard
 
 -- So it hears an input. A connection is hung up where it is over with that.
 pub record HearsSo {A : Type 0} (now : ℕ) (input : Input) (old new : Trail A) : Type 0 where
@@ -326,31 +309,7 @@ pub record IsDecided {A : Type 0} (now : ℕ) (new : Trail A) : Type 0 where
   pub rest : List Told
   pub told : new.told ≡ rest ++ due_told due
 
--- Calls are handed over, at most one: no limit comes with it, and no end of the session. Another one may be where fewer wait for their
--- turn; else none waits, or none can be handed over.
-pub record Sends {A : Type 0} (now : ℕ) (old new : Trail A) (goes_on : Bool) : Type 0 where
-  pub comes : Comes now [] old new
-  pub limits : All (IsInTime now) old.line → All (IsInTime now) new.line
-  pub ends : (state : State) → is_final state ≡ true → new.view.standing.state ≡ state → old.view.standing.state ≡ state
-  pub more : goes_on ≡ true → how_many_wait new.line < how_many_wait old.line
-  pub none : goes_on ≡ false → IsDone new.view new.line
-
--- A server that has not answered in time is left, and no other. No limit comes with that, no end of the session, and no call; and nothing
--- waits for too long after it.
-pub record Tired {A : Type 0} (now : ℕ) (old new : Trail A) : Type 0 where
-  pub comes : Comes now [] old new
-  pub limits : All (IsInTime now) old.line → All (IsInTime now) new.line
-  pub ends : (state : State) → is_final state ≡ true → new.view.standing.state ≡ state → old.view.standing.state ≡ state
-  pub done : IsDone old.view old.line → IsDone new.view new.line
-  pub none : old.line ≡ [] → new.line ≡ []
-  pub answers : has_come now (ends_of new) ≡ false
-
 -- ---- calls
-
--- how many calls of this ticket an input asks, and how many are settled
-abbrev pub asks_for : (ticket : ℕ) → Move → Bool
-asks_for ticket (Asks its asked until) = its == ticket
-asks_for ticket _ = false
 
 abbrev pub how_many_asked : {A : Type 0} → (ticket : ℕ) → AgentInput A → ℕ
 how_many_asked ticket (happens.Call its call until) = if its == ticket then 1 else 0

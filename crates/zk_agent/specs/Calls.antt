@@ -1,5 +1,5 @@
 -- What becomes of the calls of a program.
-use Rattle.std.specs.Prelude.{◌≡◌, ◌≢◌, ◌⊎◌, ◌&&◌, ◌==◌, not, ℕ, Bool, true, false, List, [], ◌∷◌, ◌++◌, fold, map, None, bytes_eq}
+use Rattle.std.specs.Prelude.{◌≡◌, ◌≢◌, ◌⊎◌, ◌&&◌, ◌==◌, not, ℕ, Bool, true, false, List, [], ◌∷◌, ◌++◌, fold, map, bytes_eq}
 use Rattle.std.specs.Prelude.{if◌then◌else◌}
 use Rattle.std.specs.List.{count_by, list_any}
 use Rattle.zk_session.specs.declared.states.State.TheVariants.{Connected}
@@ -13,7 +13,7 @@ use Rattle.zk_follow.specs.Following.{IsFull}
 use Rattle.zk_line.specs.declared.entry.Entry.{Entry}
 use Rattle.zk_line.specs.declared.entry.Ending.{Ending}
 use Rattle.zk_line.specs.declared.entry.Ending.TheVariants.{Lost, LostOf}
-use Rattle.zk_line.specs.Lines.{answered, ended, ended_of, first_handed, has_come, left, next_call, settles, waits_turn}
+use Rattle.zk_line.specs.Lines.{answered, ended, ended_of, first_handed, has_come, left, settles}
 use Rattle.zk_agent.specs.Telling.{Told, Says, closed_told, ended_told}
 
 -- ---- what the client says of them
@@ -85,10 +85,6 @@ is_call_of entry pending = elim pending.waiting [
 abbrev pub IsPending : {A : Type 0} → View → Entry A → Type 0
 IsPending view entry = list_any (is_call_of entry) view.pending ≡ true
 
--- Where a call counts as handed over, the client waits for its reply.
-abbrev pub IsAsked : {A : Type 0} → View → Entry A → Type 0
-IsAsked view entry = entry.is_sent ≡ true → IsPending view entry
-
 -- No call can be handed over: no server has accepted the connection, or as many calls are on their way as may be.
 abbrev pub IsAway : View → Type 0
 IsAway view = (view.standing.state ≢ Connected) ⊎ IsFull view
@@ -104,11 +100,3 @@ IsInTime now entry = has_come now entry.until ≡ false
 -- how many calls of this ticket wait
 abbrev pub how_many : {A : Type 0} → (ticket : ℕ) → List (Entry A) → ℕ
 how_many ticket entries = count_by (λ entry. entry.ticket == ticket) entries
-
--- how many wait for their turn
-abbrev pub how_many_wait : {A : Type 0} → List (Entry A) → ℕ
-how_many_wait entries = count_by waits_turn entries
-
--- No call waits for its turn, or none can be handed over.
-abbrev pub IsDone : {A : Type 0} → View → List (Entry A) → Type 0
-IsDone view entries = (next_call entries ≡ None) ⊎ IsAway view

@@ -4,3 +4,4 @@ pub mod Renewal
 pub mod Replies
 pub mod Telling
 pub mod Waits
+pub mod inner

@@ -7,7 +7,8 @@ ghost use Rattle.zk_client.specs.Clients.{renewed_start, view_of};
 ghost use Rattle.zk_client.specs.Views.{input_view, said};
 ghost use Rattle.zk_follow.specs.Following.{due_again, news_in, told_of, IsFollowed};
 ghost use Rattle.zk_line.specs.Lines.{left};
-ghost use Rattle.zk_agent.specs.Agents.{HandsOver, TakesSo};
+ghost use Rattle.zk_agent.specs.inner.Agents.{HandsOver};
+ghost use Rattle.zk_agent.specs.Agents.{TakesSo};
 ghost use Rattle.zk_agent.specs.Calls.{endings, hears_all, tells_all};
 ghost use Rattle.zk_agent.specs.Telling.{news_told, told_by};
 

@@ -3,7 +3,7 @@
 ghost use Rattle.std.specs.Prelude.{All};
 ghost use Rattle.std.proofs.Props.{props};
 ghost use Rattle.zk_client.specs.Clients.{view_of};
-ghost use Rattle.zk_agent.specs.Calls.{IsAsked};
+ghost use Rattle.zk_agent.specs.inner.Calls.{IsAsked};
 
 use crate::action::Action;
 use crate::advancing::{advance, begin, hand_over};
@@ -25,7 +25,7 @@ pub(crate) struct Asker<A: Allocator + Copy = Global> {
 }
 
 impl<A: Allocator + Copy> Asker<A> {
-    ghost use Rattle.std.specs.Prelude.{◌≡◌, ◌++◌, ◌∷◌, ◌<ℤ◌, ℕ, List, pos, map, false, [], None, IfOk, OnOk, OnSome, All};
+    ghost use Rattle.std.specs.Prelude.{◌≡◌, ◌++◌, ◌∷◌, ◌<ℤ◌, ℕ, List, pos, map, false, [], None, IfOk, OnErr, OnOk, OnSome, All};
     ghost use Rattle.zk_turns.specs.Turns.{Forgets, Item, Start};
     ghost use Rattle.zk_turns.specs.View.{view_at};
     ghost use Rattle.zk_turns.specs.Rule.{forgotten, Stands};
@@ -34,7 +34,8 @@ impl<A: Allocator + Copy> Asker<A> {
     ghost use Rattle.zk_follow.specs.declared.progress.Progress.TheVariants as progress;
     ghost use Rattle.zk_follow.specs.Following.{due_again, unfollowed, IsFollowed};
     ghost use Rattle.zk_line.specs.Lines.{left};
-    ghost use Rattle.zk_agent.specs.Agents.{HandsOver, TakesSo};
+    ghost use Rattle.zk_agent.specs.inner.Agents.{HandsOver};
+    ghost use Rattle.zk_agent.specs.Agents.{TakesSo};
     ghost use Rattle.zk_agent.specs.Calls.{closings, endings};
     ghost use Rattle.zk_agent.specs.Telling.{told_by};
 
@@ -119,6 +120,7 @@ impl<A: Allocator + Copy> Asker<A> {
           is_there = false;
           told = None;
         } ∷ []) }
+        ensures same { OnErr result (self.new.follower.subjects.items ≡ self.old.follower.subjects.items) }
         ensures line { self.new.line ≡ self.old.line }
     {
         self.follower.follow(ticket, side, path)

@@ -30,8 +30,10 @@ impl<A: Allocator + Copy> Agent<A> {
     ghost use Rattle.zk_client.specs.Views.{input_view};
     ghost use Rattle.zk_dialler.specs.Dialling.{is_open, Ends};
     ghost use Rattle.zk_follow.specs.Following.{IsFollowed};
-    ghost use Rattle.zk_agent.specs.Agents.{noted, row_after, trail_of, Comes, Hears, HearsSo, LetsGo, MayTake};
-    ghost use Rattle.zk_agent.specs.Calls.{how_many_wait, IsDone, IsInTime};
+    ghost use Rattle.zk_agent.specs.Agents.{noted, row_after, trail_of, Comes, Hears, HearsSo, LetsGo};
+    ghost use Rattle.zk_agent.specs.inner.Agents.{MayTake};
+    ghost use Rattle.zk_agent.specs.inner.Calls.{how_many_wait, IsDone};
+    ghost use Rattle.zk_agent.specs.Calls.{IsInTime};
     ghost use Rattle.zk_agent.specs.Telling.{told_by, HangsUp};
     ghost use Rattle.zk_agent.specs.Waits.{waited_after, waited_of};
 

@@ -28,6 +28,7 @@ mod renewal;
 mod replies;
 mod sending;
 mod sent;
+mod subjects;
 mod tiring;
 mod waits;
 

@@ -82,53 +82,25 @@ fn is_back<A: Allocator>(output: &Output<A>) -> bool
     }
 }
 
-/// Whether one of these is the reply to a call.
-fn is_any_reply<A: Allocator>(outputs: &[Output<A>]) -> bool
-    ensures { result ≡ list_any (λ output. is_reply (output_view output)) outputs.now }
-{
-    outputs.iter().any(|output| is_reply(output))
-}
-
-/// Whether one of these is a reply that says that the session is not the server's own.
-fn is_any_lost<A: Allocator>(outputs: &[Output<A>]) -> bool
-    ensures { result ≡ list_any (λ output. is_lost (output_view output)) outputs.now }
-{
-    outputs.iter().any(|output| is_lost(output))
-}
-
-/// Whether the connection is over with one of these.
-fn is_any_over<A: Allocator>(outputs: &[Output<A>]) -> bool
-    ensures { result ≡ list_any (λ output. is_over (output_view output)) outputs.now }
-{
-    outputs.iter().any(|output| is_over(output))
-}
-
-/// Whether one of these is an answer with which a call may wait for its turn again.
-fn is_any_back<A: Allocator>(outputs: &[Output<A>]) -> bool
-    ensures { result ≡ list_any (λ output. is_back (output_view output)) outputs.now }
-{
-    outputs.iter().any(|output| is_back(output))
-}
-
 /// Whether the client says that a call had its reply.
 fn has_reply<A: Allocator>(outputs: &[Output<A>]) -> bool
     ensures { result ≡ list_any is_reply (said outputs.now) }
 {
-    is_any_reply(outputs)
+    outputs.iter().any(|output| is_reply(output))
 }
 
 /// Whether the client says that the session is not the server's own.
 fn has_lost<A: Allocator>(outputs: &[Output<A>]) -> bool
     ensures { result ≡ list_any is_lost (said outputs.now) }
 {
-    is_any_lost(outputs)
+    outputs.iter().any(|output| is_lost(output))
 }
 
 /// Whether the connection is over, by what the client says.
 fn has_end<A: Allocator>(outputs: &[Output<A>]) -> bool
     ensures { result ≡ list_any is_over (said outputs.now) }
 {
-    is_any_over(outputs)
+    outputs.iter().any(|output| is_over(output))
 }
 
 /// Whether a row of failures ends with what the client says.
@@ -142,7 +114,7 @@ fn ends_row<A: Allocator>(outputs: &[Output<A>]) -> bool
 fn has_back<A: Allocator>(outputs: &[Output<A>]) -> bool
     ensures { result ≡ list_any is_back (said outputs.now) }
 {
-    is_any_back(outputs)
+    outputs.iter().any(|output| is_back(output))
 }
 
 /// What is sent with an output too.

@@ -13,8 +13,10 @@ impl<A: Allocator + Copy> Agent<A> {
     ghost use Rattle.zk_session.specs.States.{is_final};
     ghost use Rattle.zk_client.specs.Clients.{view_of};
     ghost use Rattle.zk_follow.specs.Following.{IsFollowed};
-    ghost use Rattle.zk_agent.specs.Agents.{trail_of, Comes, Sends};
-    ghost use Rattle.zk_agent.specs.Calls.{how_many_wait, IsDone, IsInTime};
+    ghost use Rattle.zk_agent.specs.Agents.{trail_of, Comes};
+    ghost use Rattle.zk_agent.specs.inner.Agents.{Sends};
+    ghost use Rattle.zk_agent.specs.inner.Calls.{how_many_wait, IsDone};
+    ghost use Rattle.zk_agent.specs.Calls.{IsInTime};
 
     /// Hands the call over whose turn it is, where a server has accepted the connection. Whether another one may be: a call was handed
     /// over, and the client has not said that it cannot be sent now.

@@ -13,7 +13,8 @@ impl<A: Allocator + Copy> Agent<A> {
     ghost use Rattle.zk_client.specs.Clients.{view_of};
     ghost use Rattle.zk_dialler.specs.Dialling.{has_come};
     ghost use Rattle.zk_follow.specs.Following.{IsFollowed};
-    ghost use Rattle.zk_agent.specs.Agents.{ends_of, trail_of, Tired};
+    ghost use Rattle.zk_agent.specs.Agents.{ends_of, trail_of};
+    ghost use Rattle.zk_agent.specs.inner.Agents.{Tired};
     ghost use Rattle.zk_agent.specs.Waits.{ends_at, waited_of};
 
     /// Leaves the connection, and tells the client so. Nothing waits then.

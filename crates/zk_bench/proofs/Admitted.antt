@@ -6,7 +6,7 @@ use Rattle.zk_records.specs.Response.{Response, response_spelling, EndsPayload, 
 use Rattle.zk_conversation.specs.Results.{response_timeout}
 use Rattle.zk_laws.specs.Messages.{Message, Accepted, Expired}
 use Rattle.zk_laws.specs.Served.{IsPayload}
-use Rattle.zk_bench.specs.Serving.{SendsResponse, SendsMessage}
+use Rattle.zk_bench.specs.inner.Serving.{SendsResponse, SendsMessage}
 
 -- a message that is told by a response with no flag
 tells_so : (message : Message) (response : Response) (old new : List ℕ) → SendsResponse response old new → response.read_only ≡ None

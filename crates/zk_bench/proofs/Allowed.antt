@@ -22,9 +22,9 @@ use Rattle.zk_nodes.proofs.PathTexts.{root_text}
 use Rattle.zk_records.specs.declared.code.Code.{Code}
 use Rattle.zk_records.specs.declared.code.Code.TheVariants as codes
 use Rattle.zk_laws.proofs.Stamps.{up_to_newest}
-use Rattle.zk_bench.specs.Writing.{tree_of, text_unless, path_told, node_of, node_at, is_version, set_refusal, absence_refusal}
-use Rattle.zk_bench.specs.Writing.{deletion_refusal, ten_digits, made_text, parent_refusal, place_refusal, text_refusal, first_of}
-use Rattle.zk_bench.specs.Writing.{refusal_above, path_refusal, creation_refusal, AreBeside}
+use Rattle.zk_bench.specs.inner.Writing.{tree_of, text_unless, path_told, node_of, node_at, is_version, set_refusal, absence_refusal}
+use Rattle.zk_bench.specs.inner.Writing.{deletion_refusal, ten_digits, made_text, parent_refusal, place_refusal, text_refusal, first_of}
+use Rattle.zk_bench.specs.inner.Writing.{refusal_above, path_refusal, creation_refusal, AreBeside}
 use Rattle.zk_bench.proofs.Written.{path_told-some}
 
 -- The tree at the last zxid is that after all transactions.

@@ -32,8 +32,10 @@ use Rattle.zk_laws.specs.Server.{Watches, both, sets, Reads, Fits, FitsNames}
 use Rattle.zk_laws.specs.Messages.{Replies}
 use Rattle.zk_laws.specs.Served.{IsPayload}
 use Rattle.zk_laws.proofs.Basics.{path_eq-true, text_eq_from, text_path}
-use Rattle.zk_bench.specs.Serving.{is_named, watched, watches_of, Sends}
-use Rattle.zk_bench.specs.Answering.{name_set, FindsNone, ListsChildren, IsReadOf}
+use Rattle.zk_bench.specs.Serving.{is_named, watches_of}
+use Rattle.zk_bench.specs.inner.Serving.{watched, Sends}
+use Rattle.zk_bench.specs.Answering.{name_set}
+use Rattle.zk_bench.specs.inner.Answering.{FindsNone, ListsChildren, IsReadOf}
 use Rattle.zk_conversation.specs.Calls.{Call}
 use Rattle.zk_bench.specs.declared.connection.Connection.{Connection}
 use Rattle.zk_conversation.specs.Calls as call

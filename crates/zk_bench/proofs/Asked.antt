@@ -5,7 +5,7 @@ use Rattle.std.specs.Prelude.{Result as Outcome}
 use Rattle.std.specs.Result.{IsErrAnd}
 use Rattle.zk_jute.specs.Layout.{Layout, Value}
 use Rattle.zk_jute.specs.Spelling.{IsBytes, spelling, Fits}
-use Rattle.zk_jute.specs.Laws.{reads}
+use Rattle.zk_jute.specs.inner.Laws.{reads}
 use Rattle.zk_laws.specs.Parsed.{IsRecord}
 
 -- so many bytes stand between a length and the end

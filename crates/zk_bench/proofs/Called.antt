@@ -22,11 +22,11 @@ use Rattle.zk_laws.specs.Messages as wanted
 use Rattle.zk_laws.specs.Parsed.{IsRecord, IsReadAs}
 use Rattle.zk_laws.specs.ServerSteps.{Serving}
 use Rattle.theory_serving.specs.Wires.{IsPathCall, IsFit, IsFor}
-use Rattle.zk_bench.specs.Answering.{IsRead, IsReadOf, IsRestoring}
-use Rattle.zk_bench.specs.Asking.{Wants, IsBodyOf, IsPartOf, Asks, IsLook}
+use Rattle.zk_bench.specs.inner.Answering.{IsRead, IsReadOf, IsRestoring}
+use Rattle.zk_bench.specs.inner.Asking.{Wants, IsBodyOf, IsPartOf, Asks, IsLook}
 use Rattle.zk_laws.specs.Server.{is_sequential}
 use Rattle.zk_bench.specs.Served.{Served}
-use Rattle.zk_bench.specs.Writing.{mode_of}
+use Rattle.zk_bench.specs.inner.Writing.{mode_of}
 use Rattle.zk_bench.proofs.Written.{mode_of-low}
 use Rattle.zk_bench.proofs.Answered.{no_copy}
 

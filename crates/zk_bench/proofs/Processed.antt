@@ -44,16 +44,19 @@ use Rattle.zk_bench.specs.declared.stop.Stop.{Stop}
 use Rattle.zk_bench.specs.declared.stop.Stop.TheVariants as stops
 use Rattle.zk_bench.specs.declared.stop.Refusal.{Refusal}
 use Rattle.zk_bench.specs.declared.stop.Refusal.TheVariants as refusals
-use Rattle.zk_bench.specs.Refusals.{IsCode}
+use Rattle.zk_bench.specs.inner.Refusals.{IsCode}
 use Rattle.zk_bench.specs.Served.{Served, Linked, is_open, ended, Continues}
 use Rattle.zk_bench.specs.Linked.{linked_of}
-use Rattle.zk_bench.specs.Serving.{watched, Sends, SendsHeader, SendsMessage}
-use Rattle.zk_bench.specs.Answering.{IsRead, FindsNone, RefusesRead}
-use Rattle.zk_bench.specs.Restoring.{RestoresPart}
-use Rattle.zk_bench.specs.Stepping.{Catches, CatchesUp, IsReady, TakesSome, ProcessesIf, ProcessesOne, AnswersOne, Owes, OwesTo, IsRefusal}
-use Rattle.zk_bench.specs.Stepping.{Declines, HasClient, HasAll, HasWritten, LeavesUnmade, LeavesUnsent, SendsStat, IsSending, zxid_of}
+use Rattle.zk_bench.specs.inner.Serving.{watched, Sends, SendsHeader, SendsMessage}
+use Rattle.zk_bench.specs.inner.Answering.{IsRead, FindsNone, RefusesRead}
+use Rattle.zk_bench.specs.inner.Restoring.{RestoresPart}
+use Rattle.zk_bench.specs.inner.Stepping.{Catches, CatchesUp, ProcessesIf, ProcessesOne, AnswersOne, Owes, OwesTo, IsRefusal}
+use Rattle.zk_bench.specs.Stepping.{IsReady, TakesSome}
+use Rattle.zk_bench.specs.inner.Stepping.{Declines, HasClient, HasAll, HasWritten, LeavesUnmade, LeavesUnsent, SendsStat, IsSending}
+use Rattle.zk_bench.specs.Stepping.{zxid_of}
 use Rattle.zk_bench.specs.Stepping.{stage_of, phase_of, end_of, shown_of}
-use Rattle.zk_bench.specs.Writing.{IsAnswer, appended}
+use Rattle.zk_bench.specs.inner.Writing.{IsAnswer}
+use Rattle.zk_bench.specs.Writing.{appended}
 use Rattle.zk_bench.proofs.Answered.{or-false, stat_read}
 use Rattle.zk_bench.proofs.Written.{appended-transactions}
 use Rattle.zk_bench.proofs.Stepped.{continues_so, shows_same, shows_ended, same_history, set_there, length_set, is_going_on, not_open}

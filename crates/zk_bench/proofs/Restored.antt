@@ -29,9 +29,10 @@ use Rattle.zk_laws.proofs.Basics.{path_eq-true}
 use Rattle.zk_bench.specs.declared.connection.Connection.{Connection}
 use Rattle.zk_bench.specs.declared.rewatch.Watched.{Watched}
 use Rattle.zk_bench.specs.declared.rewatch.Watched.TheVariants.{Data, Exist, Child}
-use Rattle.zk_bench.specs.Serving.{is_named, watches_of, watched, Sends, SendsHeader, Tells}
-use Rattle.zk_bench.specs.Restoring.{missed_of, check_of, side_of, with_watch, watched_unless, told_of, left_of, texts_in, Rewatches}
-use Rattle.zk_bench.specs.Restoring.{RestoresPart}
+use Rattle.zk_bench.specs.Serving.{is_named, watches_of}
+use Rattle.zk_bench.specs.inner.Serving.{watched, Sends, SendsHeader, Tells}
+use Rattle.zk_bench.specs.inner.Restoring.{missed_of, check_of, side_of, with_watch, watched_unless, told_of, left_of, texts_in, Rewatches}
+use Rattle.zk_bench.specs.inner.Restoring.{RestoresPart}
 use Rattle.zk_bench.proofs.Watched.{tells_both, payloads-append, joined-append}
 use Rattle.zk_bench.proofs.Answered.{added, or-false}
 

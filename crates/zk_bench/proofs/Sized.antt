@@ -26,8 +26,10 @@ use Rattle.zk_history.specs.HistoryView.{HasChildren}
 use Rattle.zk_history.specs.Shown.{IsStat}
 use Rattle.zk_records.specs.Layouts.{get_children_response, get_children2_response}
 use Rattle.zk_conversation.proofs.Lengths.{weights, length-vector}
-use Rattle.zk_bench.specs.Serving.{FitsReply, CanBeSent}
-use Rattle.zk_bench.specs.Answerable.{size_of_names, NamesFit, ListFits}
+use Rattle.zk_bench.specs.Serving.{FitsReply}
+use Rattle.zk_bench.specs.inner.Serving.{CanBeSent}
+use Rattle.zk_bench.specs.Answerable.{size_of_names, NamesFit}
+use Rattle.zk_bench.specs.inner.Answerable.{ListFits}
 use Rattle.zk_bench.proofs.Answered.{or-true, names_found, both_told}
 use Rattle.zk_bench.proofs.Staying.{length-stat}
 

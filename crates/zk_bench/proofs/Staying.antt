@@ -19,8 +19,8 @@ use Rattle.zk_history.specs.HistoryView.{HistoryView, IsAccepted, newest_tree}
 use Rattle.zk_bench.specs.declared.stop.Stop.TheVariants as stops
 use Rattle.zk_bench.specs.declared.stop.Refusal.{Refusal}
 use Rattle.zk_bench.specs.declared.stop.Refusal.TheVariants as refusals
-use Rattle.zk_bench.specs.Writing.{WriteRefused}
-use Rattle.zk_bench.specs.Serving.{CanBeSent, CanBeTold}
+use Rattle.zk_bench.specs.inner.Writing.{WriteRefused}
+use Rattle.zk_bench.specs.inner.Serving.{CanBeSent, CanBeTold}
 use Rattle.zk_bench.specs.Answerable.{DataFit}
 
 -- what was written after nothing, and is lent

@@ -23,7 +23,7 @@ use Rattle.zk_conversation.specs.Calls as call
 use Rattle.zk_conversation.specs.Questions.{question_of}
 use Rattle.zk_conversation.specs.Pending.{closes}
 use Rattle.zk_conversation.specs.Results.{Result, Refused}
-use Rattle.zk_bench.specs.Answering.{IsRead, IsTold, AnswersRead}
+use Rattle.zk_bench.specs.inner.Answering.{IsRead, IsTold, AnswersRead}
 use Rattle.zk_laws.specs.ServerSteps.{ServerEnd, Stage, Waiting, Serving, Ended as Silent, Advances, Answers, MayDo, end_after}
 use Rattle.zk_laws.specs.ServerSteps.{changes_next}
 use Rattle.theory_serving.specs.Steps.{Step, Moves, ended_by, sent_by}
@@ -31,7 +31,7 @@ use Rattle.theory_serving.proofs.Stepping.{last_moves, last_ended, last_sent}
 use Rattle.zk_bench.specs.declared.connection.Connection.{Connection}
 use Rattle.zk_bench.specs.declared.phase.Phase.{Phase}
 use Rattle.zk_bench.specs.declared.phase.Phase.TheVariants.{Apart, Opening, Accepted, Ended}
-use Rattle.zk_bench.specs.Serving.{watched, Tells}
+use Rattle.zk_bench.specs.inner.Serving.{watched, Tells}
 use Rattle.theory_serving.specs.Shown as shows
 use Rattle.theory_serving.specs.Shown.{Shown, GoesBy}
 use Rattle.theory_serving.proofs.Later.{taken_set}
@@ -42,8 +42,10 @@ use Rattle.zk_bench.specs.declared.bench.Bench.TheInside.{Inside}
 use Rattle.zk_bench.proofs.Fields.{bench_of}
 use Rattle.zk_bench.proofs.Placed.{no_room}
 use Rattle.zk_bench.specs.Linked.{linked_of}
-use Rattle.zk_bench.specs.Stepping.{stage_of, end_at, Catches, CatchesUp, shown_watches, phase_of, end_of, shown_of, IsReady, TakesSome}
-use Rattle.zk_bench.specs.Stepping.{ProcessesIf, ProcessesOne, AnswersOne, ProcessesFirst, AnswersFirst}
+use Rattle.zk_bench.specs.Stepping.{stage_of, shown_watches, phase_of, end_of, shown_of, IsReady, TakesSome}
+use Rattle.zk_bench.specs.inner.Stepping.{end_at, Catches, CatchesUp}
+use Rattle.zk_bench.specs.inner.Stepping.{ProcessesIf, ProcessesOne, AnswersOne}
+use Rattle.zk_bench.specs.Stepping.{ProcessesFirst, AnswersFirst}
 use Rattle.zk_bench.specs.Front.{IsShort, IsWhole}
 use Rattle.theory_serving.proofs.Fronts.{front_there, front_field, front_behind, front_payload}
 

@@ -28,8 +28,9 @@ use Rattle.zk_laws.specs.Messages.{Message, Notifies}
 use Rattle.zk_laws.specs.Served.{ArePayloads}
 use Rattle.zk_laws.proofs.Basics.{path_eq-true, text_eq-true, text_eq_from, path_eq_from, text_path}
 use Rattle.zk_bench.specs.declared.connection.Connection.{Connection}
-use Rattle.zk_bench.specs.Watching.{used_up}
-use Rattle.zk_bench.specs.Serving.{is_named, watches_of, fires_at, leaves_at, is_watched, Sends, Tells}
+use Rattle.zk_bench.specs.inner.Watching.{used_up}
+use Rattle.zk_bench.specs.Serving.{is_named, watches_of}
+use Rattle.zk_bench.specs.inner.Serving.{fires_at, leaves_at, is_watched, Sends, Tells}
 
 -- One side
 

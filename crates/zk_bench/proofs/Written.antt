@@ -30,10 +30,12 @@ use Rattle.zk_laws.specs.Server.{is_sequential}
 use Rattle.zk_laws.proofs.Stamps.{after-append}
 use Rattle.zk_bench.specs.declared.stop.Refusal.{Refusal}
 use Rattle.zk_bench.specs.declared.stop.Refusal.TheVariants as refusals
-use Rattle.zk_bench.specs.Refusals.{IsCode, refusal_of_path}
-use Rattle.zk_bench.specs.Writing.{appended, mode_of, IsAnswer, IsStatAt, text_unless, path_told, node_of, node_at, data_refusal}
-use Rattle.zk_bench.specs.Writing.{set_refusal, removal_refusal, absence_refusal, deletion_refusal, AreBeside, makes_below, creates_below}
-use Rattle.zk_bench.specs.Writing.{ten_digits, numbered_text, is_over, AppendRefused}
+use Rattle.zk_bench.specs.inner.Refusals.{IsCode, refusal_of_path}
+use Rattle.zk_bench.specs.Writing.{appended}
+use Rattle.zk_bench.specs.inner.Writing.{mode_of, IsAnswer, IsStatAt, text_unless, path_told, node_of, node_at, data_refusal}
+use Rattle.zk_bench.specs.inner.Writing.{set_refusal, removal_refusal, absence_refusal, deletion_refusal, AreBeside, makes_below}
+use Rattle.zk_bench.specs.inner.Writing.{creates_below}
+use Rattle.zk_bench.specs.inner.Writing.{ten_digits, numbered_text, is_over, AppendRefused}
 use Rattle.zk_bench.proofs.Continuing.{last_with-append}
 use Rattle.zk_bench.proofs.Placed.{is_room}
 

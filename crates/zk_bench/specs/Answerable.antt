@@ -1,13 +1,10 @@
 -- Which requests have an answer at the connected server: the first of a client that is not ahead, and later ones whose reply fits a frame.
 use Rattle.std.specs.Prelude.{ℕ, ◌+◌, ◌≤◌, length, sum_by, Option, Some, None, slice_index, ⊤}
 use Rattle.std.specs.FinSet as set
-use Rattle.zk_jute.specs.Layout.{Value}
-use Rattle.zk_jute.specs.Spelling.{spelling, Fits}
 use Rattle.zk_nodes.specs.Path.{NodePath, path_of}
 use Rattle.zk_nodes.specs.History.{Node, Tree, size_of}
 use Rattle.zk_nodes.specs.Names.{Names}
 use Rattle.zk_history.specs.HistoryView.{HasChildren, history_of}
-use Rattle.zk_records.specs.Layouts.{get_children_response}
 use Rattle.zk_conversation.specs.Calls.{Call, GetData, GetChildren}
 use Rattle.zk_laws.specs.Server.{tree_held}
 use Rattle.zk_laws.specs.Messages.{Request, Connect, Ask}
@@ -28,11 +25,6 @@ size_of_names names = sum_by (λ name. 4 + length name) (set.items names)
 abbrev pub NamesFit : Tree → NodePath → Option Node → Type 0
 NamesFit tree path None = ⊤
 NamesFit tree path (Some node) = (names : Names) × HasChildren tree path names × FitsReply (4 + size_of_names names + 68)
-
--- A list of names that is sent fits a reply with a Stat.
-pub record ListFits (texts : Value get_children_response) : Type 0 where
-  pub fits : Fits get_children_response texts
-  pub small : FitsReply (length (spelling get_children_response texts) + 68)
 
 -- A call has an answer from this tree: only one to getData or getChildren can be too long.
 abbrev pub AnswerFits : Tree → Call → Type 0

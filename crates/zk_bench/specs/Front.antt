@@ -1,8 +1,6 @@
 -- What stands at the front of some bytes.
 use Rattle.std.specs.Prelude.{ℕ, ◌+◌, ◌^◌, ◌≡◌, ◌<◌, ◌≤◌, List, length}
-use Rattle.zk_frames.specs.Frame.{length_field, IsNegative}
-use Rattle.zk_bench.specs.declared.frames.Front.{Front}
-use Rattle.zk_bench.specs.declared.frames.Front.TheVariants.{Unfinished, Negative, Whole}
+use Rattle.zk_frames.specs.Frame.{length_field}
 
 -- less than a length, or fewer bytes after it than it says
 pub record IsShort (bytes : List ℕ) : Type 0 where
@@ -14,8 +12,3 @@ pub record IsWhole (bytes : List ℕ) (count : ℕ) : Type 0 where
   pub there : 4 + count ≤ length bytes
   pub is : length_field bytes ≡ count
   pub small : count < 2 ^ 31
-
-abbrev pub IsFront : List ℕ → Front → Type 0
-IsFront bytes Unfinished = IsShort bytes
-IsFront bytes Negative = IsNegative bytes
-IsFront bytes (Whole count) = IsWhole bytes count

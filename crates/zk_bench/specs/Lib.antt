@@ -1,12 +1,10 @@
 pub mod Served
 pub mod Linked
 pub mod Front
-pub mod Watching
 pub mod Refusals
 pub mod Serving
 pub mod Answering
-pub mod Restoring
 pub mod Stepping
 pub mod Answerable
-pub mod Asking
 pub mod Writing
+pub mod inner

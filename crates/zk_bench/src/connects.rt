@@ -3,7 +3,7 @@
 ghost use Rattle.std.specs.Prelude.{◌≡◌, pos, true, int_lt, None, IfOk, OnOk, IsErrOf};
 ghost use Rattle.zk_laws.specs.Messages.{Accepted, Expired};
 ghost use Rattle.zk_records.specs.Views.{response_of};
-ghost use Rattle.zk_bench.specs.Serving.{SendsMessage, CanBeTold};
+ghost use Rattle.zk_bench.specs.inner.Serving.{SendsMessage, CanBeTold};
 ghost use Rattle.zk_bench.specs.declared.stop.Stop.TheVariants as stops;
 
 use crate::replies::send_response;

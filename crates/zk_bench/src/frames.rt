@@ -2,7 +2,7 @@
 
 ghost use Rattle.std.specs.Prelude.{◌≡◌, ◌≤◌, ◌<◌, ◌^◌, drop, take as first, length as bytes_of, vec_len, ◌-◌, OnOk, IsErrOf, ◌++◌};
 ghost use Rattle.zk_frames.specs.Frame.{frame};
-ghost use Rattle.zk_bench.specs.Front.{IsFront};
+ghost use Rattle.zk_bench.specs.inner.Front.{IsFront};
 ghost use Rattle.zk_bench.specs.declared.stop.Stop.TheVariants as stops;
 
 use crate::stop::Stop;

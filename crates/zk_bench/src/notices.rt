@@ -6,7 +6,7 @@ ghost use Rattle.zk_nodes.specs.PathFault.{IsPath};
 ghost use Rattle.zk_history.specs.Made.{change_of};
 ghost use Rattle.zk_laws.specs.Server.{fires, leaves_set, fires_all, leaves_set_all};
 ghost use Rattle.zk_bench.specs.declared.phase.Phase.TheVariants.{Accepted};
-ghost use Rattle.zk_bench.specs.Serving.{watched, fires_at, leaves_at, Tells};
+ghost use Rattle.zk_bench.specs.inner.Serving.{watched, fires_at, leaves_at, Tells};
 ghost use Rattle.zk_bench.specs.declared.stop.Stop.TheVariants as stops;
 
 use crate::connection::Connection;

@@ -17,11 +17,12 @@ ghost use Rattle.zk_nodes.specs.PathFault.{IsPath};
 ghost use Rattle.zk_history.specs.Shown.{IsStat};
 ghost use Rattle.zk_conversation.specs.Calls.{Call, Exists, GetData, GetChildren};
 ghost use Rattle.zk_watches.specs.Lists.{Lists};
-ghost use Rattle.zk_bench.specs.Restoring.{RestoresPart};
-ghost use Rattle.zk_bench.specs.Answering.{AnswersRead, RefusesRead, MissesNode, ListsChildren, FindsNoNode, IsReadOf, IsRestoring};
+ghost use Rattle.zk_bench.specs.inner.Restoring.{RestoresPart};
+ghost use Rattle.zk_bench.specs.inner.Answering.{AnswersRead, RefusesRead, MissesNode, ListsChildren, FindsNoNode, IsReadOf, IsRestoring};
 ghost use Rattle.zk_bench.specs.Serving.{FitsReply};
-ghost use Rattle.zk_bench.specs.Answerable.{DataFit, size_of_names, NamesFit, ListFits, AnswerFits};
-ghost use Rattle.zk_bench.specs.Refusals.{IsCode};
+ghost use Rattle.zk_bench.specs.Answerable.{DataFit, size_of_names, NamesFit, AnswerFits};
+ghost use Rattle.zk_bench.specs.inner.Answerable.{ListFits};
+ghost use Rattle.zk_bench.specs.inner.Refusals.{IsCode};
 ghost use Rattle.zk_bench.specs.declared.stop.Stop.TheVariants as stops;
 ghost use Rattle.zk_bench.specs.declared.stop.Refusal.TheVariants as refusals;
 

@@ -4,7 +4,7 @@ ghost use Rattle.std.specs.Prelude.{◌≡◌, negsuc, pos, Some, OnOk, IsErrOf,
 ghost use Rattle.zk_records.specs.Layouts.{watcher_event};
 ghost use Rattle.zk_records.specs.Events.{event_number};
 ghost use Rattle.zk_nodes.specs.PathFault.{IsPath};
-ghost use Rattle.zk_bench.specs.Serving.{Sends, SendsHeader, SendsResponse, CanBeSent, CanBeTold};
+ghost use Rattle.zk_bench.specs.inner.Serving.{Sends, SendsHeader, SendsResponse, CanBeSent, CanBeTold};
 ghost use Rattle.zk_bench.specs.declared.stop.Stop.TheVariants as stops;
 ghost use Rattle.zk_records.specs.Views.{response_of};
 

@@ -9,8 +9,8 @@ ghost use Rattle.zk_nodes.specs.PathFault.{IsPath};
 ghost use Rattle.zk_watches.specs.Lists.{Lists};
 ghost use Rattle.zk_laws.specs.Server.{both, part_tells, part_sets};
 ghost use Rattle.zk_bench.specs.declared.stop.Stop.TheVariants as stops;
-ghost use Rattle.zk_bench.specs.Serving.{watched, Tells};
-ghost use Rattle.zk_bench.specs.Restoring.{missed_of, side_of, with_watch, texts_in, Rewatches, RestoresPart, IsPart, ArePaths};
+ghost use Rattle.zk_bench.specs.inner.Serving.{watched, Tells};
+ghost use Rattle.zk_bench.specs.inner.Restoring.{missed_of, side_of, with_watch, texts_in, Rewatches, RestoresPart, IsPart, ArePaths};
 
 use crate::connection::Connection;
 use crate::replies::{send_header, send_notice};

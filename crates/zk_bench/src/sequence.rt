@@ -6,8 +6,8 @@ ghost use Rattle.zk_nodes.specs.Path.{path_of as names_in};
 ghost use Rattle.zk_history.specs.Made.{change_of};
 ghost use Rattle.zk_nodes.specs.PathFault.{IsPath};
 ghost use Rattle.zk_records.specs.declared.code.Code.TheVariants as codes;
-ghost use Rattle.zk_bench.specs.Refusals.{IsCode};
-ghost use Rattle.zk_bench.specs.Writing.{IsRefusedWith, makes_below, creates_below as creates_told, numbered_text};
+ghost use Rattle.zk_bench.specs.inner.Refusals.{IsCode};
+ghost use Rattle.zk_bench.specs.inner.Writing.{IsRefusedWith, makes_below, creates_below as creates_told, numbered_text};
 
 use crate::stop::Refusal;
 use std::alloc::Allocator;

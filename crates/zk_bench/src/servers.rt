@@ -8,7 +8,7 @@ ghost use Rattle.zk_nodes.specs.History.{tree_at};
 ghost use Rattle.zk_laws.specs.ServerSteps.{changes_next};
 ghost use Rattle.zk_bench.specs.declared.phase.Phase.TheVariants.{Accepted};
 ghost use Rattle.zk_bench.specs.declared.stop.Stop.TheVariants as stops;
-ghost use Rattle.zk_bench.specs.Stepping.{Catches, CatchesUp};
+ghost use Rattle.zk_bench.specs.inner.Stepping.{Catches, CatchesUp};
 
 use crate::connection::Connection;
 use crate::notices::tell_changes;

@@ -3,7 +3,8 @@
 ghost use Rattle.std.specs.Prelude.{◌≡◌};
 ghost use Rattle.zk_bench.specs.declared.stop.Stop.TheVariants as stops;
 ghost use Rattle.zk_bench.specs.declared.stop.Refusal.TheVariants as refusals;
-ghost use Rattle.zk_bench.specs.Refusals.{stop_of, stop_of_put, stop_of_take, stop_of_request, refusal_of_path};
+ghost use Rattle.zk_bench.specs.Refusals.{stop_of};
+ghost use Rattle.zk_bench.specs.inner.Refusals.{stop_of_put, stop_of_take, stop_of_request, refusal_of_path};
 
 use std::alloc::{AllocError, AllocFailed};
 use zk_history::HistoryFault;

@@ -8,7 +8,7 @@ ghost use Rattle.zk_nodes.specs.declared.side.Side.TheVariants as sides;
 ghost use Rattle.zk_history.specs.HistoryView.{history_of, natural};
 ghost use Rattle.zk_nodes.specs.PathFault.{IsPath};
 ghost use Rattle.zk_history.specs.Shown.{data_told, names_told, IsStat};
-ghost use Rattle.zk_bench.specs.Writing.{path_told};
+ghost use Rattle.zk_bench.specs.inner.Writing.{path_told};
 
 use std::alloc::{AllocError, Allocator};
 use zk_history::{Data, History};

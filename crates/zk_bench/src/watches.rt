@@ -6,8 +6,8 @@ ghost use Rattle.zk_nodes.specs.Names.{names_of};
 ghost use Rattle.zk_nodes.specs.declared.side.Side.TheVariants as sides;
 ghost use Rattle.zk_records.specs.Events.{concerns};
 ghost use Rattle.zk_nodes.specs.Path.{path_of, IsPathText};
-ghost use Rattle.zk_bench.specs.Watching.{used_up};
-ghost use Rattle.zk_bench.specs.Serving.{watched, leaves_at, is_watched};
+ghost use Rattle.zk_bench.specs.inner.Watching.{used_up};
+ghost use Rattle.zk_bench.specs.inner.Serving.{watched, leaves_at, is_watched};
 
 use std::alloc::{AllocError, Allocator};
 use std::collections::BTreeSet;

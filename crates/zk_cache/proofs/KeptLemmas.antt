@@ -9,9 +9,9 @@ use Rattle.zk_cache.specs.declared.held.Mark.{Mark}
 use Rattle.zk_cache.specs.declared.held.Mark.TheVariants.{Good, Stale}
 use Rattle.zk_cache.specs.Look.{as_map}
 use Rattle.zk_cache.specs.Kept.{Answer, Absent, Known, Full, as_good, merged}
-use Rattle.zk_cache.specs.Covered.{stays}
+use Rattle.zk_cache.specs.inner.Covered.{stays}
 use Rattle.zk_cache.specs.Contents.{answer_of, seen_by}
-use Rattle.zk_cache.specs.Renewed.{with_answer}
+use Rattle.zk_cache.specs.inner.Renewed.{with_answer}
 use Rattle.zk_cache.proofs.LookLemmas.{same, get-insert, get-as_map}
 
 -- what follows from a fact of a success

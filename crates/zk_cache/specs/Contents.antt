@@ -1,11 +1,8 @@
 -- The contents of what the maps of a cache hold.
-use Rattle.std.specs.Prelude.{List, map, option_map, vec_items}
-use Rattle.zk_nodes.specs.Path.{Text}
-use Rattle.zk_nodes.specs.Names.{names_of, Names as NameSet}
+use Rattle.std.specs.Prelude.{option_map, vec_items}
+use Rattle.zk_nodes.specs.Names.{names_of}
 use Rattle.std.specs.FinSet as set
 use Rattle.zk_nodes.specs.declared.names.Names.{Names as RustNames}
-use Rattle.zk_jute.specs.declared.lent.TextRef.{TextRef}
-use Rattle.zk_jute.specs.Lenient.{or_empty}
 use Rattle.zk_cache.specs.declared.answers.DataAnswer.{DataAnswer}
 use Rattle.zk_cache.specs.declared.answers.DataAnswer.TheVariants as data_answer
 use Rattle.zk_cache.specs.Kept.{Answer, Absent, Known, Full, Names, Kept}
@@ -19,14 +16,6 @@ answer_of (data_answer.Full bytes stat) = Full (option_map vec_items bytes) stat
 -- the names, with the zxid of their last change
 abbrev pub names_in : {A : Type 0} → RustNames A → Names
 names_in kept = record { names = names_of kept.names; pzxid = kept.pzxid }
-
--- a name of a reply; null is the empty one
-abbrev pub name_in : TextRef → Text
-name_in name = or_empty (option_map (λ text. text.now) name.text)
-
--- the names of a reply as a set
-abbrev pub set_of : List TextRef → NameSet
-set_of names = set.from_list (map name_in names)
 
 -- what is kept, seen by f
 abbrev pub seen_by : {X Y : Type 0} → (X → Y) → Kept X → Kept Y

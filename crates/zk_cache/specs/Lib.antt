@@ -1,7 +1,6 @@
 pub mod Cache
 pub mod Code
 pub mod Contents
-pub mod Covered
 pub mod Kept
 pub mod Look
-pub mod Renewed
+pub mod inner

@@ -3,9 +3,10 @@ ghost use Rattle.std.specs.Prelude.{◌≡◌, ℕ, List, true, is_some, bytes_e
 ghost use Rattle.indexmap.specs.IndexMap.{get_by_text, IsUnchanged};
 ghost use Rattle.zk_nodes.specs.Names.{names_of};
 ghost use Rattle.zk_cache.specs.Kept.{same_fields};
-ghost use Rattle.zk_cache.specs.Covered.{stays};
-ghost use Rattle.zk_cache.specs.Contents.{answer_of, set_of};
-ghost use Rattle.zk_cache.specs.Renewed.{renewed, with_answer};
+ghost use Rattle.zk_cache.specs.inner.Covered.{stays};
+ghost use Rattle.zk_cache.specs.Contents.{answer_of};
+ghost use Rattle.zk_cache.specs.inner.Contents.{set_of};
+ghost use Rattle.zk_cache.specs.inner.Renewed.{renewed, with_answer};
 
 use crate::held::{Held, Kept, Mark, insert, marked_good};
 use std::alloc::{AllocError, Allocator, Global};

@@ -1,7 +1,8 @@
 //! The cache: an answer at each path, a side at a time.
 ghost use Rattle.std.specs.Prelude.{◌≡◌, option_map, is_some, true, IsOk, OnOk, OnErr};
 ghost use Rattle.zk_cache.specs.Cache.{no_answers, data_kept, names_kept, with_data, with_names, with_stale, with_good};
-ghost use Rattle.zk_cache.specs.Contents.{answer_of, names_in, set_of};
+ghost use Rattle.zk_cache.specs.Contents.{answer_of, names_in};
+ghost use Rattle.zk_cache.specs.inner.Contents.{set_of};
 
 use crate::answers::{DataAnswer, keep, set_of};
 use crate::held::{Held, Mark, keep_good, mark_stale, peek, put};

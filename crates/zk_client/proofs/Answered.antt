@@ -16,9 +16,10 @@ use Rattle.zk_turns.specs.View.{View}
 use Rattle.zk_turns.specs.Rule.{next, next_reply, after_reply, with_node, with_children, kept_after, keep_node, keep_children}
 use Rattle.zk_cache.specs.Kept.{Answer, Names}
 use Rattle.zk_turns.proofs.Happened.{view_ext}
-use Rattle.zk_client.specs.Seen.{shown, while_pending, cache_of}
+use Rattle.zk_client.specs.Seen.{shown, cache_of}
+use Rattle.zk_client.specs.inner.Seen.{while_pending}
 use Rattle.zk_client.proofs.CacheLemmas.{cache-ext, nothing-kept}
-use Rattle.zk_client.specs.Steps.{closing}
+use Rattle.zk_client.specs.inner.Steps.{closing}
 
 pub is-close : (question : Question) → closes question ≡ true → question ≡ Close
 is-close Close e = refl

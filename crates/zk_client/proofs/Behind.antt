@@ -7,7 +7,8 @@ use Rattle.zk_turns.specs.Taken.{due, if_open, timeout_of}
 use Rattle.zk_turns.specs.View.{View}
 use Rattle.zk_turns.specs.Rule.{Rule, RuleAt, Stands, StandsAt, HaltsAs, HaltsAt, next, after_all, after_signals}
 use Rattle.zk_turns.proofs.Stepped.{one_turn}
-use Rattle.zk_client.specs.Steps.{Adds, IsQuiet, IsQuietAt}
+use Rattle.zk_client.specs.inner.Steps.{Adds}
+use Rattle.zk_client.specs.Steps.{IsQuiet, IsQuietAt}
 
 -- where there is a result, what follows from what is known of it
 pub on_ok : {T E : Type 0} (r : Result T E) (P Q : Type 0) → OnOk r P → (P → Q) → OnOk r Q

@@ -23,8 +23,10 @@ use Rattle.zk_turns.proofs.Fed.{arrival}
 use Rattle.zk_conversation.proofs.Lengths.{length-int, length-long, length-counted}
 use Rattle.zk_turns.proofs.Arriving.{IsOf, AreOf, of_arriving}
 use Rattle.zk_turns.proofs.Spelt.{first_spelt}
-use Rattle.zk_client.specs.Seen.{shown, while_pending}
-use Rattle.zk_client.specs.Sound.{IsSound, IsLeft, HasArrived}
+use Rattle.zk_client.specs.Seen.{shown}
+use Rattle.zk_client.specs.inner.Seen.{while_pending}
+use Rattle.zk_client.specs.Sound.{IsSound}
+use Rattle.zk_client.specs.inner.Sound.{IsLeft, HasArrived}
 use Rattle.zk_turns.proofs.Words.{happening_of}
 use Rattle.zk_limits.specs.declared.limits.TheConstants.{LONGEST_INCOMING, LONGEST_PASSWORD}
 

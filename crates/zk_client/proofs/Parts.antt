@@ -20,7 +20,7 @@ use Rattle.zk_conversation.specs.Views.{payload_of_part}
 use Rattle.zk_frames.specs.Frame.{frame}
 use Rattle.zk_turns.specs.Turns.{Output, Send}
 use Rattle.zk_turns.specs.Rule.{part_frame}
-use Rattle.zk_client.specs.Steps.{has_any}
+use Rattle.zk_client.specs.inner.Steps.{has_any}
 use Rattle.zk_turns.specs.Past.{pending_for, parts_asked}
 use Rattle.zk_limits.specs.declared.limits.TheConstants.{LONGEST_OUTGOING, LONGEST_PATH, MOST_WEIGHT}
 

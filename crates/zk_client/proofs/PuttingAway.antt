@@ -8,7 +8,7 @@ use Rattle.std.proofs.lemmas.Int.{ints}
 use Rattle.std.proofs.lemmas.List.{append-nil}
 use Rattle.hex.specs.Hex.{decode_of}
 use Rattle.hex.proofs.HexLemmas.{decode_of-encode_lower}
-use Rattle.zk_jute.specs.Laws.{reads}
+use Rattle.zk_jute.specs.inner.Laws.{reads}
 use Rattle.zk_jute.specs.Layout.{Value}
 use Rattle.zk_jute.specs.Reading.{reading}
 use Rattle.zk_jute.specs.Spelling.{IsBytes, Fits, spelling, long_bytes, int_bytes, counted_bytes}

@@ -16,7 +16,8 @@ use Rattle.zk_cache.specs.Kept.{Names, Answer}
 use Rattle.zk_turns.specs.Past.{Left, leaves_data, leaves_child}
 use Rattle.zk_turns.specs.Taken.{phase_of}
 use Rattle.zk_turns.specs.Rule.{with_node, with_children, after_reply, says_there}
-use Rattle.zk_client.specs.Sound.{HasRoom, IsTied, HasRoomFor}
+use Rattle.zk_client.specs.Sound.{HasRoom, IsTied}
+use Rattle.zk_client.specs.inner.Sound.{HasRoomFor}
 use Rattle.zk_limits.specs.declared.limits.TheConstants.{LONGEST_PASSWORD}
 
 -- ---- lists

@@ -23,9 +23,10 @@ use Rattle.zk_turns.specs.Past.{Took, Accepted, Expiry, pending_for, parts_asked
 use Rattle.zk_turns.specs.Taken.{welcome_by, accepted_or_expired}
 use Rattle.zk_turns.specs.Rule.{if_any, next}
 use Rattle.zk_turns.proofs.Happened.{view_ext}
-use Rattle.zk_client.specs.Seen.{shown, while_pending}
+use Rattle.zk_client.specs.Seen.{shown}
+use Rattle.zk_client.specs.inner.Seen.{while_pending}
 use Rattle.zk_client.specs.Sound.{HasRoom, IsSound}
-use Rattle.zk_client.specs.Steps.{welcome_of, has_any}
+use Rattle.zk_client.specs.inner.Steps.{welcome_of, has_any}
 use Rattle.zk_client.proofs.Ends.{none-there}
 use Rattle.zk_client.proofs.Rooms.{tied-talking}
 use Rattle.zk_limits.specs.declared.limits.TheConstants.{LONGEST_PASSWORD}

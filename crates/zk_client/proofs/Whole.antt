@@ -9,7 +9,8 @@ use Rattle.zk_turns.specs.Turns.{Start}
 use Rattle.zk_turns.specs.View.{Standing, view_at}
 use Rattle.zk_turns.specs.Rule.{HaltsAs}
 use Rattle.zk_turns.proofs.Happened.{view_ext}
-use Rattle.zk_client.specs.Seen.{shown, origin_of}
+use Rattle.zk_client.specs.Seen.{shown}
+use Rattle.zk_client.specs.inner.Seen.{origin_of}
 use Rattle.zk_client.specs.Sound.{IsSound, IsReading}
 use Rattle.zk_client.proofs.CacheLemmas.{nothing-kept}
 use Rattle.zk_client.proofs.Heard.{nothing-held}

@@ -3,7 +3,6 @@ pub mod FaultText
 pub mod Seen
 pub mod Sound
 pub mod Steps
-pub mod Left
 pub mod Clients
 pub mod Outsides
 pub mod Runs
@@ -17,3 +16,4 @@ pub use Rattle.zk_turns.specs.Ranges
 pub use Rattle.zk_nodes.specs.History
 pub use Rattle.zk_laws.specs.Headline
 pub use Rattle.zk_laws.specs.Served
+pub mod inner

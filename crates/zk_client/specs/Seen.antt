@@ -1,7 +1,7 @@
 -- What a client shows of itself, by what it is made of.
-use Rattle.std.specs.Prelude.{ℕ, Bool, List, Option, Some, None}
-use Rattle.zk_session.specs.SessionView.{SessionView, Saved, Welcome}
-use Rattle.zk_conversation.specs.Pending.{Talk, Pending}
+use Rattle.std.specs.Prelude.{ℕ, Bool, List}
+use Rattle.zk_session.specs.SessionView.{SessionView}
+use Rattle.zk_conversation.specs.Pending.{Talk}
 use Rattle.zk_watches.specs.Lists.{Lists}
 use Rattle.zk_cache.specs.Cache.{Answers, data_kept, names_kept}
 use Rattle.zk_turns.specs.View.{View, Cache}
@@ -26,23 +26,3 @@ shown held halted kept talk lists answers = record {
 
 abbrev pub view_with : {A : Type 0} → (held : List ℕ) → Core A → View
 view_with held core = shown held core.halted core.session core.conversation core.registry core.cache
-
--- the view, while this was pending
-abbrev pub while_pending : List Pending → View → View
-while_pending pending view = record view { pending = pending }
-
--- the session as it was when the step began, except for its state and last seen zxid: it is put by where a step has another
--- one accepted
-abbrev pub saved_by : Option SessionView → SessionView → Saved
-saved_by (Some earlier) kept = earlier.saved
-saved_by None kept = kept.saved
-
-pub record Origin : Type 0 where
-  pub asked : ℕ
-  pub session : Welcome
-
-abbrev pub origin_of : Saved → Origin
-origin_of saved = record { asked = saved.asked; session = saved.session }
-
-abbrev pub origin : {A : Type 0} → Core A → Origin
-origin core = origin_of (saved_by core.earlier core.session)

@@ -42,7 +42,8 @@ impl<A: Allocator + Copy> Client<A> {
     ghost use Rattle.zk_turns.specs.Taken.{NothingIsDue};
     ghost use Rattle.zk_turns.specs.Rule.{Rule, RuleAt, Stands, StandsAt, HaltsAs, HaltsAt, forgotten};
     ghost use Rattle.zk_client.specs.Views.{input_view, said, turn_of};
-    ghost use Rattle.zk_client.specs.Steps.{Adds, IsQuiet, IsQuietAt};
+    ghost use Rattle.zk_client.specs.inner.Steps.{Adds};
+    ghost use Rattle.zk_client.specs.Steps.{IsQuiet, IsQuietAt};
     ghost use Rattle.zk_turns.specs.Ranges.{IsResumable, IsTyped, AsksOf};
     ghost use Rattle.zk_client.specs.Clients.{view_of, saved_start, Tells};
 

@@ -4,7 +4,8 @@ ghost use Rattle.std.specs.Prelude.{◌≡◌, List, [], ◌++◌, OnOk, IsOk, N
 ghost use Rattle.zk_turns.specs.Turns.{Comes};
 ghost use Rattle.zk_turns.specs.Rule.{IsOpen, after_signals, says_signals};
 ghost use Rattle.zk_client.specs.Views.{said};
-ghost use Rattle.zk_client.specs.Seen.{view_with, origin};
+ghost use Rattle.zk_client.specs.Seen.{view_with};
+ghost use Rattle.zk_client.specs.inner.Seen.{origin};
 ghost use Rattle.zk_client.specs.Sound.{CoreIsSound, IsReading};
 
 use crate::fault::Fault;

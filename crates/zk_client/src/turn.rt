@@ -8,7 +8,8 @@ ghost use Rattle.zk_turns.specs.Ranges.{IsTyped, AsksOf};
 ghost use Rattle.zk_turns.specs.Taken.{NothingIsDue};
 ghost use Rattle.zk_turns.specs.Rule.{IsOpen, after_signals, says_signals};
 ghost use Rattle.zk_client.specs.Views.{said, input_view};
-ghost use Rattle.zk_client.specs.Seen.{view_with, origin};
+ghost use Rattle.zk_client.specs.Seen.{view_with};
+ghost use Rattle.zk_client.specs.inner.Seen.{origin};
 ghost use Rattle.zk_client.specs.Sound.{CoreIsSound, IsReading};
 ghost use Rattle.zk_client.specs.Steps.{IsQuiet};
 

@@ -26,7 +26,7 @@ use Rattle.zk_cache.specs.Kept.{Answer, Absent, Known, Full, Names, good, as_goo
 use Rattle.zk_conclusions.specs.declared.no_subtree.NoSubtree.{NoSubtree}
 use Rattle.zk_conclusions.specs.declared.no_subtree.NoSubtree.TheVariants.{NotWhole, TooMany, Memory}
 use Rattle.zk_conclusions.specs.Subtrees.{IsFull, IsKeptWhole, AreDistinct, Says, is_full_good}
-use Rattle.zk_conclusions.specs.Walks.{IsFine, Added, IsListed, HasFault, HasMore, HasChildren, HasTooMany}
+use Rattle.zk_conclusions.specs.inner.Walks.{IsFine, Added, IsListed, HasFault, HasMore, HasChildren, HasTooMany}
 use Rattle.zk_conclusions.specs.Lacks.{HasFaultAt}
 use Rattle.zk_conclusions.proofs.Reached.{same_kept}
 use Rattle.zk_conclusions.proofs.Sets.{set_among, among_set}

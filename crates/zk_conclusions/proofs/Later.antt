@@ -7,7 +7,8 @@ use Rattle.zk_turns.specs.Meaning.{Among}
 use Rattle.zk_nodes.specs.Path.{Name}
 use Rattle.zk_conclusions.specs.Numbers.{Kind, is_before, is_rival}
 use Rattle.zk_conclusions.specs.Standings.{IsFirstOf}
-use Rattle.zk_conclusions.specs.Predecessors.{IsPredecessor, IsLastOf, Found, name_at, is_after, is_later}
+use Rattle.zk_conclusions.specs.Predecessors.{IsPredecessor}
+use Rattle.zk_conclusions.specs.inner.Predecessors.{IsLastOf, Found, name_at, is_after, is_later}
 use Rattle.zk_conclusions.proofs.Numbered.{before_trans, never_before}
 
 -- the text of the one at a place

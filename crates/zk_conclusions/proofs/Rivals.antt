@@ -7,7 +7,8 @@ use Rattle.std.specs.FinSet as set
 use Rattle.std.proofs.lemmas.Slice.Eq.{starts_is}
 use Rattle.zk_turns.proofs.Lists.{same_text, bytes_eq-refl}
 use Rattle.zk_nodes.specs.Path.{Name}
-use Rattle.zk_conclusions.specs.Holders.{HasPrefix, is_before, is_rival, IsFirstOf}
+use Rattle.zk_conclusions.specs.Holders.{HasPrefix, is_before, IsFirstOf}
+use Rattle.zk_conclusions.specs.inner.Holders.{is_rival}
 use Rattle.zk_conclusions.proofs.Sets.{members}
 
 -- the test of a prefix

@@ -1,13 +1,15 @@
 -- What a client shows of a holder, put together from what its parts say.
 use Rattle.std.proofs.Common.{[], ◌≡◌, ◌↔◌, ℤ, Bool, true, false, ◌∷◌, Option, Some, None, refl, sym, ap, ◌∙◌, subst}
-use Rattle.zk_nodes.specs.Path.{Text, Name, NodePath, path_of, is_below, name_of}
+use Rattle.zk_nodes.specs.Path.{Text, Name, NodePath, path_of, name_of}
+use Rattle.zk_nodes.specs.inner.Path.{is_below}
 use Rattle.zk_cache.specs.declared.held.Kept.{Kept}
 use Rattle.zk_cache.specs.declared.held.Mark.{Mark}
 use Rattle.zk_cache.specs.declared.held.Mark.TheVariants.{Good, Stale}
 use Rattle.zk_cache.specs.Kept.{Answer, Names, good}
 use Rattle.zk_turns.specs.View.{View}
 use Rattle.zk_laws.proofs.Basics.{path_eq-true, path_eq_from}
-use Rattle.zk_conclusions.specs.Holders.{HasPrefix, IsFirstOf, IsShownFirst, ShowsHolder, token_in, token_kept}
+use Rattle.zk_conclusions.specs.Holders.{HasPrefix, IsFirstOf, ShowsHolder, token_in}
+use Rattle.zk_conclusions.specs.inner.Holders.{IsShownFirst, token_kept}
 
 -- a token comes from a good answer
 pub token_good : (session token : ℤ) (kept : Option (Kept Answer))

@@ -2,7 +2,7 @@
 use Rattle.std.proofs.Common.{◌≡◌, ◌≤ℤ◌, ℤ, true, false, ◌∷◌, List, Option, Some, None, sym, ap, ◌∙◌, subst}
 use Rattle.zk_nodes.specs.Path.{Text, Name, path_of}
 use Rattle.zk_turns.specs.View.{View}
-use Rattle.zk_conclusions.specs.Holders.{token_kept}
+use Rattle.zk_conclusions.specs.inner.Holders.{token_kept}
 use Rattle.zk_conclusions.proofs.Shown.{token_good, first_name}
 use Rattle.zk_conclusions.specs.Numbers.{Kind, is_numbered}
 use Rattle.zk_conclusions.specs.Standings.{IsFirstOf, ShowsStanding}

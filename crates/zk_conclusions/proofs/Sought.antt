@@ -12,9 +12,11 @@ use Rattle.zk_nodes.specs.PathFault.{IsPath}
 use Rattle.zk_cache.specs.Kept.{Names, good, as_good, is_marked_good}
 use Rattle.zk_laws.proofs.Basics.{Among-left, Among-right}
 use Rattle.zk_conclusions.specs.Subtrees.{is_full_good, IsKeptWhole, IsReached, IsOneReached, text_below, AreDistinct, HasMoreNodes}
-use Rattle.zk_conclusions.specs.Walks.{IsFine, IsWalk, HasTooMany}
+use Rattle.zk_conclusions.specs.inner.Walks.{IsFine, HasTooMany}
+use Rattle.zk_conclusions.specs.Walks.{IsWalk}
 use Rattle.zk_conclusions.specs.Lacks.{HasGoodName, IsShown, IsOneShown, lacks_data, lacks_names, AreLacking, HasFaultAt, HasNoPath}
-use Rattle.zk_conclusions.specs.Lacks.{HasWalk, FindsChildren, AreShown}
+use Rattle.zk_conclusions.specs.Lacks.{HasWalk, AreShown}
+use Rattle.zk_conclusions.specs.inner.Lacks.{FindsChildren}
 use Rattle.zk_conclusions.proofs.Truths.{good_there, there_at}
 use Rattle.zk_conclusions.proofs.Reached.{same_kept, named}
 use Rattle.zk_conclusions.proofs.Keeping.{full_there}

@@ -6,7 +6,7 @@ use Rattle.zk_nodes.specs.History.{tree_at}
 use Rattle.zk_conclusions.specs.Numbers.{is_before}
 use Rattle.zk_conclusions.specs.Standings.{IsFirstAmong}
 use Rattle.zk_conclusions.specs.Tags.{has_tag, IsLeastOf, LostAreListed}
-use Rattle.zk_conclusions.specs.Predecessors.{name_at}
+use Rattle.zk_conclusions.specs.inner.Predecessors.{name_at}
 use Rattle.zk_conclusions.proofs.Made.{made_before}
 use Rattle.zk_conclusions.proofs.Stays.{is_there, is_made}
 use Rattle.zk_conclusions.proofs.Numbered.{before_trans, never_before}

@@ -19,7 +19,8 @@ use Rattle.zk_cache.specs.Kept.{Names, good, as_good}
 use Rattle.zk_conclusions.proofs.Truths.{there_at}
 use Rattle.zk_conclusions.specs.Subtrees.{is_full_good, IsFull, IsKeptWhole, HasName, text_below, IsReached, IsWholeBelow, IsOneReached}
 use Rattle.zk_conclusions.specs.Subtrees.{AreDistinct, HasMoreNodes}
-use Rattle.zk_conclusions.specs.Walks.{IsFine, HasChildren, HasTooMany, HasParent, AreBehind, IsWalk}
+use Rattle.zk_conclusions.specs.inner.Walks.{IsFine, HasChildren, HasTooMany}
+use Rattle.zk_conclusions.specs.Walks.{HasParent, AreBehind, IsWalk}
 use Rattle.zk_conclusions.proofs.Reached.{named, is_child}
 use Rattle.zk_conclusions.proofs.Keeping.{full_there, fine_last}
 

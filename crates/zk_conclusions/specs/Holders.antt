@@ -1,15 +1,13 @@
 -- What it is to be first below a path, in a tree and by what a client shows, and what follows.
-use Rattle.std.specs.Prelude.{ℕ, ℤ, pos, ◌≡◌, ◌≢◌, nat_eq, ◌≤◌, ◌≤ℤ◌, Bool, true, false, ◌&&◌, not, ◌∷◌, ◌++◌, Option, Some, None, is_some}
+use Rattle.std.specs.Prelude.{ℕ, ℤ, pos, ◌≡◌, ◌≢◌, ◌≤◌, ◌≤ℤ◌, Bool, true, false, ◌&&◌, not, ◌∷◌, ◌++◌, Option, Some, None, is_some}
 use Rattle.std.specs.Prelude.{if◌then◌else◌}
-use Rattle.std.specs.List.{starts_with}
 use Rattle.std.specs.Ordering.{int_eq, is_lt}
 use Rattle.std.specs.FinSet as set
 use Rattle.zk_nodes.specs.Path.{Text, Name, NodePath, path_of}
 use Rattle.zk_nodes.specs.History.{Node, Tree, History, IsHistory, tree_at}
 use Rattle.zk_nodes.specs.Names.{name_cmp, Names as NameSet}
 use Rattle.zk_nodes.specs.declared.data_stat.DataStat.{DataStat}
-use Rattle.zk_cache.specs.declared.held.Kept.{Kept}
-use Rattle.zk_cache.specs.Kept.{Answer, Absent, Known, Full, Names, good, is_good}
+use Rattle.zk_cache.specs.Kept.{Answer, Absent, Known, Full, Names, good}
 use Rattle.zk_turns.specs.View.{View}
 use Rattle.zk_laws.specs.Messages.{from_zero}
 use Rattle.zk_conclusions.specs.Seen.{IsServedFrom, tree_seen}
@@ -21,10 +19,6 @@ HasPrefix prefix name = (rest : Name) × (name ≡ prefix ++ rest)
 -- the one name is before the other, in the order of bytes
 abbrev pub is_before : Name → Name → Bool
 is_before one other = is_lt (name_cmp one other)
-
--- the name begins with the prefix, and is before this one
-abbrev pub is_rival : Name → Name → Name → Bool
-is_rival prefix own name = starts_with nat_eq name prefix && is_before name own
 
 -- of these names that begin with the prefix none is before this one
 abbrev pub IsFirstOf : NameSet → Name → Name → Type 0
@@ -52,15 +46,6 @@ abbrev pub token_in : ℤ → Answer → Option ℤ
 token_in session Absent = None
 token_in session (Known fields) = token_of session fields
 token_in session (Full bytes fields) = token_of session fields
-
--- the same of what is kept, where it is good
-abbrev pub token_kept : ℤ → Option (Kept Answer) → Option ℤ
-token_kept session None = None
-token_kept session (Some kept) = if is_good kept.mark then token_in session kept.answer else None
-
--- The name is first of those that are kept and good below dir.
-abbrev pub IsShownFirst : View → Text → Name → Name → Type 0
-IsShownFirst view dir prefix own = (names : Names) × (view.cache.children dir ≡ good names) × IsFirstOf names.names prefix own
 
 -- The names below dir and the node at the path are kept and good, and by them the client's session holds.
 pub record ShowsHolder (view : View) (dir : Text) (prefix : Name) (path : Text) (token : ℤ) : Type 0 where

@@ -1,5 +1,5 @@
 -- What is still to be read before there is a subtree.
-use Rattle.std.specs.Prelude.{ℕ, ◌≡◌, ◌≢◌, ◌≤◌, Bool, true, false, not, List, [], ◌∷◌, length, None, ⊤, ◌⊎◌}
+use Rattle.std.specs.Prelude.{ℕ, ◌≡◌, ◌≢◌, ◌≤◌, Bool, true, not, List, [], ◌∷◌, length, None, ⊤}
 use Rattle.std.specs.FinSet as set
 use Rattle.zk_turns.specs.Meaning.{Among}
 use Rattle.zk_turns.specs.View.{Cache}
@@ -7,7 +7,7 @@ use Rattle.zk_nodes.specs.Path.{Text, Name}
 use Rattle.zk_nodes.specs.PathFault.{child_fault}
 use Rattle.zk_cache.specs.Kept.{Names, good, is_marked_good}
 use Rattle.zk_conclusions.specs.Subtrees.{text_below, is_full_good, AreDistinct, IsWholeBelow, HasMoreNodes}
-use Rattle.zk_conclusions.specs.Walks.{HasChildren, IsWalk, AreBehind}
+use Rattle.zk_conclusions.specs.Walks.{IsWalk, AreBehind}
 
 -- the name is one of those that are kept and good below the path
 pub record HasGoodName (cache : Cache) (path : Text) (name : Name) : Type 0 where
@@ -56,10 +56,6 @@ pub record HasWalk (cache : Cache) (root : Text) (most : ℕ) : Type 0 where
   pub paths : List Text
   pub walk : IsWalk cache root paths
   pub fits : length paths ≤ most
-
--- the children that good names make, and none where the names are not good
-abbrev pub FindsChildren : Cache → Text → List Text → Type 0
-FindsChildren cache path children = HasChildren cache path children ⊎ ((is_marked_good (cache.children path) ≡ false) × (children ≡ []))
 
 -- These are all paths that good names lead to: each once, the root first, each other one after its parent, and each good name makes a
 -- path.

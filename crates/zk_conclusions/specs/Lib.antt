@@ -11,3 +11,4 @@ pub mod Standings
 pub mod Predecessors
 pub mod Tags
 pub mod Revisions
+pub mod inner

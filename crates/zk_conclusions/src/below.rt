@@ -1,7 +1,8 @@
 //! The name of a path right below a directory.
 
 ghost use Rattle.std.specs.Prelude.{◌≡◌, ◌∷◌, IfSome, None};
-ghost use Rattle.zk_nodes.specs.Path.{Name, path_of, is_below};
+ghost use Rattle.zk_nodes.specs.Path.{Name, path_of};
+ghost use Rattle.zk_nodes.specs.inner.Path.{is_below};
 
 use std::alloc::Allocator;
 use zk_client::Path;

@@ -9,7 +9,7 @@ ghost use Rattle.zk_client.specs.Clients.{view_of};
 ghost use Rattle.zk_nodes.specs.Path.{child_text};
 ghost use Rattle.zk_nodes.specs.PathFault.{child_fault};
 ghost use Rattle.zk_conclusions.specs.Subtrees.{IsFull, IsKeptWhole, Says, is_full_good};
-ghost use Rattle.zk_conclusions.specs.Walks.{Added, HasChildren, HasFault, HasMore, HasTooMany};
+ghost use Rattle.zk_conclusions.specs.inner.Walks.{Added, HasChildren, HasFault, HasMore, HasTooMany};
 
 use crate::no_subtree::NoSubtree;
 use std::alloc::Allocator;

@@ -5,7 +5,8 @@ ghost use Rattle.std.specs.List.{list_any, starts_with};
 ghost use Rattle.zk_cache.specs.Contents.{names_in};
 ghost use Rattle.zk_client.specs.Clients.{view_of};
 ghost use Rattle.zk_nodes.specs.Path.{Name, path_of};
-ghost use Rattle.zk_conclusions.specs.Holders.{is_before, is_rival, HasPrefix, IsFirstOf, IsShownFirst};
+ghost use Rattle.zk_conclusions.specs.Holders.{is_before, HasPrefix, IsFirstOf};
+ghost use Rattle.zk_conclusions.specs.inner.Holders.{is_rival, IsShownFirst};
 
 use crate::below::name_below;
 use std::alloc::Allocator;

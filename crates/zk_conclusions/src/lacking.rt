@@ -6,8 +6,9 @@ ghost use Rattle.zk_cache.specs.Contents.{names_in};
 ghost use Rattle.zk_cache.specs.Kept.{good, is_marked_good};
 ghost use Rattle.zk_client.specs.Clients.{view_of};
 ghost use Rattle.zk_conclusions.specs.Subtrees.{HasMoreNodes, Says};
-ghost use Rattle.zk_conclusions.specs.Walks.{HasTooMany};
-ghost use Rattle.zk_conclusions.specs.Lacks.{AreShown, FindsChildren, HasFaultAt, HasNoPath, lacks_data, lacks_names};
+ghost use Rattle.zk_conclusions.specs.inner.Walks.{HasTooMany};
+ghost use Rattle.zk_conclusions.specs.Lacks.{AreShown, HasFaultAt, HasNoPath, lacks_data, lacks_names};
+ghost use Rattle.zk_conclusions.specs.inner.Lacks.{FindsChildren};
 
 use crate::children::{children_of, has_data};
 use crate::marked::has_good_names;

@@ -3,7 +3,8 @@
 ghost use Rattle.std.specs.Prelude.{◌≡◌, ◌<◌, ◌+◌, IfSome, None, length, map, string_bytes};
 ghost use Rattle.zk_conclusions.specs.Kinds.{kind_of};
 ghost use Rattle.zk_conclusions.specs.Standings.{IsFirstOf};
-ghost use Rattle.zk_conclusions.specs.Predecessors.{Found, IsPredecessor, is_after, is_later, name_at};
+ghost use Rattle.zk_conclusions.specs.inner.Predecessors.{Found, is_after, is_later, name_at};
+ghost use Rattle.zk_conclusions.specs.Predecessors.{IsPredecessor};
 
 use crate::before::stands_before;
 use crate::numbers::{Kind, is_before};

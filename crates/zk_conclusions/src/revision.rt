@@ -1,7 +1,6 @@
 //! A number that rises where what a client shows may change.
 
 ghost use Rattle.std.specs.Prelude.{◌≡◌, ◌≤◌};
-ghost use Rattle.std.specs.List.{list_any};
 ghost use Rattle.zk_client.specs.Views.{output_view, said};
 ghost use Rattle.zk_conclusions.specs.Revisions.{has_change, is_change};
 
@@ -19,16 +18,10 @@ fn is_change<A: Allocator>(output: &Output<A>) -> bool
     }
 }
 
-fn is_any_change<A: Allocator>(outputs: &[Output<A>]) -> bool
-    ensures { result ≡ list_any (λ output. is_change (output_view output)) outputs.now }
-{
-    outputs.iter().any(|output| is_change(output))
-}
-
 fn has_change<A: Allocator>(outputs: &[Output<A>]) -> bool
     ensures { result ≡ has_change (said outputs.now) }
 {
-    is_any_change(outputs)
+    outputs.iter().any(|output| is_change(output))
 }
 
 /// A number that rises where what a client keeps and shows as good may change, and so its state and its session. While it is the same,

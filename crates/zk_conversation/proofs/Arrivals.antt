@@ -20,7 +20,8 @@ use Rattle.zk_conversation.specs.Pending.{Pending, Talk}
 use Rattle.zk_conversation.specs.Arriving.{Arrived, Connected, Pong, Skipped, first_arriving, noticed, notice_arriving, oldest_arriving}
 use Rattle.zk_conversation.specs.Arriving.{header_arriving, later_arriving, arriving, pending_after, talk_after}
 use Rattle.zk_conversation.specs.Lent.{names_arrive}
-use Rattle.zk_conversation.specs.Arrives.{Arrives, Answers, RepliesTo, names_next}
+use Rattle.zk_conversation.specs.inner.Arrives.{Arrives, RepliesTo, names_next}
+use Rattle.zk_conversation.specs.Arrives.{Answers}
 use Rattle.zk_conversation.specs.Views.{arrival_view}
 
 -- the phases

@@ -9,7 +9,8 @@ use Rattle.zk_conversation.specs.declared.counts.Counts.{Counts}
 use Rattle.zk_conversation.specs.Questions.{Question}
 use Rattle.zk_conversation.specs.Pending.{Pending, Waiting, Part_waits, Call_waits, is_call, is_close, waits_to_watch, calls_pending}
 use Rattle.zk_conversation.specs.Pending.{watches_pending}
-use Rattle.zk_conversation.specs.Counted.{one_if, counts_of, counts_with, counts_without}
+use Rattle.zk_conversation.specs.inner.Counted.{one_if, counts_with, counts_without}
+use Rattle.zk_conversation.specs.Counted.{counts_of}
 
 -- how many elements give true
 abbrev count : {X : Type 0} → (X → Bool) → List X → ℕ

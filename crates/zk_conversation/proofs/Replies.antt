@@ -6,10 +6,10 @@ use Rattle.zk_records.specs.declared.reply_header.ReplyHeader.{ReplyHeader}
 use Rattle.zk_conversation.specs.declared.counts.Counts.{Counts}
 use Rattle.zk_conversation.specs.Results.{Result as Found}
 use Rattle.zk_conversation.specs.Pending.{Pending, Waiting, Part_waits, Call_waits}
-use Rattle.zk_conversation.specs.Counted.{counts_without}
+use Rattle.zk_conversation.specs.inner.Counted.{counts_without}
 use Rattle.zk_conversation.specs.Arriving.{call_arriving, reply_arriving, oldest_arriving, pending_after}
-use Rattle.zk_conversation.specs.Lent.{awaited_result}
-use Rattle.zk_conversation.specs.Arrives.{arrival_for}
+use Rattle.zk_conversation.specs.inner.Lent.{awaited_result}
+use Rattle.zk_conversation.specs.inner.Arrives.{arrival_for}
 use Rattle.zk_limits.specs.declared.limits.TheConstants.{MOST_PENDING}
 
 -- what waits gets what was read of its reply

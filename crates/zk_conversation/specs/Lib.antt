@@ -9,3 +9,4 @@ pub mod Lent
 pub mod Arrives
 pub mod FaultText
 pub mod Laws
+pub mod inner

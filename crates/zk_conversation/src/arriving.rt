@@ -10,8 +10,9 @@ ghost use Rattle.zk_jute.specs.Lenient.{or_empty};
 ghost use Rattle.std.specs.Option.{option_map};
 ghost use Rattle.zk_records.specs.Response.{response_at};
 ghost use Rattle.zk_conversation.specs.Arriving.{first_arriving, notice_arriving, noticed};
-ghost use Rattle.zk_conversation.specs.Lent.{Reads, awaited_result, awaits_names};
-ghost use Rattle.zk_conversation.specs.Arrives.{Arrives, HeaderReads, OldestReads, arrival_for};
+ghost use Rattle.zk_conversation.specs.inner.Lent.{Reads, awaited_result};
+ghost use Rattle.zk_conversation.specs.Lent.{awaits_names};
+ghost use Rattle.zk_conversation.specs.inner.Arrives.{Arrives, HeaderReads, OldestReads, arrival_for};
 ghost use Rattle.zk_conversation.specs.Views.{arrival_view, pending_view, result_view, waiting_view};
 
 use crate::arrival::Arrival;

@@ -4,7 +4,8 @@ ghost use Rattle.std.specs.Prelude.{◌≡◌, ◌≢◌, ◌<◌, ◌≤◌, �
 ghost use Rattle.zk_frames.specs.Frame.{frame};
 ghost use Rattle.zk_jute.specs.Cursor.{bytes_left, payload_len};
 ghost use Rattle.zk_nodes.specs.declared.side.Side.TheVariants.{Data, Child};
-ghost use Rattle.zk_conversation.specs.Arrives.{Answers, RepliesTo, names_next};
+ghost use Rattle.zk_conversation.specs.Arrives.{Answers};
+ghost use Rattle.zk_conversation.specs.inner.Arrives.{RepliesTo, names_next};
 ghost use Rattle.zk_conversation.specs.Calls.{call_payload, connect_payload, ping_payload};
 ghost use Rattle.zk_conversation.specs.Lent.{names_arrive};
 ghost use Rattle.zk_conversation.specs.Pending.{Talk, Call_waits, next_xid, tickets, calls_pending, watches_pending, is_close_pending};

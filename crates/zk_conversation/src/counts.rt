@@ -1,7 +1,7 @@
 //! How much is pending, counted as it comes and goes.
 
 ghost use Rattle.std.specs.Prelude.{◌≡◌, ◌^◌, ◌<◌};
-ghost use Rattle.zk_conversation.specs.Counted.{counts_with, counts_without, counts_without_call};
+ghost use Rattle.zk_conversation.specs.inner.Counted.{counts_with, counts_without, counts_without_call};
 ghost use Rattle.zk_conversation.specs.Views.{question_view, waiting_view};
 
 use crate::awaited::Waiting;

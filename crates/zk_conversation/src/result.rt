@@ -4,7 +4,8 @@ ghost use Rattle.std.specs.Prelude.{◌≡◌, pos, true, IsErrOf};
 ghost use Rattle.zk_jute.specs.Cursor.{bytes_left, payload_len};
 ghost use Rattle.zk_conversation.specs.Results.{record_of, result_of};
 ghost use Rattle.zk_conversation.specs.Views.{question_view, result_view};
-ghost use Rattle.zk_conversation.specs.Lent.{Reads, lists_names, stat_of_reply, data_of_reply, names_of_reply, created_of_reply};
+ghost use Rattle.zk_conversation.specs.inner.Lent.{Reads, stat_of_reply, data_of_reply, names_of_reply, created_of_reply};
+ghost use Rattle.zk_conversation.specs.Lent.{lists_names};
 
 use crate::question::Question;
 use std::alloc::Allocator;

@@ -13,7 +13,8 @@ use Rattle.zk_agent.specs.declared.input.AgentInput.TheVariants as happens
 use Rattle.zk_driver.specs.Driving.{carried, closed, ChannelView, Course, Hands, IsAsked, Meets, Written, Looked, Noted, Takes}
 use Rattle.zk_link.specs.Streams.{Known, Sends}
 use Rattle.zk_driver.specs.Flowing.{bytes_in, frame_of, handed_by, sent_in, AreWithin, Asked, BytesComeWhole, BytesGoWhole, Carries, Deed}
-use Rattle.zk_driver.specs.Flowing.{Flow, Flows, HandsOver, Lasts, Made}
+use Rattle.zk_driver.specs.Flowing.{Flow, Flows, Lasts, Made}
+use Rattle.zk_driver.specs.inner.Flowing.{HandsOver}
 use Rattle.zk_link.proofs.Streaming.{appends_none, appends_on}
 
 -- ---- deeds, one after the other

@@ -5,7 +5,8 @@ use Rattle.std.specs.List.{flat_map, FoldsTo}
 use Rattle.zk_client.specs.Clients.{view_of}
 use Rattle.zk_agent.specs.Agents.{IsLed}
 use Rattle.zk_agent.specs.declared.input.AgentInput.{AgentInput}
-use Rattle.zk_driver.specs.Driving.{ChannelView, Course, AreFollowed, Does, Goes, Hands, IsShutAgent, Meets, Move, Notes, Written, Looked}
+use Rattle.zk_driver.specs.Driving.{ChannelView, Course, AreFollowed, Does, Goes, Hands, IsShutAgent, Meets, Move, Written, Looked}
+use Rattle.zk_driver.specs.inner.Driving.{Notes}
 use Rattle.zk_driver.specs.Driving.{Noted}
 use Rattle.zk_driver.specs.Noting.{notes_by, notes_in, GoesBy, Note}
 use Rattle.zk_driver.specs.declared.look.Look.{Look}

@@ -1,6 +1,6 @@
 -- How far a driver has come: what its agent was handed, what was carried out, and what was passed on.
-use Rattle.std.specs.Prelude.{◌≡◌, ◌≢◌, ◌≤◌, ◌<◌, ◌⊎◌, ⊤, ◌+◌, ◌-◌, ◌^◌, ℕ, Bool, true, false, if◌then◌else◌, List, [], ◌∷◌, ◌++◌, fold}
-use Rattle.std.specs.Prelude.{max, min, Option, Some, None, is_some, All}
+use Rattle.std.specs.Prelude.{◌≡◌, ◌≢◌, ◌≤◌, ◌<◌, ◌⊎◌, ⊤, ◌+◌, ◌-◌, ℕ, Bool, true, false, List, [], ◌∷◌, ◌++◌, fold}
+use Rattle.std.specs.Prelude.{max, Option, Some, None, is_some, All}
 use Rattle.std.specs.List.{filter, FoldsTo}
 use Rattle.zk_turns.specs.Turns.{Send}
 use Rattle.zk_session.specs.declared.states.State.TheVariants.{Expired, Closed}
@@ -15,7 +15,6 @@ use Rattle.zk_agent.specs.Agents.{given_of, heard_after, how_many_asked, how_man
 use Rattle.zk_agent.specs.Agents.{IsShut, NothingAt}
 use Rattle.zk_agent.specs.Calls.{how_many, IsInTime, IsServed}
 use Rattle.zk_agent.specs.Telling.{Told, Says, Dials, HangsUp, action_view, told_by}
-use Rattle.zk_link.specs.declared.brought.Brought.{Brought}
 use Rattle.zk_link.specs.declared.brought.Brought.TheVariants as brought
 use Rattle.zk_link.specs.Written.{IsLeftOf}
 use Rattle.zk_driver.specs.declared.channel.Attempt.{Attempt}
@@ -67,16 +66,6 @@ pub record Writes (old new : ChannelView) : Type 0 where
 abbrev pub row_of : Option Look → ℕ
 row_of None = 0
 row_of (Some look) = look.row
-
--- whether a read has brought nothing
-abbrev pub is_nothing : {A : Type 0} → Brought A → Bool
-is_nothing brought.Nothing = true
-is_nothing brought = false
-
--- a read that began at this moment, after the one before it or as the first of a row
-abbrev pub look_after : (began : ℕ) → (is_again is_quiet : Bool) → Option Look → Look
-look_after began is_again is_quiet before =
-    record { began = began; row = if is_again then min (row_of before + 1) (2 ^ 32 - 1) else 1; is_quiet = is_quiet }
 
 -- The connection is read once, after some of what is left was written.
 pub record Looks (look : Look) (old new : ChannelView) : Type 0 where
@@ -190,24 +179,6 @@ pub record Goes {A : Type 0} (old new : Course A) : Type 0 where
   pub followed : AreFollowed old.agent → AreFollowed new.agent
   pub led : IsLed (view_of old.agent.asker.follower.client) → IsLed (view_of new.agent.asker.follower.client)
   pub shut : IsShutAgent old.agent → IsShutAgent new.agent
-
--- This is what the agent is handed first.
-pub record Notes {A : Type 0} (input : AgentInput A) (old new : Course A) : Type 0 where
-  pub now : ℕ
-  pub between : Course A
-  pub noted : Does old (Noted now input) between
-  pub rest : Goes between new
-
--- what a read has brought, as the agent is handed it
-abbrev pub input_of : {A : Type 0} → Brought A → AgentInput A
-input_of (brought.Piece bytes) = happens.Bytes bytes
-input_of brought.Nothing = happens.Moment
-input_of brought.End = happens.Cut
-
--- What a read has brought may be taken at a moment.
-abbrev pub IsTaken : {A : Type 0} → (now : ℕ) → Brought A → Course A → Type 0
-IsTaken now brought.Nothing course = IsTimely now course
-IsTaken now brought course = ⊤
 
 -- what a program asks for, and a driver hands in for it
 abbrev pub IsAsked : {A : Type 0} → AgentInput A → Type 0

@@ -58,15 +58,6 @@ pub record Flows {A : Type 0} (old new : Flow A) : Type 0 where
   pub deeds : List (Deed A)
   pub carries : FoldsTo Carries old deeds new
 
--- The agent takes an input, and what it says is carried out; then some of what is unsent is written.
-pub record HandsOver {A : Type 0} (input : AgentInput A) (old new : Flow A) : Type 0 where
-  pub now : ℕ
-  pub between : Flow A
-  pub takes : Takes now input old.course between.course
-  pub lasts : between.course.channel.is_open ≡ true → between.known ≡ old.known
-  pub held : between.held ≡ []
-  pub writes : Carries between (Made Written) new
-
 -- ---- call after call
 
 -- A driver does something; or its program takes of what it is told.

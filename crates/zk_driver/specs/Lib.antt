@@ -1,5 +1,5 @@
 pub mod Driving
 pub mod Flowing
 pub mod Noting
-pub mod Reads
 pub mod StopText
+pub mod inner

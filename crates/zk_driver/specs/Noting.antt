@@ -6,7 +6,6 @@ use Rattle.zk_agent.specs.declared.action.Action.{Action}
 use Rattle.zk_agent.specs.declared.input.AgentInput.{AgentInput}
 use Rattle.zk_agent.specs.declared.input.AgentInput.TheVariants as happens
 use Rattle.zk_agent.specs.Agents.{IsLed}
-use Rattle.zk_driver.specs.declared.turn.Event.{Event}
 use Rattle.zk_driver.specs.declared.turn.Event.TheVariants as event
 use Rattle.zk_driver.specs.declared.turn.Turn.{Turn}
 use Rattle.zk_driver.specs.declared.turn.Turn.TheVariants as turn
@@ -35,13 +34,6 @@ pub record GoesBy {A : Type 0} (notes : List Note) (old new : Course A) : Type 0
   pub followed : AreFollowed old.agent → AreFollowed new.agent
   pub led : IsLed (view_of old.agent.asker.follower.client) → IsLed (view_of new.agent.asker.follower.client)
   pub shut : IsShutAgent old.agent → IsShutAgent new.agent
-
--- what a turn tells of connections, and the action that it hands on
-abbrev pub notes_of_event : Event → List Note
-notes_of_event event.Opened = Made ∷ []
-notes_of_event (event.Failed why) = Missed ∷ []
-notes_of_event (event.Ended why) = Lost ∷ []
-notes_of_event event.Nothing = []
 
 abbrev pub notes_of : {A : Type 0} → Turn A → List Note
 notes_of turn.Opened = Made ∷ []

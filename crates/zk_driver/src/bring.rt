@@ -2,9 +2,9 @@
 
 ghost use Rattle.std.specs.Prelude.{◌≡◌, IfOk};
 ghost use Rattle.std.specs.Io.KnownBytes.{Consumes, Keeps};
-ghost use Rattle.zk_driver.specs.Driving.{input_of};
+ghost use Rattle.zk_driver.specs.inner.Driving.{input_of};
 ghost use Rattle.zk_driver.specs.Flowing.{bytes_in};
-ghost use Rattle.zk_driver.specs.Reads.{is_late, reading_of, Gives};
+ghost use Rattle.zk_driver.specs.inner.Reads.{is_late, reading_of, Gives};
 
 use crate::reason::{Reason, reason_of};
 use std::alloc::{AllocError, Allocator};

@@ -1,13 +1,15 @@
 //! What a driver has of a connection.
 
 ghost use Rattle.std.specs.Prelude.{◌≡◌, ◌++◌, None, Some, IfOk, OnOk, is_some};
-ghost use Rattle.zk_driver.specs.Driving.{channel_view, closed, is_nothing, look_after, opened, Looks, Writes};
-ghost use Rattle.zk_driver.specs.Noting.{notes_of_event, notes_in};
+ghost use Rattle.zk_driver.specs.Driving.{channel_view, closed, opened, Looks, Writes};
+ghost use Rattle.zk_driver.specs.inner.Driving.{is_nothing, look_after};
+ghost use Rattle.zk_driver.specs.inner.Noting.{notes_of_event};
+ghost use Rattle.zk_driver.specs.Noting.{notes_in};
 ghost use Rattle.std.specs.Io.KnownBytes.{Keeps};
-ghost use Rattle.zk_driver.specs.Driving.{input_of};
+ghost use Rattle.zk_driver.specs.inner.Driving.{input_of};
 ghost use Rattle.zk_link.specs.Streams.{known_of, Exchanges, Sends};
 ghost use Rattle.zk_driver.specs.Flowing.{bytes_in};
-ghost use Rattle.zk_driver.specs.Reads.{IsBrought};
+ghost use Rattle.zk_driver.specs.inner.Reads.{IsBrought};
 
 use crate::bring::{bring, make_room};
 use crate::look::{Look, is_nothing, look_after};

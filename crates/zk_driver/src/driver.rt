@@ -8,7 +8,8 @@ ghost use Rattle.zk_client.specs.Clients.{view_of};
 ghost use Rattle.zk_agent.specs.Telling.{told_by};
 ghost use Rattle.zk_agent.specs.declared.input.AgentInput.TheVariants as happens;
 ghost use Rattle.zk_driver.specs.Driving.{channel_view, closed, course_of, AreFollowed, Extends, Goes, Hands, IsAsked, IsShutAgent};
-ghost use Rattle.zk_driver.specs.Noting.{is_come, notes_of, notes_of_event, passed_in, GoesBy};
+ghost use Rattle.zk_driver.specs.Noting.{is_come, notes_of, passed_in, GoesBy};
+ghost use Rattle.zk_driver.specs.inner.Noting.{notes_of_event};
 ghost use Rattle.zk_driver.specs.Flowing.{flow_of, Flows};
 
 use crate::channel::Attempt;

@@ -5,10 +5,14 @@ ghost use Rattle.std.specs.List.{filter};
 ghost use Rattle.zk_agent.specs.Agents.{NothingAt};
 ghost use Rattle.zk_agent.specs.Telling.{action_view, told_by};
 ghost use Rattle.zk_agent.specs.declared.input.AgentInput.TheVariants as happens;
-ghost use Rattle.zk_driver.specs.Driving.{carried, channel_view, closed, course_of, input_of, is_passed, Extends, Goes, Hands, IsOverdue};
-ghost use Rattle.zk_driver.specs.Driving.{IsPatient, IsSeen, IsTaken, IsTimely, Notes};
-ghost use Rattle.zk_driver.specs.Noting.{notes_in, notes_of_event, Made, Missed, Lost, GoesBy};
-ghost use Rattle.zk_driver.specs.Flowing.{bytes_in, flow_of, Flows, HandsOver};
+ghost use Rattle.zk_driver.specs.Driving.{carried, channel_view, closed, course_of, is_passed, Extends, Goes, Hands, IsOverdue};
+ghost use Rattle.zk_driver.specs.inner.Driving.{input_of};
+ghost use Rattle.zk_driver.specs.Driving.{IsPatient, IsSeen, IsTimely};
+ghost use Rattle.zk_driver.specs.inner.Driving.{IsTaken, Notes};
+ghost use Rattle.zk_driver.specs.Noting.{notes_in, Made, Missed, Lost, GoesBy};
+ghost use Rattle.zk_driver.specs.inner.Noting.{notes_of_event};
+ghost use Rattle.zk_driver.specs.Flowing.{bytes_in, flow_of, Flows};
+ghost use Rattle.zk_driver.specs.inner.Flowing.{HandsOver};
 
 use crate::channel::{Attempt, Channel};
 use crate::stop::Stop;

@@ -1,7 +1,7 @@
 //! The last read of a connection.
 
 ghost use Rattle.std.specs.Prelude.{◌≡◌};
-ghost use Rattle.zk_driver.specs.Driving.{is_nothing, look_after};
+ghost use Rattle.zk_driver.specs.inner.Driving.{is_nothing, look_after};
 
 use std::alloc::Allocator;
 use zk_link::Brought;

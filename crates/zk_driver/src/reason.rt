@@ -1,7 +1,7 @@
 //! Why there is no connection.
 
 ghost use Rattle.std.specs.Prelude.{◌≡◌};
-ghost use Rattle.zk_driver.specs.Reads.{reason_of};
+ghost use Rattle.zk_driver.specs.inner.Reads.{reason_of};
 
 use std::io::ErrorKind;
 

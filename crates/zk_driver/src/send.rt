@@ -4,7 +4,7 @@ ghost use Rattle.std.specs.Prelude.{◌≡◌, ◌≤◌, length, drop, take, un
 ghost use Rattle.std.specs.Io.KnownBytes.{Appends, Keeps};
 ghost use Rattle.zk_link.specs.Written.{IsLeftOf};
 ghost use Rattle.zk_link.specs.Streams.{Sends};
-ghost use Rattle.zk_driver.specs.Reads.{written_by};
+ghost use Rattle.zk_driver.specs.inner.Reads.{written_by};
 
 use crate::bring::is_late;
 use std::alloc::Allocator;

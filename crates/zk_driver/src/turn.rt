@@ -1,7 +1,8 @@
 //! What a driver has done.
 
 ghost use Rattle.std.specs.Prelude.{◌≡◌, [], None, false, true};
-ghost use Rattle.zk_driver.specs.Noting.{is_come, notes_of, notes_of_event, passed_in};
+ghost use Rattle.zk_driver.specs.Noting.{is_come, notes_of, passed_in};
+ghost use Rattle.zk_driver.specs.inner.Noting.{notes_of_event};
 
 use crate::reason::Reason;
 use std::alloc::{Allocator, Global};

@@ -24,7 +24,8 @@ use Rattle.zk_follow.specs.declared.subject.Subject.{Subject}
 use Rattle.zk_follow.specs.declared.progress.Progress.{Progress}
 use Rattle.zk_follow.specs.declared.progress.Progress.TheVariants.{Due, Reading, Refused}
 use Rattle.zk_follow.specs.Following.{progress_after, answered, heard, heard_all, is_shown, read_of, rested, rested_progress, woken}
-use Rattle.zk_follow.specs.Following.{woken_progress, IsAhead, IsBeingRead, IsCounted, IsRefused, IsFollowed, IsFull, Asks, VisitsAnd}
+use Rattle.zk_follow.specs.Following.{woken_progress, IsAhead, IsBeingRead, IsCounted, IsRefused, IsFollowed, IsFull}
+use Rattle.zk_follow.specs.inner.Following.{Asks, VisitsAnd}
 use Rattle.zk_follow.specs.Following.{is_read_by}
 use Rattle.zk_follow.proofs.Hearing.{no_answer}
 use Rattle.zk_follow.proofs.Reading.{is_found}

@@ -19,8 +19,10 @@ use Rattle.zk_follow.specs.declared.subject.Subject.{Subject}
 use Rattle.zk_follow.specs.declared.progress.Progress.{Progress}
 use Rattle.zk_follow.specs.declared.progress.Progress.TheVariants.{Due, Reading, Refused}
 use Rattle.zk_follow.specs.Following.{heard_all, outputs_in, due_again, progress_after, read_of, rested_progress, taken, AreReads}
-use Rattle.zk_follow.specs.Following.{AreVisited, Asks, IsAhead, IsCounted, IsFollowed, IsReadOf, IsVisited, Reads, Steps, Visits}
-use Rattle.zk_follow.specs.Following.{VisitsAnd, answered, heard}
+use Rattle.zk_follow.specs.Following.{AreVisited, IsAhead, IsCounted, IsFollowed, IsReadOf, IsVisited, Steps, Visits}
+use Rattle.zk_follow.specs.inner.Following.{Asks, Reads}
+use Rattle.zk_follow.specs.inner.Following.{VisitsAnd}
+use Rattle.zk_follow.specs.Following.{answered, heard}
 use Rattle.zk_follow.proofs.Waiting.{still_going}
 use Rattle.zk_follow.proofs.Hearing.{all_same_path, all_same_side, all_same_ticket, counted_at}
 use Rattle.zk_follow.proofs.Asking.{others_counted, others_followed, woken_ahead}

@@ -174,13 +174,6 @@ rested_progress _ = Due
 abbrev pub rested : {A : Type 0} → Subject A → Subject A
 rested subject = record subject { progress = rested_progress subject.progress; is_missing = false; is_there = false }
 
--- Calls were asked, and nothing else has happened to a client.
-pub record Asks (view after : View) : Type 0 where
-  pub standing : after.standing ≡ view.standing
-  pub cache : after.cache ≡ view.cache
-  pub more : List Pending
-  pub pending : after.pending ≡ view.pending ++ more
-
 -- A turn is a call that reads a subject, with a watch.
 abbrev pub IsReadOf : {A : Type 0} → Subject A → (is_missing : Bool) → Turn → Type 0
 IsReadOf subject is_missing turn =
@@ -197,11 +190,6 @@ Visits now view subject calls after new =
 abbrev pub outputs_in : List Turn → List Output
 outputs_in calls = flat_map (λ turn. turn.outputs) calls
 
--- a visit, and what is said by then
-abbrev pub VisitsAnd : {A : Type 0} → (now : ℕ) → View → List Output → Subject A → View → List Output → Subject A → Type 0
-VisitsAnd now view given subject after given_after new =
-    (calls : List Turn) × Visits now view subject calls after new × (given_after ≡ given ++ outputs_in calls)
-
 -- So a subject counts as refused only where an answer said so.
 abbrev pub IsVisited : {A : Type 0} → (now : ℕ) → Subject A → Subject A → Type 0
 IsVisited now subject new = (view : View) × (calls : List Turn) × (after : View) × Visits now view subject calls after new
@@ -217,14 +205,6 @@ AreReads subjects [] = ⊤
 AreReads {A} subjects (turn ∷ more) =
     ((k : ℕ) × (d : Subject A) × (is_missing : Bool) × (k < length subjects) × IsReadOf (slice_index_or subjects k d) is_missing turn)
     × AreReads subjects more
-
--- Calls that read subjects, one after the other, and no other turn.
-pub record Reads {A : Type 0} (subjects : List (Subject A)) (view : View) (given : List Output) (after : View)
-    (given_after : List Output) : Type 0 where
-  pub calls : List Turn
-  pub chain : FoldsTo Rule view calls after
-  pub reads : AreReads subjects calls
-  pub said : given_after ≡ given ++ outputs_in calls
 
 -- One step. The client takes its input at a moment; each subject hears what it says, and is visited. The turns are one chain from the
 -- client before to the client after it: the moment, the input, and the calls that read subjects. What is given is what they said, in order.

@@ -9,7 +9,8 @@ ghost use Rattle.zk_turns.specs.Rule.{forgotten, Stands};
 ghost use Rattle.zk_client.specs.Clients.{renewed_start, view_of};
 ghost use Rattle.zk_client.specs.Views.{input_view, said};
 ghost use Rattle.zk_follow.specs.Following.{due_again, first_again, first_of, again_at, heard_all, news_in, told_of, unfollowed};
-ghost use Rattle.zk_follow.specs.Following.{AreVisited, IsAhead, IsCounted, IsFollowed, Reads, Steps};
+ghost use Rattle.zk_follow.specs.Following.{AreVisited, IsAhead, IsCounted, IsFollowed, Steps};
+ghost use Rattle.zk_follow.specs.inner.Following.{Reads};
 
 use crate::news::{News, tell_all};
 use crate::progress::Progress;
@@ -187,7 +188,7 @@ impl<A: Allocator + Copy> Follower<A> {
     }
 
     /// Follows a subject, which is read at the next step. The tickets of its reads are this number, which no other call may have, and no
-    /// subject that is followed after it.
+    /// subject that is followed after it. An error means that memory ran out, and nothing has happened then.
     pub fn follow(&mut self, ticket: u64, side: Side, path: Path<A>) -> Result<(), AllocError>
         ensures client { self.new.client ≡ self.old.client }
         ensures subjects { OnOk result (self.new.subjects.items ≡ self.old.subjects.items ++ record {
@@ -199,6 +200,7 @@ impl<A: Allocator + Copy> Follower<A> {
           is_there = false;
           told = None;
         } ∷ []) }
+        ensures same { OnErr result (self.new.subjects.items ≡ self.old.subjects.items) }
     {
         match self.subjects.push(Subject::new(ticket, side, path)) {
             Ok(()) => Ok(()),

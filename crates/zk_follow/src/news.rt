@@ -1,7 +1,7 @@
 //! What there is to tell of a subject.
 
 ghost use Rattle.std.specs.Prelude.{◌≡◌, ◌++◌, map, OnOk};
-ghost use Rattle.std.specs.List.{flat_map, list_any};
+ghost use Rattle.std.specs.List.{flat_map};
 ghost use Rattle.zk_client.specs.Clients.{view_of};
 ghost use Rattle.zk_client.specs.Views.{output_view, said};
 ghost use Rattle.zk_follow.specs.Following.{is_report_of, is_reported, is_same, news_about, news_in, news_list, told_after, told_of};
@@ -106,18 +106,11 @@ fn is_report_of<A: Allocator>(path: &Path<A>, output: &Output<A>) -> bool
     }
 }
 
-/// Whether one of the outputs is a report about a path.
-fn is_any_report<A: Allocator>(path: &Path<A>, outputs: &[Output<A>]) -> bool
-    ensures { result ≡ list_any (λ output. is_report_of path.now (output_view output)) outputs.now }
-{
-    outputs.iter().any(|output| is_report_of(path, output))
-}
-
 /// Whether the client has reported a path.
 fn is_reported<A: Allocator>(path: &Path<A>, outputs: &[Output<A>]) -> bool
     ensures { result ≡ is_reported path.now (said outputs.now) }
 {
-    is_any_report(path, outputs)
+    outputs.iter().any(|output| is_report_of(path, output))
 }
 
 /// Adds what there is to tell, if there is something, with the ticket of the subject.

@@ -8,8 +8,10 @@ ghost use Rattle.zk_turns.specs.Turns.{Call as Calls, Output as Said};
 ghost use Rattle.zk_turns.specs.Rule.{Rule};
 ghost use Rattle.zk_client.specs.Clients.{view_of};
 ghost use Rattle.zk_client.specs.Views.{output_view, said};
-ghost use Rattle.zk_follow.specs.Following.{heard, heard_all, read_of, rested, taken, due_again, woken, Asks, IsCounted, IsFollowed};
-ghost use Rattle.zk_follow.specs.Following.{IsFull, VisitsAnd};
+ghost use Rattle.zk_follow.specs.Following.{heard, heard_all, read_of, rested, taken, due_again, woken, IsCounted, IsFollowed};
+ghost use Rattle.zk_follow.specs.inner.Following.{Asks};
+ghost use Rattle.zk_follow.specs.Following.{IsFull};
+ghost use Rattle.zk_follow.specs.inner.Following.{VisitsAnd};
 
 use crate::kept::is_shown;
 use crate::news::News;

@@ -4,7 +4,7 @@ use Rattle.std.proofs.Common.{◌∙◌, append_assoc, arith, length-take-le, le
 use Rattle.std.specs.Int.{w32, to_be_bytes}
 use Rattle.std.proofs.lemmas.Nat.{be_bytes_4}
 use Rattle.zk_frames.specs.Frame.{frame, length_field}
-use Rattle.zk_frames.specs.Next.{IsWhole}
+use Rattle.zk_frames.specs.inner.Next.{IsWhole}
 use Rattle.zk_limits.specs.declared.limits.TheConstants.{LONGEST_INCOMING}
 
 -- the bytes of a part are bytes

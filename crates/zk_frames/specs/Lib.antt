@@ -3,3 +3,4 @@ pub mod FaultText
 pub mod Held
 pub mod Next
 pub mod Stream
+pub mod inner

@@ -1,5 +1,5 @@
 -- What a reader answers when it is asked for the next frame.
-use Rattle.std.specs.Prelude.{◌≡◌, ℕ, ◌+◌, ◌<◌, ◌≤◌, List, ◌++◌, length, take, drop, Option, None, Some, Result, Ok, Err, MatchOption}
+use Rattle.std.specs.Prelude.{◌≡◌, ℕ, ◌+◌, ◌<◌, ◌≤◌, List, ◌++◌, length, Option, None, Some, Result, Ok, Err, MatchOption}
 use denote.Ref.{Bor}
 use Rattle.zk_frames.specs.declared.fault.FrameFault.{FrameFault}
 use Rattle.zk_frames.specs.declared.fault.FrameFault.TheVariants.{Negative, TooLong, Memory}
@@ -34,17 +34,3 @@ AnswersNext old (Ok None) new = GivesNothing old new
 AnswersNext old (Err Negative) new = Fails old IsNegative Negative new
 AnswersNext old (Err TooLong) new = Fails old IsTooLong TooLong new
 AnswersNext old (Err Memory) new = ⊥
-
--- A whole frame stands first, and its payload has this length.
-pub record IsWhole (bytes : List ℕ) (n : ℕ) : Type 0 where
-  pub is : bytes ≡ frame (take n (drop 4 bytes)) ++ drop (4 + n) bytes
-  pub there : 4 + n ≤ length bytes
-  pub admitted : n ≤ LONGEST_INCOMING
-
--- what is read of the first length
-abbrev pub ReadsLength : List ℕ → Result (Option ℕ) FrameFault → Type 0
-ReadsLength bytes (Ok (Some n)) = IsWhole bytes n
-ReadsLength bytes (Ok None) = IsUnfinished bytes
-ReadsLength bytes (Err Negative) = IsNegative bytes
-ReadsLength bytes (Err TooLong) = IsTooLong bytes
-ReadsLength bytes (Err Memory) = ⊥

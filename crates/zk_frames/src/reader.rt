@@ -4,7 +4,8 @@ ghost use Rattle.std.specs.Borrow.{sem};
 ghost use Rattle.std.specs.Io.BufRead.{Rests};
 ghost use Rattle.zk_frames.specs.contracts.reader.FrameReader.{the_row};
 ghost use Rattle.zk_frames.specs.Held.{reading, settled};
-ghost use Rattle.zk_frames.specs.Next.{AnswersNext, ReadsLength};
+ghost use Rattle.zk_frames.specs.Next.{AnswersNext};
+ghost use Rattle.zk_frames.specs.inner.Next.{ReadsLength};
 
 use crate::FrameFault;
 use std::alloc::Allocator;

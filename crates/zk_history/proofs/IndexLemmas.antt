@@ -12,18 +12,23 @@ use Rattle.zk_nodes.specs.History.{Node, Tree, Change, Creates, Sets, Deletes, T
 use Rattle.zk_nodes.specs.History.{tree_at, size_of, newest, AreRising}
 use Rattle.zk_nodes.specs.PathFault.{IsPath}
 use Rattle.zk_nodes.specs.Names.{Names}
-use Rattle.zk_history.specs.Replay.{node_after, node_after_all, node_at, count_after, count_after_all, count_at, children_after}
-use Rattle.zk_history.specs.Replay.{children_after_all, children_at, CanRise, CanRiseAll, CanRiseAt}
+use Rattle.zk_history.specs.inner.Replay.{node_after, node_after_all, node_at}
+use Rattle.zk_history.specs.Replay.{count_after, count_after_all, count_at, children_after}
+use Rattle.zk_history.specs.Replay.{children_after_all, children_at}
+use Rattle.zk_history.specs.inner.Replay.{CanRise, CanRiseAll, CanRiseAt}
 use Rattle.zk_history.specs.HistoryView.{HistoryView, IsSound, history_of, first_tree, newest_tree, root_tree, empty_kept, IsAccepted}
 use Rattle.zk_history.specs.HistoryView.{is_first, made_transaction, last_with, with_change, with_transaction, with_node, first_node}
 use Rattle.zk_history.specs.declared.version.Entry.{Entry}
 use Rattle.zk_history.specs.declared.version.Version.{Version}
 use Rattle.zk_history.specs.declared.version.Origin.{Origin}
 use Rattle.zk_history.specs.declared.version.Origin.TheVariants.{Root, First, Later}
-use Rattle.zk_history.specs.Versions.{version_at, last_version, AreOrdered, first_entry, entry_of, children_of, entry_made, entry_written}
-use Rattle.zk_history.specs.Versions.{entry_regrouped, entry_after, version_after, with_version, versions_after, versions_before}
-use Rattle.zk_history.specs.Versions.{without_last, touches, CanBeNoted, CanBeWritten, content_in, nth_change, last_transaction}
-use Rattle.zk_history.specs.Versions.{next_origin, change_at, content_at, node_with, Tells, names_by, names_told, ArePlaced, IsIndexed}
+use Rattle.zk_history.specs.Versions.{version_at, AreOrdered, first_entry, entry_of, children_of}
+use Rattle.zk_history.specs.inner.Versions.{last_version, entry_made, entry_written}
+use Rattle.zk_history.specs.inner.Versions.{entry_regrouped, entry_after, version_after, with_version, versions_after, versions_before}
+use Rattle.zk_history.specs.inner.Versions.{without_last, touches, CanBeNoted, CanBeWritten, last_transaction}
+use Rattle.zk_history.specs.Versions.{content_in, nth_change}
+use Rattle.zk_history.specs.inner.Versions.{next_origin}
+use Rattle.zk_history.specs.Versions.{change_at, content_at, node_with, Tells, names_by, names_told, ArePlaced, IsIndexed}
 use Rattle.zk_nodes.proofs.PathTexts.{path_eq-true}
 use Rattle.zk_history.proofs.TreeLemmas.{apply_all-node}
 use Rattle.zk_history.proofs.ViewLemmas.{later_node, names_first, count_first, count_later, first_rises, later_rises, newest-tree_at}

@@ -13,8 +13,10 @@ use Rattle.zk_nodes.specs.Path.{Name, NodePath, path_eq}
 use Rattle.zk_nodes.specs.History.{Node, Tree, Change, Creates, Sets, Deletes, Transaction, made, written, regrouped, apply, apply_all}
 use Rattle.zk_nodes.specs.History.{after, up_to, AreRising}
 use Rattle.zk_nodes.specs.Names.{Names, name_cmp}
-use Rattle.zk_history.specs.Replay.{node_after, node_after_all, node_at, CanRise, CanRiseAll, CanRiseAt, children_after, children_after_all}
-use Rattle.zk_history.specs.Replay.{children_at, count_after, count_after_all, count_at, IsCounted, IsCountedAt}
+use Rattle.zk_history.specs.inner.Replay.{node_after, node_after_all, node_at, CanRise, CanRiseAll, CanRiseAt}
+use Rattle.zk_history.specs.Replay.{children_after, children_after_all}
+use Rattle.zk_history.specs.Replay.{children_at, count_after, count_after_all, count_at}
+use Rattle.zk_history.specs.inner.Replay.{IsCounted, IsCountedAt}
 use Rattle.zk_history.specs.HistoryView.{HasChildren, IsAccepted, AreAccepted, AllAccepted, root_tree}
 use Rattle.zk_nodes.proofs.PathTexts.{path_eq-true}
 use Rattle.std.specs.Prelude.{bytes_eq, option_map}

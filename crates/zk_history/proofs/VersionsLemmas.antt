@@ -21,7 +21,8 @@ use Rattle.zk_nodes.specs.PathFault.{IsPath}
 use Rattle.zk_nodes.proofs.PathTexts.{root_text, path_eq-text}
 use Rattle.zk_history.proofs.ViewLemmas.{at_last}
 use Rattle.zk_history.specs.declared.version.Version.{Version}
-use Rattle.zk_history.specs.Versions.{versions_of, without_last, version_at, last_version, first_entry, is_near, last_transaction}
+use Rattle.zk_history.specs.Versions.{versions_of, version_at, first_entry}
+use Rattle.zk_history.specs.inner.Versions.{without_last, last_version, is_near, last_transaction}
 use Rattle.zk_history.specs.Versions.{AreOrdered}
 
 items_picked : {A : Type 0} (b : Bool) (w : Vec Version A) (o : Option (Vec Version A))

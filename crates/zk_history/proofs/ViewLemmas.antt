@@ -16,11 +16,13 @@ use Rattle.zk_nodes.specs.Path.{Name, NodePath}
 use Rattle.zk_nodes.specs.History.{Node, Tree, Change, Creates, Sets, Deletes, Transaction, apply, apply_all, after, tree_at, size_of}
 use Rattle.zk_nodes.specs.History.{AreRising, newest}
 use Rattle.zk_nodes.specs.Names.{Names, name_cmp}
-use Rattle.zk_history.specs.Replay.{node_at, CanRiseAt, children_at, count_at, IsCountedAt}
-use Rattle.zk_history.specs.HistoryView.{HistoryView, history_of, first_tree, newest_tree, newest_count, HasChildren, HasRoom, IsAccepted}
+use Rattle.zk_history.specs.inner.Replay.{node_at, CanRiseAt, IsCountedAt}
+use Rattle.zk_history.specs.Replay.{children_at, count_at}
+use Rattle.zk_history.specs.HistoryView.{HistoryView, history_of, first_tree, newest_tree, HasChildren, HasRoom, IsAccepted}
+use Rattle.zk_history.specs.inner.HistoryView.{newest_count}
 use Rattle.zk_history.specs.HistoryView.{AreAccepted, AllAccepted, root_tree, is_first, IsSound, natural, last_with, with_one, with_change}
 use Rattle.zk_history.specs.HistoryView.{with_transaction, with_node}
-use Rattle.zk_history.specs.Accepting.{accepts, can_rise}
+use Rattle.zk_history.specs.inner.Accepting.{accepts, can_rise}
 use Rattle.zk_history.proofs.TreeLemmas.{after-node, up_to-all, TakenAccepted-all, TakenAccepted-rising, rises_at, children_up_to}
 use Rattle.zk_history.proofs.TreeLemmas.{no_children, counted_at}
 

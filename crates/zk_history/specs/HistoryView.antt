@@ -7,7 +7,6 @@ use Rattle.zk_nodes.specs.Path.{Name, NodePath, path_eq}
 use Rattle.zk_nodes.specs.History.{Tree, Change, Creates, Sets, Deletes, Transaction, History, IsLegal, made, apply, apply_all, after}
 use Rattle.zk_nodes.specs.History.{size_of, AreRising}
 use Rattle.zk_nodes.specs.Names.{Names}
-use Rattle.zk_history.specs.Replay.{children_at}
 
 -- the tree before any node was given: the root with empty data, all other fields 0
 abbrev pub root_tree : Tree
@@ -79,10 +78,6 @@ pub record IsSound (kept : HistoryView) : Type 0 where
   pub nodes : AllAccepted kept.nodes root_tree
   pub rising : AreRising 0 kept.transactions
   pub changes : AllAccepted kept.transactions (first_tree kept)
-
--- how many children a path has in the newest tree
-abbrev pub newest_count : HistoryView → NodePath → ℕ
-newest_count kept path = set.len (children_at 9223372036854775808 path kept.transactions (children_at 0 path kept.nodes set.empty))
 
 -- a transaction of these changes
 abbrev pub made_transaction : ℕ → ℤ → List Change → Transaction

@@ -9,12 +9,14 @@ ghost use Rattle.zk_nodes.specs.declared.side.Side.TheVariants.{Data as OnData, 
 ghost use Rattle.zk_nodes.specs.PathFault.{IsPath};
 ghost use Rattle.zk_nodes.specs.Names.{Names as NameSet};
 ghost use Rattle.zk_history.specs.Replay.{count_at};
-ghost use Rattle.zk_history.specs.HistoryView.{history_of, empty_kept, newest_tree, newest_count, IsAccepted, with_change};
+ghost use Rattle.zk_history.specs.HistoryView.{history_of, empty_kept, newest_tree, IsAccepted, with_change};
+ghost use Rattle.zk_history.specs.inner.HistoryView.{newest_count};
 ghost use Rattle.zk_history.specs.HistoryView.{with_transaction, with_node, natural, HasChildren, IsSound};
 ghost use Rattle.zk_history.specs.Versions.{Tells, entry_of, children_of, content_at as content_told};
-ghost use Rattle.zk_history.specs.Accepting.{accepts, can_rise};
+ghost use Rattle.zk_history.specs.inner.Accepting.{accepts, can_rise};
 ghost use Rattle.zk_history.specs.Refused.{ChangeRefused, NodeRefused, BeginRefused};
-ghost use Rattle.zk_history.specs.Made.{change_of, transaction_of, node_of, transaction_told};
+ghost use Rattle.zk_history.specs.Made.{change_of, transaction_of, transaction_told};
+ghost use Rattle.zk_history.specs.inner.Made.{node_of};
 ghost use Rattle.std.specs.FinSet as set;
 ghost use Rattle.std.specs.BTreeSet.{contains_text};
 ghost use Rattle.zk_history.specs.Shown.{data_told, names_told, stat_of, IsStat};

@@ -1,7 +1,8 @@
 //! Where a path lies, beside the text of another.
 
 ghost use Rattle.std.specs.Prelude.{◌≡◌};
-ghost use Rattle.zk_nodes.specs.Path.{path_eq, path_of, is_below};
+ghost use Rattle.zk_nodes.specs.Path.{path_eq, path_of};
+ghost use Rattle.zk_nodes.specs.inner.Path.{is_below};
 ghost use Rattle.zk_nodes.specs.PathFault.{IsPath};
 
 use std::alloc::Allocator;

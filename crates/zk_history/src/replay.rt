@@ -8,7 +8,8 @@ ghost use Rattle.zk_nodes.specs.PathFault.{IsPath};
 ghost use Rattle.zk_history.specs.Made.{change_of};
 ghost use Rattle.zk_history.specs.declared.version.Origin.{Origin as OriginOf};
 ghost use Rattle.zk_history.specs.declared.version.Entry.{Entry as EntryOf};
-ghost use Rattle.zk_history.specs.Versions.{entry_regrouped, entry_after, entry_of, children_of, first_entry, version_after, CanBeNoted};
+ghost use Rattle.zk_history.specs.inner.Versions.{entry_regrouped, entry_after, version_after, CanBeNoted};
+ghost use Rattle.zk_history.specs.Versions.{entry_of, children_of, first_entry};
 
 use crate::change::Change;
 use crate::names::counted_after;

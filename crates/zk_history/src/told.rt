@@ -3,7 +3,7 @@
 ghost use Rattle.std.specs.Prelude.{◌≡◌, ◌≤◌, pos, nat_le};
 ghost use Rattle.std.specs.Option.{option_map, option_copied};
 ghost use Rattle.zk_nodes.specs.History.{size_of, node_fields};
-ghost use Rattle.zk_history.specs.Made.{node_of};
+ghost use Rattle.zk_history.specs.inner.Made.{node_of};
 ghost use Rattle.zk_history.specs.Shown.{stat_of};
 
 use crate::found::Found;

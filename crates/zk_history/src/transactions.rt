@@ -4,7 +4,8 @@ ghost use Rattle.std.specs.Prelude.{◌≡◌, ◌<◌, ◌^◌, ℕ, List, Opti
 ghost use Rattle.std.specs.Option.{option_map, option_copied};
 ghost use Rattle.zk_history.specs.HistoryView.{with_one, made_transaction, last_with};
 ghost use Rattle.zk_history.specs.Made.{change_of, transaction_of};
-ghost use Rattle.zk_history.specs.Versions.{last_transaction, next_origin, content_of, content_in, nth_change};
+ghost use Rattle.zk_history.specs.inner.Versions.{last_transaction, next_origin};
+ghost use Rattle.zk_history.specs.Versions.{content_of, content_in, nth_change};
 
 use crate::change::{Change, Transaction};
 use crate::version::{Origin, Spot};

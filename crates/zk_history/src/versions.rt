@@ -4,8 +4,10 @@ ghost use Rattle.std.specs.Prelude.{◌≡◌, ◌||◌, ◌∷◌, ◌++◌, []
 ghost use Rattle.zk_nodes.specs.Path.{Text, path_of, parent_of};
 ghost use Rattle.zk_nodes.specs.PathFault.{IsPath};
 ghost use Rattle.zk_history.specs.Made.{change_of};
-ghost use Rattle.zk_history.specs.Versions.{versions_of, versions_after, versions_before, with_version, is_near, version_at, last_version};
-ghost use Rattle.zk_history.specs.Versions.{without_last, CanBeNoted, AreOrdered};
+ghost use Rattle.zk_history.specs.Versions.{versions_of, version_at};
+ghost use Rattle.zk_history.specs.inner.Versions.{versions_after, versions_before, with_version, is_near, last_version};
+ghost use Rattle.zk_history.specs.inner.Versions.{without_last, CanBeNoted};
+ghost use Rattle.zk_history.specs.Versions.{AreOrdered};
 
 use crate::change::Change;
 use crate::replay::version_after;

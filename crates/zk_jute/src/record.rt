@@ -4,7 +4,7 @@ ghost use Rattle.std.specs.Prelude.{◌≡◌, ◌++◌, ℕ, Bool, List, length
 ghost use Rattle.zk_jute.specs.Layout.{Layout, Value};
 ghost use Rattle.zk_jute.specs.Spelling.{spelling, Fits};
 ghost use Rattle.zk_jute.specs.Reading.{reading, Gives};
-ghost use Rattle.zk_jute.specs.Laws.{one_spelling as one_spelling_of};
+ghost use Rattle.zk_jute.specs.inner.Laws.{one_spelling as one_spelling_of};
 ghost use Rattle.zk_jute.specs.Cursor.{bytes_left, payload_len};
 
 use crate::cursor::Cursor;

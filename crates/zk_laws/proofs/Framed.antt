@@ -12,11 +12,11 @@ use Rattle.zk_conversation.specs.Results.{record_of, result_of, result_layout, r
 use Rattle.zk_conversation.specs.Results.{response_password, Result, NoNode, Refused, Found, Read, Listing, Made, Done}
 use Rattle.zk_conversation.specs.Arriving.{arriving, later_arriving, header_arriving, notice_arriving, call_arriving, first_arriving}
 use Rattle.zk_conversation.specs.Arriving.{noticed, Notice}
-use Rattle.zk_records.specs.ResponseLaws.{response_again}
+use Rattle.zk_records.specs.inner.ResponseLaws.{response_again}
 use Rattle.zk_records.specs.Response.{Response, IsPayload as IsResponse}
 use Rattle.zk_records.specs.Events.{event_number, event_of}
 use Rattle.zk_records.specs.Layouts.{reply_header, watcher_event}
-use Rattle.zk_jute.specs.Laws.{reads}
+use Rattle.zk_jute.specs.inner.Laws.{reads}
 use Rattle.zk_jute.specs.Layout.{Layout, Value}
 use Rattle.zk_jute.specs.Reading.{reading as jute_reading, ◌>>=◌}
 use Rattle.std.proofs.Common.{◌≡◌, ℕ, zero, suc, ◌+◌, ◌^◌, ◌≤◌, ◌<◌, ℤ, pos, negsuc, Bool, true, false, cond, eqb, leb, ltb, ◌&&◌, List, []}

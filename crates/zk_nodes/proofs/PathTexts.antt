@@ -12,7 +12,8 @@ use Rattle.std.proofs.lemmas.Str.{chars-IsAscii}
 use Rattle.std.proofs.lemmas.List.Folds.{list_all_at}
 use Rattle.std.specs.Prelude.{fold, bytes_eq, IsUtf8, IsAscii}
 use Rattle.zk_nodes.specs.Path.{Name, NodePath, path_eq, text_of, byte_more, path_of, IsPathText, has_no_slash, is_empty, are_names}
-use Rattle.zk_nodes.specs.Path.{parent_of, parent_text, name_of, is_below}
+use Rattle.zk_nodes.specs.Path.{parent_of, parent_text, name_of}
+use Rattle.zk_nodes.specs.inner.Path.{is_below}
 use Rattle.zk_nodes.specs.PathFault.{IsPath}
 use Rattle.zk_nodes.proofs.PathLemmas.{text_of-path_of, joined, text_of-joined, IsPath-parts, IsPath-text, IsPath-names, IsPath-front}
 

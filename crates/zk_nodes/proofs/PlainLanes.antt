@@ -4,7 +4,7 @@ use Rattle.std.proofs.Common.{bit_or, List, [], ◌∷◌, map, length, get_or, 
 use Rattle.std.proofs.lemmas.Bool.Decides.{nat_tests}
 use Rattle.std.proofs.lemmas.Simd.{mask_l-mod, length-chunk, get_or-chunk, length-zip2}
 use Rattle.std.proofs.lemmas.List.{length-map}
-use Rattle.zk_nodes.specs.Plain.{may_follow, ArePlain}
+use Rattle.zk_nodes.specs.inner.Plain.{may_follow, ArePlain}
 use lib.Lanes.{chunk, zip2, mask_l, top}
 
 -- a lane of a comparison

@@ -9,7 +9,7 @@ use Rattle.std.specs.Str.{IsAscii}
 use Rattle.std.specs.List.{list_any}
 use Rattle.zk_nodes.specs.Path.{path_of}
 use Rattle.zk_nodes.specs.PathFault.{is_refused, fault_of, fault_of_names}
-use Rattle.zk_nodes.specs.Plain.{may_follow, IsPlain}
+use Rattle.zk_nodes.specs.inner.Plain.{may_follow, IsPlain}
 use Rattle.zk_limits.specs.declared.limits.TheConstants.{LONGEST_PATH}
 use Rattle.zk_nodes.proofs.PathLemmas.{scan, scan-path_of, fault_of-names}
 

@@ -1,9 +1,9 @@
 pub mod Path
 pub mod PathFault
-pub mod Plain
 pub mod FaultText
 pub mod Names
 pub mod StatLayout
 pub mod DataStats
 pub mod History
 pub mod Laws
+pub mod inner

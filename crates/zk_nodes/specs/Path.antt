@@ -81,8 +81,3 @@ child_text text name = text_of (name ∷ path_of text)
 abbrev pub name_of : NodePath → Option Name
 name_of [] = None
 name_of (name ∷ path) = Some name
-
--- whether a path lies right below another
-abbrev pub is_below : NodePath → NodePath → Bool
-is_below parent [] = false
-is_below parent (name ∷ path) = path_eq parent path

@@ -4,7 +4,8 @@ ghost use Rattle.std.specs.Prelude.{◌≡◌, ◌≢◌, ◌≤◌, ◌<◌, �
 ghost use Rattle.std.specs.Prelude.{slice_index, string_bytes};
 ghost use Rattle.std.specs.Option.{option_copied, option_map};
 ghost use Rattle.std.specs.Str.{IsAscii, IsUtf8};
-ghost use Rattle.zk_nodes.specs.Path.{path_eq, path_of, IsPathText, child_text, has_no_slash, parent_of, parent_text, name_of, is_below};
+ghost use Rattle.zk_nodes.specs.Path.{path_eq, path_of, IsPathText, child_text, has_no_slash, parent_of, parent_text, name_of};
+ghost use Rattle.zk_nodes.specs.inner.Path.{is_below};
 ghost use Rattle.zk_nodes.specs.PathFault.{child_fault, fault_of, fault_of_names, fault_told, is_refused, IsPath};
 
 use crate::path_fault::PathFault;

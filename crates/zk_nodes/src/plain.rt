@@ -1,7 +1,7 @@
 //! A quick look at a text, which most texts of paths pass.
 
 ghost use Rattle.std.specs.Prelude.{◌≡◌, ◌+◌, ◌<◌, ◌≤◌, IsTrue, length};
-ghost use Rattle.zk_nodes.specs.Plain.{ArePlain, IsPlain, may_follow};
+ghost use Rattle.zk_nodes.specs.inner.Plain.{ArePlain, IsPlain, may_follow};
 
 use std::simd::prelude::*;
 

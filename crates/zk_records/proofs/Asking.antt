@@ -9,7 +9,7 @@ use Rattle.zk_jute.specs.declared.fault.TakeError.TheVariants.{Short, BadLength,
 use Rattle.zk_jute.specs.Layout.{Value}
 use Rattle.zk_jute.specs.Spelling.{IsBytes, spelling, Fits}
 use Rattle.zk_jute.specs.Reading.{reading}
-use Rattle.zk_jute.specs.Laws.{Takes, reads}
+use Rattle.zk_jute.specs.inner.Laws.{Takes, reads}
 use Rattle.zk_jute.proofs.Taking.{is_spelled, is_read as is_read_so}
 use Rattle.zk_records.specs.declared.operation.Operation.{Operation}
 use Rattle.zk_records.specs.declared.operation.Operation.TheVariants.{Create, Delete, Exists, GetData, SetData, GetChildren, Ping}

@@ -6,8 +6,7 @@ pub mod Layouts
 pub mod OpenAcl
 pub mod Operations
 pub mod Reply
-pub mod ReplyLaws
 pub mod Request
 pub mod Response
-pub mod ResponseLaws
 pub mod Views
+pub mod inner

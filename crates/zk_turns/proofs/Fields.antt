@@ -9,7 +9,7 @@ use Rattle.zk_jute.specs.declared.fault.TakeError.TheVariants.{Short}
 use Rattle.zk_jute.specs.Layout.{Layout, int, long, buffer, ◌⨾◌, Value}
 use Rattle.zk_jute.specs.Lenient.{or_empty}
 use Rattle.zk_jute.specs.Reading.{◌>>=◌, place_of, bytes_at, int_at, long_at, length_of, length_at, unless_null, counted_at, reading}
-use Rattle.zk_jute.specs.Laws.{bind_ok, ok_is}
+use Rattle.zk_jute.specs.inner.Laws.{bind_ok, ok_is}
 use Rattle.zk_records.specs.Layouts.{reply_header, connect_response_front}
 use Rattle.zk_records.specs.Response.{Response, flag_at, response_at}
 use Rattle.zk_conversation.specs.Results.{response_session, response_password}

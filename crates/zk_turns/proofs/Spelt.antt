@@ -5,9 +5,9 @@ use Rattle.zk_jute.specs.declared.fault.TakeError.{TakeError}
 use Rattle.zk_jute.specs.Layout.{Layout, Value}
 use Rattle.zk_jute.specs.Spelling.{IsBytes, spelling, Fits}
 use Rattle.zk_jute.specs.Reading.{◌>>=◌, reading}
-use Rattle.zk_jute.specs.Laws.{reads, bind_ok, ok_is}
+use Rattle.zk_jute.specs.inner.Laws.{reads, bind_ok, ok_is}
 use Rattle.zk_records.specs.Response.{Response, IsPayload, response_at}
-use Rattle.zk_records.specs.ResponseLaws.{response_takes, response_again}
+use Rattle.zk_records.specs.inner.ResponseLaws.{response_takes, response_again}
 use Rattle.zk_records.specs.Layouts.{connect_request}
 use Rattle.zk_records.specs.Operations.{operation_number, request_layout}
 use Rattle.zk_records.specs.declared.operation.Operation.TheVariants.{Ping, SetWatches}

@@ -1,7 +1,6 @@
 pub mod FaultText
 pub mod Lent
-pub mod Listed
 pub mod Lists
 pub mod Numbered
 pub mod Parts
-pub mod Placed
+pub mod inner

@@ -17,7 +17,8 @@ pub(crate) struct Ordered<A: Allocator + Copy> {
 
 impl<A: Allocator + Copy> Model for Ordered<A> {
     ghost use Rattle.std.specs.Prelude.{ℕ, List};
-    ghost use Rattle.zk_watches.specs.Numbered.{in_order, rows_of, IsNumbered};
+    ghost use Rattle.zk_watches.specs.Numbered.{in_order, rows_of};
+    ghost use Rattle.zk_watches.specs.inner.Numbered.{IsNumbered};
 
     ghost Value = { List (List ℕ) };
 

@@ -11,7 +11,8 @@ ghost use Rattle.ffi_device.specs.Snapshots.{IsSnapshotText, RefusesSnapshot};
 ghost use Rattle.ffi_device.specs.Subtrees.{IsLackingText, IsSubtreeText};
 ghost use Rattle.ffi_c.specs.Held.{LeavesRoom};
 ghost use Rattle.ffi_c.specs.Kept.{FindsText};
-ghost use Rattle.ffi_c.specs.Stood.{FindsHolder, FindsStanding, TellsStands};
+ghost use Rattle.ffi_c.specs.Stood.{FindsHolder, FindsStanding};
+ghost use Rattle.ffi_c.specs.inner.Stood.{TellsStands};
 
 use crate::sessions::handle::DwSession;
 use crate::sessions::taking::take_device;

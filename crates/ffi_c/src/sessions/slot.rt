@@ -2,7 +2,8 @@
 
 ghost use Rattle.std.specs.Prelude.{◌≡◌, Option, Some, None, IsSome};
 ghost use Rattle.ffi_agent_device.specs.declared.device.AgentDevice.{AgentDevice};
-ghost use Rattle.ffi_c.specs.Owned.{coded_session, owned_session};
+ghost use Rattle.ffi_c.specs.inner.Owned.{coded_session};
+ghost use Rattle.ffi_c.specs.Owned.{owned_session};
 
 use crate::parts::Parts;
 use ffi_agent_device::AgentDevice;

@@ -4,7 +4,8 @@ use Rattle.zk_agent.specs.Telling.{told_by}
 use Rattle.zk_driver.specs.Driving.{course_of}
 use Rattle.zk_driver.specs.declared.engine.Engine.{Engine}
 use Rattle.zk_driver.specs.Flowing.{flow_of, Runs}
-use Rattle.shell_ask.specs.Asking.{came_view, Heard}
+use Rattle.shell_ask.specs.inner.Asking.{came_view}
+use Rattle.shell_ask.specs.Asking.{Heard}
 use Rattle.shell_ask.proofs.answered.come.Goals as goal
 
 pub returns-in-Ok-came : goal.returns-in-Ok-came

@@ -1,6 +1,6 @@
 use Rattle.std.proofs.Common.{◌≡◌, ◌++◌, ◌∙◌, List, map, reverse, if◌then◌else◌, is_ok, Result, Ok, Err, OnOk, ap}
 use Rattle.shell_ask.specs.declared.spots.Spot.{Spot as Place}
-use Rattle.shell_ask.specs.Trees.{spot_view, waiting_view}
+use Rattle.shell_ask.specs.inner.Trees.{spot_view, waiting_view}
 use Rattle.shell_ask.proofs.Walking.{waiting_first}
 use Rattle.shell_ask.proofs.spots.put_first.Goals as goal
 

@@ -1,7 +1,8 @@
 use Rattle.std.proofs.Common.{rules, ◌≡◌, ◌++◌, ◌∙◌, false, List, [], ◌∷◌, map, Contains, if◌then◌else◌, is_ok, is_err, Result, Ok, Err}
 use Rattle.std.proofs.Common.{String, string_bytes, sym, ap, subst}
 use Rattle.std.proofs.lemmas.List.Elements.{Contains-append_right}
-use Rattle.shell_ask.specs.Trees.{child_of, spot_view}
+use Rattle.shell_ask.specs.Trees.{child_of}
+use Rattle.shell_ask.specs.inner.Trees.{spot_view}
 use Rattle.shell_ask.proofs.Walking.{spots_on}
 use Rattle.shell_ask.proofs.spots.spots_of.Goals as goal
 

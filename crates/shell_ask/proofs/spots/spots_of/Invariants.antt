@@ -1,7 +1,8 @@
 use Rattle.std.proofs.Common.{◌≡◌, ◌++◌, map, Contains}
 use Rattle.std.specs.Prelude.{string_bytes}
 use Rattle.zk_nodes.specs.Path.{Text}
-use Rattle.shell_ask.specs.Trees.{child_of, spot_view}
+use Rattle.shell_ask.specs.Trees.{child_of}
+use Rattle.shell_ask.specs.inner.Trees.{spot_view}
 use Rattle.shell_ask.proofs.spots.spots_of.Given as goal
 
 -- the nodes so far, and those of the names that are left, are all; and the names that are left are among them

@@ -2,7 +2,8 @@ use Rattle.std.proofs.Common.{ℕ, ap, subst, None}
 use Rattle.zk_agent.specs.Telling.{told_by}
 use Rattle.zk_driver.specs.Flowing.{flow_of}
 use Rattle.zk_driver.specs.declared.engine.Engine.{Engine}
-use Rattle.shell_ask.specs.Trees.{ending_view, scope_of, WalksFrom}
+use Rattle.shell_ask.specs.inner.Trees.{ending_view}
+use Rattle.shell_ask.specs.Trees.{scope_of, WalksFrom}
 use Rattle.shell_ask.proofs.Walking.{undone}
 use Rattle.shell_ask.proofs.toured.make_tour.Goals as goal
 

@@ -1,7 +1,8 @@
 use Rattle.std.proofs.Common.{None, [], ◌∷◌, refl}
 use Rattle.zk_driver.specs.Flowing.{flow_of}
 use Rattle.shell_ask.specs.declared.walk.Bounds.{Bounds}
-use Rattle.shell_ask.specs.Trees.{root_of, scope_of, waiting_view}
+use Rattle.shell_ask.specs.Trees.{root_of, scope_of}
+use Rattle.shell_ask.specs.inner.Trees.{waiting_view}
 use Rattle.shell_ask.proofs.Walking.{from_there}
 use Rattle.shell_ask.proofs.toured.walked.Goals as goal
 

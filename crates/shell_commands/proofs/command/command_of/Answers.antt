@@ -6,7 +6,8 @@ use Rattle.clap.specs.declared.error.kind.ErrorKind.{ErrorKind}
 use Rattle.clap.specs.declared.error.kind.ErrorKind.TheVariants as kinds
 use Rattle.shell_commands.specs.declared.line_fault.LineFault.{LineFault}
 use Rattle.shell_commands.specs.declared.line_fault.LineFault.TheVariants.{Help, Refused, Memory}
-use Rattle.shell_commands.specs.CommandLine.{AreKinds, AsksForNone, IsDue, IsFound, Tells, TellsIf, shell_app}
+use Rattle.shell_commands.specs.CommandLine.{AreKinds, AsksForNone, IsDue, IsFound, shell_app}
+use Rattle.shell_commands.specs.inner.CommandLine.{Tells, TellsIf}
 use Rattle.shell_commands.proofs.command.command_of.Goals as goal
 use Rattle.shell_commands.proofs.command.command_of.Goals.{In-Ok}
 

@@ -5,7 +5,8 @@ use Rattle.std.proofs.lemmas.Bool.{true≢false}
 use Rattle.clap.specs.Words.{Row, Text, all_of, found_of, rows_of}
 use Rattle.clap.proofs.WalkLemmas.{raw_values-rows}
 use Rattle.shell_commands.specs.declared.line_fault.LineFault.{LineFault}
-use Rattle.shell_commands.specs.CommandLine.{given, is_below, AreRoots, TellsIf}
+use Rattle.shell_commands.specs.CommandLine.{given, is_below, AreRoots}
+use Rattle.shell_commands.specs.inner.CommandLine.{TellsIf}
 use Rattle.shell_commands.proofs.AddressLemmas.{tells_more}
 use Rattle.shell_commands.proofs.watch_words.trees_of.Goals as goal
 

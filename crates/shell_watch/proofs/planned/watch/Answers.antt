@@ -1,7 +1,8 @@
 use Rattle.std.proofs.Common.{ap, refl, false, true, of_z, to_z, w32}
 use Rattle.std.specs.Prelude.{unsigned_abs}
 use Rattle.zk_agent.specs.Telling.{told_by}
-use Rattle.shell_watch.specs.Watching.{aims_of, stand_of, IsBegun}
+use Rattle.shell_watch.specs.Watching.{aims_of, IsBegun}
+use Rattle.shell_watch.specs.inner.Watching.{stand_of}
 use Rattle.shell_watch.proofs.Ending.{printed, watched}
 use Rattle.shell_watch.proofs.planned.watch.Goals as goal
 

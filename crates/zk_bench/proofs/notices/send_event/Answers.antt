@@ -1,5 +1,5 @@
 use Rattle.std.proofs.Common.{sym, refl, ◌∙◌}
-use Rattle.zk_bench.specs.Serving.{watched}
+use Rattle.zk_bench.specs.inner.Serving.{watched}
 use Rattle.zk_bench.proofs.Watched.{tells_event, tells_no_event}
 use Rattle.zk_bench.proofs.notices.send_event.Goals as goal
 

@@ -5,7 +5,7 @@ use Rattle.zk_nodes.specs.History.{Creates, Deletes}
 use Rattle.zk_history.specs.Made.{change_of}
 use Rattle.zk_records.specs.declared.event.Event.TheVariants.{ChildrenChanged, DataChanged}
 use Rattle.zk_laws.specs.Server.{Notice, leaves_set}
-use Rattle.zk_bench.specs.Serving.{watched, Tells, fires_at, leaves_at}
+use Rattle.zk_bench.specs.inner.Serving.{watched, Tells, fires_at, leaves_at}
 use Rattle.zk_bench.proofs.Watched.{IsMove, moved_fires, moved_left, moved_none, tells_both, tells_nothing, left_set}
 use Rattle.zk_bench.proofs.notices.tell_change.Goals as goal
 use Rattle.zk_bench.proofs.notices.tell_change.Goals.{After-parent, in-Create, in-Delete}

@@ -4,7 +4,7 @@ use Rattle.std.proofs.Math.ListN.{drop_of_length-le}
 use Rattle.std.proofs.Math.Seq.{take-length}
 use Rattle.zk_history.specs.Made.{change_of}
 use Rattle.zk_laws.specs.Server.{Notice, fires_all, leaves_set_all, fires}
-use Rattle.zk_bench.specs.Serving.{watched, Tells}
+use Rattle.zk_bench.specs.inner.Serving.{watched, Tells}
 use Rattle.zk_bench.proofs.Watched.{tells_both, tells_nothing, drop-next, fires_next, left_next, begun-more, rest-more}
 use Rattle.zk_bench.proofs.notices.tell_changes.Goals as goal
 

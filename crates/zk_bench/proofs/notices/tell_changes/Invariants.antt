@@ -1,7 +1,7 @@
 use Rattle.std.proofs.Common.{◌≡◌, ◌++◌, map, take, drop, length, List}
 use Rattle.zk_history.specs.Made.{change_of}
 use Rattle.zk_laws.specs.Server.{Notice, fires_all, leaves_set_all}
-use Rattle.zk_bench.specs.Serving.{watched, Tells}
+use Rattle.zk_bench.specs.inner.Serving.{watched, Tells}
 use Rattle.zk_bench.proofs.notices.tell_changes.Given as goal
 
 -- what was fired so far, with what the changes that are left fire, is what all changes fire

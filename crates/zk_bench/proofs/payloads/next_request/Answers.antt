@@ -4,7 +4,7 @@ use Rattle.zk_jute.specs.Cursor.{bytes_left}
 use Rattle.zk_jute.specs.Spelling.{IsBytes}
 use Rattle.zk_records.specs.Operations.{request_layout}
 use Rattle.zk_records.specs.Asked.{asked_value}
-use Rattle.zk_bench.specs.Refusals.{stop_of_request}
+use Rattle.zk_bench.specs.inner.Refusals.{stop_of_request}
 use Rattle.zk_bench.proofs.Asked.{behind_four, record_spelled, errs_match}
 use Rattle.zk_bench.proofs.payloads.next_request.Goals as goal
 

@@ -15,9 +15,10 @@ use Rattle.zk_nodes.proofs.PathLemmas.{IsPath-absolute}
 use Rattle.zk_records.specs.Layouts.{reply_header, get_children2_response}
 use Rattle.zk_conversation.specs.Calls.{GetChildren}
 use Rattle.zk_conversation.specs.Results.{Listing, texts_of}
-use Rattle.zk_bench.specs.Refusals.{IsCode}
-use Rattle.zk_bench.specs.Serving.{watches_of, CanBeSent}
-use Rattle.zk_bench.specs.Answering.{ListsChildren}
+use Rattle.zk_bench.specs.inner.Refusals.{IsCode}
+use Rattle.zk_bench.specs.Serving.{watches_of}
+use Rattle.zk_bench.specs.inner.Serving.{CanBeSent}
+use Rattle.zk_bench.specs.inner.Answering.{ListsChildren}
 use Rattle.zk_bench.proofs.Answered.{errs_so, finds_none, sends_for, numbers_of, children_left, no_children_left, none_to_list_told}
 use Rattle.zk_bench.proofs.Answered.{both_told, children_read, stat_read, names_payload, no_copy}
 use Rattle.zk_bench.proofs.Staying.{handed_on}

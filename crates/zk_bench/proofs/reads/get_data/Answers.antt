@@ -16,8 +16,9 @@ use Rattle.zk_nodes.proofs.PathLemmas.{IsPath-absolute}
 use Rattle.zk_records.specs.Layouts.{reply_header, get_data_response}
 use Rattle.zk_conversation.specs.Calls.{GetData}
 use Rattle.zk_conversation.specs.Results.{Read}
-use Rattle.zk_bench.specs.Refusals.{IsCode}
-use Rattle.zk_bench.specs.Serving.{watches_of, CanBeSent}
+use Rattle.zk_bench.specs.inner.Refusals.{IsCode}
+use Rattle.zk_bench.specs.Serving.{watches_of}
+use Rattle.zk_bench.specs.inner.Serving.{CanBeSent}
 use Rattle.zk_bench.proofs.Answered.{errs_so, finds_none, sends_for, numbers_of, left_by, none_left, data_read, data_none, both_told}
 use Rattle.zk_bench.proofs.Answered.{none_told, data_payload}
 use Rattle.zk_bench.proofs.Staying.{handed_on, data_fits}

@@ -3,10 +3,10 @@ use Rattle.std.specs.Prelude.{OnOk, IsErrOf}
 use Rattle.zk_nodes.specs.History.{tree_at}
 use Rattle.zk_history.specs.HistoryView.{history_of, natural}
 use Rattle.zk_conversation.specs.Calls as call
-use Rattle.zk_bench.specs.Answering.{AnswersRead, IsReadOf, IsRestoring}
+use Rattle.zk_bench.specs.inner.Answering.{AnswersRead, IsReadOf, IsRestoring}
 use Rattle.zk_bench.specs.declared.stop.Stop.TheVariants as stops
 use Rattle.zk_bench.specs.declared.stop.Refusal.TheVariants as refusals
-use Rattle.zk_bench.specs.Restoring.{IsPart, ArePaths, RestoresPart}
+use Rattle.zk_bench.specs.inner.Restoring.{IsPart, ArePaths, RestoresPart}
 use Rattle.zk_bench.proofs.Answered.{read_exists, read_data, read_children}
 use Rattle.zk_nodes.specs.Path.{path_of}
 use Rattle.zk_bench.specs.Answerable.{DataFit, NamesFit, AnswerFits}

@@ -5,8 +5,8 @@ use Rattle.zk_history.specs.HistoryView.{history_of, natural}
 use Rattle.zk_nodes.specs.PathFault.{IsPath}
 use Rattle.zk_nodes.proofs.PathLemmas.{IsPath-absolute}
 use Rattle.zk_records.specs.declared.event.Event.{Event}
-use Rattle.zk_bench.specs.Serving.{watched}
-use Rattle.zk_bench.specs.Restoring.{check_of, missed_of}
+use Rattle.zk_bench.specs.inner.Serving.{watched}
+use Rattle.zk_bench.specs.inner.Restoring.{check_of, missed_of}
 use Rattle.zk_bench.proofs.Restored.{missed_is, one_told, one_watched}
 use Rattle.zk_bench.proofs.rewatch.rewatch.Goals as goal
 use Rattle.zk_bench.proofs.rewatch.rewatch.Goals.{In_ok-stat}

@@ -4,8 +4,8 @@ use Rattle.zk_jute.specs.Lenient.{or_empty}
 use Rattle.zk_nodes.specs.History.{tree_at}
 use Rattle.zk_history.specs.HistoryView.{history_of, natural}
 use Rattle.zk_nodes.specs.PathFault.{IsPath}
-use Rattle.zk_bench.specs.Serving.{watched}
-use Rattle.zk_bench.specs.Restoring.{texts_in, Rewatches}
+use Rattle.zk_bench.specs.inner.Serving.{watched}
+use Rattle.zk_bench.specs.inner.Restoring.{texts_in, Rewatches}
 use Rattle.zk_bench.proofs.Watched.{begun-more, rest-more}
 use Rattle.zk_bench.proofs.Restored.{no_path, more_paths, texts_next, text_has, texts_whole}
 use Rattle.std.specs.Prelude.{Err}

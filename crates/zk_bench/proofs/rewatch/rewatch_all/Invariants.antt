@@ -3,8 +3,8 @@ use Rattle.std.specs.List.{AllByRecursion}
 use Rattle.zk_nodes.specs.History.{tree_at}
 use Rattle.zk_history.specs.HistoryView.{history_of, natural}
 use Rattle.zk_nodes.specs.PathFault.{IsPath}
-use Rattle.zk_bench.specs.Serving.{watched}
-use Rattle.zk_bench.specs.Restoring.{texts_in, Rewatches}
+use Rattle.zk_bench.specs.inner.Serving.{watched}
+use Rattle.zk_bench.specs.inner.Restoring.{texts_in, Rewatches}
 use Rattle.zk_bench.proofs.rewatch.rewatch_all.Given as goal
 
 -- so it is of the paths so far

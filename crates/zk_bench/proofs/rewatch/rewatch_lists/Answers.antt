@@ -4,9 +4,9 @@ use Rattle.zk_history.specs.HistoryView.{history_of, natural}
 use Rattle.zk_watches.specs.Lists.{Lists}
 use Rattle.zk_laws.specs.Server.{both, part_tells, part_sets}
 use Rattle.zk_bench.specs.declared.stop.Stop.TheVariants as stops
-use Rattle.zk_bench.specs.Serving.{watched, Tells}
+use Rattle.zk_bench.specs.inner.Serving.{watched, Tells}
 use Rattle.zk_bench.specs.declared.rewatch.Watched.TheVariants.{Data, Exist, Child}
-use Rattle.zk_bench.specs.Restoring.{Rewatches, IsPart, ArePaths}
+use Rattle.zk_bench.specs.inner.Restoring.{Rewatches, IsPart, ArePaths}
 use Rattle.zk_bench.proofs.Restored.{part_told, part_left, of_texts}
 use Rattle.std.specs.Prelude.{Err, IsErrOf}
 use Rattle.zk_bench.proofs.Staying.{handed_on}

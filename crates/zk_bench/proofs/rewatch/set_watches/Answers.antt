@@ -2,7 +2,7 @@ use Rattle.std.proofs.Common.{◌≡◌, ◌∙◌, subst, pos, rules, to_z, of_
 use Rattle.zk_nodes.specs.History.{tree_at}
 use Rattle.zk_history.specs.HistoryView.{history_of, natural}
 use Rattle.zk_laws.specs.Server.{part_tells, part_sets, both}
-use Rattle.zk_bench.specs.Serving.{watched, Tells, SendsHeader}
+use Rattle.zk_bench.specs.inner.Serving.{watched, Tells, SendsHeader}
 use Rattle.zk_bench.proofs.Restored.{part_restored}
 use Rattle.zk_bench.proofs.Stepped.{ok_so}
 use Rattle.zk_bench.proofs.Watched.{output_more}

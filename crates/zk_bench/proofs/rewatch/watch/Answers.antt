@@ -1,8 +1,9 @@
 use Rattle.std.proofs.Common.{ap, sym, ◌∙◌}
 use Rattle.zk_nodes.specs.Path.{path_of}
 use Rattle.zk_nodes.specs.Names.{names_of}
-use Rattle.zk_bench.specs.Serving.{watched, watches_of}
-use Rattle.zk_bench.specs.Restoring.{with_watch, side_of}
+use Rattle.zk_bench.specs.inner.Serving.{watched}
+use Rattle.zk_bench.specs.Serving.{watches_of}
+use Rattle.zk_bench.specs.inner.Restoring.{with_watch, side_of}
 use Rattle.zk_bench.proofs.Restored.{on_data, watch_more, child_watch_more}
 use Rattle.zk_bench.proofs.rewatch.watch.Goals as goal
 

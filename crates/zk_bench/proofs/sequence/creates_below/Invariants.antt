@@ -1,7 +1,7 @@
 use Rattle.std.proofs.Common.{◌≡◌, ◌≤◌, length, take}
 use Rattle.std.specs.Prelude.{min}
 use Rattle.zk_nodes.specs.Path.{path_of}
-use Rattle.zk_bench.specs.Writing.{creates_below}
+use Rattle.zk_bench.specs.inner.Writing.{creates_below}
 use Rattle.zk_bench.proofs.sequence.creates_below.Given as goal
 
 -- so many in the transactions so far

@@ -2,7 +2,7 @@ use Rattle.std.proofs.Common.{ap, sym, ◌∙◌, ◌+◌, ℕ}
 use Rattle.std.proofs.lemmas.List.Sums.{count_by_more_yes, count_by_more_no}
 use Rattle.zk_nodes.specs.Path.{path_of}
 use Rattle.zk_history.specs.Made.{change_of}
-use Rattle.zk_bench.specs.Writing.{makes_below}
+use Rattle.zk_bench.specs.inner.Writing.{makes_below}
 use Rattle.zk_bench.proofs.sequence.creates_in.Goals as goal
 use Rattle.zk_bench.proofs.sequence.creates_in.Goals.{then-is_made_below, else-is_made_below}
 

@@ -2,7 +2,7 @@ use Rattle.std.proofs.Common.{◌≡◌, take}
 use Rattle.std.specs.Prelude.{count_by}
 use Rattle.zk_nodes.specs.Path.{path_of}
 use Rattle.zk_history.specs.Made.{change_of}
-use Rattle.zk_bench.specs.Writing.{makes_below}
+use Rattle.zk_bench.specs.inner.Writing.{makes_below}
 use Rattle.zk_bench.proofs.sequence.creates_in.Given as goal
 
 -- so many of the changes so far

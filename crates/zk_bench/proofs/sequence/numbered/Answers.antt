@@ -1,7 +1,7 @@
 use Rattle.std.proofs.Common.{ap, ◌∙◌, ◌≡◌, ◌++◌, ◌^◌, ◌-◌}
 use Rattle.std.specs.Fmt.{styled_decimal, format_spec}
 use Rattle.zk_nodes.specs.Path.{path_of}
-use Rattle.zk_bench.specs.Writing.{creates_below}
+use Rattle.zk_bench.specs.inner.Writing.{creates_below}
 use Rattle.zk_bench.proofs.Written.{numbered_as, no_path, path_told-path}
 use Rattle.zk_bench.proofs.sequence.numbered.Goals as goal
 

@@ -1,7 +1,7 @@
 use Rattle.std.proofs.Common.{◌≡◌, ◌≤◌, ◌-◌, length}
 use Rattle.zk_history.specs.HistoryView.{history_of}
 use Rattle.zk_bench.specs.declared.phase.Phase.TheVariants.{Accepted}
-use Rattle.zk_bench.specs.Stepping.{CatchesUp}
+use Rattle.zk_bench.specs.inner.Stepping.{CatchesUp}
 use Rattle.zk_bench.proofs.servers.take_all.Given as goal
 
 -- so far it has taken transactions, each of which was told

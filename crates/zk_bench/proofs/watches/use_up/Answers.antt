@@ -2,7 +2,7 @@ use Rattle.std.proofs.Common.{ap, sym, ◌∙◌, ◌&&◌}
 use Rattle.std.specs.FinSet as set
 use Rattle.zk_nodes.specs.Names.{names_of}
 use Rattle.zk_nodes.proofs.NamesLemmas.{names_of-remove, contains-names_of}
-use Rattle.zk_bench.specs.Watching.{used_up}
+use Rattle.zk_bench.specs.inner.Watching.{used_up}
 use Rattle.zk_bench.proofs.watches.use_up.Goals as goal
 
 pub returns-then-concerned-clause-paths : goal.returns-then-concerned-clause-paths

@@ -2,7 +2,7 @@ use Rattle.std.proofs.Common.{arith, ◌≡◌, ◌<◌, ◌≤◌, false}
 use Rattle.std.proofs.lemmas.Int.{ints}
 use Rattle.zk_nodes.specs.History.{newest}
 use Rattle.zk_history.specs.Made.{change_of}
-use Rattle.zk_bench.specs.Writing.{is_over}
+use Rattle.zk_bench.specs.inner.Writing.{is_over}
 use Rattle.zk_bench.proofs.Written.{append_told, append_accepted, room_left}
 use Rattle.zk_bench.proofs.writes.append.Goals as goal
 

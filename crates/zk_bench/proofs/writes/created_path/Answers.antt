@@ -1,7 +1,7 @@
 use Rattle.std.proofs.Common.{subst}
 use Rattle.zk_nodes.specs.Path.{Text, path_of}
 use Rattle.zk_nodes.specs.Names.{Names}
-use Rattle.zk_bench.specs.Writing.{tree_of, AreBeside}
+use Rattle.zk_bench.specs.inner.Writing.{tree_of, AreBeside}
 use Rattle.zk_bench.proofs.writes.created_path.Goals as goal
 
 pub returns-in-None-clause-beside : goal.returns-in-None-clause-beside

@@ -2,7 +2,7 @@ use Rattle.std.proofs.Common.{sym, subst, Option, List, ℕ, to_z, w64}
 use Rattle.zk_nodes.specs.Path.{path_of}
 use Rattle.zk_nodes.specs.History.{Creates}
 use Rattle.zk_history.specs.HistoryView.{IsAccepted}
-use Rattle.zk_bench.specs.Writing.{tree_of}
+use Rattle.zk_bench.specs.inner.Writing.{tree_of}
 use Rattle.zk_bench.proofs.Allowed.{create_allowed}
 use Rattle.zk_bench.proofs.writes.creation.Goals as goal
 

@@ -1,6 +1,6 @@
 use Rattle.std.proofs.Common.{rules, ◌≡◌, sym, ◌∙◌, to_z, of_z, w32, subst}
 use Rattle.zk_jute.specs.Lenient.{or_empty}
-use Rattle.zk_bench.specs.Writing.{tree_of}
+use Rattle.zk_bench.specs.inner.Writing.{tree_of}
 use Rattle.zk_bench.proofs.Written.{kept-at}
 use Rattle.zk_nodes.specs.Path.{Text, path_of}
 use Rattle.zk_history.specs.HistoryView.{HasChildren}

@@ -1,7 +1,7 @@
 use Rattle.std.proofs.Common.{rules, ◌≡◌, sym, subst, ◌∙◌, to_z, of_z, w64, ℤ, Some}
 use Rattle.zk_nodes.specs.Path.{path_of}
 use Rattle.zk_history.specs.Shown.{IsStat}
-use Rattle.zk_bench.specs.Writing.{tree_of}
+use Rattle.zk_bench.specs.inner.Writing.{tree_of}
 use Rattle.zk_bench.proofs.Written.{stat-at}
 use Rattle.zk_bench.proofs.writes.node_at.Goals as goal
 

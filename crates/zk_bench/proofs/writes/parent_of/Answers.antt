@@ -2,7 +2,7 @@ use Rattle.std.proofs.Common.{subst, Option}
 use Rattle.zk_nodes.specs.Path.{path_of}
 use Rattle.zk_history.specs.Shown.{IsStat}
 use Rattle.zk_nodes.specs.declared.stat.Stat.{Stat}
-use Rattle.zk_bench.specs.Writing.{tree_of}
+use Rattle.zk_bench.specs.inner.Writing.{tree_of}
 use Rattle.zk_bench.proofs.Written.{beside_counted, beside_there}
 use Rattle.zk_bench.proofs.writes.parent_of.Goals as goal
 

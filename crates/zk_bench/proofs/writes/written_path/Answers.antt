@@ -1,5 +1,5 @@
 use Rattle.std.proofs.Common.{rules, ◌≡◌, to_z, of_z, w32}
-use Rattle.zk_bench.specs.Writing.{tree_of}
+use Rattle.zk_bench.specs.inner.Writing.{tree_of}
 use Rattle.zk_bench.proofs.Written.{set-at}
 use Rattle.zk_bench.proofs.Allowed.{set_allowed}
 use Rattle.zk_bench.proofs.writes.written_path.Goals as goal

@@ -1,7 +1,7 @@
 use Rattle.std.proofs.Common.{refl, ap, subst, ◌∙◌, IsSome, Some, bytes_eq, if◌then◌else◌}
 use Rattle.std.proofs.lemmas.Map.Text.{hash_map_updates_text}
 use Rattle.indexmap.specs.IndexMap.{get_by_text}
-use Rattle.zk_cache.specs.Renewed.{with_answer}
+use Rattle.zk_cache.specs.inner.Renewed.{with_answer}
 use Rattle.zk_cache.proofs.answers.keep.Goals as goal
 
 pub returns-in-Some-clause-ok : goal.returns-in-Some-clause-ok

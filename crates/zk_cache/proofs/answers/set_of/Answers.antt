@@ -2,7 +2,7 @@ use Rattle.std.proofs.Common.{ap, sym, ◌∙◌, map, take, get_or, None, strin
 use Rattle.std.proofs.lemmas.Cmp.{nat_list_cmp_total}
 use Rattle.std.proofs.lemmas.List.{map_more}
 use Rattle.std.specs.FinSet as set
-use Rattle.zk_cache.specs.Contents.{name_in}
+use Rattle.zk_cache.specs.inner.Contents.{name_in}
 use Rattle.zk_cache.proofs.NameLemmas.{names_of-insert}
 use Rattle.zk_cache.proofs.answers.set_of.Goals as goal
 

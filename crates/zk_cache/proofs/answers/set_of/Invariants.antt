@@ -1,6 +1,6 @@
 use Rattle.std.proofs.Common.{◌≡◌, take}
 use Rattle.zk_nodes.specs.Names.{names_of}
-use Rattle.zk_cache.specs.Contents.{set_of}
+use Rattle.zk_cache.specs.inner.Contents.{set_of}
 use Rattle.zk_cache.proofs.answers.set_of.Given as goal
 
 abbrev pub invariant-loop-name : goal.invariant-loop-name

@@ -2,7 +2,7 @@ use Rattle.std.proofs.Common.{◌≡◌, true, ap, map, string_bytes}
 use Rattle.std.proofs.lemmas.Result.{IfOk-weaker, IfErr-weaker}
 use Rattle.zk_client.specs.Clients.{view_of}
 use Rattle.zk_conclusions.specs.Subtrees.{IsKeptWhole, is_full_good}
-use Rattle.zk_conclusions.specs.Walks.{HasFault, HasMore, HasTooMany}
+use Rattle.zk_conclusions.specs.inner.Walks.{HasFault, HasMore, HasTooMany}
 use Rattle.zk_conclusions.proofs.Keeping.{on_ok, says_more, has_children, too_many, not_whole}
 use Rattle.zk_conclusions.proofs.children.children_at.Goals as goal
 

@@ -2,7 +2,7 @@ use Rattle.std.proofs.Common.{◌≡◌, ◌≢◌, ◌++◌, ◌∷◌, ◌+◌
 use Rattle.std.proofs.lemmas.List.{length-append}
 use Rattle.zk_nodes.specs.Path.{Text, Name, child_text}
 use Rattle.zk_nodes.specs.PathFault.{child_fault}
-use Rattle.zk_conclusions.specs.Walks.{Added, HasFault, HasMore}
+use Rattle.zk_conclusions.specs.inner.Walks.{Added, HasFault, HasMore}
 use Rattle.zk_conclusions.proofs.Keeping.{handed_on, at_fault, added_one}
 use Rattle.zk_conclusions.proofs.children.children_of.Goals as goal
 

@@ -1,5 +1,5 @@
 use Rattle.std.proofs.Common.{◌≤◌, map, length, string_bytes}
-use Rattle.zk_conclusions.specs.Walks.{Added}
+use Rattle.zk_conclusions.specs.inner.Walks.{Added}
 use Rattle.zk_conclusions.proofs.children.children_of.Given as goal
 
 -- what was made, and what is left

@@ -1,7 +1,7 @@
 use Rattle.std.proofs.Common.{inl, inr, map, string_bytes}
 use Rattle.std.proofs.lemmas.Result.{IfOk-weaker, IfErr-weaker}
 use Rattle.zk_client.specs.Clients.{view_of}
-use Rattle.zk_conclusions.specs.Walks.{HasFault, HasMore, HasTooMany}
+use Rattle.zk_conclusions.specs.inner.Walks.{HasFault, HasMore, HasTooMany}
 use Rattle.zk_conclusions.specs.Lacks.{HasFaultAt}
 use Rattle.zk_conclusions.proofs.Keeping.{says_more, has_children, too_many, no_path}
 use Rattle.zk_conclusions.proofs.lacking.shown_children.Goals as goal

@@ -1,7 +1,7 @@
 use Rattle.std.proofs.Common.{◌≡◌, ◌+◌, ◌<◌, ℕ, suc, true, false, length, map, string_bytes, sym, ap, ◌∙◌, subst, arith}
 use Rattle.std.proofs.lemmas.List.{length-map}
 use Rattle.zk_conclusions.specs.Kinds.{kind_of}
-use Rattle.zk_conclusions.specs.Predecessors.{Found, IsLastOf, is_later, name_at}
+use Rattle.zk_conclusions.specs.inner.Predecessors.{Found, IsLastOf, is_later, name_at}
 use Rattle.zk_conclusions.proofs.Later.{found_within, found_still, found_here}
 use Rattle.zk_conclusions.proofs.listing.found_with.Goals as goal
 

@@ -1,7 +1,7 @@
 use Rattle.std.proofs.Common.{ℕ, Option, map, string_bytes, sym, ap, ◌∙◌}
 use Rattle.zk_nodes.specs.Path.{Name}
 use Rattle.zk_conclusions.specs.Numbers.{is_before}
-use Rattle.zk_conclusions.specs.Predecessors.{is_after}
+use Rattle.zk_conclusions.specs.inner.Predecessors.{is_after}
 use Rattle.zk_conclusions.proofs.listing.is_after.Goals as goal
 
 pub returns-in-Some : goal.returns-in-Some

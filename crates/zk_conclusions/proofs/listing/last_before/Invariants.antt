@@ -1,6 +1,6 @@
 use Rattle.std.proofs.Common.{map, string_bytes}
 use Rattle.zk_conclusions.specs.Kinds.{kind_of}
-use Rattle.zk_conclusions.specs.Predecessors.{Found}
+use Rattle.zk_conclusions.specs.inner.Predecessors.{Found}
 use Rattle.zk_conclusions.proofs.listing.last_before.Given as goal
 
 -- what was found so far

@@ -5,7 +5,7 @@ use Rattle.std.specs.Prelude.{slice_get}
 use Rattle.zk_client.specs.Clients.{view_of}
 use Rattle.zk_nodes.specs.Path.{Text}
 use Rattle.zk_conclusions.specs.Subtrees.{IsKeptWhole, IsWholeBelow, HasMoreNodes}
-use Rattle.zk_conclusions.specs.Walks.{HasTooMany}
+use Rattle.zk_conclusions.specs.inner.Walks.{HasTooMany}
 use Rattle.zk_conclusions.proofs.Keeping.{handed_on}
 use Rattle.zk_conclusions.proofs.Lent.{walk_full}
 use Rattle.zk_conclusions.proofs.Walking.{Walked, walked_none, walked_new, walked_next, walked_all, walked_lacking, walked_many}

@@ -1,5 +1,5 @@
 use Rattle.zk_link.proofs.Streaming.{consumes_none, keeps_on, read_kept}
-use Rattle.zk_driver.specs.Driving.{input_of}
+use Rattle.zk_driver.specs.inner.Driving.{input_of}
 use Rattle.zk_driver.specs.Flowing.{bytes_in}
 use Rattle.zk_driver.proofs.bring.bring.Goals as goal
 

@@ -4,7 +4,8 @@ use Rattle.std.proofs.Common.{◌∙◌, ap, sym, subst}
 use Rattle.std.specs.Prelude.{All}
 use Rattle.zk_client.specs.Clients.{view_of}
 use Rattle.zk_client.specs.Views.{input_view, output_view, said, turn_of}
-use Rattle.zk_follow.specs.Following.{heard_all, AreVisited, IsCounted, Reads}
+use Rattle.zk_follow.specs.Following.{heard_all, AreVisited, IsCounted}
+use Rattle.zk_follow.specs.inner.Following.{Reads}
 use Rattle.zk_follow.proofs.Visiting.{all_ahead, all_counted, going_at, steps}
 use Rattle.zk_follow.proofs.follower.advance.Goals as goal
 

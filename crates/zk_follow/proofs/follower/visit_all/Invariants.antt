@@ -1,7 +1,8 @@
 use Rattle.std.proofs.Common.{◌≡◌, length, true}
 use Rattle.zk_client.specs.Clients.{view_of}
 use Rattle.zk_client.specs.Views.{said}
-use Rattle.zk_follow.specs.Following.{Asks, IsFull, Reads}
+use Rattle.zk_follow.specs.inner.Following.{Asks, Reads}
+use Rattle.zk_follow.specs.Following.{IsFull}
 use Rattle.zk_follow.proofs.Visiting.{AllBefore, SameFrom, StandsAt, VisitedBefore}
 use Rattle.zk_follow.proofs.follower.visit_all.Given as goal
 

@@ -6,7 +6,8 @@ use Rattle.zk_history.specs.Made.{change_of}
 use Rattle.zk_history.specs.Replay.{count_after}
 use Rattle.zk_history.specs.declared.version.Entry.{Entry}
 use Rattle.zk_history.specs.declared.version.Version.{Version}
-use Rattle.zk_history.specs.Versions.{entry_after, entry_of, children_of}
+use Rattle.zk_history.specs.inner.Versions.{entry_after}
+use Rattle.zk_history.specs.Versions.{entry_of, children_of}
 use Rattle.zk_history.proofs.replay.version_after.Goals as goal
 use Rattle.zk_history.proofs.replay.version_after.Goals.{in-Create, in-Set, in-Delete}
 

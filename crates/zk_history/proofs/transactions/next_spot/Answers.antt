@@ -5,7 +5,7 @@ use Rattle.std.proofs.lemmas.Bool.Decides.{nat_tests}
 use Rattle.zk_nodes.specs.History as model
 use Rattle.zk_history.specs.Made.{change_of, transaction_of}
 use Rattle.zk_history.specs.declared.version.Origin.TheVariants.{Later}
-use Rattle.zk_history.specs.Versions.{last_transaction}
+use Rattle.zk_history.specs.inner.Versions.{last_transaction}
 use Rattle.zk_history.proofs.VersionsLemmas.{last_transaction-mapped}
 use Rattle.zk_history.proofs.transactions.next_spot.Goals as goal
 

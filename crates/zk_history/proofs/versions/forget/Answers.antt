@@ -2,7 +2,8 @@ use Rattle.std.proofs.Common.{cond, sym, ap, subst, ◌∙◌}
 use Rattle.zk_nodes.specs.Path.{path_eq, path_of}
 use Rattle.zk_nodes.specs.PathFault.{IsPath}
 use Rattle.zk_history.specs.Made.{change_of}
-use Rattle.zk_history.specs.Versions.{versions_of, versions_before, without_last}
+use Rattle.zk_history.specs.Versions.{versions_of}
+use Rattle.zk_history.specs.inner.Versions.{versions_before, without_last}
 use Rattle.zk_history.proofs.VersionsLemmas.{same_path}
 use Rattle.zk_history.proofs.versions.forget.Goals as goal
 

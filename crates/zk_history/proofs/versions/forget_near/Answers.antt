@@ -1,7 +1,8 @@
 use Rattle.std.proofs.Common.{◌≡◌, cond, sym, ap, subst, ◌∙◌, Some}
 use Rattle.zk_nodes.specs.Path.{path_of, parent_of}
 use Rattle.zk_nodes.specs.PathFault.{IsPath}
-use Rattle.zk_history.specs.Versions.{versions_of, without_last, is_near}
+use Rattle.zk_history.specs.Versions.{versions_of}
+use Rattle.zk_history.specs.inner.Versions.{without_last, is_near}
 use Rattle.zk_history.proofs.VersionsLemmas.{near_text, parent_differs, both_written}
 use Rattle.zk_history.proofs.versions.forget_near.Goals as goal
 

@@ -2,7 +2,8 @@ use Rattle.std.proofs.Common.{◌≡◌, bytes_eq, sym, subst, ◌∙◌}
 use Rattle.std.proofs.lemmas.Bool.{cond-false}
 use Rattle.zk_nodes.specs.Path.{path_of}
 use Rattle.zk_history.specs.Made.{change_of}
-use Rattle.zk_history.specs.Versions.{versions_of, with_version, last_version, version_after, CanBeNoted}
+use Rattle.zk_history.specs.Versions.{versions_of}
+use Rattle.zk_history.specs.inner.Versions.{with_version, last_version, version_after, CanBeNoted}
 use Rattle.zk_history.proofs.VersionsLemmas.{parent_differs, both_written, pushed_undone, on_err_is, on_ok_is}
 use Rattle.zk_history.proofs.versions.note_both.Goals as goal
 

@@ -2,7 +2,8 @@ use Rattle.std.proofs.Common.{◌≡◌, cond, false, sym, ap, subst, ◌∙◌,
 use Rattle.zk_nodes.specs.Path.{path_of, parent_of}
 use Rattle.zk_nodes.specs.PathFault.{IsPath}
 use Rattle.zk_history.specs.Made.{change_of}
-use Rattle.zk_history.specs.Versions.{versions_of, with_version, is_near}
+use Rattle.zk_history.specs.Versions.{versions_of}
+use Rattle.zk_history.specs.inner.Versions.{with_version, is_near}
 use Rattle.zk_history.proofs.ViewLemmas.{OnOk-map}
 use Rattle.zk_history.proofs.VersionsLemmas.{near_text, none_near}
 use Rattle.zk_history.proofs.versions.note_near.Goals as goal

@@ -1,7 +1,8 @@
 use Rattle.std.proofs.Common.{◌≡◌, ◌-◌, [], refl, sym, ap, ◌∙◌, length, take, rules, arith}
 use Rattle.std.proofs.lemmas.Bool.Decides.{nat_tests}
 use Rattle.std.specs.Option.{option_map_or}
-use Rattle.zk_history.specs.Versions.{versions_of, without_last}
+use Rattle.zk_history.specs.Versions.{versions_of}
+use Rattle.zk_history.specs.inner.Versions.{without_last}
 use Rattle.zk_history.proofs.VersionsLemmas.{versions_written, versions_kept}
 use Rattle.zk_history.proofs.versions.pop_version.Goals as goal
 

@@ -3,7 +3,7 @@ use Rattle.std.proofs.lemmas.Iterator.{YieldsList-from_chars}
 use Rattle.std.proofs.lemmas.Iterator.Search.{any_from_yields_List}
 use Rattle.zk_nodes.specs.Path.{path_of}
 use Rattle.zk_nodes.specs.PathFault.{fault_of_names, is_refused}
-use Rattle.zk_nodes.specs.Plain.{IsPlain}
+use Rattle.zk_nodes.specs.inner.Plain.{IsPlain}
 use Rattle.zk_nodes.proofs.PathLemmas.{fault_of-refused, fault_of-names}
 use Rattle.zk_nodes.proofs.PlainLemmas.{fault_of-plain}
 use Rattle.zk_nodes.proofs.path.text_fault.Goals as goal

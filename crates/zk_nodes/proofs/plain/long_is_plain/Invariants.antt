@@ -1,5 +1,5 @@
 use Rattle.std.proofs.Common.{◌-◌, ◌≤◌}
-use Rattle.zk_nodes.specs.Plain.{ArePlain}
+use Rattle.zk_nodes.specs.inner.Plain.{ArePlain}
 use Rattle.zk_nodes.proofs.plain.long_is_plain.Given as goal
 
 abbrev pub invariant-loop-at : goal.invariant-loop-at

@@ -1,4 +1,4 @@
-use Rattle.zk_nodes.specs.Plain.{ArePlain}
+use Rattle.zk_nodes.specs.inner.Plain.{ArePlain}
 use Rattle.zk_nodes.proofs.plain.short_is_plain.Given as goal
 
 abbrev pub invariant-loop-at : goal.invariant-loop-at

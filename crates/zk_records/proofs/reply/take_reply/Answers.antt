@@ -2,7 +2,7 @@ use Rattle.std.proofs.lemmas.Result.{err_from_is_err_and}
 use Rattle.std.proofs.Common.{ap, ◌∙◌}
 use Rattle.zk_jute.proofs.Taking.{is_memory, is_the_one}
 use Rattle.zk_records.specs.Reply.{reply_at}
-use Rattle.zk_records.specs.ReplyLaws.{reply_reads}
+use Rattle.zk_records.specs.inner.ReplyLaws.{reply_reads}
 use Rattle.zk_records.proofs.reply.take_reply.Goals as goal
 
 pub returns-in_err-reply-clause-only : goal.returns-in_err-reply-clause-only

@@ -2,7 +2,8 @@ use Rattle.std.proofs.Common.{rules, ℕ, Option, Vec, subst}
 use Rattle.std.specs.Prelude.{string_bytes}
 use Rattle.zk_turns.specs.Turns.{Cut}
 use Rattle.zk_client.specs.Clients.{view_of}
-use Rattle.script_live.specs.Flowing.{flow_of, holding, piece_bytes, Carries, Reads}
+use Rattle.script_live.specs.Flowing.{flow_of, holding, Carries, Reads}
+use Rattle.script_live.specs.inner.Flowing.{piece_bytes}
 use Rattle.script_live.specs.Heard.{tape}
 use Rattle.script_live.proofs.HeardLemmas.{halts_cut, halts_piece, one, piece}
 use Rattle.script_live.proofs.Printing.{prints_piece, prints_quiet}

@@ -5,7 +5,7 @@ use Rattle.std.specs.Prelude.{unsigned_abs}
 use Rattle.zk_turns.specs.Ranges.{IsResumable}
 use Rattle.zk_turns.specs.Turns.{new_start}
 use Rattle.script_story.specs.Stories as story
-use Rattle.script_rehearse.specs.Scenes.{scene_of}
+use Rattle.script_rehearse.specs.inner.Scenes.{scene_of}
 use Rattle.script_rehearse.proofs.RigLemmas.{begins, made_so}
 use Rattle.script_rehearse.proofs.rehearsal.Rehearsal.begin.Goals as goal
 

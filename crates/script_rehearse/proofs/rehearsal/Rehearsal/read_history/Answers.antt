@@ -1,7 +1,7 @@
 use Rattle.std.specs.Option.{option_map}
 use Rattle.std.proofs.Common.{refl}
 use Rattle.script_story.specs.Stories as story
-use Rattle.script_rehearse.specs.Scenes.{scene_of}
+use Rattle.script_rehearse.specs.inner.Scenes.{scene_of}
 use Rattle.script_rehearse.proofs.DueLemmas.{told, history_due, never_halts}
 use Rattle.script_rehearse.proofs.rehearsal.Rehearsal.read_history.Goals as goal
 

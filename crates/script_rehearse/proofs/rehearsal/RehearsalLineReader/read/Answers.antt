@@ -1,4 +1,4 @@
-use Rattle.script_rehearse.specs.Rehearsed.{position_of}
+use Rattle.script_rehearse.specs.inner.Rehearsed.{position_of}
 use Rattle.script_rehearse.proofs.ScriptLemmas.{moved, due_at}
 use Rattle.script_rehearse.proofs.rehearsal.RehearsalLineReader.read.Goals as goal
 

@@ -4,7 +4,7 @@ use Rattle.zk_bench.specs.Served.{disconnected}
 use Rattle.zk_client.specs.Clients.{view_of, saved_start}
 use Rattle.zk_turns.specs.Ranges.{IsResumable}
 use Rattle.zk_turns.specs.View.{view_at}
-use Rattle.script_rehearse.specs.Scenes.{scene_of}
+use Rattle.script_rehearse.specs.inner.Scenes.{scene_of}
 use Rattle.script_rehearse.proofs.RigLemmas.{rejoins, resumes}
 use Rattle.script_rehearse.proofs.rig.Rig.rejoin.Goals as goal
 

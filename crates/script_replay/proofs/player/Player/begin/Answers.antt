@@ -1,7 +1,7 @@
 use Rattle.std.proofs.Common.{◌≡◌, ◌∙◌, Some, None, false, is_some, map, refl, sym}
 use Rattle.zk_client.specs.Clients.{view_of}
 use Rattle.script_replay.specs.Lines.{begin_value_of}
-use Rattle.script_replay.specs.Played.{view_of_player}
+use Rattle.script_replay.specs.inner.Played.{view_of_player}
 use Rattle.script_replay.proofs.PlayLemmas.{made, nothing_seen}
 use Rattle.script_replay.proofs.player.Player.begin.Goals as goal
 

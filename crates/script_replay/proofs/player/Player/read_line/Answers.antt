@@ -1,6 +1,7 @@
 use Rattle.std.proofs.Common.{IfOk, rules}
 use Rattle.std.specs.Prelude.{string_bytes}
-use Rattle.script_replay.specs.Played.{view_of_player, TakesLine}
+use Rattle.script_replay.specs.inner.Played.{view_of_player}
+use Rattle.script_replay.specs.Played.{TakesLine}
 use Rattle.script_replay.proofs.CourseLemmas.{followed}
 use Rattle.script_replay.proofs.player.Player.read_line.Goals as goal
 

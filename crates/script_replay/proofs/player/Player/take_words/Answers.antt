@@ -1,5 +1,5 @@
 use Rattle.std.proofs.Common.{◌≡◌, map, is_some, rules}
-use Rattle.script_replay.specs.Played.{view_of_player}
+use Rattle.script_replay.specs.inner.Played.{view_of_player}
 use Rattle.script_replay.specs.ReplayLines.{says_at, placed_at}
 use Rattle.script_words.specs.Said.{something}
 use Rattle.script_replay.proofs.PlayLemmas.{taken}

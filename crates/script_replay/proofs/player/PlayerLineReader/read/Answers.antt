@@ -1,5 +1,5 @@
 use Rattle.std.specs.Prelude.{string_bytes}
-use Rattle.script_replay.specs.Played.{view_of_player}
+use Rattle.script_replay.specs.inner.Played.{view_of_player}
 use Rattle.script_replay.proofs.CourseLemmas.{moved, due}
 use Rattle.script_replay.proofs.player.PlayerLineReader.read.Goals as goal
 

@@ -1,6 +1,6 @@
 use Rattle.std.proofs.Common.{◌≡◌}
 use Rattle.std.specs.Prelude.{Ok, Some}
-use Rattle.script_story.specs.HistoryLines.{value_of}
+use Rattle.script_story.specs.inner.HistoryLines.{value_of}
 use Rattle.script_words.specs.Pieces.{words_of}
 use Rattle.script_story.specs.Stories.{said, position_of}
 use Rattle.script_story.proofs.StoryLemmas.{taken, refused}

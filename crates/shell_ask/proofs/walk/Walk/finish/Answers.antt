@@ -1,6 +1,7 @@
 use Rattle.std.proofs.Common.{None}
 use Rattle.zk_driver.specs.Flowing.{flow_of}
-use Rattle.shell_ask.specs.Trees.{stage_of, begins, steps}
+use Rattle.shell_ask.specs.inner.Trees.{stage_of}
+use Rattle.shell_ask.specs.Trees.{begins, steps}
 use Rattle.shell_ask.proofs.walk.Walk.finish.Goals as goal
 
 pub loop-ticket-init : goal.loop-ticket-init

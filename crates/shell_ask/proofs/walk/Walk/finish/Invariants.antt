@@ -1,6 +1,7 @@
 use Rattle.std.proofs.Common.{None}
 use Rattle.zk_driver.specs.Flowing.{flow_of}
-use Rattle.shell_ask.specs.Trees.{stage_of, Reaches}
+use Rattle.shell_ask.specs.inner.Trees.{stage_of}
+use Rattle.shell_ask.specs.Trees.{Reaches}
 use Rattle.shell_ask.proofs.walk.Walk.finish.Given as goal
 
 -- it has come here from its beginning

@@ -2,8 +2,9 @@ use Rattle.std.proofs.Common.{None, refl}
 use Rattle.std.proofs.lemmas.Option.{IfSome_then}
 use Rattle.std.proofs.lemmas.Result.{IfOk-weaker}
 use Rattle.zk_driver.specs.Flowing.{flow_of}
-use Rattle.shell_ask.specs.Asking.{came_view}
-use Rattle.shell_ask.specs.Trees.{ending_view, spot_view, stage_of, leaves_out, prints_node}
+use Rattle.shell_ask.specs.inner.Asking.{came_view}
+use Rattle.shell_ask.specs.inner.Trees.{ending_view, spot_view, stage_of}
+use Rattle.shell_ask.specs.Trees.{leaves_out, prints_node}
 use Rattle.shell_ask.proofs.Walking.{heard_of, if_none, misnamed, stopped}
 use Rattle.shell_ask.proofs.walk.Walk.list.Goals as goal
 

@@ -1,6 +1,7 @@
 use Rattle.std.proofs.Common.{arith, ◌<◌, ◌∙◌, ◌∷◌, None, length, ap, refl}
 use Rattle.zk_driver.specs.Flowing.{flow_of}
-use Rattle.shell_ask.specs.Trees.{spot_view, stage_of, waiting_view, prints_leaf}
+use Rattle.shell_ask.specs.inner.Trees.{spot_view, stage_of, waiting_view}
+use Rattle.shell_ask.specs.Trees.{prints_leaf}
 use Rattle.shell_ask.proofs.Walking.{ends_at, steps_from, waiting_pop}
 use Rattle.shell_ask.proofs.walk.Walk.step.Goals as goal
 

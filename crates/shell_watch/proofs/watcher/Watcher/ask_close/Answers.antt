@@ -5,7 +5,7 @@ use Rattle.zk_driver.specs.declared.engine.Engine.{Engine}
 use Rattle.zk_driver.specs.Driving.{course_of, Hands}
 use Rattle.zk_driver.specs.Flowing.{flow_of, Runs}
 use Rattle.zk_driver.proofs.Running.{calls_run}
-use Rattle.shell_watch.specs.Trees.{growth_of}
+use Rattle.shell_watch.specs.inner.Trees.{growth_of}
 use Rattle.shell_watch.proofs.watcher.Watcher.ask_close.Goals as goal
 
 pub returns : goal.returns

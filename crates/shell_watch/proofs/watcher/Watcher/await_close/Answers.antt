@@ -1,5 +1,5 @@
 use Rattle.std.proofs.Common.{ap}
-use Rattle.shell_watch.specs.Watching.{stand_of}
+use Rattle.shell_watch.specs.inner.Watching.{stand_of}
 use Rattle.shell_watch.proofs.Printing.{writes_after, writes_none, writes_on}
 use Rattle.shell_watch.proofs.watcher.Watcher.await_close.Goals as goal
 

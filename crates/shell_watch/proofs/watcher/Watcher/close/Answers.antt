@@ -1,4 +1,4 @@
-use Rattle.shell_watch.specs.Watching.{stand_of}
+use Rattle.shell_watch.specs.inner.Watching.{stand_of}
 use Rattle.shell_watch.proofs.Ending.{ends_none, err_asked, err_none, ok_ends}
 use Rattle.shell_watch.proofs.watcher.Watcher.close.Goals as goal
 

@@ -1,4 +1,4 @@
-use Rattle.shell_watch.specs.Watching.{stand_of}
+use Rattle.shell_watch.specs.inner.Watching.{stand_of}
 use Rattle.shell_watch.proofs.Printing.{follows_more}
 use Rattle.shell_watch.proofs.watcher.Watcher.follow_all.Goals as goal
 

@@ -1,5 +1,6 @@
 use Rattle.std.proofs.Common.{take}
-use Rattle.shell_watch.specs.Watching.{aims_of, stand_of, FollowsAll}
+use Rattle.shell_watch.specs.Watching.{aims_of, FollowsAll}
+use Rattle.shell_watch.specs.inner.Watching.{stand_of}
 use Rattle.shell_watch.proofs.watcher.Watcher.follow_all.Given as goal
 
 -- those so far are followed

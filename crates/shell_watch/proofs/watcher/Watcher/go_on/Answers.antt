@@ -1,6 +1,6 @@
 use Rattle.std.proofs.Common.{subst}
 use Rattle.zk_driver.specs.declared.engine.Engine.{Engine}
-use Rattle.shell_watch.specs.Watching.{stand_of, Writes, WritesOn}
+use Rattle.shell_watch.specs.inner.Watching.{stand_of, Writes, WritesOn}
 use Rattle.shell_watch.proofs.Ending.{ok_over}
 use Rattle.shell_watch.proofs.Printing.{err_after}
 use Rattle.shell_watch.proofs.watcher.Watcher.go_on.Goals as goal

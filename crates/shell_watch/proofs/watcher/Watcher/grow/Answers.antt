@@ -3,7 +3,7 @@ use Rattle.zk_client.specs.Clients.{view_of}
 use Rattle.zk_nodes.specs.Path.{Text}
 use Rattle.zk_turns.specs.View.{View}
 use Rattle.zk_trees.specs.Trees.{wants_of, AreWanted}
-use Rattle.shell_watch.specs.Watching.{stand_of}
+use Rattle.shell_watch.specs.inner.Watching.{stand_of}
 use Rattle.shell_watch.proofs.Tending.{ok_grows}
 use Rattle.shell_watch.proofs.watcher.Watcher.grow.Goals as goal
 

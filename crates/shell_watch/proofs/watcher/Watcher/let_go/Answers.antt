@@ -6,7 +6,8 @@ use Rattle.zk_client.specs.Clients.{view_of}
 use Rattle.zk_driver.specs.Flowing.{flow_of}
 use Rattle.zk_driver.proofs.Running.{calls_run}
 use Rattle.zk_trees.specs.Trees.{stays, tickets_gone}
-use Rattle.shell_watch.specs.Watching.{stand_of, LetsGo}
+use Rattle.shell_watch.specs.inner.Watching.{stand_of}
+use Rattle.shell_watch.specs.Watching.{LetsGo}
 use Rattle.zk_trees.proofs.Growing.{folds_next}
 use Rattle.shell_watch.proofs.watcher.Watcher.let_go.Goals as goal
 

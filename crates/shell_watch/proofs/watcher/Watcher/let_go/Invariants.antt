@@ -2,7 +2,8 @@ use Rattle.std.proofs.Common.{take}
 use Rattle.std.specs.List.{filter, FoldsTo}
 use Rattle.zk_client.specs.Clients.{view_of}
 use Rattle.zk_trees.specs.Trees.{stays}
-use Rattle.shell_watch.specs.Watching.{stand_of, LetsGo}
+use Rattle.shell_watch.specs.inner.Watching.{stand_of}
+use Rattle.shell_watch.specs.Watching.{LetsGo}
 use Rattle.shell_watch.proofs.watcher.Watcher.let_go.Given as goal
 
 -- those of the tickets so far are let go

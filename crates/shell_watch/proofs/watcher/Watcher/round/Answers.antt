@@ -1,7 +1,7 @@
 use Rattle.std.proofs.Common.{◌++◌, rules}
 use Rattle.std.specs.Prelude.{string_bytes}
 use Rattle.std.specs.Io.KnownBytes.{Appends}
-use Rattle.shell_watch.specs.Watching.{stand_of}
+use Rattle.shell_watch.specs.inner.Watching.{stand_of}
 use Rattle.shell_watch.proofs.Printing.{come, rounds}
 use Rattle.shell_watch.proofs.watcher.Watcher.round.Goals as goal
 

@@ -1,4 +1,4 @@
-use Rattle.shell_watch.specs.Watching.{stand_of, Writes}
+use Rattle.shell_watch.specs.inner.Watching.{stand_of, Writes}
 use Rattle.shell_watch.proofs.watcher.Watcher.run.Given as goal
 
 -- what was printed so far

@@ -4,7 +4,8 @@ use Rattle.zk_client.specs.Clients.{view_of}
 use Rattle.zk_agent.specs.Telling.{told_by}
 use Rattle.shell_watch.specs.declared.plan.Style.{Style}
 use Rattle.shell_watch.specs.declared.trees.Trees.{Trees}
-use Rattle.shell_watch.specs.Watching.{accepts, stand_of, Heard, TellsTurn}
+use Rattle.shell_watch.specs.Watching.{accepts, TellsTurn}
+use Rattle.shell_watch.specs.inner.Watching.{stand_of, Heard}
 use Rattle.shell_watch.proofs.Printing.{heard_so, same_tells}
 use Rattle.shell_watch.proofs.watcher.Watcher.run_turn.Goals as goal
 

@@ -2,7 +2,7 @@ use Rattle.std.proofs.Common.{◌≡◌, List, arith, drop, length, subst, sym}
 use Rattle.std.specs.Prelude.{string_bytes, OnOk}
 use Rattle.zk_client.specs.Clients.{view_of}
 use Rattle.zk_agent.specs.Telling.{told_by}
-use Rattle.shell_watch.specs.Watching.{ShowsThen}
+use Rattle.shell_watch.specs.inner.Watching.{ShowsThen}
 use Rattle.zk_trees.specs.declared.member.Member.{Member}
 use Rattle.std.specs.declared.string.String.{String}
 use Rattle.shell_watch.proofs.Telling.{ok_shows, shows_nothing, whole_written}

@@ -2,7 +2,8 @@ use Rattle.std.proofs.Common.{◌≤◌, List, arith, length, refl, subst}
 use Rattle.std.proofs.lemmas.List.{take_all}
 use Rattle.std.specs.List.{FoldsTo}
 use Rattle.zk_trees.specs.declared.subject.NodeSide.{NodeSide}
-use Rattle.shell_watch.specs.Watching.{aim_of, aims_of, stand_of, TakesOn}
+use Rattle.shell_watch.specs.Watching.{aim_of, aims_of, TakesOn}
+use Rattle.shell_watch.specs.inner.Watching.{stand_of}
 use Rattle.zk_trees.proofs.Growing.{mapped_next}
 use Rattle.shell_watch.proofs.watcher.Watcher.take_all_on.Goals as goal
 

@@ -1,6 +1,7 @@
 use Rattle.std.proofs.Common.{take}
 use Rattle.std.specs.List.{FoldsTo}
-use Rattle.shell_watch.specs.Watching.{aims_of, stand_of, TakesOn}
+use Rattle.shell_watch.specs.Watching.{aims_of, TakesOn}
+use Rattle.shell_watch.specs.inner.Watching.{stand_of}
 use Rattle.shell_watch.proofs.watcher.Watcher.take_all_on.Given as goal
 
 -- those so far are taken on

@@ -1,7 +1,8 @@
 use Rattle.std.proofs.Common.{◌≡◌, ◌∙◌, ap, false, sym, true}
 use Rattle.zk_client.specs.Clients.{view_of}
 use Rattle.zk_trees.specs.Trees.{is_settled}
-use Rattle.shell_watch.specs.Watching.{aim_of, stand_of}
+use Rattle.shell_watch.specs.Watching.{aim_of}
+use Rattle.shell_watch.specs.inner.Watching.{stand_of}
 use Rattle.shell_watch.proofs.Tending.{ok_taken, settled}
 use Rattle.shell_watch.proofs.watcher.Watcher.take_on.Goals as goal
 

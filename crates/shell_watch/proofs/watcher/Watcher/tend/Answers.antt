@@ -1,6 +1,6 @@
 use Rattle.std.proofs.Common.{◌≡◌, [], refl, rules}
 use Rattle.std.specs.Prelude.{string_bytes}
-use Rattle.shell_watch.specs.Watching.{stand_of}
+use Rattle.shell_watch.specs.inner.Watching.{stand_of}
 use Rattle.shell_watch.proofs.Tending.{ok_tends, over_rests, told_rests}
 use Rattle.shell_watch.proofs.watcher.Watcher.tend.Goals as goal
 

@@ -1,6 +1,6 @@
 use Rattle.std.proofs.Common.{ap}
 use Rattle.std.specs.Prelude.{string_bytes}
-use Rattle.shell_watch.specs.Watching.{stand_of}
+use Rattle.shell_watch.specs.inner.Watching.{stand_of}
 use Rattle.shell_watch.proofs.Tending.{same_stand, tends_all}
 use Rattle.shell_watch.proofs.watcher.Watcher.tend_all.Goals as goal
 

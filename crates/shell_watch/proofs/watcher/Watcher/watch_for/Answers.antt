@@ -1,4 +1,5 @@
-use Rattle.shell_watch.specs.Watching.{aims_of, stand_of}
+use Rattle.shell_watch.specs.Watching.{aims_of}
+use Rattle.shell_watch.specs.inner.Watching.{stand_of}
 use Rattle.std.proofs.Common.{true, false, inr}
 use Rattle.shell_watch.proofs.Ending.{ends_from, over_prints, prints_from}
 use Rattle.shell_watch.proofs.watcher.Watcher.watch_for.Goals as goal

@@ -3,7 +3,7 @@ use Rattle.zk_session.specs.declared.states.State.TheVariants.{Connected}
 use Rattle.zk_client.specs.Clients.{view_of}
 use Rattle.zk_agent.specs.declared.asker.Asker.{Asker}
 use Rattle.zk_agent.specs.Agents.{trail_of}
-use Rattle.zk_agent.specs.Calls.{how_many_wait}
+use Rattle.zk_agent.specs.inner.Calls.{how_many_wait}
 use Rattle.zk_agent.proofs.Handing.{fewer_left}
 use Rattle.zk_agent.proofs.Moves.{nothing, then_none}
 use Rattle.zk_agent.proofs.agent.Agent.send.Goals as goal

@@ -6,7 +6,8 @@ use Rattle.zk_session.specs.States.{is_final}
 use Rattle.zk_client.specs.Clients.{view_of}
 use Rattle.zk_follow.specs.Following.{IsFollowed}
 use Rattle.zk_agent.specs.Agents.{trail_of, Comes}
-use Rattle.zk_agent.specs.Calls.{how_many_wait, IsDone, IsInTime}
+use Rattle.zk_agent.specs.inner.Calls.{how_many_wait, IsDone}
+use Rattle.zk_agent.specs.Calls.{IsInTime}
 use Rattle.zk_agent.proofs.agent.Agent.send.Given as goal
 
 -- so far calls were handed over, and where no further one is to be, none can be or none waits

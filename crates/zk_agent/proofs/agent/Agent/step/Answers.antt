@@ -8,7 +8,8 @@ use Rattle.zk_dialler.specs.Dialling.{has_come}
 use Rattle.zk_agent.specs.declared.asker.Asker.{Asker}
 use Rattle.zk_agent.specs.declared.waits.Waits.{Waits}
 use Rattle.zk_agent.specs.Agents.{given_of, trail_of, Comes, IsDecided}
-use Rattle.zk_agent.specs.Calls.{how_many, IsDone, IsInTime}
+use Rattle.zk_agent.specs.Calls.{how_many, IsInTime}
+use Rattle.zk_agent.specs.inner.Calls.{IsDone}
 use Rattle.zk_agent.specs.Waits.{ends_at, waited_of}
 use Rattle.zk_agent.proofs.Counting.{asks_its, calls_balance}
 use Rattle.zk_agent.proofs.Lines.{all_served}

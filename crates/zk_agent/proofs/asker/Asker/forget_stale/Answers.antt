@@ -1,6 +1,6 @@
 use Rattle.std.proofs.Common.{subst, sym}
 use Rattle.std.specs.Prelude.{All}
-use Rattle.zk_agent.specs.Calls.{IsAsked}
+use Rattle.zk_agent.specs.inner.Calls.{IsAsked}
 use Rattle.zk_agent.proofs.asker.Asker.forget_stale.Goals as goal
 
 pub invariant_of-self : goal.invariant_of-self

@@ -5,7 +5,7 @@ use Rattle.zk_client.specs.Clients.{view_of}
 use Rattle.zk_line.specs.declared.entry.Entry.{Entry}
 use Rattle.zk_line.specs.declared.entry.Ending.TheVariants.{Late}
 use Rattle.zk_line.specs.Lines.{is_ended}
-use Rattle.zk_agent.specs.Calls.{IsAsked}
+use Rattle.zk_agent.specs.inner.Calls.{IsAsked}
 use Rattle.zk_agent.proofs.asker.Asker.give_up.Goals as goal
 
 pub invariant_of-self : goal.invariant_of-self

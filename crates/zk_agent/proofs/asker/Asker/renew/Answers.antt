@@ -1,7 +1,7 @@
 use Rattle.std.proofs.Common.{◌∙◌, sym, subst, arith}
 use Rattle.std.specs.Prelude.{All}
 use Rattle.zk_client.specs.Clients.{view_of}
-use Rattle.zk_agent.specs.Calls.{IsAsked}
+use Rattle.zk_agent.specs.inner.Calls.{IsAsked}
 use Rattle.zk_agent.proofs.Lines.{none_at_expiry}
 use Rattle.zk_agent.proofs.asker.Asker.renew.Goals as goal
 

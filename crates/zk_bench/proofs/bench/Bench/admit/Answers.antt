@@ -6,7 +6,8 @@ use Rattle.zk_laws.specs.Messages.{Connect}
 use Rattle.zk_bench.specs.Linked.{linked_of}
 use Rattle.zk_bench.specs.Served.{Served}
 use Rattle.zk_bench.specs.declared.phase.Phase.TheVariants.{Opening, Accepted, Ended}
-use Rattle.zk_bench.specs.Stepping.{AnswersOne, shown_of}
+use Rattle.zk_bench.specs.inner.Stepping.{AnswersOne}
+use Rattle.zk_bench.specs.Stepping.{shown_of}
 use Rattle.zk_bench.proofs.Fields.{bench_of}
 use Rattle.zk_bench.proofs.Stepped.{ready_answered, not_ahead, no_more_seen}
 use Rattle.zk_bench.proofs.Processed.{admits_so, expires_so}

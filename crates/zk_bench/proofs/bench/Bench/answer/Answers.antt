@@ -1,7 +1,8 @@
 use Rattle.std.proofs.Common.{rules, ◌≡◌, sym, ap, subst, ℤ, to_z, of_z, w32}
 use Rattle.std.specs.Prelude.{Err, OnOk, IfErr}
-use Rattle.zk_bench.specs.Asking.{Asks}
-use Rattle.zk_bench.specs.Stepping.{ProcessesOne, AnswersOne, Declines, shown_of}
+use Rattle.zk_bench.specs.inner.Asking.{Asks}
+use Rattle.zk_bench.specs.inner.Stepping.{ProcessesOne, AnswersOne, Declines}
+use Rattle.zk_bench.specs.Stepping.{shown_of}
 use Rattle.zk_bench.proofs.Answered.{errs_so}
 use Rattle.zk_laws.specs.Messages.{Request as Wanted}
 use Rattle.zk_bench.specs.Served.{ended}

@@ -4,7 +4,8 @@ use Rattle.theory_serving.proofs.Later.{taken_at}
 use Rattle.zk_history.specs.HistoryView.{history_of}
 use Rattle.zk_bench.specs.Linked.{linked_of}
 use Rattle.zk_bench.specs.Served.{Served}
-use Rattle.zk_bench.specs.Stepping.{HasClient, TakesSome, shown_of}
+use Rattle.zk_bench.specs.inner.Stepping.{HasClient}
+use Rattle.zk_bench.specs.Stepping.{TakesSome, shown_of}
 use Rattle.zk_bench.proofs.Fields.{bench_of}
 use Rattle.zk_bench.proofs.Stepped.{ok_so}
 use Rattle.zk_bench.proofs.Processed.{shows_caught}

@@ -3,8 +3,9 @@ use Rattle.zk_conversation.specs.Calls.{Close}
 use Rattle.zk_laws.specs.Messages.{Ask}
 use Rattle.zk_bench.specs.Served.{Served}
 use Rattle.zk_bench.specs.declared.phase.Phase.TheVariants.{Ended}
-use Rattle.zk_bench.specs.Stepping.{AnswersOne, zxid_of, shown_of}
-use Rattle.zk_bench.specs.Serving.{SendsHeader}
+use Rattle.zk_bench.specs.inner.Stepping.{AnswersOne}
+use Rattle.zk_bench.specs.Stepping.{zxid_of, shown_of}
+use Rattle.zk_bench.specs.inner.Serving.{SendsHeader}
 use Rattle.zk_bench.proofs.Fields.{bench_of}
 use Rattle.zk_bench.proofs.Processed.{closes_so}
 use Rattle.zk_bench.proofs.bench.Bench.close.Goals as goal

@@ -6,8 +6,9 @@ use Rattle.zk_conversation.specs.Calls.{Create}
 use Rattle.zk_laws.specs.Messages.{Request, Ask}
 use Rattle.zk_records.specs.declared.request.Request.TheVariants as requests
 use Rattle.zk_bench.specs.declared.stop.Stop.TheVariants as stops
-use Rattle.zk_bench.specs.Asking.{Asks}
-use Rattle.zk_bench.specs.Stepping.{AnswersOne, Declines, shown_of}
+use Rattle.zk_bench.specs.inner.Asking.{Asks}
+use Rattle.zk_bench.specs.inner.Stepping.{AnswersOne, Declines}
+use Rattle.zk_bench.specs.Stepping.{shown_of}
 use Rattle.zk_bench.proofs.Stepped.{ok_so, err_so}
 use Rattle.zk_bench.proofs.Called.{creates_asked, mode_is}
 use Rattle.zk_bench.proofs.Processed.{processes_then, declines_then, ends_then, stops_by}

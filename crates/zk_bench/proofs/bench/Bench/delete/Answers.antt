@@ -7,12 +7,13 @@ use Rattle.zk_nodes.specs.Path.{Text, path_of}
 use Rattle.zk_nodes.specs.History.{Deletes, Tree}
 use Rattle.zk_conversation.specs.Calls.{Delete}
 use Rattle.zk_laws.specs.Messages.{Request, Ask}
-use Rattle.zk_bench.specs.Serving.{SendsHeader}
+use Rattle.zk_bench.specs.inner.Serving.{SendsHeader}
 use Rattle.zk_records.specs.declared.request.Request.TheVariants as requests
 use Rattle.zk_bench.specs.declared.stop.Refusal.{Refusal}
-use Rattle.zk_bench.specs.Asking.{Asks}
+use Rattle.zk_bench.specs.inner.Asking.{Asks}
 use Rattle.zk_bench.specs.Served.{Served}
-use Rattle.zk_bench.specs.Stepping.{AnswersOne, Declines, HasClient, HasWritten, LeavesUnmade, zxid_of, shown_of}
+use Rattle.zk_bench.specs.inner.Stepping.{AnswersOne, Declines, HasClient, HasWritten, LeavesUnmade}
+use Rattle.zk_bench.specs.Stepping.{zxid_of, shown_of}
 use Rattle.zk_bench.proofs.Answered.{errs_so}
 use Rattle.zk_bench.proofs.Called.{deletes_asked}
 use Rattle.zk_bench.proofs.Processed.{takes_then, ends_then, ends_sending, stops_by, declines_then, declines_unmade, unmade_same}

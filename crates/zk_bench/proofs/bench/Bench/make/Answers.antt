@@ -7,9 +7,10 @@ use Rattle.zk_nodes.specs.History as model
 use Rattle.zk_conversation.specs.Calls.{Create}
 use Rattle.zk_laws.specs.Server.{IsMadeOf}
 use Rattle.zk_laws.specs.Messages.{Ask}
-use Rattle.zk_bench.specs.Serving.{Sends}
-use Rattle.zk_bench.specs.Writing.{owner_of, IsAnswer}
-use Rattle.zk_bench.specs.Stepping.{Declines, HasWritten, zxid_of}
+use Rattle.zk_bench.specs.inner.Serving.{Sends}
+use Rattle.zk_bench.specs.inner.Writing.{owner_of, IsAnswer}
+use Rattle.zk_bench.specs.inner.Stepping.{Declines, HasWritten}
+use Rattle.zk_bench.specs.Stepping.{zxid_of}
 use Rattle.zk_bench.proofs.Answered.{errs_so}
 use Rattle.zk_bench.proofs.Processed.{declines_unmade, unmade_same, ends_sending, stops_by, created_so}
 use Rattle.zk_nodes.specs.PathFault.{IsPath}

@@ -4,10 +4,10 @@ use Rattle.zk_history.specs.HistoryView.{history_of, natural, newest_tree as new
 use Rattle.zk_nodes.specs.History.{tree_at}
 use Rattle.zk_laws.specs.Server.{tree_held}
 use Rattle.zk_bench.specs.Served.{Served}
-use Rattle.zk_bench.specs.Stepping.{HasAll}
+use Rattle.zk_bench.specs.inner.Stepping.{HasAll}
 use Rattle.zk_bench.proofs.Fields.{bench_of}
 use Rattle.zk_bench.proofs.Placed.{newest_tree}
-use Rattle.zk_bench.specs.Writing.{tree_of}
+use Rattle.zk_bench.specs.inner.Writing.{tree_of}
 use Rattle.zk_bench.proofs.Allowed.{newest_seen}
 use Rattle.zk_bench.proofs.bench.Bench.newest.Goals as goal
 

@@ -1,7 +1,8 @@
 use Rattle.std.proofs.Common.{sym, subst}
 use Rattle.zk_laws.specs.Messages.{Ping}
 use Rattle.zk_bench.specs.Served.{Served}
-use Rattle.zk_bench.specs.Stepping.{AnswersOne, shown_of}
+use Rattle.zk_bench.specs.inner.Stepping.{AnswersOne}
+use Rattle.zk_bench.specs.Stepping.{shown_of}
 use Rattle.zk_bench.proofs.Stepped.{ok_so}
 use Rattle.zk_bench.proofs.Processed.{pongs}
 use Rattle.zk_bench.proofs.bench.Bench.pong.Goals as goal

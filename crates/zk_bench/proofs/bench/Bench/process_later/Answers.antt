@@ -12,8 +12,9 @@ use Rattle.zk_bench.specs.declared.stop.Stop.{Stop}
 use Rattle.zk_bench.specs.declared.stop.Stop.TheVariants as stops
 use Rattle.zk_bench.specs.declared.stop.Refusal.{Refusal}
 use Rattle.zk_bench.specs.declared.stop.Refusal.TheVariants as refusals
-use Rattle.zk_bench.specs.Serving.{SendsHeader}
-use Rattle.zk_bench.specs.Stepping.{HasClient, ProcessesOne, AnswersOne, Declines, EndsBy, OwesTo, zxid_of, shown_of}
+use Rattle.zk_bench.specs.inner.Serving.{SendsHeader}
+use Rattle.zk_bench.specs.inner.Stepping.{HasClient, ProcessesOne, AnswersOne, Declines, EndsBy, OwesTo}
+use Rattle.zk_bench.specs.Stepping.{zxid_of, shown_of}
 use Rattle.zk_bench.proofs.Fields.{bench_of}
 use Rattle.zk_bench.proofs.Stepped.{ok_so, front_gone}
 use Rattle.zk_bench.proofs.Called.{found_front, read_front}

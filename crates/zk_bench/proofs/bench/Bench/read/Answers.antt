@@ -9,9 +9,10 @@ use Rattle.zk_bench.specs.Linked.{linked_of}
 use Rattle.zk_bench.specs.Served.{Served}
 use Rattle.zk_bench.specs.declared.stop.Stop.TheVariants as stops
 use Rattle.zk_bench.specs.declared.stop.Refusal.TheVariants as refusals
-use Rattle.zk_bench.specs.Answering.{AnswersRead, RefusesRead}
-use Rattle.zk_bench.specs.Restoring.{RestoresPart}
-use Rattle.zk_bench.specs.Stepping.{HasClient, AnswersOne, Declines, shown_of}
+use Rattle.zk_bench.specs.inner.Answering.{AnswersRead, RefusesRead}
+use Rattle.zk_bench.specs.inner.Restoring.{RestoresPart}
+use Rattle.zk_bench.specs.inner.Stepping.{HasClient, AnswersOne, Declines}
+use Rattle.zk_bench.specs.Stepping.{shown_of}
 use Rattle.zk_bench.proofs.Fields.{bench_of}
 use Rattle.zk_bench.proofs.Stepped.{ok_so, reads_so}
 use Rattle.zk_bench.proofs.Called.{looks}

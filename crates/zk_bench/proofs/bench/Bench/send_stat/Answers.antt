@@ -9,7 +9,7 @@ use Rattle.zk_nodes.specs.declared.stat.Stat.{Stat}
 use Rattle.zk_jute.specs.Layout.{Value}
 use Rattle.zk_laws.specs.Server.{tree_held}
 use Rattle.zk_bench.specs.Served.{Served}
-use Rattle.zk_bench.specs.Serving.{Sends}
+use Rattle.zk_bench.specs.inner.Serving.{Sends}
 use Rattle.zk_bench.specs.Stepping.{zxid_of}
 use Rattle.zk_bench.proofs.Fields.{bench_of}
 use Rattle.zk_bench.proofs.Answered.{numbers_of}

@@ -3,7 +3,7 @@ use Rattle.zk_nodes.specs.Path.{Text, path_of}
 use Rattle.zk_nodes.specs.History.{Sets, Tree}
 use Rattle.zk_conversation.specs.Calls.{SetData}
 use Rattle.zk_laws.specs.Messages.{Ask}
-use Rattle.zk_bench.specs.Stepping.{Declines, HasWritten, SendsStat, LeavesUnsent}
+use Rattle.zk_bench.specs.inner.Stepping.{Declines, HasWritten, SendsStat, LeavesUnsent}
 use Rattle.zk_bench.proofs.Answered.{errs_so}
 use Rattle.zk_bench.proofs.Stepped.{ok_so, err_so}
 use Rattle.zk_bench.proofs.Processed.{takes_then, ends_then, stops_by, declines_then, declines_unmade, unmade_same, declines_unsent, set_so}

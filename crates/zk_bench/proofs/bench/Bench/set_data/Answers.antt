@@ -6,8 +6,9 @@ use Rattle.zk_nodes.specs.PathFault.{IsPath}
 use Rattle.zk_conversation.specs.Calls.{SetData}
 use Rattle.zk_laws.specs.Messages.{Request, Ask}
 use Rattle.zk_records.specs.declared.request.Request.TheVariants as requests
-use Rattle.zk_bench.specs.Asking.{Asks}
-use Rattle.zk_bench.specs.Stepping.{AnswersOne, Declines, shown_of}
+use Rattle.zk_bench.specs.inner.Asking.{Asks}
+use Rattle.zk_bench.specs.inner.Stepping.{AnswersOne, Declines}
+use Rattle.zk_bench.specs.Stepping.{shown_of}
 use Rattle.zk_bench.proofs.Called.{sets_asked}
 use Rattle.zk_bench.proofs.bench.Bench.set_data.Goals as goal
 

@@ -4,9 +4,9 @@ use Rattle.zk_history.specs.Made.{change_of}
 use Rattle.zk_records.specs.declared.code.Code.TheVariants as codes
 use Rattle.zk_bench.specs.declared.stop.Refusal.{Refusal}
 use Rattle.zk_bench.specs.declared.stop.Refusal.TheVariants as refusals
-use Rattle.zk_bench.specs.Refusals.{IsCode}
+use Rattle.zk_bench.specs.inner.Refusals.{IsCode}
 use Rattle.zk_bench.specs.Served.{Served, ended}
-use Rattle.zk_bench.specs.Stepping.{HasClient, LeavesUnmade}
+use Rattle.zk_bench.specs.inner.Stepping.{HasClient, LeavesUnmade}
 use Rattle.zk_bench.proofs.Fields.{bench_of}
 use Rattle.zk_bench.proofs.Answered.{errs_so}
 use Rattle.zk_bench.proofs.Stepped.{continues_so}

@@ -4,7 +4,7 @@ use Rattle.zk_records.specs.Events.{concerns}
 use Rattle.zk_nodes.specs.declared.side.Side.TheVariants.{Data}
 use Rattle.zk_nodes.specs.Names.{names_of}
 use Rattle.zk_bench.specs.Serving.{watches_of}
-use Rattle.zk_bench.specs.Watching.{used_up}
+use Rattle.zk_bench.specs.inner.Watching.{used_up}
 use Rattle.zk_bench.proofs.Watched.{used_watches, was_watched}
 use Rattle.zk_bench.proofs.watches.Watches.fire.Goals as goal
 

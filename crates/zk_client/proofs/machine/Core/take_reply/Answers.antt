@@ -5,7 +5,7 @@ use Rattle.std.proofs.lemmas.Int.{ints}
 use Rattle.zk_conversation.specs.Views.{question_view, result_view}
 use Rattle.zk_session.specs.Table as session
 use Rattle.zk_watches.specs.Lists.{Lists}
-use Rattle.zk_client.specs.Left.{side_left}
+use Rattle.zk_client.specs.inner.Left.{side_left}
 use Rattle.zk_client.specs.Sound.{HasRoom}
 use Rattle.zk_client.proofs.Answered.{left-view, closed-view, left-lists}
 use Rattle.zk_client.proofs.Rooms.{room-for, reply-room, tied-talking}

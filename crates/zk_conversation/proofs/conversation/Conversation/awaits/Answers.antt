@@ -2,7 +2,8 @@ use Rattle.std.proofs.Common.{◌≡◌, w32, pos, map, ap, sym, refl, ◌∙◌
 use mir.Val.{to_z, of_z}
 use Rattle.std.proofs.lemmas.Int.{ints}
 use Rattle.zk_conversation.specs.declared.counts.Counts.{Counts}
-use Rattle.zk_conversation.specs.Counted.{counts_of, counts_with}
+use Rattle.zk_conversation.specs.Counted.{counts_of}
+use Rattle.zk_conversation.specs.inner.Counted.{counts_with}
 use Rattle.zk_conversation.specs.Views.{question_view, pending_view}
 use Rattle.zk_conversation.proofs.Counting.{counts-push_call}
 use Rattle.zk_conversation.proofs.Requests.{counts-small, viewed-push, next-is}

@@ -5,8 +5,9 @@ use Rattle.std.proofs.lemmas.List.{drop-map}
 use Rattle.std.proofs.lemmas.Result.{err_from_is_err_and}
 use Rattle.zk_conversation.specs.declared.counts.Counts.{Counts}
 use Rattle.zk_conversation.specs.declared.fault.TalkFault.TheVariants.{Memory}
-use Rattle.zk_conversation.specs.Arrives.{arrival_for}
-use Rattle.zk_conversation.specs.Counted.{counts_of, counts_without}
+use Rattle.zk_conversation.specs.inner.Arrives.{arrival_for}
+use Rattle.zk_conversation.specs.Counted.{counts_of}
+use Rattle.zk_conversation.specs.inner.Counted.{counts_without}
 use Rattle.zk_conversation.specs.Pending.{Pending}
 use Rattle.zk_conversation.specs.Views.{pending_view, waiting_view, result_view}
 use Rattle.zk_conversation.proofs.Counting.{counts-pop}

@@ -1,6 +1,6 @@
 use Rattle.std.proofs.Common.{[], subst, sym}
 use Rattle.std.specs.Prelude.{IfOk}
-use Rattle.zk_driver.specs.Driving.{input_of}
+use Rattle.zk_driver.specs.inner.Driving.{input_of}
 use Rattle.zk_link.specs.Streams.{known_of, Exchanges, Known}
 use Rattle.zk_driver.specs.Flowing.{bytes_in}
 use Rattle.zk_link.proofs.Streaming.{exchanged, exchanges_none, keeps_same, sends_none}

@@ -1,7 +1,8 @@
 use Rattle.std.proofs.Common.{rules, ◌≡◌, [], None, true, subst}
 use Rattle.zk_agent.specs.Telling.{told_by}
 use Rattle.zk_driver.specs.Driving.{course_of}
-use Rattle.zk_driver.specs.Noting.{notes_of_event, GoesBy}
+use Rattle.zk_driver.specs.inner.Noting.{notes_of_event}
+use Rattle.zk_driver.specs.Noting.{GoesBy}
 use Rattle.zk_driver.proofs.Carrying.{extends_on}
 use Rattle.zk_driver.specs.Flowing.{flow_of}
 use Rattle.zk_driver.proofs.Flowed.{flow_after}

@@ -2,7 +2,8 @@ use Rattle.std.proofs.Common.{◌≡◌, ◌≤◌, [], None, true, is_some}
 use Rattle.zk_agent.specs.Telling.{told_by}
 use Rattle.zk_driver.specs.Driving.{course_of, Extends}
 use Rattle.zk_driver.specs.Flowing.{flow_of, Flows}
-use Rattle.zk_driver.specs.Noting.{notes_of_event, GoesBy}
+use Rattle.zk_driver.specs.inner.Noting.{notes_of_event}
+use Rattle.zk_driver.specs.Noting.{GoesBy}
 use Rattle.zk_driver.proofs.driver.Driver.listen.Given as goal
 
 -- what was read so far, and whether more is to be read

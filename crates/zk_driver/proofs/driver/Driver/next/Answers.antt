@@ -3,7 +3,7 @@ use Rattle.zk_agent.specs.Telling.{told_by}
 use Rattle.zk_agent.specs.declared.action.Action.{Action}
 use Rattle.zk_driver.specs.Driving.{course_of, Course, Extends}
 use Rattle.zk_driver.specs.Flowing.{flow_of}
-use Rattle.zk_driver.specs.Noting.{notes_of_event}
+use Rattle.zk_driver.specs.inner.Noting.{notes_of_event}
 use Rattle.zk_driver.proofs.Carrying.{always_err, extends_on}
 use Rattle.zk_driver.proofs.Flowed.{flow_after, flow_same}
 use Rattle.zk_driver.proofs.Going.{after, goes, same}

@@ -1,7 +1,9 @@
 use Rattle.std.proofs.Common.{◌≡◌, [], None, refl, sym, ap, ◌∙◌}
 use Rattle.zk_driver.specs.declared.engine.Engine.{Engine}
-use Rattle.zk_driver.specs.Driving.{channel_view, course_of, input_of, is_nothing, look_after}
-use Rattle.zk_driver.specs.Noting.{notes_in, notes_of_event}
+use Rattle.zk_driver.specs.Driving.{channel_view, course_of}
+use Rattle.zk_driver.specs.inner.Driving.{input_of, is_nothing, look_after}
+use Rattle.zk_driver.specs.Noting.{notes_in}
+use Rattle.zk_driver.specs.inner.Noting.{notes_of_event}
 use Rattle.zk_driver.specs.Driving.{Looked}
 use Rattle.zk_link.specs.Streams.{known_of}
 use Rattle.zk_driver.specs.Flowing.{bytes_in, flow_of, Flow, Made}

@@ -1,6 +1,6 @@
 use Rattle.std.proofs.Common.{ℕ, ◌+◌, ◌-◌, drop, take, length, refl, sym, ap, subst, ◌∙◌}
 use Rattle.zk_frames.specs.Held.{Held}
-use Rattle.zk_frames.specs.Next.{IsWhole}
+use Rattle.zk_frames.specs.inner.Next.{IsWhole}
 use Rattle.zk_frames.proofs.Frames.{moves_past, from_place}
 use Rattle.zk_frames.proofs.reader.FrameReader.next_frame.Goals as goal
 

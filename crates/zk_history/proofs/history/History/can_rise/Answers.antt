@@ -1,7 +1,7 @@
 use Rattle.std.proofs.Common.{ap, ◌∙◌}
 use Rattle.zk_nodes.specs.Path.{path_of}
 use Rattle.zk_nodes.specs.History.{Tree}
-use Rattle.zk_history.specs.Accepting.{can_rise}
+use Rattle.zk_history.specs.inner.Accepting.{can_rise}
 use Rattle.zk_history.proofs.ViewLemmas.{newest-tree_at}
 use Rattle.zk_history.proofs.history.History.can_rise.Goals as goal
 

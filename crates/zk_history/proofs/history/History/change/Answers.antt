@@ -5,7 +5,8 @@ use Rattle.zk_history.specs.declared.change.Transaction.{Transaction}
 use Rattle.zk_history.specs.Made.{change_of, transaction_of}
 use Rattle.zk_history.specs.HistoryView.{HistoryView, IsSound, newest_tree, IsAccepted}
 use Rattle.zk_history.proofs.ViewLemmas.{refused_by, accepted_by, IsSound-change, was_some}
-use Rattle.zk_history.specs.Versions.{versions_of, versions_after, versions_before, last_transaction, next_origin, IsIndexed}
+use Rattle.zk_history.specs.Versions.{versions_of, IsIndexed}
+use Rattle.zk_history.specs.inner.Versions.{versions_after, versions_before, last_transaction, next_origin}
 use Rattle.zk_history.proofs.VersionsLemmas.{on_err_is, on_ok_is}
 use Rattle.zk_history.proofs.IndexLemmas.{can_be_noted, IsIndexed-change, IsIndexed-same, noted_forgotten}
 use Rattle.zk_history.proofs.history.History.change.Goals as goal

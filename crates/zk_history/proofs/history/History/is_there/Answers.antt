@@ -1,7 +1,7 @@
 use Rattle.std.proofs.Common.{Option, is_some, ap, sym, ◌∙◌}
 use Rattle.zk_nodes.specs.Path.{path_of}
 use Rattle.zk_nodes.specs.History.{Node, Tree}
-use Rattle.zk_history.specs.Made.{node_of}
+use Rattle.zk_history.specs.inner.Made.{node_of}
 use Rattle.zk_history.proofs.ViewLemmas.{newest-tree_at, is_some-mapped}
 use Rattle.zk_history.proofs.history.History.is_there.Goals as goal
 

@@ -1,6 +1,6 @@
 use Rattle.std.proofs.lemmas.Result.{err_from_is_err_and}
 use Rattle.zk_jute.proofs.Taking.{is_memory, is_the_one}
-use Rattle.zk_records.specs.ResponseLaws.{response_takes, response_again}
+use Rattle.zk_records.specs.inner.ResponseLaws.{response_takes, response_again}
 use Rattle.zk_records.proofs.connect_response.ConnectResponse.take.Goals as goal
 
 pub returns-in_err-response-clause-only : goal.returns-in_err-response-clause-only

@@ -1,0 +1,15 @@
+-- What contracts of private functions say: nobody has to believe it.
+use Rattle.std.specs.Prelude.{⊤, List, ℕ, zero, suc, ℤ, negsuc, ◌≢◌, None}
+use Rattle.std.specs.Str.{IsUtf8}
+use Rattle.zk_nodes.specs.PathFault.{child_fault}
+
+-- bytes for a text: -4 where they are no UTF-8
+abbrev pub RefusesText : (bytes : List ℕ) → ℤ → Type 0
+RefusesText bytes (negsuc (suc (suc (suc zero)))) = ¬ (IsUtf8 bytes)
+RefusesText bytes code = ⊥
+
+-- a name below a path: -2, and -5 where it makes no path
+abbrev pub RefusesChild : (path name : List ℕ) → ℤ → Type 0
+RefusesChild path name (negsuc (suc zero)) = ⊤
+RefusesChild path name (negsuc (suc (suc (suc (suc zero))))) = child_fault path name ≢ None
+RefusesChild path name code = ⊥

@@ -1,0 +1,4 @@
+-- What contracts of private functions say: nobody has to believe it.
+pub mod Lines
+pub mod Streams
+pub mod Words

@@ -1,0 +1,6 @@
+-- What contracts of private functions say: nobody has to believe it.
+pub mod CommandLine
+pub mod Fields
+pub mod Files
+pub mod Show
+pub mod Written

@@ -1,0 +1,62 @@
+-- What contracts of private functions say: nobody has to believe it.
+use Rattle.std.specs.Prelude.{◌≡◌, ◌≢◌, ◌≤◌, ℕ, Bool, true, List, [], ◌++◌}
+use Rattle.std.specs.Prelude.{Option, None}
+use Rattle.std.specs.Io.KnownBytes.{Appends}
+use Rattle.zk_nodes.specs.Path.{Text}
+use Rattle.zk_turns.specs.View.{View}
+use Rattle.zk_agent.specs.Telling.{Told}
+use Rattle.zk_driver.specs.declared.engine.Engine.{Engine}
+use Rattle.zk_driver.specs.Driving.{course_of}
+use Rattle.zk_link.specs.Streams.{known_of}
+use Rattle.zk_driver.specs.Noting.{is_come}
+use Rattle.zk_driver.specs.declared.turn.Turn.{Turn}
+use Rattle.shell_watch.specs.Lines.{turn_line}
+use Rattle.shell_watch.specs.inner.Trees.{growth_of}
+use Rattle.shell_watch.specs.declared.plan.Style.{Style}
+use Rattle.zk_trees.specs.declared.member.Member.{Member}
+use Rattle.std.specs.declared.string.String.{String}
+use Rattle.shell_watch.specs.declared.trees.Trees.{Trees}
+use Rattle.shell_watch.specs.Watching.{ShowsAll, Stand, Turns, Prints, EndsBy}
+use Rattle.zk_driver.specs.declared.turn.Turn.TheVariants as turn
+
+abbrev pub stand_of : {A S : Type 0} → (remaining contents : S → Option (List ℕ)) → Engine A S → List (Member A (String A))
+    → (is_accepted : Bool) → Style → Trees A → Stand A
+stand_of remaining contents engine watched is_accepted style trees = record {
+  course = course_of engine None;
+  known = known_of remaining contents engine.channel.stream;
+  watched = watched;
+  is_accepted = is_accepted;
+  style = style;
+  growth = growth_of trees;
+}
+
+-- The line of a turn, with some address.
+abbrev pub LinesOf : {A : Type 0} → Style → (ms : ℕ) → Turn A → View → List (Member A (String A)) → List ℕ → Type 0
+LinesOf style ms turn view watched text = (at : Text) × (text ≡ turn_line style ms watched at view turn)
+
+-- Subjects are shown where nothing waits to be told, and this is added to a text.
+pub record ShowsThen {A : Type 0} (style : Style) (ms : ℕ) (view : View) (waits : List Told) (old new : List (Member A (String A)))
+    (before after : List ℕ) : Type 0 where
+  pub shown : List ℕ
+  pub shows : waits ≡ [] → ShowsAll style ms view old new shown
+  pub rests : waits ≢ [] → (new ≡ old) × (shown ≡ [])
+  pub added : after ≡ before ++ shown
+
+-- One turn, by whose moment this one may have come.
+pub record Heard {A : Type 0} (until : ℕ) (is_over : Bool) (old : Stand A) (text : List ℕ) (new : Stand A) : Type 0 where
+  pub turn : Turn A
+  pub turns : Turns turn old text new
+  pub over : is_over ≡ is_come turn
+  pub comes : is_over ≡ true → (until ≤ new.course.agent.latest) × (new.course.told ≡ [])
+
+-- They do, and it is written.
+abbrev pub Writes : {A : Type 0} → (old new : Stand A) → (before after : Option (List ℕ)) → Type 0
+Writes old new before after = (text : List ℕ) × Prints old text new × Appends before after text
+
+-- some do, to where nobody sees
+abbrev pub WritesOn : {A : Type 0} → (old : Stand A) → (before after : Option (List ℕ)) → Type 0
+WritesOn {A} old before after = (last : Stand A) × Writes old last before after
+
+-- The session is ended so, and that is written.
+abbrev pub WritesEnd : {A : Type 0} → (old new : Stand A) → (before after : Option (List ℕ)) → Type 0
+WritesEnd old new before after = (text : List ℕ) × (prints : Prints old text new) × EndsBy old prints.moves × Appends before after text

@@ -1,0 +1,4 @@
+-- What contracts of private functions say: nobody has to believe it.
+pub mod Contents
+pub mod Covered
+pub mod Renewed
