@@ -2,7 +2,8 @@
 
 ghost use Rattle.std.specs.Prelude.{◌≡◌, Option, Some, None, IsSome};
 ghost use Rattle.ffi_server.specs.declared.server.Server.{Server};
-ghost use Rattle.ffi_bench.specs.Owned.{owned, coded_held};
+ghost use Rattle.ffi_bench.specs.Owned.{owned};
+ghost use Rattle.ffi_bench.specs.inner.Owned.{coded_held};
 
 use crate::parts::Parts;
 use ffi_server::Server;

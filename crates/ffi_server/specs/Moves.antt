@@ -13,7 +13,7 @@ use Rattle.zk_bench.specs.Served.{without_output}
 use Rattle.zk_bench.specs.Stepping.{IsReady, AnswersFirst, ProcessesFirst, TakesSome, shown_of}
 use Rattle.zk_bench.specs.Writing.{appended}
 use Rattle.ffi_server.specs.Changes.{change_told}
-use Rattle.ffi_server.specs.Refused.{IsNext, RefusesAppend, RefusesChange, RefusesNext, RefusesServer}
+use Rattle.ffi_server.specs.Refused.{IsNext, RefusesChange, RefusesNext, RefusesServer}
 use Rattle.ffi_server.specs.declared.undone.Undone.{Undone}
 use Rattle.ffi_server.specs.declared.undone.Undone.TheVariants.{Nothing, Memory}
 
@@ -39,13 +39,6 @@ pub record RanOut (before after : Served) : Type 0 where
   pub rest : after ≡ record before { history = after.history; time = after.time }
 
 -- ---- what other sessions do
-
--- A change is appended; or memory ran out; or nothing happened, for a reason.
-abbrev pub Appends : (now : ℕ) → Change → (before : Served) → Done → (after : Served) → Type 0
-Appends now change before (Ok done) after =
-    IsNext now change before.history × (after ≡ record (timed now before) { history = appended before.history now change })
-Appends now change before (Err Memory) after = RanOut before after
-Appends now change before (Err why) after = RefusesAppend now change before.history why × (after ≡ before)
 
 -- A change stands at the end of the history, as a transaction of its own.
 pub record Changed (now : ℕ) (told : Option Change) (before after : Served) : Type 0 where

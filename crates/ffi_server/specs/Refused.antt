@@ -16,13 +16,6 @@ use Rattle.ffi_server.specs.declared.undone.Undone.TheVariants.{NoChildrenForEph
 abbrev pub tree_now : HistoryView → Tree
 tree_now kept = tree_at (history_of kept) (newest 0 kept.transactions)
 
--- Bytes for a path: they are no UTF-8, or their text is no path, or memory ran out.
-abbrev pub RefusesPath : (path : List ℕ) → Undone → Type 0
-RefusesPath path Memory = ⊤
-RefusesPath path NotText = IsUtf8 path → ⊥
-RefusesPath path NotPath = IsSome (fault_of path)
-RefusesPath path why = ⊥
-
 -- No node is there, or none below which one is to be made.
 abbrev pub LacksNode : Tree → Change → Type 0
 LacksNode tree (Creates [] content owner) = ⊥
@@ -92,11 +85,6 @@ IsPast now kept = (2 ^ 63 ≤ now) ⊎ (2 ^ 63 ≤ newest 0 kept.transactions + 
 pub record IsNext (now : ℕ) (change : Change) (kept : HistoryView) : Type 0 where
   pub timely : IsPast now kept → ⊥
   pub admitted : Admits (tree_now kept) change
-
--- Why a change is not appended: it would be past all zxids or times, or the tree does not admit it.
-abbrev pub RefusesAppend : (now : ℕ) → Change → HistoryView → Undone → Type 0
-RefusesAppend now change kept NoTransaction = IsPast now kept
-RefusesAppend now change kept why = RefusesAt (tree_now kept) change why
 
 -- Why a change of a kind is not made: its number is none of a kind, or its bytes are no path, or it is not appended.
 abbrev pub RefusesChange : (now : ℕ) (kind owner : ℤ) (path content : List ℕ) → HistoryView → Undone → Type 0

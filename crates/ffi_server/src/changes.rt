@@ -3,7 +3,7 @@
 ghost use Rattle.std.specs.Prelude.{◌≡◌, IfErr, IfOk, option_map};
 ghost use Rattle.zk_history.specs.Made.{change_of as told_by};
 ghost use Rattle.ffi_server.specs.Changes.{change_by};
-ghost use Rattle.ffi_server.specs.Refused.{RefusesPath};
+ghost use Rattle.ffi_server.specs.inner.Refused.{RefusesPath};
 ghost use Rattle.ffi_server.specs.declared.undone.Undone.TheVariants.{Memory};
 
 use crate::kind::Kind;

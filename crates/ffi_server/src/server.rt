@@ -1,7 +1,8 @@
 //! A server in memory for one session.
 
 ghost use Rattle.std.specs.Prelude.{◌≡◌, ◌≤◌, suc, pos, IfErr, IfOk};
-ghost use Rattle.ffi_server.specs.Moves.{begun, Appends, Changes, Connects, Cuts, Expires, Hears, Learns, Processes, Says, Takes};
+ghost use Rattle.ffi_server.specs.inner.Moves.{Appends};
+ghost use Rattle.ffi_server.specs.Moves.{begun, Changes, Connects, Cuts, Expires, Hears, Learns, Processes, Says, Takes};
 ghost use Rattle.zk_history.specs.Made.{change_of as told_by};
 ghost use Rattle.ffi_server.specs.Refused.{RefusesServer};
 ghost use Rattle.zk_bench.specs.Stepping.{IsReady};
