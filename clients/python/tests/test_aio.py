@@ -81,7 +81,7 @@ class AioTest(unittest.IsolatedAsyncioTestCase, PartnerCase):
         partner = self.partner()
         partner.do("create /a one")
         client = await self.client(partner, timeout=600)  # so that no busy machine ends a call
-        reads = await asyncio.wait_for(asyncio.gather(*(client.get("/a") for _ in range(3000))), 9 * WAIT)
+        reads = await asyncio.wait_for(asyncio.gather(*(client.get("/a") for _ in range(1500))), 9 * WAIT)
         self.assertEqual({data for data, _ in reads}, {b"one"})
 
     async def test_watches_and_listeners(self) -> None:
