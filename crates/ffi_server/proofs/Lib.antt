@@ -1,2 +1,1 @@
-pub mod Admitting
 pub mod Refusing

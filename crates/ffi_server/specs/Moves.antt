@@ -44,7 +44,7 @@ pub record RanOut (before after : Served) : Type 0 where
 pub record Changed (now : ℕ) (told : Option Change) (before after : Served) : Type 0 where
   pub change : Change
   pub is : told ≡ Some change
-  pub next : IsNext now change before.history
+  pub follows : IsNext now change before.history
   pub appends : after ≡ record (timed now before) { history = appended before.history now change }
 
 -- The change is made; or memory ran out; or nothing happened, for a reason.
@@ -66,7 +66,7 @@ pub record Learned (next : Option Transaction) (before after : Served) : Type 0 
   pub alone : one.changes ≡ change ∷ []
   pub time : ℕ
   pub moment : one.time ≡ pos time
-  pub next : IsNext time change before.history
+  pub follows : IsNext time change before.history
   pub appends : after ≡ record (timed time before) { history = appended before.history time change }
 
 abbrev pub Learns : (other : Served) → (before : Served) → Done → (after : Served) → Type 0
