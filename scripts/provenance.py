@@ -6,7 +6,6 @@ from pathlib import Path
 
 TOP = Path(__file__).resolve().parent.parent
 PREBUILT = TOP / "prebuilt/x86_64-linux"
-ARCHIVE = TOP / "crates/ffi_c/out/libffi_c.a"
 VERSION = (TOP / "VERSION").read_text(encoding="utf-8").strip()
 # the crates whose code is in the packages: the C interface, and the program
 LIBRARY, PROGRAM = "ffi_c", "zk_shell"
@@ -30,10 +29,10 @@ def sum_of(data: bytes) -> str:
     return hashlib.sha256(data).hexdigest()
 
 
-def sum_of_sources() -> str:
-    """A checksum of all that the archive is made from: the sources, specifications and proofs of ffi_c and of the crates below it."""
+def sum_of_sources(name: str) -> str:
+    """A checksum of all that an archive is made from: the sources, specifications and proofs of its crate and of the crates below it."""
     summed = hashlib.sha256()
-    for crate in sorted(crates_below(TOP, LIBRARY)):
+    for crate in sorted(crates_below(TOP, name)):
         for part in ("src", "specs", "proofs"):
             for path in sorted((TOP / "crates" / crate / part).glob("**/*")):
                 if path.is_file():

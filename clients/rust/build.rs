@@ -8,6 +8,9 @@ use std::process::{exit, Command};
 
 const LIBRARY: &str = "libdirwolleu.a";
 
+/// The server in memory, which tests take where it is there.
+const BENCH: &str = "libdirwolleu_bench.a";
+
 /// The folder that the environment names. It is taken at its word: no other one is looked at.
 fn named() -> Option<PathBuf> {
     env::var_os("DIRWOLLEU_LIB_DIR").map(PathBuf::from)
@@ -96,4 +99,9 @@ fn main() {
     println!("cargo:rerun-if-changed={}", library.display());
     println!("cargo:rustc-link-search=native={}", folder.display());
     println!("cargo:rustc-link-lib=static=dirwolleu");
+    println!("cargo:rustc-check-cfg=cfg(dirwolleu_bench)");
+    println!("cargo:rerun-if-changed={}", folder.join(BENCH).display());
+    if folder.join(BENCH).is_file() {
+        println!("cargo:rustc-cfg=dirwolleu_bench");
+    }
 }

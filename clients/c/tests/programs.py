@@ -1,6 +1,6 @@
 """What the tests of programs share: the server in memory, a server that does what a test says, and processes whose lines are waited for.
 
-  programs.py OUT PARTNER     runs the tests of follow.py, tree.py and servers.py side by side, with the programs that are in OUT
+  programs.py OUT SERVER     runs the tests of follow.py, tree.py and servers.py side by side, with the programs that are in OUT
 """
 
 import concurrent.futures
@@ -24,7 +24,7 @@ sys.dont_write_bytecode = True
 BOUND, SLACK = 60, 20
 AT_ONCE = 16
 MAKING = threading.Lock()
-OUT, PARTNER = sys.argv[1:3] if len(sys.argv) == 3 else sys.exit(__doc__)
+OUT, SERVER = sys.argv[1:3] if len(sys.argv) == 3 else sys.exit(__doc__)
 
 
 def program(name):
@@ -61,7 +61,7 @@ class Process:
 @functools.cache
 def maker():
     """What makes the servers in memory, and ends with this program; and where it does."""
-    process = subprocess.Popen([sys.executable, pathlib.Path(PARTNER).with_name("maker.py")], stdin=subprocess.PIPE, stdout=subprocess.PIPE, text=True)
+    process = subprocess.Popen([sys.executable, pathlib.Path(SERVER).with_name("maker.py")], stdin=subprocess.PIPE, stdout=subprocess.PIPE, text=True)
     return process, ("127.0.0.1", int(process.stdout.readline().removeprefix("making ")))
 
 

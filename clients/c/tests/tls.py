@@ -1,7 +1,7 @@
 #!/usr/bin/env python3
 """Runs the example `tls` against the server in memory, with TLS before it: what it prints, and what it says of a certificate that it does not trust.
 
-  tls.py TLS PARTNER
+  tls.py TLS SERVER
 """
 import socket
 import ssl
@@ -12,7 +12,7 @@ import threading
 from pathlib import Path
 
 BOUND = 120
-PROGRAM, PARTNER = sys.argv[1:3] if len(sys.argv) == 3 else sys.exit(__doc__)
+PROGRAM, SERVER = sys.argv[1:3] if len(sys.argv) == 3 else sys.exit(__doc__)
 
 
 def make_certificate(folder, name):
@@ -52,7 +52,7 @@ def serve(listener, context, port):
 def main():
     with tempfile.TemporaryDirectory() as folder:
         trusted, other = make_certificate(Path(folder), "one"), make_certificate(Path(folder), "other")
-        partner = subprocess.Popen([sys.executable, PARTNER], stdin=subprocess.PIPE, stdout=subprocess.PIPE, text=True, bufsize=1)
+        partner = subprocess.Popen([sys.executable, SERVER], stdin=subprocess.PIPE, stdout=subprocess.PIPE, text=True, bufsize=1)
         port = int(partner.stdout.readline().split()[1])
         context = ssl.SSLContext(ssl.PROTOCOL_TLS_SERVER)
         context.load_cert_chain(*trusted)

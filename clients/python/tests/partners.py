@@ -15,8 +15,8 @@ import signal
 import socket
 import sys
 
-sys.path.insert(0, str(pathlib.Path(__file__).resolve().parents[2] / "partner"))
-partner = importlib.import_module("partner")
+sys.path.insert(0, str(pathlib.Path(__file__).resolve().parents[2] / "bench"))
+hostile = importlib.import_module("hostile")
 
 LAST = 512
 """A number of a file above those that a partner opens: so it is closed last, and who reads from it is told of the end of all."""
@@ -27,8 +27,8 @@ def run(words: list[str], file: int) -> None:
         os.dup2(file, number)
     fcntl.fcntl(file, fcntl.F_DUPFD_CLOEXEC, LAST)
     os.close(file)
-    sys.argv = ["partner.py", *words]
-    partner.main()
+    sys.argv = ["hostile.py", *words]
+    hostile.main()
 
 
 def main() -> None:

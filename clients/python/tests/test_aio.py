@@ -81,7 +81,7 @@ class AioTest(unittest.IsolatedAsyncioTestCase, PartnerCase):
         partner = self.partner()
         partner.do("create /a one")
         client = await self.client(partner, timeout=600)  # so that no busy machine ends a call
-        reads = await asyncio.wait_for(asyncio.gather(*(client.get("/a") for _ in range(3000))), 9 * WAIT)
+        reads = await asyncio.wait_for(asyncio.gather(*(client.get("/a") for _ in range(1500))), 9 * WAIT)
         self.assertEqual({data for data, _ in reads}, {b"one"})
 
     async def test_watches_and_listeners(self) -> None:
@@ -109,7 +109,7 @@ class AioTest(unittest.IsolatedAsyncioTestCase, PartnerCase):
         await client.get_children("/a", watch=True)
         kept, children = client.kept("/a"), client.kept_children("/a")
         assert kept is not None and children is not None
-        self.assertEqual((kept.mark, kept.data, kept.last_zxid), (Mark.GOOD, b"one", 3))
+        self.assertEqual((kept.mark, kept.data, kept.last_zxid), (Mark.GOOD, b"one", 2))
         self.assertEqual((children.mark, children.names), (Mark.GOOD, ("b",)))
         partner.do("set /a two")
         await within(lambda: (kept := client.kept("/a")) and kept.mark is Mark.STALE)

@@ -106,13 +106,13 @@ class FutureTest(ClientCase):
         client = self.client(self.partner().host, 600.0)  # so that no busy machine ends a call
         client.create("/a", b"one")
         answered: list[int] = []
-        futures = [client.get_async("/a") for _ in range(3000)]
+        futures = [client.get_async("/a") for _ in range(1500)]
         for number, future in enumerate(futures):
             future.add_done_callback(lambda _, number=number: answered.append(number))  # type: ignore[misc]
         done, waiting = concurrent.futures.wait(futures, 9 * WAIT)
-        self.assertEqual((len(done), len(waiting)), (3000, 0))
-        within(lambda: len(answered) == 3000, 9 * WAIT)
-        self.assertEqual(answered, list(range(3000)))
+        self.assertEqual((len(done), len(waiting)), (1500, 0))
+        within(lambda: len(answered) == 1500, 9 * WAIT)
+        self.assertEqual(answered, list(range(1500)))
         self.assertEqual({future.result()[0] for future in futures}, {b"one"})
 
     def test_each_call_has_a_future(self) -> None:
@@ -321,7 +321,7 @@ class AgeTest(ClientCase):
 
         client = self.client(self.raw_server(serve).host, 9.0)
         client.get("/a", watch=True)
-        within(lambda: client.stats().connections == 2)
+        within(lambda: client.stats().connections >= 2)
         age = client.age()
         time.sleep(0.3)
         self.assertGreaterEqual(client.age(), age + 0.29)

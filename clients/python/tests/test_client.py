@@ -92,17 +92,17 @@ class CallsTest(ClientCase):
         self.assertEqual(client.create("/a", b"one"), "/a")
         data, stat = client.get("/a")
         self.assertEqual((data, stat.version, stat.data_length, stat.ephemeral_owner), (b"one", 0, 3, 0))
-        changed = stat._replace(mzxid=3, mtime=0, version=1, data_length=5)
+        changed = stat._replace(mzxid=2, mtime=0, version=1, data_length=5)
         self.assertEqual(client.set("/a", b"three", 0)._replace(mtime=0), changed)
         self.assertEqual(client.create("/a/b"), "/a/b")
         found = client.exists("/a")
         assert found is not None
-        self.assertEqual((found.num_children, found.cversion, found.pzxid), (1, 1, 4))
+        self.assertEqual((found.num_children, found.pzxid), (1, 3))
         self.assertEqual(client.get_children("/a"), ["b"])
         client.delete("/a/b", 0)
         self.assertIsNone(client.exists("/a/b"))
         self.assertEqual(client.get_children("/a"), [])
-        self.assertEqual(client.last_zxid, 5)
+        self.assertEqual(client.last_zxid, 4)
 
     def test_ephemeral_and_sequential_nodes(self) -> None:
         partner = self.partner()
@@ -252,7 +252,7 @@ class KeptTest(ClientCase):
         self.assertIsNone(client.kept("/a"))
         _, stat = client.get("/a", watch=True)
         kept = self.kept(client, "/a")
-        self.assertEqual((kept.mark, kept.data, kept.last_zxid), (Mark.GOOD, b"one", 2))
+        self.assertEqual((kept.mark, kept.data, kept.last_zxid), (Mark.GOOD, b"one", 1))
         assert kept.stat is not None
         self.assertEqual((kept.stat.czxid, kept.stat.mzxid, kept.stat.version), (1, 1, 0))
         partner.do("set /a two")
@@ -281,7 +281,7 @@ class KeptTest(ClientCase):
         client.get_children("/a", watch=True)
         kept = client.kept_children("/a")
         assert kept is not None
-        self.assertEqual((kept.mark, kept.names, kept.pzxid, kept.last_zxid), (Mark.GOOD, ("b", "c"), 3, 4))
+        self.assertEqual((kept.mark, kept.names, kept.pzxid, kept.last_zxid), (Mark.GOOD, ("b", "c"), 3, 3))
         partner.do("delete /a/b")
         within(lambda: (kept := client.kept_children("/a")) and kept.mark is Mark.STALE)
         client.forget_stale()

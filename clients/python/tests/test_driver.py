@@ -135,7 +135,7 @@ class DialTest(PartnerCase):
             seen.append(peer.admit())
             peer.send(data_reply(peer.take(), b"one", zxid=9))
 
-        client = self.client(self.raw_server(serve).host, 3.0)
+        client = self.client(self.raw_server(serve).host, 60.0)  # so that no busy machine has an attempt given up
         client.get("/a")
         within(lambda: len(seen) >= 3)
         self.assertEqual([(one.last_zxid, one.session) for one in seen[:3]], [(0, 0), (9, 7), (9, 0)])
@@ -183,9 +183,9 @@ class DialTest(PartnerCase):
 
         server = self.raw_server(serve)
         began = time.monotonic()
-        self.client(server.host, 3.0)
+        self.client(server.host, 9.0)  # of which notices that come six seconds late are too few: so a busy machine may be
         within(lambda: len(server.dials) > 1)
-        self.assertGreater(server.dials[1] - began, 2.999)
+        self.assertGreater(server.dials[1] - began, 8.999)
 
     def test_a_server_that_sends_no_connection_in_time_is_given_up(self) -> None:
         """An attempt has a third of the timeout, and a second at least. One that is made too late is closed."""
@@ -214,18 +214,23 @@ class DialTest(PartnerCase):
                 peer.send(reply(pings[-1]))
 
         server = self.raw_server(serve)
-        self.client(server.host, 6.0)
-        within(lambda: len(pings) == 4)
+        self.client(server.host, 12.0)  # so that an answer may be four seconds late
+        within(lambda: len(pings) == 3)
         self.assertEqual(({ping.kind for ping in pings}, len(server.dials)), ({PING}, 1))
 
     def test_a_process_that_was_held_up_reads_what_its_socket_has(self) -> None:
-        pinged, told, resumed, pings = threading.Event(), threading.Event(), threading.Event(), list[Asked]()
+        """It is told of something while it is held up, and goes on after a server may be silent no more, eight seconds of twelve.
+
+        What came may have come as it was stopped: so it may be held up for three seconds more.
+        """
+        pinged, stopped, told, resumed = threading.Event(), threading.Event(), threading.Event(), threading.Event()
+        pings = list[Asked]()
 
         def serve(peer: Peer) -> None:
             peer.admit()
             peer.send(reply(peer.take()))
             pinged.set()
-            time.sleep(2.5)
+            stopped.wait(WAIT)
             peer.send(notice("/a"))
             told.set()
             while True:
@@ -235,14 +240,15 @@ class DialTest(PartnerCase):
                 resumed.set()
 
         server = self.raw_server(serve)
-        child = subprocess.Popen([sys.executable, str(HELD_UP), server.host, "6"], stdout=subprocess.PIPE, text=True)
+        child = subprocess.Popen([sys.executable, str(HELD_UP), server.host, "12"], stdout=subprocess.PIPE, text=True)
         self.addCleanup(child.communicate)
         self.addCleanup(child.kill)
         self.assertTrue(pinged.wait(WAIT))
-        time.sleep(1.4)
+        time.sleep(3.2)
         child.send_signal(signal.SIGSTOP)
-        time.sleep(2.9)
+        stopped.set()
         self.assertTrue(told.wait(WAIT))
+        time.sleep(5.0)
         child.send_signal(signal.SIGCONT)
         self.assertTrue(resumed.wait(WAIT))
         self.assertEqual((len(server.dials), pings[0].kind), (1, PING))

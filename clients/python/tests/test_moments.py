@@ -256,11 +256,13 @@ class BehindTest(UntimedCase):
             for made in (first, caught_up):
                 for command in ("create /a one", "set /a two", "create /b"):
                     await made.obey(command)
-            caught_up.sessions, caught_up.tree.zxid = first.sessions, 9
+            caught_up.sessions = first.sessions
             async with self.client(first.port, behind.port, caught_up.port, timeout=6.0) as client:
                 await client.get("/a", watch=True)
                 session = client.session_id
                 await first.obey("down")
+                for number in range(6):
+                    await caught_up.obey(f"create /b/{number}")
                 await self.until(lambda: client.connected and client.stats().connections == 2, 5.0)
                 self.assertEqual([port for _, port in self.loop.dials], [first.port, behind.port, caught_up.port])
                 self.assertEqual((client.session_id, behind.sessions), (session, {}))

@@ -221,6 +221,7 @@ class FreshRules(BothCase):
         before = client.stats().answered
         client.fresh()
         self.assertEqual(client.stats().answered - before, 1)  # sync alone: its zxid was seen already
+        partner.do("create /later")
         self.assertEqual(partner_asks(client, True) - 1, 1)  # the transaction, and a look at its zxid
 
     def test_it_waits_for_a_zxid_of_the_core(self) -> None:

@@ -20,8 +20,8 @@ from support import CLIENTS, PASSWORD, Asked, Connected, PartnerCase
 
 from dirwolleu import aio
 
-sys.path.insert(0, str(CLIENTS / "partner"))
-partner: Any = importlib.import_module("partner")
+sys.path.insert(0, str(CLIENTS / "bench"))
+server: Any = importlib.import_module("server")
 
 Serve = Callable[[], asyncio.Protocol]
 
@@ -79,7 +79,7 @@ class _End(asyncio.Transport):
 
 
 class _Listener:
-    """What listens at a port, as the partner has it."""
+    """What listens at a port, as the server in memory has it."""
 
     def __init__(self, loop: Untimed, port: int) -> None:
         self._loop, self._port, self.sockets = loop, port, [self]
@@ -205,7 +205,7 @@ class UntimedCase(PartnerCase):
 
     async def a_partner(self) -> Any:
         """The server in memory, within the loop. Its `port` is where it listens."""
-        made = partner.Partner(None, None)
+        made = server.Server()
         await made.listen(0)
         return made
 

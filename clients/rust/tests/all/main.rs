@@ -1,5 +1,8 @@
-//! The tests of sessions, as one program: it is built once, and most of its time are waits side by side, so give it many threads.
+//! The tests of sessions and at servers in memory, as one program: it is built once, and most of its time are waits side by side, so give it many threads.
 
+#[cfg(dirwolleu_bench)]
+#[path = "../bench/mod.rs"]
+mod bench;
 #[path = "../example/mod.rs"]
 mod example;
 #[path = "../jute/mod.rs"]
@@ -13,6 +16,8 @@ mod runtime;
 #[path = "../server/mod.rs"]
 mod server;
 
+#[cfg(dirwolleu_bench)]
+mod benches;
 mod lane;
 mod locks;
 mod machines;

@@ -1,4 +1,4 @@
-//! The server in memory, `clients/partner/partner.py`, in a process of its own.
+//! The server in memory at a socket, `clients/bench/server.py` with the moves of `hostile.py`, in a process of its own.
 
 use std::io::{BufRead, BufReader, ErrorKind, Write};
 use std::net::{Shutdown, SocketAddr, TcpStream};
@@ -8,7 +8,7 @@ use std::sync::OnceLock;
 use std::thread;
 use std::time::Duration;
 
-const MAKER: &str = concat!(env!("CARGO_MANIFEST_DIR"), "/../partner/maker.py");
+const MAKER: &str = concat!(env!("CARGO_MANIFEST_DIR"), "/../bench/maker.py");
 
 /// How long a line of the server may take.
 const PATIENCE: Duration = Duration::from_secs(120);

@@ -3,7 +3,7 @@
 use std::io::{BufRead, BufReader, Lines, Write};
 use std::process::{Child, ChildStdout, Command, Stdio};
 
-const PARTNER: &str = concat!(env!("CARGO_MANIFEST_DIR"), "/../../partner/partner.py");
+const SERVER: &str = concat!(env!("CARGO_MANIFEST_DIR"), "/../../bench/server.py");
 
 /// A process, and the lines that it prints. It ends where it is dropped.
 struct Program {
@@ -46,7 +46,7 @@ impl Drop for Program {
 
 #[test]
 fn nodes_are_followed_in_tasks() {
-    let Some(mut server) = Program::start("python3", &[PARTNER]) else {
+    let Some(mut server) = Program::start("python3", &[SERVER]) else {
         println!("skipped: there is no python3");
         return;
     };

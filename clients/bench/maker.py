@@ -1,8 +1,8 @@
 #!/usr/bin/env python3
 """maker.py: makes servers in memory, each in a process of its own that is forked, so that it begins at once.
 
-It prints `making PORT`. A connection to that port of 127.0.0.1 is the standard input and output of a server, after a line with its words in JSON,
-and the server ends with it. No more are made after the end of standard input.
+It prints `making PORT`. A connection to that port of 127.0.0.1 is the standard input and output of a server, after a line with its words in
+JSON, and the server ends with it. No more are made after the end of standard input.
 """
 
 from __future__ import annotations
@@ -16,7 +16,7 @@ import sys
 
 sys.dont_write_bytecode = True
 
-import partner  # noqa: E402
+import hostile  # noqa: E402
 
 
 def read_line(connection: socket.socket) -> str:
@@ -36,8 +36,8 @@ def run(connection: socket.socket) -> None:
     for number in (0, 1):
         os.dup2(connection.fileno(), number)
     connection.close()
-    sys.argv = ["partner.py", *words]
-    partner.main()
+    sys.argv = ["hostile.py", *words]
+    hostile.main()
     sys.stdout.flush()
 
 

@@ -1,0 +1,106 @@
+"""Frames of the client protocol, as zookeeper.jute spells them: what the socket loop has to see of them."""
+
+from __future__ import annotations
+
+import struct
+from collections.abc import Iterator
+from typing import NamedTuple, Optional
+
+CREATE, DELETE, EXISTS, GET_DATA, SET_DATA, GET_ACL, SET_ACL, GET_CHILDREN, SYNC = 1, 2, 3, 4, 5, 6, 7, 8, 9
+PING, GET_CHILDREN2, CHECK, MULTI, CREATE2, AUTH, SET_WATCHES, CLOSE_SESSION, ERROR = 11, 12, 13, 14, 15, 100, 101, -11, -1
+
+OK = 0
+EPHEMERAL = 1
+"""The flag of a create."""
+
+LONGEST = 1_048_575
+"""The greatest length of a frame that is taken, as real servers have it by default."""
+
+
+class Malformed(Exception):
+    """The bytes of a request do not read."""
+
+
+class Record:
+    """Reads the fields of a record, from left to right."""
+
+    def __init__(self, payload: bytes) -> None:
+        self._payload, self._place = payload, 0
+
+    def _take(self, count: int) -> bytes:
+        taken = self._payload[self._place : self._place + count]
+        if count < 0 or len(taken) < count:
+            raise Malformed
+        self._place += count
+        return taken
+
+    def rest(self) -> bytes:
+        return self._payload[self._place :]
+
+    def take_int(self) -> int:
+        return int(struct.unpack(">i", self._take(4))[0])
+
+    def take_long(self) -> int:
+        return int(struct.unpack(">q", self._take(8))[0])
+
+    def take_boolean(self) -> bool:
+        return self._take(1) != b"\0"
+
+    def take_buffer(self) -> Optional[bytes]:
+        length = self.take_int()
+        return None if length == -1 else self._take(length)
+
+    def take_text(self) -> str:
+        try:
+            return (self.take_buffer() or b"").decode()
+        except UnicodeDecodeError:
+            raise Malformed from None
+
+    def take_acl(self) -> bytes:
+        """The bytes of an ACL."""
+        begin = self._place
+        for _ in range(self.take_int()):
+            self.take_int(), self.take_text(), self.take_text()
+        return self._payload[begin : self._place]
+
+
+class Reply(NamedTuple):
+    """What a server sent: a reply, or a notice, whose xid is -1."""
+
+    xid: int
+    zxid: int
+    code: int
+    body: bytes
+
+
+def put_text(text: str) -> bytes:
+    spelled = text.encode()
+    return struct.pack(">i", len(spelled)) + spelled
+
+
+def framed(payload: bytes) -> bytes:
+    return struct.pack(">i", len(payload)) + payload
+
+
+def put_reply(xid: int, zxid: int, code: int, body: bytes = b"") -> bytes:
+    return framed(struct.pack(">iqi", xid, zxid, code) + body)
+
+
+def split(output: bytes) -> Iterator[bytes]:
+    """The frames of what a server sent, each with its length."""
+    while output:
+        end = 4 + int.from_bytes(output[:4], "big")
+        yield output[:end]
+        output = output[end:]
+
+
+def read_password(frame: bytes) -> Optional[bytes]:
+    """The password in the answer to a request to connect."""
+    record = Record(frame[4:])
+    record.take_int(), record.take_int(), record.take_long()
+    return record.take_buffer()
+
+
+def read_reply(frame: bytes) -> Reply:
+    xid, zxid, code = struct.unpack(">iqi", frame[4:20])
+    return Reply(xid, zxid, code, frame[20:])

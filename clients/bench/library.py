@@ -1,0 +1,140 @@
+"""The server in memory, as a library for tests: include/dirwolleu_bench.h by ctypes."""
+
+from __future__ import annotations
+
+import os
+import pathlib
+from ctypes import CDLL, POINTER, Structure, byref, c_bool, c_char, c_char_p, c_int32, c_int64, c_size_t, c_uint64, c_void_p
+from ctypes import create_string_buffer, string_at
+from typing import Any
+
+# made by scripts/bench_interface from include/bench.toml
+OK = 0
+NONE = 1
+NO_MEMORY = -2
+CLOSED = -3
+NOT_TEXT = -4
+NOT_PATH = -5
+NO_SUCH_SERVER = -6
+NO_SUCH_KIND = -7
+BAD_ARGUMENTS = -8
+NO_TRANSACTION = -9
+NO_NODE = -101
+NO_CHILDREN_FOR_EPHEMERALS = -108
+NODE_EXISTS = -110
+NOT_EMPTY = -111
+MADE = 1
+WRITTEN = 2
+DELETED = 3
+
+
+class _Slot(Structure):
+    _fields_ = [("at", c_void_p)]
+
+
+class _Handle(Structure):
+    _fields_ = [("is_open", c_bool), ("slot", _Slot)]
+
+
+_HANDLE = POINTER(_Handle)
+_FUNCTIONS: dict[str, tuple[Any, tuple[Any, ...]]] = {
+    "dw_bench_open": (c_int32, (_HANDLE, c_int64)),
+    "dw_bench_close": (None, (_HANDLE,)),
+    "dw_bench_change": (c_int32, (_HANDLE, c_uint64, c_int32, c_int64, c_char_p, c_size_t, c_char_p, c_size_t)),
+    "dw_bench_learn": (c_int32, (_HANDLE, _HANDLE)),
+    "dw_bench_zxid": (c_int64, (_HANDLE,)),
+    "dw_bench_connect": (c_int32, (_HANDLE, c_int32)),
+    "dw_bench_cut": (c_int32, (_HANDLE,)),
+    "dw_bench_hear": (c_int32, (_HANDLE, c_char_p, c_size_t)),
+    "dw_bench_say": (c_int32, (_HANDLE, POINTER(c_char), c_size_t, POINTER(c_size_t))),
+    "dw_bench_process": (c_int32, (_HANDLE, c_uint64)),
+    "dw_bench_take": (c_int32, (_HANDLE, c_int32)),
+    "dw_bench_expire": (c_int32, (_HANDLE, c_bool)),
+}
+# end of what is made
+
+ROOM = 1 << 16
+_NAME = "libdirwolleu_bench.so"
+_CLIENTS = pathlib.Path(__file__).resolve().parents[1]
+_PLACES = (_CLIENTS / "out" / _NAME, _CLIENTS / "bench" / "x86_64-linux" / _NAME)
+
+
+class BenchError(Exception):
+    """The library answers what it is not to answer to this program."""
+
+
+def _load() -> CDLL:
+    found = [str(place) for place in _PLACES if place.is_file()]
+    library = CDLL(os.environ.get("DIRWOLLEU_BENCH") or (found or [_NAME])[0])
+    for name, (result, parameters) in _FUNCTIONS.items():
+        function = getattr(library, name)
+        function.restype, function.argtypes = result, parameters
+    return library
+
+
+_LIBRARY = _load()
+_ROOM = create_string_buffer(ROOM)
+
+
+def _done(result: int, *allowed: int) -> int:
+    if result != OK and result not in allowed:
+        raise BenchError(f"the server in memory answers {result}")
+    return result
+
+
+class Bench:
+    """A server in memory for one session, which is a number above 0."""
+
+    def __init__(self, session: int) -> None:
+        self._handle = _Handle()
+        self.is_open = False
+        """Whether a server had the connection when it was last asked what it says."""
+        _done(_LIBRARY.dw_bench_open(byref(self._handle), session))
+
+    def __del__(self) -> None:
+        _LIBRARY.dw_bench_close(byref(self._handle))
+
+    def change(self, now_ms: int, kind: int, path: str, data: bytes = b"", owner: int = 0) -> int:
+        """Another session changes a node. Answers 0, or why the tree does not admit it."""
+        text = path.encode()
+        result = _LIBRARY.dw_bench_change(byref(self._handle), now_ms, kind, owner, text, len(text), data, len(data))
+        return _done(result, NOT_PATH, BAD_ARGUMENTS, NO_NODE, NODE_EXISTS, NOT_EMPTY)
+
+    def learn(self, other: Bench) -> bool:
+        """Takes over the next transaction that the other one has and this one has not. Whether there is one."""
+        return _done(_LIBRARY.dw_bench_learn(byref(self._handle), byref(other._handle)), NONE) == OK
+
+    def zxid(self) -> int:
+        return int(_LIBRARY.dw_bench_zxid(byref(self._handle)))
+
+    def connect(self, server: int) -> None:
+        _done(_LIBRARY.dw_bench_connect(byref(self._handle), server))
+        self.is_open = True
+
+    def cut(self) -> None:
+        _done(_LIBRARY.dw_bench_cut(byref(self._handle)))
+        self.is_open = False
+
+    def hear(self, data: bytes) -> None:
+        """Hands in what the client sent."""
+        _done(_LIBRARY.dw_bench_hear(byref(self._handle), data, len(data)))
+
+    def process(self, now_ms: int) -> bool:
+        """Processes the next whole request. Whether there is one."""
+        return _done(_LIBRARY.dw_bench_process(byref(self._handle), now_ms), NONE) == OK
+
+    def take(self, server: int) -> None:
+        _done(_LIBRARY.dw_bench_take(byref(self._handle), server))
+
+    def say(self) -> bytes:
+        """Takes out all that the server sent."""
+        said, count = b"", c_size_t(ROOM)
+        while count.value == ROOM:
+            result = _LIBRARY.dw_bench_say(byref(self._handle), _ROOM, ROOM, byref(count))
+            self.is_open = _done(result, NONE) == OK
+            said += string_at(_ROOM, count.value)
+        return said
+
+    def expire(self, is_expired: bool) -> None:
+        """Clients are told that the session has expired, or are admitted again."""
+        _done(_LIBRARY.dw_bench_expire(byref(self._handle), is_expired))

@@ -1,0 +1,199 @@
+//! A client at the server in memory, which is proved to be one of the model: no socket and no clock, and bytes are cut where the test says.
+//! It wants `libdirwolleu_bench.a` beside the library.
+
+use crate::bench::{self, Bench, Change};
+use dirwolleu::{
+    Brought, Client, DataAnswer, Fault, Mark, Mode, Moment, NodeEvent, Output, Outputs, Side,
+    State, Watch,
+};
+use std::time::Duration;
+
+const TIMEOUT: Duration = Duration::from_secs(6);
+const NOW: Moment = Moment::from_millis(1_000);
+const NUMBER: i64 = 77;
+
+/// A client and its server.
+struct Pair {
+    client: Client,
+    bench: Bench,
+    /// How many bytes come at a time.
+    piece: usize,
+    /// What was said to callers.
+    said: Vec<String>,
+}
+
+/// What a client says to its server, and to its callers.
+fn read(mut outputs: Outputs<'_>, said: &mut Vec<String>) -> Vec<u8> {
+    let mut sent = Vec::new();
+    while let Some(output) = outputs.next().unwrap() {
+        match output {
+            Output::Send(frame) => sent.extend(frame.to_vec()),
+            Output::Answer { outcome, .. } => {
+                let reply = outcome.unwrap();
+                said.push(match reply.result.unwrap() {
+                    Brought::Data { data, .. } => {
+                        let data = data.map(|data| data.to_vec()).unwrap_or_default();
+                        format!("{} at {}", String::from_utf8(data).unwrap(), reply.zxid)
+                    }
+                    _ => format!("done at {}", reply.zxid),
+                });
+            }
+            Output::Report { side, event, .. } => said.push(report(side, event)),
+            _ => {}
+        }
+    }
+    sent
+}
+
+fn report(side: Side, event: NodeEvent) -> String {
+    format!("{side:?} {event:?}")
+}
+
+impl Pair {
+    fn new(piece: usize) -> Pair {
+        Pair {
+            client: Client::open(TIMEOUT).unwrap(),
+            bench: Bench::new(NUMBER),
+            piece,
+            said: Vec::new(),
+        }
+    }
+
+    /// Hands something to the client, and moves bytes until none is on its way. Whether the server has the connection then.
+    fn step(&mut self, hand: impl FnOnce(&mut Client) -> Result<Outputs<'_>, Fault>) -> bool {
+        let mut sent = read(hand(&mut self.client).unwrap(), &mut self.said);
+        loop {
+            self.bench.hear(&sent);
+            while self.bench.process() {}
+            let (bytes, is_open) = self.bench.say(self.piece);
+            if bytes.is_empty() {
+                return is_open;
+            }
+            sent = read(self.client.bytes(NOW, &bytes).unwrap(), &mut self.said);
+        }
+    }
+
+    fn connect(&mut self, number: i32) -> bool {
+        self.bench.connect(number).unwrap();
+        self.step(|client| client.opened(NOW))
+    }
+
+    fn cut(&mut self) {
+        self.bench.cut();
+        let _ = self.client.cut(NOW).unwrap();
+    }
+
+    /// Another session changes a node, and the first server takes it.
+    fn change(&mut self, path: &str, change: &Change<'_>) {
+        self.bench.change(path, change).unwrap();
+        self.bench.take(1);
+    }
+
+    fn read(&mut self, path: &str) {
+        assert!(self.step(|client| client.get_data(NOW, 1, path, Watch::Yes)));
+    }
+
+    /// Bytes that are on their way come.
+    fn wait(&mut self) {
+        assert!(self.step(|client| client.tick(NOW)));
+    }
+
+    fn take_said(&mut self) -> Vec<String> {
+        std::mem::take(&mut self.said)
+    }
+}
+
+fn mark(client: &Client, path: &str) -> Option<Mark> {
+    let kept = client.peek_data(path).unwrap()?;
+    assert!(matches!(kept.answer, DataAnswer::Full { .. }));
+    Some(kept.mark)
+}
+
+#[test]
+fn what_is_marked_good_is_what_the_history_has() {
+    for piece in [1, 7, 4096] {
+        let mut pair = Pair::new(piece);
+        pair.change("/a", &Change::Make(b"one"));
+        assert!(pair.connect(1));
+        pair.read("/a");
+        pair.change("/a", &Change::Write(b"two"));
+        assert_eq!(mark(&pair.client, "/a"), Some(Mark::Good)); // the notice is on its way
+        pair.wait();
+        assert_eq!(mark(&pair.client, "/a"), Some(Mark::Stale));
+        pair.read("/a");
+        let changed = report(Side::Data, NodeEvent::DataChanged);
+        assert_eq!(pair.take_said(), ["one at 1", changed.as_str(), "two at 2"]);
+        pair.cut();
+        pair.change("/a", &Change::Write(b"three"));
+        assert!(pair.connect(1)); // which tells what was missed
+        pair.read("/a");
+        assert_eq!(pair.take_said(), [changed.as_str(), "three at 3"]);
+    }
+}
+
+#[test]
+fn a_server_that_is_behind_ends_the_connection() {
+    let mut pair = Pair::new(4096);
+    pair.change("/a", &Change::Make(b"one"));
+    assert!(pair.connect(1));
+    pair.read("/a");
+    pair.cut();
+    assert!(!pair.connect(2));
+    assert_eq!(pair.client.state(), State::Connecting);
+    pair.cut();
+    pair.bench.take(2);
+    assert!(pair.connect(2));
+    assert_eq!(pair.client.state(), State::Connected);
+}
+
+#[test]
+fn a_session_that_has_expired_is_told_so() {
+    let mut pair = Pair::new(4096);
+    assert!(pair.connect(1));
+    pair.cut();
+    pair.bench.expire(true);
+    assert!(!pair.connect(1));
+    assert_eq!(pair.client.state(), State::Expired);
+    pair.bench.expire(false);
+    pair.client.renew(TIMEOUT).unwrap();
+    assert!(pair.connect(1));
+    assert_eq!(pair.client.state(), State::Connected);
+}
+
+#[test]
+fn the_server_of_another_session_learns_what_was_written() {
+    let mut pair = Pair::new(4096);
+    assert!(pair.connect(1));
+    assert!(pair.step(|client| client.create(NOW, 1, "/mine", Some(b"x"), Mode::Ephemeral)));
+    let mut other = Bench::new(NUMBER + 1);
+    assert!(other.learn(&mut pair.bench));
+    assert!(!other.learn(&mut pair.bench));
+    assert_eq!((other.zxid(), pair.bench.zxid()), (1, 1));
+    pair.read("/mine");
+    other.change("/mine", &Change::Delete).unwrap();
+    assert!(pair.bench.learn(&mut other));
+    pair.bench.take(1);
+    pair.wait();
+    let deleted = report(Side::Data, NodeEvent::Deleted);
+    assert_eq!(pair.take_said(), ["done at 1", "x at 1", deleted.as_str()]);
+}
+
+#[test]
+fn what_is_refused_says_why() {
+    let mut bench = Bench::new(NUMBER);
+    bench.change("/a", &Change::Make(b"")).unwrap();
+    bench.change("/a/b", &Change::Make(b"")).unwrap();
+    for (path, change, why) in [
+        ("/", Change::Delete, bench::BAD_ARGUMENTS),
+        ("/", Change::Make(b""), bench::NODE_EXISTS),
+        ("/a", Change::Make(b""), bench::NODE_EXISTS),
+        ("/b/c", Change::Make(b""), bench::NO_NODE),
+        ("/b", Change::Write(b""), bench::NO_NODE),
+        ("/a", Change::Delete, bench::NOT_EMPTY),
+        ("b", Change::Make(b""), bench::NOT_PATH),
+    ] {
+        assert_eq!(bench.change(path, &change), Err(why), "{path}");
+        assert_eq!(bench.zxid(), 2);
+    }
+    assert_eq!(bench.connect(0), Err(bench::NO_SUCH_SERVER));
+}

@@ -1,0 +1,59 @@
+-- `of_parts` moves two fields, and what they own goes with them.
+use mathlib.Core.Path.{refl}
+use mathlib.Core.List.{List, [], ◌∷◌}
+use seplogic.Ra.Ura.{Ura}
+use base.Logic.{SProp, emp, id⊢}
+use base.Fml.{ftrue, fsep}
+use prog.Memory.{Memory}
+use prog.Routine.{Routine}
+use prog.Wp.{WpFn, Tables}
+use types.Logic.{Logic}
+use contract.Monad.{Fun}
+use types.Kit.{Item, ‵, raw, ◌⊛◌, ◌$◌, ◌∵◌, !, qed, by, move, drop, use1, join, split, fsplit, fjoin, suffices, done}
+use types.Part.{whole, sub, agg}
+use types.Run.{stop, fld, no_more, and_then, of_opd, returns, enter}
+use types.ByLocal.{alloc_all, pass_all, free_all, look_at, get, get_in, sets}
+use Rattle.std.specs.Prelude.{Some}
+use denote.Exit.{yes}
+use denote.Signature.{type_at}
+use denote.Steps.{nothing}
+use denote.Triple.Walked.{says, Stays, stay_dropped, Walks, walk_of, ends_at, Goes-dropped}
+use Rattle.std_alloc.proofs.BoxSteps.Form.{D, B, word, box_typed}
+use Rattle.std_alloc.proofs.BoxSteps.Steps.{box_out, box_in}
+use Rattle.ffi_bench.proofs.Walks.{here, meets, passed_as}
+use Rattle.ffi_bench.proofs.AsBox.{E, FromParts as From}
+use Rattle.ffi_bench.specs.contracts.slot.Slot.of_parts as F
+use Rattle.ffi_bench.specs.contracts.slot.Slot.of_parts.Key.{name as #self}
+use Rattle.ffi_bench.proofs.slot.Slot.of_parts.Statement as stated
+use Rattle.ffi_bench.proofs.slot.Slot.of_parts.Code as code
+
+abbrev stayed : Stays (F.ended).signature.params (F.ended).kept
+stayed = (stay_dropped From yes, tt)
+
+module _ {M : Type 1} {𝓤 : Ura M} (𝓛 : Logic 𝓤) (at_mem : Memory → SProp 𝓤) (run : Routine → Fun 𝓤) (𝓣 : Tables 𝓤 𝓛.H) where
+  open 𝓛 use {H}
+
+  walk : Walks 𝓛 F.ended stayed (WpFn 𝓤 H 𝓣.C 𝓣.Λ code.function) (F.clauses 𝓛 at_mem run)
+  walk z =
+      let Post = (walk_of 𝓛 F.ended stayed (F.clauses 𝓛 at_mem run)).post z in
+      let v : D E = record { ptr = z.0.3.0.ptr; alloc = z.0.3.0.alloc; value = z.0.3.0.value } in
+      let To = type_at (F.signature).result tt in
+      let made : To.Denot = record { at = v.ptr; alloc = v.alloc; held = Some v.value } in
+      qed 𝓛 ((‵ ftrue ⊛ ‵ (fsep ((B E).own_val v z.0.4.0) ftrue)) ∷ raw (emp 𝓤) ∷ []) ∵ split ! $ drop ! $ fsplit ! $
+      box_out E ! v z.0.4.0 (λ b o hv e ws fa. box_in E ! v b o v.value e refl $ use1 𝓛 (‵ (To.own_val made (word E hv b o ∷ []))) (id⊢ 𝓤 _)
+      $ move ! (1 ∷ 2 ∷ []) $ drop ! $ drop ! $
+      let w = word E hv b o in
+      let Γ : List (Item 𝓤) = ‵ (To.own_val made (w ∷ [])) ∷ [] in
+      by ! (passed_as 𝓛 𝓣 code.function Post Γ ws
+      (qed 𝓛 Γ ∵ enter ! 𝓣.C 𝓣.Λ code.function (w ∷ []) _ $ alloc_all ! (λ ls. pass_all ! refl (box_typed E hv b o fa, tt) $
+      sets ! (of_opd ! (get_in ! (fld ! refl (stop !)) (sub ! 0 refl (whole !)))) refl (tt, tt) $ sets
+      ! (of_opd ! (get_in ! (fld ! refl (stop !)) (sub ! 1 refl (whole !)))) refl fa $
+      sets ! (agg ! (and_then ! (get ! refl) (and_then ! (get ! refl) (no_more !)))) refl (box_typed E hv b o fa) $ returns
+      ! (look_at ! 0 refl) $ free_all ! refl $
+      suffices ! _ (ends_at 𝓛 F.ended stayed (F.clauses 𝓛 at_mem run) z w made (tt, tt) (tt, tt)) $ says ! refl $
+      nothing ! $ nothing ! $ fjoin ! $ join ! $ nothing ! $ join ! $ done !))))
+
+pub of_parts_spec : {M : Type 1} → stated.statement M
+of_parts_spec 𝓤 𝓛 𝓜 𝓡 wired =
+    meets 𝓛 𝓜 𝓡 F.ended stayed (Goes-dropped 𝓛 0 From yes (λ κs x f. refl), tt) (F.clauses 𝓛 𝓜.mem 𝓡.returns)
+    #self code.function (code.unfolded 𝓤 𝓛.H 𝓜 𝓡 wired) (walk 𝓛 𝓜.mem 𝓡.returns (here 𝓛 𝓜 𝓡))

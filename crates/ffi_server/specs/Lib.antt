@@ -1,0 +1,5 @@
+pub mod Changes
+pub mod Codes
+pub mod Moves
+pub mod Refused
+pub mod inner

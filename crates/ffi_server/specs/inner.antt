@@ -1,0 +1,3 @@
+-- What contracts of private functions say: nobody has to believe it.
+pub mod Moves
+pub mod Refused
