@@ -6,8 +6,8 @@ use Rattle.std_alloc.proofs.BoxSteps.Form.{Bx}
 use Rattle.std_heap.specs.contracts.Global as Heap
 use Rattle.std_heap.specs.contracts.GlobalAllocator.TheImpl.{ghosts, dict}
 use Rattle.std_heap.proofs.Global.TheLaws as heap
-use Rattle.ffi_server.specs.contracts.server.Server as Home
-use Rattle.ffi_server.proofs.server.Server.TheLaws as home
+use Rattle.ffi_server.specs.contracts.server.MemoryServer as Home
+use Rattle.ffi_server.proofs.server.MemoryServer.TheLaws as home
 use Rattle.ffi_bench.specs.contracts.parts.Parts as Parts
 use Rattle.ffi_bench.specs.contracts.slot.Slot as Sealed
 

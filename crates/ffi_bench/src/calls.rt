@@ -3,7 +3,7 @@
 ghost use Rattle.std.specs.Prelude.{◌≡◌, Some, None};
 ghost use Rattle.ffi_bench.specs.Held.{IsClosed, Tells};
 ghost use Rattle.ffi_server.specs.Moves.{Connects, Cuts, Expires, Hears, Processes, Says, Takes};
-ghost use Rattle.ffi_server.specs.declared.server.Server.{Server};
+ghost use Rattle.ffi_server.specs.declared.server.MemoryServer.{MemoryServer};
 
 use crate::handle::DwBench;
 use crate::taking::{CLOSED, drive, take_server};
@@ -14,7 +14,7 @@ use std::alloc::Global;
 #[unsafe(no_mangle)]
 pub extern "C" fn dw_bench_connect(alloc: Global, handle: &mut DwBench, number: i32) -> i32
     ensures closed { handle.old.slot.held ≡ None → IsClosed result handle.new.slot.held }
-    ensures connects { (s : Server) → handle.old.slot.held ≡ Some s → Tells (Connects number s.bench) result handle.new.slot.held }
+    ensures connects { (s : MemoryServer) → handle.old.slot.held ≡ Some s → Tells (Connects number s.bench) result handle.new.slot.held }
 {
     drive(alloc, handle, |server| server.connect(number))
 }
@@ -23,7 +23,7 @@ pub extern "C" fn dw_bench_connect(alloc: Global, handle: &mut DwBench, number: 
 #[unsafe(no_mangle)]
 pub extern "C" fn dw_bench_cut(alloc: Global, handle: &mut DwBench) -> i32
     ensures closed { handle.old.slot.held ≡ None → IsClosed result handle.new.slot.held }
-    ensures cuts { (s : Server) → handle.old.slot.held ≡ Some s → Tells (Cuts s.bench) result handle.new.slot.held }
+    ensures cuts { (s : MemoryServer) → handle.old.slot.held ≡ Some s → Tells (Cuts s.bench) result handle.new.slot.held }
 {
     drive(alloc, handle, |server| server.cut())
 }
@@ -32,7 +32,7 @@ pub extern "C" fn dw_bench_cut(alloc: Global, handle: &mut DwBench) -> i32
 #[unsafe(no_mangle)]
 pub extern "C" fn dw_bench_hear(alloc: Global, handle: &mut DwBench, bytes: &[u8]) -> i32
     ensures closed { handle.old.slot.held ≡ None → IsClosed result handle.new.slot.held }
-    ensures hears { (s : Server) → handle.old.slot.held ≡ Some s → Tells (Hears bytes.now s.bench) result handle.new.slot.held }
+    ensures hears { (s : MemoryServer) → handle.old.slot.held ≡ Some s → Tells (Hears bytes.now s.bench) result handle.new.slot.held }
 {
     drive(alloc, handle, |server| server.hear(bytes))
 }
@@ -47,7 +47,7 @@ pub extern "C" fn dw_bench_say(
     count: &mut usize,
 ) -> i32
     ensures closed { handle.old.slot.held ≡ None → IsClosed result handle.new.slot.held × (out.new ≡ out.old) × (count.new ≡ 0) }
-    ensures says { (s : Server) → handle.old.slot.held ≡ Some s
+    ensures says { (s : MemoryServer) → handle.old.slot.held ≡ Some s
         → Tells (Says out.old out.new count.new s.bench) result handle.new.slot.held }
 {
     *count = 0;
@@ -63,7 +63,7 @@ pub extern "C" fn dw_bench_say(
 #[unsafe(no_mangle)]
 pub extern "C" fn dw_bench_process(alloc: Global, handle: &mut DwBench, now_ms: u64) -> i32
     ensures closed { handle.old.slot.held ≡ None → IsClosed result handle.new.slot.held }
-    ensures processes { (s : Server) → handle.old.slot.held ≡ Some s → Tells (Processes now_ms s.bench) result handle.new.slot.held }
+    ensures processes { (s : MemoryServer) → handle.old.slot.held ≡ Some s → Tells (Processes now_ms s.bench) result handle.new.slot.held }
 {
     drive(alloc, handle, |server| server.process(now_ms))
 }
@@ -72,7 +72,7 @@ pub extern "C" fn dw_bench_process(alloc: Global, handle: &mut DwBench, now_ms: 
 #[unsafe(no_mangle)]
 pub extern "C" fn dw_bench_take(alloc: Global, handle: &mut DwBench, number: i32) -> i32
     ensures closed { handle.old.slot.held ≡ None → IsClosed result handle.new.slot.held }
-    ensures takes { (s : Server) → handle.old.slot.held ≡ Some s → Tells (Takes number s.bench) result handle.new.slot.held }
+    ensures takes { (s : MemoryServer) → handle.old.slot.held ≡ Some s → Tells (Takes number s.bench) result handle.new.slot.held }
 {
     drive(alloc, handle, |server| server.take(number))
 }
@@ -81,7 +81,7 @@ pub extern "C" fn dw_bench_take(alloc: Global, handle: &mut DwBench, number: i32
 #[unsafe(no_mangle)]
 pub extern "C" fn dw_bench_expire(alloc: Global, handle: &mut DwBench, is_expired: bool) -> i32
     ensures closed { handle.old.slot.held ≡ None → IsClosed result handle.new.slot.held }
-    ensures expires { (s : Server) → handle.old.slot.held ≡ Some s → Tells (Expires is_expired s.bench) result handle.new.slot.held }
+    ensures expires { (s : MemoryServer) → handle.old.slot.held ≡ Some s → Tells (Expires is_expired s.bench) result handle.new.slot.held }
 {
     drive(alloc, handle, |server| server.expire(is_expired))
 }

@@ -3,7 +3,7 @@
 ghost use Rattle.std.specs.Prelude.{◌≡◌, IfSome, IfNone, Some, None, is_some};
 
 use crate::slot::Slot;
-use ffi_server::Server;
+use ffi_server::MemoryServer;
 use std::alloc::Global;
 
 /// A server, or nothing. C makes the first one of zeros.
@@ -26,7 +26,7 @@ impl DwBench {
     }
 
     /// A handle of this server.
-    pub fn of(server: Box<Server, Global>) -> DwBench
+    pub fn of(server: Box<MemoryServer, Global>) -> DwBench
         ensures { result.slot.held ≡ Some server.value }
     {
         DwBench {
@@ -36,7 +36,7 @@ impl DwBench {
     }
 
     /// The server of a handle, if it has one.
-    pub fn into_box(self) -> Option<Box<Server, Global>>
+    pub fn into_box(self) -> Option<Box<MemoryServer, Global>>
         ensures some { IfSome result (λ b. self.slot.held ≡ Some b.value) }
         ensures none { IfNone result (self.slot.held ≡ None) }
     {

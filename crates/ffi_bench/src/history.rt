@@ -4,7 +4,7 @@ ghost use Rattle.std.specs.Prelude.{◌≡◌, negsuc, pos, Some, None};
 ghost use Rattle.zk_nodes.specs.History.{newest};
 ghost use Rattle.ffi_bench.specs.Held.{IsClosed, Tells};
 ghost use Rattle.ffi_server.specs.Moves.{Changes, Learns};
-ghost use Rattle.ffi_server.specs.declared.server.Server.{Server};
+ghost use Rattle.ffi_server.specs.declared.server.MemoryServer.{MemoryServer};
 
 use crate::handle::DwBench;
 use crate::taking::{CLOSED, drive, take_server};
@@ -23,7 +23,7 @@ pub extern "C" fn dw_bench_change(
     content: &[u8],
 ) -> i32
     ensures closed { handle.old.slot.held ≡ None → IsClosed result handle.new.slot.held }
-    ensures changes { (s : Server) → handle.old.slot.held ≡ Some s
+    ensures changes { (s : MemoryServer) → handle.old.slot.held ≡ Some s
         → Tells (Changes now_ms kind owner path.now content.now s.bench) result handle.new.slot.held }
 {
     drive(alloc, handle, |server| {
@@ -36,7 +36,7 @@ pub extern "C" fn dw_bench_change(
 pub extern "C" fn dw_bench_learn(alloc: Global, handle: &mut DwBench, other: &mut DwBench) -> i32
     ensures closed { handle.old.slot.held ≡ None → IsClosed result handle.new.slot.held }
     ensures lacks { other.old.slot.held ≡ None → (result ≡ negsuc 2) × (handle.new.slot.held ≡ handle.old.slot.held) }
-    ensures learns { (s o : Server) → handle.old.slot.held ≡ Some s → other.old.slot.held ≡ Some o
+    ensures learns { (s o : MemoryServer) → handle.old.slot.held ≡ Some s → other.old.slot.held ≡ Some o
         → Tells (Learns o.bench s.bench) result handle.new.slot.held }
     ensures same { other.new.slot.held ≡ other.old.slot.held }
 {
@@ -52,7 +52,7 @@ pub extern "C" fn dw_bench_learn(alloc: Global, handle: &mut DwBench, other: &mu
 #[unsafe(no_mangle)]
 pub extern "C" fn dw_bench_zxid(alloc: Global, handle: &mut DwBench) -> i64
     ensures closed { handle.old.slot.held ≡ None → result ≡ negsuc 2 }
-    ensures last { (s : Server) → handle.old.slot.held ≡ Some s → result ≡ pos (newest 0 s.bench.history.transactions) }
+    ensures last { (s : MemoryServer) → handle.old.slot.held ≡ Some s → result ≡ pos (newest 0 s.bench.history.transactions) }
     ensures same { handle.new.slot.held ≡ handle.old.slot.held }
 {
     let Some(server) = take_server(alloc, handle) else {

@@ -4,11 +4,11 @@ ghost use Rattle.std.specs.Prelude.{◌≡◌, ◌⊎◌, Some, None, pos, negsu
 ghost use Rattle.ffi_bench.specs.Held.{Makes};
 
 use crate::handle::DwBench;
-use ffi_server::{Server, Undone};
+use ffi_server::{MemoryServer, Undone};
 use std::alloc::Global;
 
 // Has a handle hold this server. Where there is no memory for it, the handle is left as it was.
-fn hold(alloc: Global, handle: &mut DwBench, server: Server) -> i32
+fn hold(alloc: Global, handle: &mut DwBench, server: MemoryServer) -> i32
     ensures { ((result ≡ pos 0) × (handle.new.slot.held ≡ Some server))
         ⊎ ((result ≡ negsuc 1) × (handle.new.slot.held ≡ handle.old.slot.held)) }
 {
@@ -30,7 +30,7 @@ pub extern "C" fn dw_bench_open(alloc: Global, handle: &mut DwBench, session: i6
     ensures { Makes session result handle.new.slot.held }
 {
     *handle = DwBench::closed(alloc);
-    hold(alloc, handle, Server::new(alloc, session))
+    hold(alloc, handle, MemoryServer::new(alloc, session))
 }
 
 /// Frees the server of a handle, if it has one.

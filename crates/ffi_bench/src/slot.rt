@@ -1,12 +1,12 @@
 //! A server on the heap at a pointer that C may hold.
 
 ghost use Rattle.std.specs.Prelude.{◌≡◌, Option, Some, None, IsSome};
-ghost use Rattle.ffi_server.specs.declared.server.Server.{Server};
+ghost use Rattle.ffi_server.specs.declared.server.MemoryServer.{MemoryServer};
 ghost use Rattle.ffi_bench.specs.Owned.{owned};
 ghost use Rattle.ffi_bench.specs.inner.Owned.{coded_held};
 
 use crate::parts::Parts;
-use ffi_server::Server;
+use ffi_server::MemoryServer;
 use std::alloc::Global;
 use std::marker::Model;
 
@@ -16,7 +16,7 @@ use std::marker::Model;
 pub struct Slot {
     at: *mut u8,
     alloc: Global,
-    pub ghost held: { Option Server } by { coded_held },
+    pub ghost held: { Option MemoryServer } by { coded_held },
 }
 
 impl Model for Slot {
@@ -35,21 +35,21 @@ impl Slot {
     }
 
     /// A slot with this server.
-    pub fn of(server: Box<Server, Global>) -> Slot
+    pub fn of(server: Box<MemoryServer, Global>) -> Slot
         ensures { result.held ≡ Some server.value }
     {
         Slot::of_parts(Parts::of(server))
     }
 
     /// The server of a slot that has one.
-    pub fn into_box(self) -> Box<Server, Global>
+    pub fn into_box(self) -> Box<MemoryServer, Global>
         requires { IsSome self.held }
         ensures { Some result.value ≡ self.held }
     {
         self.into_parts().into_box()
     }
 
-    fn of_parts(parts: Parts<Server, Global>) -> Slot
+    fn of_parts(parts: Parts<MemoryServer, Global>) -> Slot
         ensures { result.held ≡ Some parts.value }
     {
         let Parts { ptr, alloc } = parts;
@@ -59,13 +59,13 @@ impl Slot {
         }
     }
 
-    fn into_parts(self) -> Parts<Server, Global>
+    fn into_parts(self) -> Parts<MemoryServer, Global>
         requires { IsSome self.held }
         ensures { Some result.value ≡ self.held }
     {
         let Slot { at, alloc } = self;
         Parts {
-            ptr: at.cast::<Server>(),
+            ptr: at.cast::<MemoryServer>(),
             alloc,
         }
     }

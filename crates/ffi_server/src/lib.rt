@@ -9,5 +9,5 @@ mod kind;
 mod server;
 mod undone;
 
-pub use server::Server;
+pub use server::MemoryServer;
 pub use undone::{Undone, code_of};

@@ -17,7 +17,7 @@ use zk_bench::{Bench, Change, History};
 /// A bench of the global heap. Its session is the one whose client connects; what other sessions change is changed here, or learned
 /// from a server of theirs.
 #[derive(Drop)]
-pub struct Server {
+pub struct MemoryServer {
     pub bench: Bench<Global>,
 }
 
@@ -32,15 +32,15 @@ fn place_of(number: i32) -> Result<usize, Undone>
     Ok((number - 1) as usize)
 }
 
-impl Server {
+impl MemoryServer {
     /// A server of the session of this number, over a history with the root alone.
-    pub fn new(alloc: Global, session: i64) -> Server
+    pub fn new(alloc: Global, session: i64) -> MemoryServer
         ensures is { result.bench ≡ begun session }
         ensures ready { IsReady result.bench }
     {
         let mut bench = Bench::new(alloc, History::new(alloc));
         bench.number(session);
-        Server { bench }
+        MemoryServer { bench }
     }
 
     // Appends a change at this moment, if the tree admits it.
@@ -86,7 +86,7 @@ impl Server {
     }
 
     /// Takes over the next transaction that another server has and this one has not.
-    pub fn learn(&mut self, alloc: Global, other: &Server) -> Result<(), Undone>
+    pub fn learn(&mut self, alloc: Global, other: &MemoryServer) -> Result<(), Undone>
         ensures { Learns other.now.bench self.old.bench result self.new.bench }
     {
         let last = self.bench.history().last_zxid();

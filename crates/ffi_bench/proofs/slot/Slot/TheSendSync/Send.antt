@@ -11,13 +11,13 @@ use Rattle.std.proofs.Crossing as heap
 use Rattle.std.specs.declared.alloc.Global.{Global}
 use Rattle.std_alloc.proofs.SendSync.{quiet, lies}
 use Rattle.std_heap.proofs.Global.TheSendSync as handle
-use Rattle.ffi_server.specs.declared.server.Server.{Server}
-use Rattle.ffi_server.specs.contracts.server.Server as Home
-use Rattle.ffi_server.proofs.server.Server.TheSendSync.{the_send as home}
+use Rattle.ffi_server.specs.declared.server.MemoryServer.{MemoryServer}
+use Rattle.ffi_server.specs.contracts.server.MemoryServer as Home
+use Rattle.ffi_server.proofs.server.MemoryServer.TheSendSync.{the_send as home}
 use Rattle.ffi_bench.specs.Owned.{owned}
 use Rattle.ffi_bench.specs.contracts.slot.Slot.{the_row, the_type}
 
-crosses : (a : Global) (p : Ptr) (m : Option Server) → Keyless (owned a p m)
+crosses : (a : Global) (p : Ptr) (m : Option MemoryServer) → Keyless (owned a p m)
 crosses a p None = tt
 crosses a p (Some x) = (lies Home.the_row home p x, heap.frees.frees a (raw (lone Home.the_row.mir)) p)
 

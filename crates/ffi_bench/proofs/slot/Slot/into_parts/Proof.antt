@@ -16,7 +16,7 @@ use types.Part.{whole, sub, agg}
 use types.Run.{stop, fld, no_more, and_then, of_opd, returns, enter}
 use types.ByLocal.{alloc_all, pass_all, free_all, look_at, get, get_in, sets}
 use Rattle.std.specs.Prelude.{◌≡◌, Option, Some, None, IsSome}
-use Rattle.ffi_server.specs.declared.server.Server.{Server}
+use Rattle.ffi_server.specs.declared.server.MemoryServer.{MemoryServer}
 use Rattle.ffi_bench.specs.Owned.{owned}
 use contract.Monad.{fact}
 use denote.Exit.{yes}
@@ -48,13 +48,13 @@ module _ {M : Type 1} {𝓤 : Ura M} (𝓛 : Logic 𝓤) (at_mem : Memory → SP
     abbrev From' : denote.RattleType.RattleType
     From' = Rattle.ffi_bench.specs.contracts.slot.Slot.the_row
 
-    held_at : (x : Server) → z.0.3.0.held ≡ Some x → ent 𝓤 (types.Kit.⋆ 𝓛 (‵ (From'.own_val z.0.3.0 z.0.4.0) ∷ [])) Goal
+    held_at : (x : MemoryServer) → z.0.3.0.held ≡ Some x → ent 𝓤 (types.Kit.⋆ 𝓛 (‵ (From'.own_val z.0.3.0 z.0.4.0) ∷ [])) Goal
     held_at x is =
         let v : D E = record { ptr = z.0.3.0.at; alloc = z.0.3.0.alloc; value = x } in
         let To = type_at (F.signature).result tt in
         let made : To.Denot = record { ptr = v.ptr; alloc = v.alloc; value = v.value } in
         qed 𝓛 (‵ (From'.own_val z.0.3.0 z.0.4.0) ∷ []) ∵ fsplit ! $ move ! (1 ∷ []) $
-        rewrite ! 0 (λ (m : Option Server). ‵ (owned z.0.3.0.alloc z.0.3.0.at m)) is refl $ move ! (1 ∷ 0 ∷ []) $ fjoin ! $
+        rewrite ! 0 (λ (m : Option MemoryServer). ‵ (owned z.0.3.0.alloc z.0.3.0.at m)) is refl $ move ! (1 ∷ 0 ∷ []) $ fjoin ! $
         use1 𝓛 (‵ ((B E).own_val v z.0.4.0)) (id⊢ 𝓤 _) $
         box_out E
         ! v z.0.4.0 (λ b o hv e ws fa. box_in E ! v b o v.value e refl $ use1 𝓛 (‵ (To.own_val made (word E hv b o ∷ []))) (id⊢ 𝓤 _) $
@@ -69,10 +69,10 @@ module _ {M : Type 1} {𝓤 : Ura M} (𝓛 : Logic 𝓤) (at_mem : Memory → SP
         suffices ! _ (ends_at 𝓛 F.ended stayed (F.clauses 𝓛 at_mem run) z w made (tt, tt) (tt, tt)) $ says ! (sym is) $
         nothing ! $ nothing ! $ fjoin ! $ join ! $ nothing ! $ join ! $ done !))))
 
-    either : (m : Option Server)
+    either : (m : Option MemoryServer)
         → z.0.3.0.held ≡ m → IsSome z.0.3.0.held → ent 𝓤 (types.Kit.⋆ 𝓛 (‵ (From'.own_val z.0.3.0 z.0.4.0) ∷ [])) Goal
     either (Some x) is some = held_at x is
-    either None is some = absurd (true≢false (sym (subst (λ (m : Option Server). IsSome m) is some)))
+    either None is some = absurd (true≢false (sym (subst (λ (m : Option MemoryServer). IsSome m) is some)))
 
     walk : ent 𝓤 ((walk_of 𝓛 F.ended stayed (F.clauses 𝓛 at_mem run)).pre z) Goal
     walk =

@@ -1,7 +1,7 @@
 use Rattle.std.proofs.Common.{◌≡◌, ◌≤◌, ◌^◌, ◌+◌, pos, inl, inr, refl, arith, rules}
 use Rattle.std.proofs.lemmas.Int.{ints}
 use Rattle.zk_nodes.specs.History.{newest}
-use Rattle.ffi_server.proofs.server.Server.append.Goals as goal
+use Rattle.ffi_server.proofs.server.MemoryServer.append.Goals as goal
 
 pub returns-then-now_ms : goal.returns-then-now_ms
 returns-then-now_ms c =

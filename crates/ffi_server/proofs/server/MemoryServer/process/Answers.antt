@@ -2,7 +2,7 @@ use Rattle.std.proofs.Common.{◌≤◌, ◌<◌, ℕ, subst, length, arith}
 use Rattle.zk_bench.specs.Served.{Served}
 use Rattle.ffi_server.specs.Moves.{GaveUp, Processed}
 use Rattle.ffi_server.proofs.Refusing.{gives_up}
-use Rattle.ffi_server.proofs.server.Server.process.Goals as goal
+use Rattle.ffi_server.proofs.server.MemoryServer.process.Goals as goal
 
 pub returns-in_err-process : goal.returns-in_err-process
 returns-in_err-process c =
