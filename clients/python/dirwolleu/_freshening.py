@@ -2,6 +2,8 @@
 
 from __future__ import annotations
 
+import dataclasses
+
 from dirwolleu import _lane as lane
 from dirwolleu import _requests as requests
 from dirwolleu._engine import Engine
@@ -37,9 +39,7 @@ def _ordered() -> Plan[None]:
     """A transaction that changes nothing. Where it is refused, as for a root that is not there, it was ordered too."""
     transaction = Transaction(lambda *_: [])
     transaction.check("/", -1)
-    request = transaction.request()
-    request.is_repeatable = True
     try:
-        yield request
+        yield dataclasses.replace(transaction.request(), is_repeatable=True)
     except TransactionFailedError:
         pass

@@ -9,8 +9,11 @@ and no thread that is interrupted keeps a lock.
 from __future__ import annotations
 
 import ctypes
+import ctypes.util
 import itertools
 import os
+import pathlib
+import platform
 import struct
 import sys
 import types
@@ -322,7 +325,7 @@ _RESULT_WORDS = {
 }
 # end of what is made
 
-_HERE = os.path.dirname(os.path.abspath(__file__))
+_HERE = pathlib.Path(__file__).resolve().parent
 
 
 def _find() -> str:
@@ -331,28 +334,20 @@ def _find() -> str:
     named = os.environ.get("DIRWOLLEU_LIBRARY")
     if named:
         return named
-    checkout = os.path.dirname(os.path.dirname(os.path.dirname(_HERE)))
-    places = (_HERE, os.path.join(checkout, "clients", "out"), os.path.join(checkout, "prebuilt", "x86_64-linux"))
-    files = (os.path.join(place, "libdirwolleu.so") for place in places)
-    found = next(filter(os.path.exists, files), None) or _installed()
+    checkout = _HERE.parents[2]
+    places = (_HERE, checkout / "clients" / "out", checkout / "prebuilt" / "x86_64-linux")
+    built = next((place for place in places if (place / "libdirwolleu.so").exists()), None)
+    found = str(built / "libdirwolleu.so") if built else ctypes.util.find_library("dirwolleu")
     if found is None:
         raise ImportError("libdirwolleu.so is not found: install the package again, or name the file by DIRWOLLEU_LIBRARY")
     return found
 
 
-def _installed() -> Optional[str]:
-    """What the system has."""
-    from ctypes.util import find_library  # here, since it takes a tenth of the time of the whole import
-
-    return find_library("dirwolleu")
-
-
 def _check_machine() -> None:
     """Fails in words where the library can't run."""
-    system = os.uname() if hasattr(os, "uname") else None
-    machine, name = (system.machine, system.sysname) if system else ("another machine", sys.platform)
-    if (machine.lower(), name) not in (("x86_64", "Linux"), ("amd64", "Linux")):
-        raise ImportError(f"dirwolleu runs on Linux on x86-64 alone, and this is {name} on {machine}")
+    machine, system = platform.machine(), platform.system()
+    if (machine.lower(), system) not in (("x86_64", "Linux"), ("amd64", "Linux")):
+        raise ImportError(f"dirwolleu runs on Linux on x86-64 alone, and this is {system} on {machine}")
     if not getattr(sys, "_is_gil_enabled", lambda: True)():
         raise ImportError("dirwolleu wants an interpreter with its global lock (GIL)")
 
@@ -618,17 +613,17 @@ class _Room:
     """Where the library writes bytes. It grows."""
 
     def __init__(self) -> None:
-        self._make(4096)
-
-    def _make(self, size: int) -> None:
-        self.size, self.bytes = size, ctypes.create_string_buffer(size)
-        self.at, self.view = byref(self.bytes), memoryview(self.bytes)
+        self.size = 4096
+        self.bytes = ctypes.create_string_buffer(self.size)
+        self.view = memoryview(self.bytes)
 
     def widen(self, length: int) -> bool:
         """Makes room for this many bytes. Answers whether there was too little."""
         is_short = length > self.size
         if is_short:
-            self._make(length)
+            self.size = length
+            self.bytes = ctypes.create_string_buffer(length)
+            self.view = memoryview(self.bytes)
         return is_short
 
     def first(self, length: int) -> bytes:
@@ -710,8 +705,7 @@ def functions(prefix: str) -> types.SimpleNamespace:
     """The functions of the library whose names begin so, without that."""
     names = [name for name in _FUNCTIONS if name.startswith(prefix)]
     found = types.SimpleNamespace(**{name[len(prefix) :]: getattr(_library, name) for name in names})
-    for name in ("next", "copy"):
-        setattr(found, name, _library[f"{prefix}{name}"])  # another object, which does not look at its arguments: these are called most
+    found.next = _library[f"{prefix}next"]  # another object, which does not look at its arguments: it is called most, by pointers
     return found
 
 
@@ -959,7 +953,7 @@ class LookUps(Generic[Said]):
         room = self._room
         if length > room.size:
             room.widen(length)
-        self._calls.copy(self._handle_at, 0, room.at, length)
+        self._calls.copy(self._handle, 0, room.bytes, length)
         return room.view[:length].tobytes()
 
     def _names(self) -> bytes:

@@ -4,10 +4,8 @@ from __future__ import annotations
 
 import asyncio
 import contextlib
-import io
-import os
 import selectors
-import sys
+import socket
 import threading
 from typing import Callable, Optional
 
@@ -21,23 +19,10 @@ LONGEST_END = 5.0
 """How long `stop` waits for its own threads, in seconds: they end at once, unless the process is held up."""
 
 
-_ONE = (1).to_bytes(8, sys.byteorder)
-
-
-def _bell() -> tuple[io.FileIO, io.FileIO]:
-    """What is read by a thread that is woken, and what `_ONE` is written to, to wake it."""
-    flags, make = os.O_NONBLOCK | os.O_CLOEXEC, getattr(os, "eventfd", None)
-    if make is not None:  # from Python 3.10 on
-        bell = io.FileIO(make(0, flags), "r+")
-        return bell, bell
-    reads, writes = os.pipe2(flags)
-    return io.FileIO(reads, "r"), io.FileIO(writes, "w")
-
-
 class _Waiting(selectors.DefaultSelector):
     """How the event loop of a client waits: not where something was asked since it has looked last.
 
-    Whoever asks rings a bell only where the loop waits already. No lock is taken, and it does not matter where a
+    Whoever asks writes to a socket only where the loop waits already. No lock is taken, and it does not matter where a
     thread that asks is interrupted.
     """
 
@@ -45,15 +30,17 @@ class _Waiting(selectors.DefaultSelector):
         super().__init__()
         self._act = act
         self._is_asked = self._waits = False
-        self._reads, self._writes = _bell()
+        self._writes, self._reads = socket.socketpair()
+        for end in (self._writes, self._reads):
+            end.setblocking(False)
         self.register(self._reads, selectors.EVENT_READ)
 
     def ask(self) -> None:
         """Has the loop act. Any thread may say so, and what is asked is to be there before."""
         self._is_asked = True
         if self._waits:
-            with contextlib.suppress(OSError, ValueError):  # it is closed
-                self._writes.write(_ONE)
+            with contextlib.suppress(OSError):  # it is full, so the loop wakes; or closed
+                self._writes.send(b"\0")
 
     def select(self, timeout: Optional[float] = None) -> list[tuple[selectors.SelectorKey, int]]:
         self._waits = True  # before it looks whether something is asked
@@ -64,7 +51,7 @@ class _Waiting(selectors.DefaultSelector):
             self._act()
         for one in found:
             if one[0].fileobj is self._reads:
-                self._reads.read(512)
+                self._reads.recv(4096)
                 found.remove(one)
                 break
         return found

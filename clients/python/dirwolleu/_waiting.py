@@ -7,13 +7,11 @@ import contextlib
 import logging
 import queue
 import threading
-import time
 from collections.abc import Generator
 from typing import Any, Callable, Optional, Protocol
 
 from dirwolleu._lane import LaneRequest
 from dirwolleu._requests import Request
-from dirwolleu._semaphore import Semaphore
 from dirwolleu._steps import Ask, Call, Step, Steps, Wait
 
 logger = logging.getLogger("dirwolleu")
@@ -46,11 +44,11 @@ class News:
         return self._lack.acquire(timeout=-1 if timeout is None else min(max(timeout, 0), threading.TIMEOUT_MAX))
 
 
-class Waiter:
-    """One thread that waits for an answer. The thread that answers waits for no lock."""
+class Waiter(News):
+    """One thread that waits for an answer. What is said of `News` holds here too."""
 
     def __init__(self) -> None:
-        self._answered = Semaphore()
+        super().__init__()
         self._answer: Optional[tuple[Any, Optional[BaseException]]] = None
         self._is_given_up = False
 
@@ -66,19 +64,16 @@ class Waiter:
 
     def set_result(self, result: Any) -> None:
         self._answer = result, None
-        self._answered.post()
+        self.set()
 
     def set_exception(self, error: BaseException) -> None:
         self._answer = None, error
-        self._answered.post()
+        self.set()
 
     def result(self, timeout: Optional[float]) -> Any:
-        until = None if timeout is None else time.monotonic() + timeout
-        while self._answer is None:
-            left = None if until is None else until - time.monotonic()
-            if left is not None and left <= 0:
-                raise TimeoutError
-            self._answered.wait(left)
+        self.wait(timeout)
+        if self._answer is None:
+            raise TimeoutError
         result, error = self._answer
         if error is not None:
             raise error

@@ -2,7 +2,8 @@
 
 from __future__ import annotations
 
-import binascii
+import base64
+import hashlib
 from typing import NamedTuple
 
 from dirwolleu.exceptions import ZookeeperError
@@ -79,10 +80,8 @@ def make_digest_acl_credential(username: str, password: str) -> str:
     >>> make_digest_acl_credential("super", "test")
     'super:D/InIHSb7yEEbrWz8b9l71RjZJU='
     """
-    import hashlib  # here, since few programs want it, and it takes its time
-
-    digest = hashlib.sha1(f"{username}:{password}".encode()).digest()
-    return f"{username}:{binascii.b2a_base64(digest, newline=False).decode()}"
+    spelled = f"{username}:{password}".encode()
+    return f"{username}:{base64.b64encode(hashlib.sha1(spelled).digest()).decode()}"
 
 
 def make_digest_acl(

@@ -4,6 +4,7 @@ from __future__ import annotations
 
 import enum
 from collections.abc import Mapping
+from dataclasses import dataclass
 from typing import Callable, NamedTuple, Optional, Union
 
 __all__ = ["DataStat", "EventType", "Kept", "KeptChildren", "Mark", "Snapshot", "Stat", "State", "Stats", "Watch", "WatchedEvent"]
@@ -119,7 +120,8 @@ class Stats(NamedTuple):
     """How long answers to calls and pings take of late, in seconds, or None where none came yet."""
 
 
-class Kept(NamedTuple):
+@dataclass(frozen=True)
+class Kept:
     """What a client keeps of a node that was read with a watch."""
 
     path: str
@@ -146,7 +148,8 @@ class Kept(NamedTuple):
         return self.stat is not None
 
 
-class Snapshot(NamedTuple):
+@dataclass(frozen=True)
+class Snapshot:
     """What is kept of several nodes, all of it good, and of one moment: what `client.snapshot` gives."""
 
     zxid: int
@@ -159,7 +162,8 @@ class Snapshot(NamedTuple):
     """What is kept of the names below the parents, by path."""
 
 
-class KeptChildren(NamedTuple):
+@dataclass(frozen=True)
+class KeptChildren:
     """What a client keeps of the children of a node that were read with a watch."""
 
     path: str

@@ -2,6 +2,7 @@
 
 from __future__ import annotations
 
+import dataclasses
 import functools
 from collections.abc import Sequence
 from types import TracebackType
@@ -109,8 +110,7 @@ def _request_of(operations: Sequence[Operation]) -> LaneRequest[Any]:
         else:
             asked.check(one.path, one.version)
     request: LaneRequest[Any] = asked.request()
-    request.read = functools.partial(_results, len(operations))
-    return request
+    return dataclasses.replace(request, read=functools.partial(_results, len(operations)))
 
 
 def _results(count: int, reader: Reader, root: Root) -> list[Any]:
