@@ -1,3 +1,4 @@
+-- The lines of a record's fields, one after another, are its `fields_lines`: by induction over the fields.
 use Rattle.std.proofs.Common.{◌≡◌, ◌++◌, [], ◌∷◌, List, ℕ, refl, sym, ap}
 use Rattle.std.proofs.lemmas.List.{append-nil}
 use Rattle.std.specs.Borrow.{Bor}

@@ -1,3 +1,5 @@
+-- What is free elsewhere: a call about none of the paths may get any result that has a code; notices by `nothing_told`, `more_told`,
+-- `other_event`; and the entries `Tells`, `Denies`, `Fails` by putting their premises together.
 use Rattle.std.proofs.Common.{negsuc, refl}
 use Rattle.theory_local.specs.LocalSteps.{IsOf}
 use Rattle.theory_local.proofs.Following.{more_told, other_event, nothing_told}

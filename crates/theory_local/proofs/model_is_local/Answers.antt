@@ -1,3 +1,5 @@
+-- Servers of the model keep to it at any paths, entry by entry (`local_serving`, `local_served`, `serving_fewer`); the laws of `zk_laws`
+-- are the local ones at all paths (`coherent_everywhere`, `quiet_everywhere`, `true_everywhere`).
 use Rattle.theory_local.specs.LocalSteps.{IsOf}
 use Rattle.theory_local.proofs.Following.{local_serving, local_served, local_items, local_wire, serving_fewer, true_everywhere}
 use Rattle.theory_local.proofs.Everywhere.{coherent_everywhere, quiet_everywhere}

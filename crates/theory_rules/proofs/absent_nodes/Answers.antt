@@ -1,3 +1,4 @@
+-- A read may be answered with -101 where the server's tree has no node there: `absent_node`, `absent_data`, `absent_children`.
 use Rattle.theory_rules.proofs.Answering.{absent_node, absent_data, absent_children}
 use Rattle.theory_rules.proofs.absent_nodes.Goals as goal
 

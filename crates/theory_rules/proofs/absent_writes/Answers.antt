@@ -1,3 +1,4 @@
+-- A write may be answered with -101: `unwritten`, `unmade`, `undeleted`. The model asks nothing of that, so it only has to be spelled.
 use Rattle.theory_rules.proofs.Answering.{unwritten, unmade, undeleted}
 use Rattle.theory_rules.proofs.absent_writes.Goals as goal
 

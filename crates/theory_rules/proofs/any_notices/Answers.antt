@@ -1,3 +1,4 @@
+-- Notices may come with any zxid, code and end, as each payload only has to tell its notice: `tells_of_changes`, `tells_of_parts`.
 use Rattle.theory_rules.proofs.Taking.{tells_of_changes, tells_of_parts}
 use Rattle.theory_rules.proofs.any_notices.Goals as goal
 

@@ -1,3 +1,4 @@
+-- A call that stands next may be refused by any code except 0 and -101: `refuses`, as the model admits exactly those.
 use Rattle.theory_rules.proofs.Answering.{refuses}
 use Rattle.theory_rules.proofs.calls_are_refused.Goals as goal
 

@@ -1,3 +1,4 @@
+-- A read may be answered with the node that the server's tree has there: `found_node`, `found_data`, `found_children`.
 use Rattle.theory_rules.proofs.Answering.{found_node, found_data, found_children}
 use Rattle.theory_rules.proofs.found_nodes.Goals as goal
 

@@ -1,3 +1,4 @@
+-- The part of setWatches that stands next may be set again: `restores`, as the payloads spell its notices and then the reply.
 use Rattle.theory_rules.proofs.Taking.{restores}
 use Rattle.theory_rules.proofs.parts_are_set.Goals as goal
 

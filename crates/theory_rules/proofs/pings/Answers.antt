@@ -1,3 +1,4 @@
+-- What a moment makes a client say: by its state and the two tests of the clock, with arithmetic on thirds of the timeout (`Ticked`).
 use Rattle.theory_rules.proofs.pings.Goals as goal
 use Rattle.theory_rules.proofs.Ticked.{ping_sent, given_up, nothing_sent, nothing_connecting, nothing_elsewhere}
 

@@ -1,3 +1,4 @@
+-- What waits are the frames of the requests left (`requests_are_frames`), and a step takes the first one away (`one_is_less`).
 use Rattle.theory_rules.proofs.Quiet.{requests_are_frames, one_is_less}
 use Rattle.theory_rules.proofs.quiet_is_reached.Goals as goal
 

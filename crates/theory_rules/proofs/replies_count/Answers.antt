@@ -1,3 +1,5 @@
+-- A reply sets the last seen zxid to the later one of both (`later_moves`, `earlier_leaves`); by induction over what happens in a turn it
+-- never falls (`turns_raise`) and is at least that of each reply told (`replies_seen`).
 use Rattle.theory_rules.proofs.replies_count.Goals as goal
 use Rattle.theory_rules.proofs.Seen.{later_moves, earlier_leaves, turns_raise, replies_seen}
 

@@ -1,3 +1,4 @@
+-- By the case of the step: what it sends comes last, and each step except a transaction processes one request (`still_next`, `next_done`).
 use Rattle.theory_rules.proofs.Leading.{comes_behind, still_next, next_done}
 use Rattle.theory_rules.proofs.requests_are_processed.Goals as goal
 

@@ -1,3 +1,4 @@
+-- An answer is stale exactly where a notice ended it and nothing since changed that: `nodes`, `children`, by induction over the past.
 use Rattle.theory_rules.proofs.Looking_back.{nodes, children}
 use Rattle.theory_rules.proofs.stale_answers.Goals as goal
 

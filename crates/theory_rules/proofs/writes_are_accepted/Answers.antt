@@ -1,3 +1,4 @@
+-- A write may be answered as done where the server's last transaction has its change: `written`, `made`, `numbered`, `deleted`.
 use Rattle.theory_rules.proofs.Answering.{written, made, numbered, deleted}
 use Rattle.theory_rules.proofs.writes_are_accepted.Goals as goal
 

@@ -1,3 +1,4 @@
+-- The next xid is the number of calls sent, modulo 2,147,483,647, plus one: by arithmetic, and by the rule of a turn (`Numbered`).
 use Rattle.theory_rules.proofs.xids.Goals as goal
 use Rattle.theory_rules.proofs.Numbered.{first_is, are_in_range, run_on, begin_again, calls_move, goes_out, is_shown, are_apart}
 

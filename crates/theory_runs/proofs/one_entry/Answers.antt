@@ -1,3 +1,4 @@
+-- The invariant holds at the start (`first_here`), is kept by each entry (`entry_here`), and gives coherence (`sim_coherent`).
 use Rattle.std.proofs.Common.{[]}
 use Rattle.zk_laws.specs.Served.{WasSent}
 use Rattle.zk_laws.proofs.Headlines.{sim_coherent}

@@ -1,3 +1,4 @@
+-- A whole payload is the first frame's, by arithmetic on lengths (`taken_first`), and it is read as the message that it spells.
 use Rattle.zk_laws.proofs.Framed.{taken_first, reads_accepted, reads_expired, reads_notice, reads_pong, reads_part, reads_reply}
 use Rattle.theory_runs.proofs.taken_as_sent.Goals as goal
 

@@ -1,3 +1,5 @@
+-- A reply that was taken is one that a server gave, so it tells what the tree had at its zxid (`reads_true`); a write that is answered as
+-- done is a change of the server's last transaction (`writes_true`).
 use Rattle.std.proofs.Common.{refl}
 use Rattle.zk_laws.proofs.Steps.{By_server}
 use Rattle.zk_laws.specs.ServerSteps.{Answers}

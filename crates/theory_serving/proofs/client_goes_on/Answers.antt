@@ -1,3 +1,4 @@
+-- By the input: the schedule gets one entry more, and the relation to what is shown of the servers is kept (lemmas of `Entries`).
 use Rattle.theory_serving.proofs.Entries.{opened_served, bytes_served, cut_served, moment_served, call_served, forget_served, halt_served}
 use Rattle.theory_serving.proofs.client_goes_on.Goals as goal
 

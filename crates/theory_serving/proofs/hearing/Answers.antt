@@ -1,3 +1,5 @@
+-- Servers hear outputs one by one: bytes join those that wait, as appending is associative (`hears_bytes`); any other output adds none
+-- (`hears_nothing`, `hears_other`), and of one that ends the connection only the history counts (`hears_end`).
 use Rattle.theory_serving.proofs.Heard.{hears_nothing, hears_bytes, hears_other, hears_end}
 use Rattle.theory_serving.proofs.hearing.Goals as goal
 

@@ -1,3 +1,4 @@
+-- A schedule stays one over a history that goes on, by induction over the entries: each server holds what it held (`goes_serving`).
 use Rattle.theory_serving.proofs.GoingOn.{goes_serving, goes_served}
 use Rattle.theory_serving.proofs.history_goes_on.Goals as goal
 

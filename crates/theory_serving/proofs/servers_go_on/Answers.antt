@@ -1,3 +1,4 @@
+-- Steps of a server are entries after the schedule (`takes_served`, `processes_served`); where it rests, that stays (`rests_served`).
 use Rattle.theory_serving.proofs.Entries.{takes_served, processes_served, rests_served}
 use Rattle.theory_serving.proofs.servers_go_on.Goals as goal
 

@@ -1,3 +1,4 @@
+-- A turn by the rule is one item more, after which `Entries` says that the client is served; its view tells the rest (`Views`).
 use Rattle.theory_serving.proofs.Views.{first_session, good_session, opened_session, received_session, cut_session, told_session}
 use Rattle.theory_serving.proofs.Views.{asked_session, forget_session, there_session, takes_session, rests_session, waits_session}
 use Rattle.theory_serving.proofs.Views.{processes_session, answers_session}

@@ -1,3 +1,4 @@
+-- Over a history that goes on a server holds at its place what it held, so each step is the same: by induction over the steps.
 use Rattle.theory_serving.proofs.Later.{moves_later, ended_later, place_low}
 use Rattle.theory_serving.proofs.steps_go_on.Goals as goal
 

@@ -1,3 +1,5 @@
+-- A client that has a connection is shown with one (`there_served`). What waits are the frames of the requests not yet processed: in front
+-- stands nothing or the first of them (`waits_served`), and before it what was processed (`cut_served_at`).
 use Rattle.theory_serving.proofs.Entries.{there_served, waits_served, cut_served_at}
 use Rattle.theory_serving.proofs.what_waits.Goals as goal
 

@@ -1,3 +1,4 @@
+-- What `live` prints over a bench agrees with its history: each deed beside a bench is one beside servers of the model (`life_agrees`).
 use Rattle.theory_shown.specs.Lived.{ByClient, ByKnown}
 use Rattle.theory_shown.proofs.Agreeing.{life_agrees}
 use Rattle.theory_shown.proofs.Lived.{known_coheres, life_coheres}

@@ -1,3 +1,4 @@
+-- Good answers of a scripted client are the history's: by induction over its deeds (`life_coheres`), and so by what streams know.
 use Rattle.theory_shown.proofs.Lived.{known_coheres, life_coheres}
 use Rattle.theory_shown.proofs.lives_cohere.Goals as goal
 

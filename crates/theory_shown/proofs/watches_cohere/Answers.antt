@@ -1,3 +1,4 @@
+-- Good answers that a watch prints of are the history's: by induction over its moves (`prints_cohere`), and so by what streams know.
 use Rattle.theory_shown.proofs.Watched.{ended_cohere, ends_cohere, prints_cohere, streams_cohere}
 use Rattle.theory_shown.proofs.watches_cohere.Goals as goal
 

@@ -1,3 +1,4 @@
+-- Marks by a look back: `data_marks`, `child_marks` and `data_agrees`, by induction over the past, by what each happening says of the path.
 use Rattle.theory_turns.proofs.good_marks.Goals as goal
 use Rattle.zk_turns.proofs.Marks.{data_marks, child_marks, data_agrees}
 

@@ -1,3 +1,4 @@
+-- An answer stands exactly where a reply said it and nothing since concerns it: by induction over the past (`marked`, `stands_marked`).
 use Rattle.theory_turns.proofs.standing_answers.Goals as goal
 use Rattle.zk_turns.specs.Past.{word_data, word_child}
 use Rattle.zk_turns.proofs.Marks.{marked, stands_marked}

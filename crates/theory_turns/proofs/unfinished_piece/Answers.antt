@@ -1,3 +1,4 @@
+-- Bytes that leave a frame unfinished are held, by induction over the piece: what begins something unfinished is unfinished too.
 use Rattle.theory_turns.proofs.unfinished_piece.Goals as goal
 use Rattle.zk_turns.proofs.Pieces.{unfinished_view, unfinished_says}
 

@@ -1,3 +1,4 @@
+-- Without an open connection no byte makes anything happen: `unheard_view` and `unheard_says`, by induction over the piece.
 use Rattle.theory_turns.proofs.unheard_piece.Goals as goal
 use Rattle.zk_turns.proofs.Pieces.{unheard_view, unheard_says}
 

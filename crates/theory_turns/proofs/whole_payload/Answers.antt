@@ -1,3 +1,4 @@
+-- The piece is split where the first frame ends: there the payload arrives, and then the rest comes (`frame_view`, `frame_says`).
 use Rattle.theory_turns.proofs.whole_payload.Goals as goal
 use Rattle.zk_turns.proofs.Pieces.{frame_view, frame_says}
 

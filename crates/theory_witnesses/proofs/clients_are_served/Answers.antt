@@ -1,3 +1,4 @@
+-- Up to each of three places `whole_schedule` is a schedule, so its client is served there; what it keeps and has seen is computed.
 use Rattle.theory_witnesses.proofs.Meets.{lost_served, written_served, expired_served, good_kept, last_seven}
 use Rattle.theory_witnesses.proofs.clients_are_served.Goals as goal
 

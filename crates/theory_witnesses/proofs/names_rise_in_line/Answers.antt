@@ -1,3 +1,4 @@
+-- The history is one (`line_history`); names rise, and each session holds in its turn, by the case of which of the two nodes are meant.
 use Rattle.theory_witnesses.proofs.Lined.{line_history, names_rise, first_holds, second_holds}
 use Rattle.theory_witnesses.proofs.names_rise_in_line.Goals as goal
 

@@ -1,3 +1,5 @@
+-- Reads tell what the tree has at the reply's zxid, by `true_reads`; writes are changes of that zxid's transaction, of the call that
+-- waited first, by `first_writes`.
 use Rattle.zk_laws.proofs.Headlines.{true_reads, first_writes}
 use Rattle.zk_laws.proofs.answers_are_true.Goals as goal
 

@@ -1,3 +1,4 @@
+-- Each drop has a cause that was due where it happened: `drops_before`, which splits the past there.
 use Rattle.zk_laws.proofs.Headlines.{drops_before}
 use Rattle.zk_laws.proofs.drops_are_due.Goals as goal
 

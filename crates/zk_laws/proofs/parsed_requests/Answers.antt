@@ -1,3 +1,5 @@
+-- What a server finds in the bytes, clause by clause: lengths by `all_told`, a beginning of the stream by `first_found`, the whole by
+-- `each_found`, the requests in the payloads by `each_read`, and the session that a connection began with by `connect_found`.
 use Rattle.zk_laws.proofs.Found.{all_told, first_found, each_found, each_read, connect_found}
 use Rattle.zk_laws.proofs.parsed_requests.Goals as goal
 

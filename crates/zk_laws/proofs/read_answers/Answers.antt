@@ -1,3 +1,5 @@
+-- By whether a node is there: with none, -101 alone is true (`absent`, `absent_parent`); else its fields (`known`), its data (`full`) and
+-- its children's names (`listing`) are.
 use Rattle.std.specs.Prelude.{is_some, ◌∷◌}
 use Rattle.zk_nodes.specs.Path.{path_of}
 use Rattle.zk_laws.proofs.Reading_trees.{absent, absent_parent, known, full, listing}

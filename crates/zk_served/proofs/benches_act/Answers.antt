@@ -1,3 +1,4 @@
+-- Each thing that befalls a connection of the bench is what the model's server does: one lemma of `Benched` for each.
 use Rattle.zk_served.proofs.Benched.{bench_advances, bench_connects, bench_ends, bench_gives, bench_processes, bench_takes}
 use Rattle.zk_served.proofs.benches_act.Goals as goal
 

@@ -1,3 +1,5 @@
+-- What is read is spelled so, and what is spelled so is read: of a record (`spelt`, `read_again`), of a question's result (`record_spelt`,
+-- `record_read`), and of a connection's first payload (`first_spelt`, `first_read`).
 use Rattle.zk_turns.proofs.Spelt.{spelt, read_again, record_spelt, record_read, first_spelt, first_read}
 use Rattle.zk_turns.proofs.readings.Goals as goal
 

@@ -1,3 +1,5 @@
+-- One notice: what is reported of it (`report_is`), and that it ends what was good (`ended_is`). The outputs have these reports and no
+-- others, by `reports_are`. What is good after a notice was read again after it, by `read_again`.
 use Rattle.zk_turns.proofs.reports.Goals as goal
 use Rattle.zk_turns.proofs.Marks.{report_is, ended_is}
 use Rattle.std.proofs.Common.{refl}

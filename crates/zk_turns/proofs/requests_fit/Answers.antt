@@ -1,3 +1,5 @@
+-- Each happening of the past is in range, so the request that it sends fits its layout and a frame can tell its length: for calls, parts
+-- and connects two lemmas of `Requested` each. A new start and a ping are in range as they are.
 use Rattle.zk_turns.proofs.Fitting.{ping_fits}
 use Rattle.zk_turns.proofs.Requested.{new_resumable, call_told, call_of, parts_told, parts_of, connect_told, connect_of}
 use Rattle.zk_turns.proofs.requests_fit.Goals as goal

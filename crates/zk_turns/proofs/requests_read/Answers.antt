@@ -1,3 +1,4 @@
+-- A payload begins with the spelling of its record, so it is read again: `call_read`, `part_read`, `connect_read` and `ping_read`.
 use Rattle.zk_turns.proofs.Spelt.{call_read, connect_read, part_read, ping_read}
 use Rattle.zk_turns.proofs.requests_read.Goals as goal
 

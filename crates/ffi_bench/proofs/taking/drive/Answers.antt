@@ -1,3 +1,4 @@
+-- The held server is as the step left it, and the code tells what the step answered: the call of the step, and what taking out ensures.
 use Rattle.std.proofs.Common.{refl, rules}
 use Rattle.ffi_bench.proofs.taking.drive.Goals as goal
 

@@ -1,3 +1,4 @@
+-- Where `dw_holder` answers none, no token is shown: what `holder` ensures of the device that was taken, which is the held one.
 use Rattle.std.proofs.Common.{◌≡◌, ◌∙◌, ℤ, Option, ap, refl, rules, subst, sym}
 use Rattle.std.specs.Prelude.{IfOk, None, unwrap_or}
 use Rattle.zk_client.specs.Clients.{view_of}

@@ -1,3 +1,4 @@
+-- A refusal of the subtree is true of the held device, and no byte is written: `told_refused`, as the taken device is the held one.
 use Rattle.std.proofs.Common.{◌≡◌, ◌∙◌, ap, of_z, subst, sym, to_z, w32}
 use Rattle.std.specs.Prelude.{unwrap_or}
 use Rattle.zk_client.specs.Clients.{view_of}

@@ -1,3 +1,4 @@
+-- The name at an index is the kept one at that place of the byte order: `is_name`, with what `nth_name` ensures.
 use Rattle.ffi_device.proofs.Ordered.{is_name}
 use Rattle.ffi_device.proofs.kept.name_at.Goals as goal
 

@@ -1,3 +1,4 @@
+-- The mark, the number of names and the pzxid are those of the kept names: `tells`, with what `flat_names` ensures.
 use Rattle.ffi_device.proofs.Ordered.{tells}
 use Rattle.ffi_device.proofs.kept.names_flat.Goals as goal
 

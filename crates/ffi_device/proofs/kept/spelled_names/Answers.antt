@@ -1,3 +1,4 @@
+-- After the loop no name is left, so the text spells all names, each of which fits; they are in byte order, and `are_spelled` ends it.
 use Rattle.std.proofs.Common.{◌≡◌, Some, map, string_bytes, arith, rules}
 use Rattle.std.proofs.lemmas.Grind.{common_steps}
 use Rattle.std.specs.BTreeSet.{IsOrdered}

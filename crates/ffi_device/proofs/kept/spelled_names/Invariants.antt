@@ -1,3 +1,4 @@
+-- Loop over the names: text so far and spelling of those left are the whole, which fits if those left do. So at the end the text is it.
 use Rattle.std.proofs.Common.{◌≡◌, ◌++◌, Some, map, string_bytes}
 use Rattle.std.specs.List.{AllByRecursion, flat_map}
 use Rattle.zk_jute.specs.Layout.{ustring}

@@ -1,3 +1,4 @@
+-- The text spells the names kept below each path: one path more by `written_one`, and when no path is left `written_all`.
 use Rattle.std.proofs.Common.{◌+◌, ◌<◌, arith, drop, length}
 use Rattle.std.proofs.lemmas.List.{drop_all}
 use Rattle.zk_client.specs.Clients.{view_of}

@@ -1,3 +1,4 @@
+-- Loop over the paths: the text so far with any spelling of the paths left spells all (`Written`). With none left the text alone does.
 use Rattle.std.proofs.Common.{drop}
 use Rattle.zk_client.specs.Clients.{view_of}
 use Rattle.ffi_device.proofs.Parents.{Written}

@@ -1,3 +1,4 @@
+-- After the loop no path is left (`drop_all`), so by the invariant the text spells what is kept of every node, and all of it fits.
 use Rattle.std.proofs.Common.{◌≡◌, ◌++◌, ◌∙◌, [], ap, append-nil, drop, subst, sym}
 use Rattle.std.proofs.lemmas.List.{drop_all}
 use Rattle.std.specs.List.{AllByRecursion, flat_map}

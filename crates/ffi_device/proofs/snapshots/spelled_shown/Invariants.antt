@@ -1,3 +1,4 @@
+-- Loop over the paths: text so far and spelling of those left are the whole, which fits if those left do. So at the end the text is it.
 use Rattle.std.proofs.Common.{◌≡◌, ◌++◌, drop}
 use Rattle.std.specs.List.{AllByRecursion, flat_map}
 use Rattle.zk_jute.specs.Spelling.{Fits, spelling}

@@ -1,3 +1,4 @@
+-- The snapshot is the nodes' records, then those of the names, by what the two calls ensure; the history has it by the law `one_tree`.
 use Rattle.zk_client.specs.Clients.{view_of}
 use Rattle.ffi_device.proofs.snapshots.spelled_whole.Goals as goal
 

@@ -1,3 +1,5 @@
+-- Each text read is a path (`read_path`) or is none (`read_fault`), and what is left gets `shorter`. Where no text begins what is left, the
+-- bytes spell no texts: `read_no_more`.
 use Rattle.std.proofs.Common.{◌≡◌, [], refl, rules, subst, sym, true}
 use Rattle.zk_jute.specs.Cursor.{bytes_left}
 use Rattle.ffi_device.proofs.ReadTexts.{Read, read_fault, read_no_more, read_none, read_path}

@@ -1,3 +1,4 @@
+-- Loop over the bytes: texts read and bytes left are all bytes, and `are_paths` is whether those are paths; at the end, whether all are.
 use Rattle.std.proofs.Common.{length}
 use Rattle.zk_jute.specs.Cursor.{bytes_left}
 use Rattle.ffi_device.proofs.ReadTexts.{Read}

@@ -1,3 +1,4 @@
+-- Loop over the texts: paths so far and texts left are all texts, and each copy is a path. With none left the paths are the texts.
 use Rattle.std.proofs.Common.{◌≡◌, ◌++◌, drop, map}
 use Rattle.std.specs.List.{AllByRecursion}
 use Rattle.zk_nodes.specs.PathFault.{IsPath}

@@ -1,3 +1,4 @@
+-- A refusal of the markers is true as `lent_texts` ensures (`refuses_markers`); where not one is read, none is spelled: `no_markers`.
 use Rattle.std.proofs.Common.{◌∙◌, ap, inr, map, refl, sym}
 use Rattle.ffi_device.specs.Codes.{refusal_code}
 use Rattle.ffi_device.specs.Standings.{RefusesStanding}

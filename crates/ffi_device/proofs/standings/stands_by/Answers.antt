@@ -1,3 +1,4 @@
+-- It is unsure where no standing is shown and no rival is before the node: the clauses `none` of `Standing::of` and of `predecessor`.
 use Rattle.std.proofs.Common.{ℤ, map, refl, string_bytes, subst}
 use Rattle.zk_client.specs.Clients.{view_of}
 use Rattle.zk_conclusions.specs.Kinds.{kind_of}

@@ -1,3 +1,4 @@
+-- A refusal of `subtree_text` is true of the path that was spelled: `handed_on`, as the path made of the bytes is the same text.
 use Rattle.std.proofs.Common.{subst}
 use Rattle.zk_client.specs.Clients.{view_of}
 use Rattle.zk_conclusions.specs.Subtrees.{HasMoreNodes, IsWholeBelow, Says}

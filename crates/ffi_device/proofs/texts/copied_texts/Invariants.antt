@@ -1,3 +1,4 @@
+-- Loop over the texts: the bytes of the copies so far and the texts left are all texts. With none left the copies are the texts.
 use Rattle.std.proofs.Common.{◌≡◌, ◌++◌, drop, map, string_bytes}
 use Rattle.ffi_device.proofs.texts.copied_texts.Given as goal
 

@@ -1,3 +1,4 @@
+-- Where no text begins what is left, the bytes spell no texts at all: `no_more`, from the invariant. What is left gets `shorter`.
 use Rattle.std.proofs.Common.{◌≡◌, ◌∙◌, [], map, refl, rules, sym}
 use Rattle.zk_jute.specs.Cursor.{bytes_left}
 use Rattle.ffi_device.proofs.Spelled.{no_more, shorter}

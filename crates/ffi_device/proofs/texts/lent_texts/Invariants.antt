@@ -1,3 +1,4 @@
+-- Loop over the bytes: what the texts read spell and the bytes left are all bytes, and those texts fit. So at the end they spell them all.
 use Rattle.std.proofs.Common.{◌≡◌, ◌++◌, Some, length, map}
 use Rattle.std.specs.List.{AllByRecursion, flat_map}
 use Rattle.zk_jute.specs.Cursor.{bytes_left}

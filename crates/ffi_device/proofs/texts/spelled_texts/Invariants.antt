@@ -1,3 +1,4 @@
+-- Loop over the texts: bytes so far and spelling of those left are the whole, which fits if those left do. So at the end the bytes are it.
 use Rattle.std.proofs.Common.{◌≡◌, ◌++◌, Some, drop, map, string_bytes}
 use Rattle.std.specs.List.{AllByRecursion, flat_map}
 use Rattle.zk_jute.specs.Layout.{ustring}

@@ -1,3 +1,4 @@
+-- A creation and new data are admitted or refused as `admit_new` and `admit_data` ensure for any content, so for this one: rewriting.
 use Rattle.std.proofs.Common.{sym, subst}
 use Rattle.std.specs.Prelude.{IfErr, OnOk, option_map}
 use Rattle.zk_history.specs.Made.{change_of}

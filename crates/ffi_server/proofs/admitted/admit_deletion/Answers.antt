@@ -1,3 +1,4 @@
+-- A node refused as `NotEmpty` has a child: its Stat counts the names below it, and a count other than 0 is of some (`has_children`).
 use Rattle.std.proofs.Common.{arith}
 use Rattle.std.proofs.lemmas.Int.{ints}
 use Rattle.std.specs.FinSet as set

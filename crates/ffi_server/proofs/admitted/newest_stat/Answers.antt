@@ -1,3 +1,4 @@
+-- The Stat is that of the tree now: `stat_at` tells it at the last zxid, which is read back from its word unchanged.
 use Rattle.std.proofs.Common.{◌≡◌, ℤ, ◌∙◌, subst, rules, to_z, of_z, w64}
 use Rattle.zk_nodes.specs.Path.{path_of}
 use Rattle.zk_nodes.specs.History.{tree_at}

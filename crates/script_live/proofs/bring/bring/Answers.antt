@@ -1,3 +1,4 @@
+-- A wait takes no bytes (`consumes_none`), so the piece is what the stream gave in all (`read_kept`); what it took stays (`keeps_on`).
 use Rattle.zk_link.proofs.Streaming.{consumes_none, keeps_on, read_kept}
 use Rattle.script_live.specs.Flowing.{piece_in}
 use Rattle.script_live.proofs.bring.bring.Goals as goal

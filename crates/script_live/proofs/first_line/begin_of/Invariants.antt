@@ -1,3 +1,4 @@
+-- Loop over the lines: those so far say nothing, so those left decide as all do. With none left a fresh client is asked for.
 use Rattle.std.proofs.Common.{◌≡◌, ◌+◌, drop, map}
 use Rattle.script_live.specs.Begins.{begun_by, begun_from}
 use Rattle.script_live.proofs.first_line.begin_of.Given as goal

@@ -1,3 +1,4 @@
+-- `retain` keeps the outputs for the caller (`filter_same`), and `append` adds them (`gives`) or fails and adds none (`keeps`).
 use Rattle.std.proofs.Common.{rules}
 use Rattle.std.proofs.lemmas.Fn.{filter_same}
 use Rattle.script_live.proofs.GiveLemmas.{gives, keeps}

@@ -1,3 +1,4 @@
+-- The search through the outputs tests each of them (`any_from_yields_List`), and by `ends_said` that is the test of what they say.
 use Rattle.std.proofs.Common.{◌∙◌, sym, rules, tests}
 use Rattle.std.proofs.lemmas.Iterator.{YieldsList-from_slice}
 use Rattle.std.proofs.lemmas.Iterator.Search.{any_from_yields_List}

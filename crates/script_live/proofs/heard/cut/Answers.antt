@@ -1,3 +1,4 @@
+-- The end is heard and its lines printed: `heard` and `prints_end`, from what `Joint::cut` and `push_told` ensure.
 use Rattle.std.proofs.Common.{ap, false}
 use Rattle.std.specs.Prelude.{string_bytes}
 use Rattle.zk_turns.specs.Turns.{Cut}

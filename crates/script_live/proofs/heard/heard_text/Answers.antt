@@ -1,3 +1,4 @@
+-- The text so far tells the outputs so far: one more output adds its line, by `next_told`.
 use Rattle.std.specs.Prelude.{string_bytes}
 use Rattle.zk_client.specs.Views.{output_view}
 use Rattle.script_words.proofs.LineLemmas.{next_told}

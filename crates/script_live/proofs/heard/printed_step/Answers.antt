@@ -1,3 +1,4 @@
+-- The input is heard and what is said to it printed: `heard` and `hands_so`, from what `Joint::step` and `push_told` ensure.
 use Rattle.std.proofs.Common.{ap}
 use Rattle.std.specs.Prelude.{string_bytes}
 use Rattle.zk_client.specs.Views.{input_view, said}

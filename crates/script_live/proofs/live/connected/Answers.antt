@@ -1,3 +1,4 @@
+-- If it connects, `lived` joins that with the lines that `read_lines` read; if not, nothing is printed: `unlived`, `want`.
 use Rattle.std.proofs.Common.{◌≡◌, ◌∙◌, List, [], ap, false, map}
 use Rattle.std.specs.Prelude.{string_bytes}
 use Rattle.zk_nodes.specs.Path.{Text}

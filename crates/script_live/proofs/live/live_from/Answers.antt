@@ -1,3 +1,4 @@
+-- The client that was made begins as was asked, so the transcript is the one that `connected` ensures.
 use Rattle.script_replay.specs.Lines.{begin_value_of}
 use Rattle.script_live.proofs.live.live_from.Goals as goal
 

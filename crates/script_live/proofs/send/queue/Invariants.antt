@@ -1,3 +1,4 @@
+-- Loop over the outputs: the unsent bytes are those of before and the frames of the outputs so far, at the end of all.
 use Rattle.std.proofs.Common.{◌≡◌, ◌++◌, take}
 use Rattle.zk_client.specs.Views.{said}
 use Rattle.script_live.specs.Frames.{frames}

@@ -1,3 +1,5 @@
+-- A write takes the front of what is unsent (`sends_front`, `sends_on`); one that fails or takes 0 bytes leaves it as it is
+-- (`sends_no_more`). What the stream has to give is kept (`keeps_on`).
 use Rattle.std.proofs.Common.{drop, take, sym, subst, refl}
 use Rattle.std.specs.Io.KnownBytes.{Appends}
 use Rattle.zk_link.specs.Streams.{Sends}

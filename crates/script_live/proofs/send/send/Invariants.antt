@@ -1,3 +1,4 @@
+-- Loop over the writes: the stream took the first unsent bytes, the rest is left, and what it has to give is kept, as is to be shown.
 use Rattle.std.specs.Io.KnownBytes.{Keeps}
 use Rattle.zk_link.specs.Written.{IsLeftOf}
 use Rattle.zk_link.specs.Streams.{Sends}

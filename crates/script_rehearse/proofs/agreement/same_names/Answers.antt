@@ -1,3 +1,4 @@
+-- The difference is empty exactly where the names are the same: `none_differs`, from what `symmetric_difference` and `next` ensure.
 use Rattle.script_rehearse.proofs.GoodLemmas.{none_differs}
 use Rattle.script_rehearse.proofs.agreement.same_names.Goals as goal
 

@@ -1,3 +1,4 @@
+-- The called paths get the one that the call names: `names_of-insert`, and rewriting by what `from_str` and `named_path` ensure.
 use Rattle.std.proofs.Common.{rules, ap, sym, ◌∙◌, ◌≡◌, Some}
 use Rattle.std.specs.FinSet as set
 use Rattle.zk_conversation.specs.Views.{call_view}

@@ -1,3 +1,4 @@
+-- A path more adds its lines before those of the rest (`one_more`). At the end none is left, so what was written is told of all.
 use Rattle.std.proofs.Common.{◌++◌, ◌∷◌, [], ℕ, List, map, sym, refl, ap, subst, ◌∙◌, append_assoc}
 use Rattle.std.proofs.lemmas.List.{append-nil}
 use Rattle.std.specs.Prelude.{string_bytes}

@@ -1,3 +1,4 @@
+-- Loop over the paths: what was written with whatever is told of those left is told of all. With none left it alone is.
 use Rattle.std.proofs.Common.{◌≡◌, ◌++◌, ℕ, List, map}
 use Rattle.std.specs.Prelude.{string_bytes}
 use Rattle.zk_client.specs.Clients.{view_of}

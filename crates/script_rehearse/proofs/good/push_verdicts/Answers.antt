@@ -1,3 +1,4 @@
+-- The lines of a path are those of its data and then those of its names: `both_sides`, from what the two calls of `push_answer` ensure.
 use Rattle.std.specs.Prelude.{string_bytes}
 use Rattle.zk_client.specs.Clients.{view_of}
 use Rattle.script_rehearse.proofs.GoodLemmas.{both_sides}

@@ -1,3 +1,4 @@
+-- One more output is heard after those before: `map_more` for the list, `one_more` for the bench, and what `pass_on_output` ensures.
 use Rattle.std.proofs.Common.{ap, sym, ◌∙◌, take}
 use Rattle.std.proofs.lemmas.List.{map_more}
 use Rattle.zk_client.specs.Views.{said, output_view}

@@ -1,3 +1,4 @@
+-- Loop over the outputs: the bench has heard the outputs so far. At the end they are all outputs.
 use Rattle.std.proofs.Common.{◌≡◌, take}
 use Rattle.zk_client.specs.Views.{said}
 use Rattle.script_rehearse.specs.Heard.{heard_all}

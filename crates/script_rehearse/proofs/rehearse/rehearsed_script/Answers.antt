@@ -1,3 +1,4 @@
+-- The transcript is the one that `read_script` ensures of a new rehearsal, which is at the first position.
 use Rattle.script_rehearse.specs.Scripts.{first_position}
 use Rattle.script_rehearse.proofs.rehearse.rehearsed_script.Goals as goal
 

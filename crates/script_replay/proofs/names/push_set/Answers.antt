@@ -1,3 +1,4 @@
+-- The words are those of the keys, which ascend (`sorted_map`) and are the set's members (`same_members`), by what `push_keys` ensures.
 use Rattle.std.proofs.Common.{refl, map}
 use Rattle.std.specs.Prelude.{string_bytes}
 use Rattle.std.specs.Cmp.Lexicographic.{slice_cmp}

@@ -1,3 +1,4 @@
+-- One more name in the set is one more in the list that the set is made of: `names_of-insert`, then `from_list_push` and `map_more`.
 use Rattle.std.proofs.Common.{ap, sym, ◌∙◌, map, take, get_or, string_bytes}
 use Rattle.std.proofs.lemmas.Cmp.{nat_list_cmp_total}
 use Rattle.std.proofs.lemmas.List.{map_more}

@@ -1,3 +1,4 @@
+-- Loop over the names: the set is made of the names so far. At the end they are all names.
 use Rattle.std.proofs.Common.{◌≡◌, take, map}
 use Rattle.std.specs.Prelude.{string_bytes}
 use Rattle.std.specs.FinSet as set

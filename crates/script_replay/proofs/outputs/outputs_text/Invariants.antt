@@ -1,3 +1,4 @@
+-- Loop over the outputs: the text tells the outputs so far. At the end they are all outputs.
 use Rattle.std.proofs.Common.{take}
 use Rattle.std.specs.Prelude.{string_bytes}
 use Rattle.zk_client.specs.Views.{said}

@@ -1,3 +1,4 @@
+-- The line has the keys, which ascend (`sorted_map`) and are the set's members (`same_names`), by what `push_found` ensures.
 use Rattle.std.proofs.Common.{map, refl}
 use Rattle.std.specs.Prelude.{string_bytes}
 use Rattle.std.specs.Cmp.Lexicographic.{slice_cmp}

@@ -1,3 +1,4 @@
+-- Loop over the requests: the type found so far and those left give what all give. With none left that type is the answer.
 use Rattle.std.proofs.Common.{◌≡◌, drop, None}
 use Rattle.script_stream.specs.Asked.{last_type}
 use Rattle.script_stream.proofs.asked.last_type.Given as goal

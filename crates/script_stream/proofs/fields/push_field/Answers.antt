@@ -1,3 +1,4 @@
+-- By the kind of the field: what the function that writes this kind ensures, rewritten.
 use Rattle.script_stream.proofs.fields.push_field.Goals as goal
 
 pub returns-in-Int : goal.returns-in-Int

@@ -1,3 +1,4 @@
+-- Loop over the fields: what is written and the words left are all words. With none left all are written.
 use Rattle.std.proofs.Common.{◌≡◌, ◌++◌, drop}
 use Rattle.std.specs.Prelude.{string_bytes}
 use Rattle.std.specs.List.{flat_map}

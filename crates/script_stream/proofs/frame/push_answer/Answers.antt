@@ -1,3 +1,4 @@
+-- The words are those of the header and of what is behind it, by the same topic: `answered`, from what the two calls ensure.
 use Rattle.std.proofs.Common.{rules, ◌≡◌, ◌++◌, OnOk}
 use Rattle.std.proofs.lemmas.Result.{on_ok_weaker}
 use Rattle.std.specs.Prelude.{string_bytes}

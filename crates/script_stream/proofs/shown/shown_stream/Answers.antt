@@ -1,3 +1,4 @@
+-- What is shown is the transcript that `read_lines` ensures of a new stream, at the first position, rewritten for the script's lines.
 use Rattle.script_stream.specs.Streams.{first_position}
 use Rattle.script_stream.proofs.shown.shown_stream.Goals as goal
 

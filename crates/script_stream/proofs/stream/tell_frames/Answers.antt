@@ -1,3 +1,4 @@
+-- One more whole frame is told after those so far, and the reader has no fault: `one_more`, from what `next_frame` and `tell_frame` ensure.
 use Rattle.std.proofs.Common.{refl}
 use Rattle.std.specs.Prelude.{string_bytes}
 use Rattle.script_stream.specs.Streams.{telling}

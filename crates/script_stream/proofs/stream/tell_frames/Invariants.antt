@@ -1,3 +1,5 @@
+-- Loop over the frames: the reader has no fault, and the frames told and the bytes still held are all bytes (`SoFar`). The held bytes get
+-- fewer; where they begin with no whole frame, each whole one is told.
 use Rattle.std.proofs.Common.{◌≡◌, None, length}
 use Rattle.std.specs.Prelude.{string_bytes}
 use Rattle.script_stream.specs.Streams.{telling}

@@ -1,3 +1,4 @@
+-- Loop over the reads: the bytes so far are what the reader gave, and the room is not empty. So a read of 0 bytes is at the reader's end.
 use Rattle.std.proofs.Common.{◌<◌}
 use Rattle.std.specs.Prelude.{vec_len}
 use Rattle.std.specs.Io.KnownBytes.{Consumes}

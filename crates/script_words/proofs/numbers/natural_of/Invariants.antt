@@ -1,3 +1,4 @@
+-- Loop over the digits: the number is within the limit, and those left make of it what all make of 0. So at the end it is the word's.
 use Rattle.std.proofs.Common.{◌≡◌, ◌≤◌, drop}
 use Rattle.script_words.specs.Numbers.{digits_onto}
 use Rattle.script_words.proofs.numbers.natural_of.Given as goal

@@ -1,3 +1,4 @@
+-- A separator ends a piece (`separator_step`), and another byte goes on with it (`other_step`); at first it is empty: `front_nil`.
 use Rattle.std.proofs.Common.{arith, ◌++◌, ◌∙◌, ap, map, eq-eqb, ne_eqb}
 use Rattle.std.proofs.lemmas.List.{map_push}
 use Rattle.script_words.proofs.PiecesLemmas.{front_nil, separator_step, other_step}

@@ -1,3 +1,4 @@
+-- Loop over the bytes: pieces so far, bytes since the last separator and pieces of what is left are all. At the end those bytes are one.
 use Rattle.std.proofs.Common.{◌≡◌, ◌≤◌, ◌++◌, drop, take, map}
 use Rattle.script_words.specs.Pieces.{pieces_at, with_front}
 use Rattle.script_words.proofs.pieces.pieces.Given as goal

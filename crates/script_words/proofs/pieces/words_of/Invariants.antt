@@ -1,3 +1,4 @@
+-- Loop over the pieces: the words so far and those among the pieces left are all words. With none left they are all.
 use Rattle.std.proofs.Common.{◌≡◌, ◌++◌, drop, map, filter}
 use Rattle.script_words.specs.Pieces.{is_some_word}
 use Rattle.script_words.proofs.pieces.words_of.Given as goal

@@ -1,3 +1,4 @@
+-- Loop over the words: all are printable exactly if those left are. At the end none is left, so all are.
 use Rattle.std.proofs.Common.{◌≡◌, drop, map}
 use Rattle.std.specs.List.{list_all}
 use Rattle.script_words.specs.Reads.{is_printed}

@@ -1,3 +1,4 @@
+-- By the case of `from_utf8`: a text is the bytes, and the test is true (`is_utf8-from_IsUtf8`); an error says it is not, so it is false.
 use Rattle.std.proofs.Common.{◌≡◌, Bool, true, false, refl}
 use Rattle.std.proofs.lemmas.Str.{IsUtf8-from_is_utf8, is_utf8-from_IsUtf8}
 use Rattle.script_words.proofs.reads.as_text.Goals as goal

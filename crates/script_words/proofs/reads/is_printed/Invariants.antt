@@ -1,3 +1,4 @@
+-- Loop over the bytes: all are printable exactly if those left are. At the end none is left, so all are.
 use Rattle.std.proofs.Common.{◌≡◌, drop}
 use Rattle.script_words.specs.Reads.{is_printed}
 use Rattle.script_words.proofs.reads.is_printed.Given as goal

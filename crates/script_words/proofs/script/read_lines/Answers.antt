@@ -1,3 +1,4 @@
+-- A line that is done goes one further (`further`); one that is not ends the transcript (`stopped`); after the last all are `all_taken`.
 use Rattle.std.proofs.Common.{arith, refl}
 use Rattle.std.specs.Prelude.{string_bytes}
 use Rattle.script_words.specs.Scripts.{progress}

@@ -1,3 +1,4 @@
+-- Loop over the lines: from any first position, those so far lead to where the reader stands, and print the text. At the end they are all.
 use Rattle.std.proofs.Common.{take, map}
 use Rattle.std.specs.Prelude.{string_bytes}
 use Rattle.std.specs.List.{FoldsTo}

@@ -1,3 +1,4 @@
+-- Where memory ran out before a line was read, nothing was printed: `none_yet`, rewritten by what `nothing` ensures.
 use Rattle.script_words.specs.Scripts.{lines_of}
 use Rattle.script_words.proofs.ScriptLemmas.{none_yet}
 use Rattle.script_words.proofs.script.read_script.Goals as goal

@@ -1,3 +1,4 @@
+-- Loop over the bytes: those made, with what the rest means at this place, are what the word means. So at the end, in `Plain`, they are it.
 use Rattle.std.proofs.Common.{◌≡◌, ◌++◌, drop}
 use Rattle.std.specs.Option.{option_map}
 use Rattle.script_words.specs.Texts.{unescape}

@@ -1,3 +1,4 @@
+-- Loop over the names: what is written and what those left add is all that is to be added. With none left all is written.
 use Rattle.std.proofs.Common.{◌≡◌, ◌++◌, map}
 use Rattle.std.specs.Prelude.{string_bytes}
 use Rattle.script_words.specs.Values.{names_text}

@@ -1,3 +1,4 @@
+-- A call is handed over, then its answer heard, by what `ask` and `wait_for_answer` ensure; `ok_asked_runs` joins the runs of the driver.
 use Rattle.std.proofs.Common.{refl, None}
 use Rattle.std.proofs.lemmas.Result.{IfOk-weaker}
 use Rattle.zk_driver.specs.Driving.{course_of}

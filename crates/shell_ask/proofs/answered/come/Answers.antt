@@ -1,3 +1,4 @@
+-- The call is heard in a session from its beginning on: what `begin` and `answered` ensure, with the engine that `now` leaves the same.
 use Rattle.std.proofs.Common.{ap, subst, None}
 use Rattle.zk_conversation.specs.Views.{call_view}
 use Rattle.zk_agent.specs.Telling.{told_by}

@@ -1,3 +1,5 @@
+-- By what the driver tells next: the answer (`answered`), the limit (`late`), nothing in time, or something else, after which more is heard
+-- (`later`). Its run is longer by one each time: `next_run`.
 use Rattle.std.proofs.Common.{rules, ◌≡◌, None, Some, true, is_some, refl}
 use Rattle.zk_agent.specs.declared.action.Action.TheVariants as action
 use Rattle.zk_client.specs.Views.{outcome_view}

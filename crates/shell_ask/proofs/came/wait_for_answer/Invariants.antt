@@ -1,3 +1,4 @@
+-- Loop over what the driver tells: what is heard from here is heard from the beginning, and the driver ran so far; each exit needs both.
 use Rattle.std.proofs.Common.{None}
 use Rattle.zk_driver.specs.Driving.{course_of, Course}
 use Rattle.zk_driver.specs.Flowing.{flow_of, Runs}

@@ -1,3 +1,4 @@
+-- Each number of the Stat comes back unchanged from its machine word, of 32 or of 64 bits; the rest is by computation.
 use Rattle.std.proofs.Common.{rules, ◌≡◌, refl, to_z, of_z, w32, w64}
 use Rattle.shell_ask.proofs.fields.fields_of.Goals as goal
 

@@ -1,3 +1,4 @@
+-- Loop over the fields: what is written and the lines of those left are all lines. With none left all are written.
 use Rattle.std.proofs.Common.{◌≡◌, ◌++◌, drop, map}
 use Rattle.std.specs.Prelude.{string_bytes}
 use Rattle.shell_ask.specs.Printing.{field_lines}

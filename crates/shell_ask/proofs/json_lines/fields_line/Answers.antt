@@ -1,3 +1,4 @@
+-- The writer has written an object of the fields and nothing before it, and `line_of` prints that: rewriting by what the calls ensure.
 use Rattle.std.proofs.Common.{rules, ◌≡◌, ◌++◌, ◌∷◌, []}
 use Rattle.std.proofs.lemmas.Result.{IfOk-weaker}
 use Rattle.json.specs.Token.{begin_object, end_object}

@@ -1,3 +1,4 @@
+-- The lines are those of the keys, which ascend (`sorted_map`) and are the names (`same_members`): from both clauses of `set_lines`.
 use Rattle.std.proofs.Common.{◌≡◌, Result, Ok, Err, IfOk, OnOk, map, subst}
 use Rattle.std.specs.Prelude.{bytes_eq, string_bytes}
 use Rattle.std.specs.FinSet as set

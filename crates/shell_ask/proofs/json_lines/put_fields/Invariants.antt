@@ -1,3 +1,4 @@
+-- Loop over the fields: the tokens so far and the members of those left are all tokens. With none left all are written.
 use Rattle.std.proofs.Common.{◌≡◌, ◌++◌, drop, map}
 use Rattle.shell_ask.specs.Printing.{field_members}
 use Rattle.shell_ask.proofs.json_lines.put_fields.Given as goal

@@ -1,3 +1,4 @@
+-- Loop over the names: the lines so far and those of the names left are all lines. With none left they are all.
 use Rattle.std.proofs.Common.{◌≡◌, ◌++◌, map, codes}
 use Rattle.std.specs.List.{flat_map}
 use Rattle.std.specs.Prelude.{string_bytes}

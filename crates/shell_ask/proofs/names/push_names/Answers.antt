@@ -1,3 +1,4 @@
+-- The lines are those of the keys, which ascend (`sorted_map`) and are the names (`same_members`), by what `push_set` ensures (`both`).
 use Rattle.std.proofs.Common.{refl, map}
 use Rattle.std.specs.List.{flat_map}
 use Rattle.std.specs.Prelude.{string_bytes}

@@ -1,3 +1,4 @@
+-- Loop over the names: what is written and the lines of those left are all lines. With none left all are written.
 use Rattle.std.proofs.Common.{◌≡◌, ◌++◌, map}
 use Rattle.std.specs.List.{flat_map}
 use Rattle.std.specs.Prelude.{string_bytes}

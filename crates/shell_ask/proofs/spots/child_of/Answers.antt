@@ -1,3 +1,4 @@
+-- The child is a step deeper (`add-one`), and its path and its name are what the two calls of `join` ensure.
 use Rattle.std.proofs.Common.{add-one}
 use Rattle.shell_ask.proofs.spots.child_of.Goals as goal
 

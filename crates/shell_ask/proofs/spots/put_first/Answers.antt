@@ -1,3 +1,4 @@
+-- What is put at the end, the last first, is next (`waiting_first`): from what `reverse` and `append` ensure, by the case of the result.
 use Rattle.std.proofs.Common.{◌≡◌, ◌++◌, ◌∙◌, List, map, reverse, if◌then◌else◌, is_ok, Result, Ok, Err, OnOk, ap}
 use Rattle.shell_ask.specs.declared.spots.Spot.{Spot as Place}
 use Rattle.shell_ask.specs.inner.Trees.{spot_view, waiting_view}

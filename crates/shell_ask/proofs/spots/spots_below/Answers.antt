@@ -1,3 +1,5 @@
+-- The children come in the order of their names, each once: the set's keys are sorted (`sorted_map`) and have the list's members
+-- (`same_members`). That each becomes a node, or which has no path, is what `spots_of` ensures.
 use Rattle.std.proofs.Common.{◌≡◌, map, subst}
 use Rattle.std.specs.Prelude.{bytes_eq, string_bytes}
 use Rattle.std.specs.FinSet as set

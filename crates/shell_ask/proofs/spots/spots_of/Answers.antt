@@ -1,3 +1,4 @@
+-- A turn makes the child of one more name (`spots_on`), and the names left after it are still among all: the tail of a list is in it.
 use Rattle.std.proofs.Common.{rules, ◌≡◌, ◌++◌, ◌∙◌, false, List, [], ◌∷◌, map, Contains, if◌then◌else◌, is_ok, is_err, Result, Ok, Err}
 use Rattle.std.proofs.Common.{String, string_bytes, sym, ap, subst}
 use Rattle.std.proofs.lemmas.List.Elements.{Contains-append_right}

@@ -1,3 +1,4 @@
+-- The loop over the names below a node: after it the nodes are those of all names; where it stops, the name without a path is one of them.
 use Rattle.std.proofs.Common.{◌≡◌, ◌++◌, map, Contains}
 use Rattle.std.specs.Prelude.{string_bytes}
 use Rattle.zk_nodes.specs.Path.{Text}

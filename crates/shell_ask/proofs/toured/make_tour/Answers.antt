@@ -1,3 +1,5 @@
+-- The tour begins with a new session and no connection, and walks as `walked` ensures, rewritten by what `now` and `saturating_add` ensure;
+-- a call at which it stops is not done (`undone`).
 use Rattle.std.proofs.Common.{ℕ, ap, subst, None}
 use Rattle.zk_agent.specs.Telling.{told_by}
 use Rattle.zk_driver.specs.Flowing.{flow_of}

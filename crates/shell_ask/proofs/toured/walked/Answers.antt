@@ -1,3 +1,4 @@
+-- The walk begins at the root with nothing printed, as `begun` ensures, so what `finish` ensures holds from there: by `from_there`.
 use Rattle.std.proofs.Common.{None, [], ◌∷◌, refl}
 use Rattle.zk_driver.specs.Flowing.{flow_of}
 use Rattle.shell_ask.specs.declared.walk.Bounds.{Bounds}

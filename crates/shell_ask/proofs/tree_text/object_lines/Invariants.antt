@@ -1,3 +1,4 @@
+-- The loop over the paths, an object of JSON for each: after it no path is left, so the lines that are written are those of all.
 use Rattle.std.proofs.Common.{◌≡◌, ◌++◌, codes, drop}
 use Rattle.std.specs.List.{flat_map}
 use Rattle.shell_ask.specs.Printing.{text_line}

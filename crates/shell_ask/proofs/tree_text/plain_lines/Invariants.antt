@@ -1,3 +1,4 @@
+-- The loop over the paths, a plain line for each: after it no path is left, so the text is the lines of all.
 use Rattle.std.proofs.Common.{◌≡◌, ◌++◌, drop}
 use Rattle.std.specs.List.{flat_map}
 use Rattle.std.specs.Prelude.{string_bytes}

@@ -1,3 +1,4 @@
+-- The status is never `More`: one call is never cut off, by the case of what came of it (`never_more`).
 use Rattle.std.proofs.Common.{◌≡◌, ◌≢◌, true, false, sym, refl}
 use Rattle.shell_ask.specs.Asking.{Coming, Answered, Late}
 use Rattle.shell_ask.specs.Printing.{end_of}

@@ -1,3 +1,5 @@
+-- What is told of a call that is not done: what `ask_over` ensures (`unanswered`), or why its file was not read (`unread`). Of the statuses
+-- of `tell_unread` only `Unread` is undone (`is_unread`), and the name told is the file's (`its_name`).
 use Rattle.std.proofs.Common.{◌≡◌, ◌⊎◌, inl, inr, List, [], Option, Some, None, ℕ, ap, refl, sym, subst, unwrap_or, ◌∙◌}
 use Rattle.std.specs.Prelude.{option_map}
 use Rattle.std.specs.Borrow.{Bor}

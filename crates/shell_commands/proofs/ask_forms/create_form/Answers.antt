@@ -1,3 +1,4 @@
+-- The form of `create` has the rules of `create_app`: those that `data_form` ensures, and two flags' rules, by what `arg` ensures.
 use Rattle.std.proofs.Common.{◌∙◌, ap₂}
 use Rattle.std.proofs.lemmas.Result.{IfOk-weaker}
 use Rattle.clap.specs.Words.{with_rule}

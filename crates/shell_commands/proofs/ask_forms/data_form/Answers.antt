@@ -1,3 +1,4 @@
+-- A form with data has the rules of `data_app`: those that `node_form` ensures, and four more, by what `arg` ensures.
 use Rattle.std.proofs.Common.{rules, ◌≡◌, ◌∙◌, ap₂, codes, false}
 use Rattle.std.proofs.lemmas.Result.{IfOk-weaker}
 use Rattle.clap.specs.Words.{app_of, new_app, rule_of, with_rule}

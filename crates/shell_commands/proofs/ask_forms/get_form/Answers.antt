@@ -1,3 +1,4 @@
+-- The form of `get` has the rules of `get_app`: `json_form`'s, and that of the flag `hex`, by what `arg` ensures.
 use Rattle.std.proofs.Common.{rules, ◌≡◌, ◌∙◌, ap₂, codes, false}
 use Rattle.std.proofs.lemmas.Result.{IfOk-weaker}
 use Rattle.clap.specs.Words.{app_of, new_app, rule_of, with_rule}

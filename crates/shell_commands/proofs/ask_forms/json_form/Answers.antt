@@ -1,3 +1,4 @@
+-- A form that may print JSON has the rules of `json_app`: `node_form`'s, and that of the flag `json`, by what `arg` ensures.
 use Rattle.std.proofs.Common.{◌∙◌, ap₂}
 use Rattle.std.proofs.lemmas.Result.{IfOk-weaker}
 use Rattle.clap.specs.Words.{with_rule}

@@ -1,3 +1,4 @@
+-- A form that asks for a node has the rules of `read_app`: servers, node and wait, added to a new form's by what `arg` ensures.
 use Rattle.std.proofs.Common.{rules, ◌≡◌, ◌∙◌, ap₂, codes, false}
 use Rattle.std.proofs.lemmas.Result.{IfOk-weaker}
 use Rattle.clap.specs.Words.{app_of, new_app, rule_of, with_rule}

@@ -1,3 +1,4 @@
+-- The form of `set` has the rules of `set_app`: `data_form`'s, and that of the version, by what `arg` ensures.
 use Rattle.std.proofs.Common.{rules, ◌≡◌, ◌∙◌, ap₂, codes, false}
 use Rattle.std.proofs.lemmas.Result.{IfOk-weaker}
 use Rattle.clap.specs.Words.{app_of, new_app, rule_of, with_rule}

@@ -1,3 +1,4 @@
+-- The commands that read come after the form's: `get` and `ls` by `added`, `stat` and `tree` by what `with_stat_and_tree` ensures.
 use Rattle.std.proofs.Common.{◌∙◌, ap, codes, refl}
 use Rattle.std.proofs.lemmas.Result.{IfOk-weaker}
 use Rattle.clap.specs.Words.{App, with_subcommand}

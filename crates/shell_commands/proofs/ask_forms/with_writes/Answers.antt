@@ -1,3 +1,4 @@
+-- `set`, `create` and `delete` come after the form's commands: by `added`, once for each.
 use Rattle.std.proofs.Common.{◌∙◌, ap, codes, refl}
 use Rattle.std.proofs.lemmas.Result.{IfOk-weaker}
 use Rattle.clap.specs.Words.{App, with_subcommand}

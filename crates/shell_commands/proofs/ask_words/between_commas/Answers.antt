@@ -1,3 +1,4 @@
+-- The words are those that `split` yields at commas (`YieldsList-from_str_split`), all collected (`map_from_collect`).
 use Rattle.std.proofs.Common.{lit<}
 use Rattle.std.proofs.lemmas.Iterator.Consumers.{map_from_collect}
 use Rattle.std.proofs.lemmas.Iterator.Splits.{YieldsList-from_str_split}

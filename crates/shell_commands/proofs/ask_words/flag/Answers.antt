@@ -1,3 +1,4 @@
+-- A flag is used where its first row says `true`: by whether it has a row, and `first_value-rows`.
 use Rattle.std.proofs.Common.{rules, ◌≡◌, ◌∙◌, ap, sym, codes, Some, None}
 use Rattle.clap.specs.Words.{first_of, found_of, rows_of}
 use Rattle.clap.proofs.WalkLemmas.{first_value-rows}

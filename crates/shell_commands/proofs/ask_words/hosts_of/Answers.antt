@@ -1,3 +1,4 @@
+-- All words between the commas are servers where none is a stranger (`each_is`), and not all are where one is (`one_is_not`).
 use Rattle.std.proofs.Common.{rules, ◌≡◌, Bool, true, false, refl, sym, ◌∙◌, ap, map}
 use Rattle.std.specs.List.{list_all}
 use Rattle.script_live.specs.Addresses.{is_server}

@@ -1,3 +1,5 @@
+-- The servers and the chroot are the parts of the word that is given, cut at its slash. A refusal is told where there is no word, its hosts
+-- are no servers (`no_servers`), or its chroot is no path (`no_root`).
 use Rattle.std.proofs.Common.{rules, ◌≡◌, ◌∙◌, ◌==◌, List, [], Bool, false, ap, sym, codes, Some, None, unwrap_or}
 use Rattle.std.specs.List.{list_all, slice_split}
 use Rattle.std.proofs.lemmas.Bool.{true≢false}

@@ -1,3 +1,4 @@
+-- The wait is the first row's word (`first_value-rows`), read by `count_of`, in milliseconds; a refusal is told where there is none.
 use Rattle.std.proofs.Common.{rules, ◌≡◌, ◌∙◌, ap, sym, codes, Some, None}
 use Rattle.clap.specs.Words.{first_of, found_of, rows_of}
 use Rattle.clap.proofs.WalkLemmas.{first_value-rows}

@@ -1,3 +1,4 @@
+-- The request's spelling begins the payload, as `take` ensures; the bytes after it are ignored; the lines are what `print_asked` ensures.
 use Rattle.std.proofs.Common.{refl, sym, ap, ◌∙◌, ◌++◌, List, ℕ}
 use Rattle.zk_jute.specs.Spelling.{spelling}
 use Rattle.zk_records.specs.Operations.{request_layout}

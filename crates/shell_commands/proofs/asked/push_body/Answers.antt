@@ -1,3 +1,4 @@
+-- The lines of a request's body: what `push_lines` of its record ensures, rewritten by the case of the request.
 use Rattle.shell_commands.proofs.asked.push_body.Goals as goal
 
 pub returns-in-Exists : goal.returns-in-Exists

@@ -1,3 +1,4 @@
+-- The words are addresses where none is a stranger (`each_is`); a refusal is told where none is given or one is no address (`one_is_not`).
 use Rattle.std.proofs.Common.{rules, ◌≡◌, ◌∙◌, List, map, Some, None, Option}
 use Rattle.std.specs.Prelude.{option_map, codes}
 use Rattle.std.specs.Borrow.{Bor}

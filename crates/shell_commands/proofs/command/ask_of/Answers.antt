@@ -1,3 +1,5 @@
+-- The question has the parts that the words give, by what each function ensures. A refusal is told where there is no node, no servers, no
+-- path below the one chroot (`no_node`, `one_chroot`), or no call (`no_call`).
 use Rattle.std.proofs.Common.{rules, ◌≡◌, ◌∙◌, ℕ, List, [], true, false, ap, ap₂, sym, refl, codes, Some, None, unwrap_or, map}
 use Rattle.std.specs.Prelude.{Option, option_map, string_bytes}
 use Rattle.std.proofs.lemmas.Bool.{true≢false}

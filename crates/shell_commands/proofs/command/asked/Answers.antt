@@ -1,3 +1,5 @@
+-- The matches of `show` give its command. Where `show`, `watch`, `tree` or a verb lacks what it is to be given, no command is asked for
+-- (`without_values`, `without_watch`, `without_tree`, `without_ask`), as no other command has that name (`apart`).
 use Rattle.std.proofs.Common.{rules, ◌≡◌, ◌∙◌, ℕ, ℤ, List, [], false, map, refl, sym, subst, ap, codes, Some, None, Option}
 use Rattle.std.specs.Prelude.{bytes_eq, option_map, string_bytes}
 use Rattle.std.proofs.lemmas.Bool.{true≢false}

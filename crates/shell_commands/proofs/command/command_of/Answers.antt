@@ -1,3 +1,5 @@
+-- The matches and faults of `clap` are those of `shell_app`, which is simple: the command is found in the rows of the words (`rows_found`),
+-- or a fault of `clap` (`told_is_due`) or a refusal (`nothing_is_due`) is due.
 use Rattle.std.proofs.Common.{◌≡◌, ◌⊎◌, ◌∙◌, ap, sym, subst, inl, inr, refl, List, map, true}
 use Rattle.std.specs.Borrow.{Bor}
 use Rattle.std.proofs.lemmas.Result.{IfErr-weaker, IfOk-weaker}

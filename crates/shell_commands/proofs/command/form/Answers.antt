@@ -1,3 +1,4 @@
+-- The form of the command line is `shell_app`: what each function that adds commands ensures, one after the other, rewritten.
 use Rattle.std.proofs.Common.{◌∙◌, ap}
 use Rattle.std.proofs.lemmas.Result.{IfOk-weaker}
 use Rattle.clap.specs.Words.{App, with_subcommand}

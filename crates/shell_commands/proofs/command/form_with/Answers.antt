@@ -1,3 +1,4 @@
+-- The form with one plain command is `shell_top` with it: by `added`; the rest of the form is found by rewriting.
 use Rattle.std.proofs.Common.{rules, ◌≡◌, ◌∙◌, ap, refl, true}
 use Rattle.std.proofs.lemmas.Result.{IfOk-weaker}
 use Rattle.clap.specs.Words.{App, app_of, with_subcommand}

@@ -1,3 +1,4 @@
+-- The form of `live` is `live_app`: by what `arg` ensures, rewritten.
 use Rattle.std.proofs.Common.{rules, ◌≡◌}
 use Rattle.std.proofs.lemmas.Result.{IfOk-weaker}
 use Rattle.clap.specs.Words.{app_of}

@@ -1,3 +1,4 @@
+-- The command of `live` has the addresses that are given: by what `addresses_of` ensures.
 use Rattle.std.proofs.Common.{refl}
 use Rattle.shell_commands.proofs.command.live_of.Goals as goal
 

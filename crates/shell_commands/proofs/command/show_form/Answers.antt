@@ -1,3 +1,4 @@
+-- The form of `show` has the rules of `show_app`: the kind's, whose words are the kinds by rewriting, and the hex's, by what `arg` ensures.
 use Rattle.std.proofs.Common.{rules, ◌≡◌, ◌∙◌, ap₂, codes, false}
 use Rattle.std.proofs.lemmas.Result.{IfOk-weaker}
 use Rattle.clap.specs.Words.{app_of, new_app, rule_of, with_rule}

@@ -1,3 +1,4 @@
+-- The first word that is no address is what `find` finds of the words that the slice yields: `find_from_yields_List`.
 use Rattle.std.proofs.Common.{rules, tests}
 use Rattle.std.specs.Prelude.{not}
 use Rattle.std.proofs.lemmas.Iterator.{YieldsList-from_slice}

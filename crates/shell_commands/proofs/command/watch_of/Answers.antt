@@ -1,3 +1,5 @@
+-- The watch has the parts that the words give, by what each function ensures; its timeout fits in 32 bits. A refusal is told where there
+-- are no servers, or no sights below the one chroot (`no_sights`, `one_chroot`).
 use Rattle.std.proofs.Common.{rules, ◌≡◌, ◌∙◌, ℕ, ℤ, List, Option, refl, subst, sym, to_z, of_z, w32}
 use Rattle.std.specs.Prelude.{string_bytes}
 use Rattle.clap.specs.Words.{Row, Text, found_of, rows_of}

@@ -1,3 +1,4 @@
+-- A command that takes no words comes after the form's commands: by `added`; that it is a new form is found by rewriting.
 use Rattle.std.proofs.Common.{rules, ◌≡◌, refl}
 use Rattle.std.proofs.lemmas.Result.{IfOk-weaker}
 use Rattle.clap.specs.Words.{app_of, new_app}

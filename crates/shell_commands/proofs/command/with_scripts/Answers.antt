@@ -1,3 +1,4 @@
+-- `history`, `replay` and `rehearse` come after the form's commands: by what `with_script` ensures, three times.
 use Rattle.std.proofs.Common.{◌∙◌, ap}
 use Rattle.std.proofs.lemmas.Result.{IfOk-weaker}
 use Rattle.clap.specs.Words.{App, with_subcommand}

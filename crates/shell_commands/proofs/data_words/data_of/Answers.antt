@@ -1,3 +1,4 @@
+-- The data are those of the rows: what `data_with` ensures of the word, the file and the flags that the rows give (`given_by`).
 use Rattle.std.proofs.Common.{◌≡◌, ◌∙◌, Bool, List, ap, sym, codes, map, Option}
 use Rattle.std.proofs.lemmas.Result.{IfErr-weaker, IfOk-weaker}
 use Rattle.std.specs.Option.{option_map}

@@ -1,3 +1,4 @@
+-- The version is the first row's number, which fits in 32 bits (`to_z_pos`), or -1 where none is given; a refusal is told of another word.
 use Rattle.std.proofs.Common.{rules, arith, ◌≡◌, ◌≤◌, ◌∙◌, ap, sym, codes, Some, None, w32}
 use Rattle.std.proofs.lemmas.Int.{to_z_pos}
 use Rattle.std.specs.Option.{option_map}

@@ -1,3 +1,4 @@
+-- The line of a field: what the function for its kind ensures, rewritten by the case of the field.
 use Rattle.shell_commands.proofs.fields.push_field.Goals as goal
 
 pub returns-in-Int : goal.returns-in-Int

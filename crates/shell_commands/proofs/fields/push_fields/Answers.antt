@@ -1,3 +1,4 @@
+-- After the loop the lines of all fields are written, one after another, and those are `fields_lines`, by `one_by_one`.
 use Rattle.std.proofs.Common.{◌≡◌, ◌++◌, arith}
 use Rattle.std.proofs.lemmas.Grind.{common_steps}
 use Rattle.std.specs.Prelude.{string_bytes}

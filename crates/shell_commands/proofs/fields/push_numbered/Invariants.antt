@@ -1,3 +1,4 @@
+-- The loop over the texts, each with its number: after it no text is left, so the lines of all are written after the old text.
 use Rattle.std.proofs.Common.{◌≡◌, ◌++◌, drop}
 use Rattle.std.specs.Prelude.{string_bytes}
 use Rattle.shell_commands.specs.Print.{numbered_lines}

@@ -1,3 +1,5 @@
+-- Of the input's first 1,048,576 bytes, fewer than that are all of them (`are_whole`); more than 1,048,575 show that the input is too long
+-- (`are_more`).
 use Rattle.std.proofs.Common.{arith}
 use Rattle.std.proofs.lemmas.Result.{IfErr-weaker, IfOk-weaker}
 use Rattle.shell_commands.proofs.FileLemmas.{are_more, are_whole}

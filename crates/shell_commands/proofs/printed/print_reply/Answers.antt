@@ -1,3 +1,5 @@
+-- The reply's spelling begins the payload, as `take_reply` ensures; the bytes after it are ignored; the lines are what `push_reply` and
+-- `push_end` ensure, rewritten.
 use Rattle.std.proofs.Common.{refl, sym, ap, ◌∙◌, ◌++◌, List, ℕ}
 use Rattle.zk_records.specs.Reply.{reply_of, reply_spelling}
 use Rattle.shell_commands.specs.Show.{reply_lines}

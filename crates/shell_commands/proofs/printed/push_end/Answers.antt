@@ -1,3 +1,4 @@
+-- The last lines are how many bytes are ignored, and the frame in hex: what the called functions ensure, rewritten, by `append_assoc`.
 use Rattle.std.proofs.Common.{◌≡◌, ◌++◌, append_assoc, codes}
 use Rattle.std.proofs.lemmas.Result.{on_ok_weaker}
 use Rattle.std.specs.Prelude.{string_bytes}

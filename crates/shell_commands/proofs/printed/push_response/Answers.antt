@@ -1,3 +1,4 @@
+-- The lines of a response: those of four fields, as `push_fields` ensures, and that of `readOnly`, by associativity (`one_more`).
 use Rattle.std.proofs.Common.{◌≡◌, ◌++◌, List, ℕ, codes, append_assoc}
 use Rattle.std.proofs.lemmas.Result.{on_ok_weaker}
 use Rattle.std.specs.Prelude.{string_bytes}

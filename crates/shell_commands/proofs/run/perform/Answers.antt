@@ -1,3 +1,5 @@
+-- By the command: what `show`, `script_over`, `watch_over`, `ask_with` or `tour_over` ensures of a status, restated for the words that ask
+-- for that command; a status that it never gives is absurd.
 use Rattle.std.proofs.Common.{ℕ, List, [], ◌∷◌, ◌++◌, refl, inl, inr}
 use Rattle.script_words.specs.Scripts.{refusal_text}
 use Rattle.shell_commands.specs.declared.command.Command.TheVariants.{History, Replay, Rehearse, Live}

@@ -1,3 +1,5 @@
+-- By what the words ask for: what `script_over` ensures of a capture, `perform` of a command, and `tell_line` of help or a refusal; a
+-- status that it never gives is absurd.
 use Rattle.std.proofs.Common.{◌++◌, refl, sym, ◌∙◌, inl, inr}
 use Rattle.script_words.specs.Scripts.{refusal_text}
 use Rattle.shell_commands.specs.Run.{helps, starts, tells, untold}

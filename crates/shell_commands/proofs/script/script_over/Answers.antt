@@ -1,3 +1,4 @@
+-- Where memory runs out while the script is read, nothing is printed: of some input (`some_input`) no line is played (`unread`).
 use Rattle.std.proofs.Common.{[], refl}
 use Rattle.script_words.specs.Scripts.{lines_of}
 use Rattle.script_words.specs.declared.script.ScriptEnd.TheVariants.{Memory}

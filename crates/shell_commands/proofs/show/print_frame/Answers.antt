@@ -1,3 +1,5 @@
+-- A frame that gives no payload is at fault (`no_frame`), and so is one whose payload is (`passed_on`). Where nothing is ignored, the frame
+-- of what is spelled is the frame itself (`printed_again`).
 use Rattle.std.proofs.Common.{◌≡◌, List, ℕ, ◌++◌, Ok, ap, sym, ◌∙◌, inl, inr, ◌⊎◌}
 use Rattle.std.proofs.lemmas.List.{append-nil}
 use Rattle.std.proofs.lemmas.Result.{err_from_is_err_and}

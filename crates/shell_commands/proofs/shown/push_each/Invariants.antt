@@ -1,3 +1,4 @@
+-- The loop over the records: after it no record is left, so the lines of all are written after the old text.
 use Rattle.std.proofs.Common.{◌≡◌, ◌++◌, drop, map}
 use Rattle.std.specs.Prelude.{string_bytes}
 use Rattle.std.specs.List.{flat_map}

@@ -1,3 +1,4 @@
+-- The depth is the first row's number (`first_value-rows`), or `LONGEST_PATH` where none is given; a refusal is told of another word.
 use Rattle.std.proofs.Common.{rules, ◌≡◌, ◌∙◌, ap, sym, codes, Some, None}
 use Rattle.clap.specs.Words.{first_of, found_of, rows_of}
 use Rattle.clap.proofs.WalkLemmas.{first_value-rows}

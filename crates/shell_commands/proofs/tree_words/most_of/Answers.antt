@@ -1,3 +1,4 @@
+-- The most is the first row's word (`first_value-rows`), read by `count_of`; a refusal is told where there is none.
 use Rattle.std.proofs.Common.{rules, ◌≡◌, ◌∙◌, ap, sym, codes, Some, None}
 use Rattle.std.specs.Option.{option_and_then}
 use Rattle.clap.specs.Words.{first_of, found_of, rows_of}

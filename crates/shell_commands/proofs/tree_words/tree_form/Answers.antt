@@ -1,3 +1,4 @@
+-- The form of `tree` has the rules of `tree_app`: `json_form`'s, and those of the depth and the most, by what `arg` ensures.
 use Rattle.std.proofs.Common.{◌∙◌, ap₂}
 use Rattle.std.proofs.lemmas.Result.{IfOk-weaker}
 use Rattle.clap.specs.Words.{with_rule}

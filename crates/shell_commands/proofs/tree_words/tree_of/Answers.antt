@@ -1,3 +1,5 @@
+-- The tree has the parts that the words give, by what each function ensures. A refusal is told where there is no root, no servers, or no
+-- path below the one chroot (`no_root`, `one_chroot`).
 use Rattle.std.proofs.Common.{rules, ◌≡◌, ◌∙◌, ℕ, List, [], true, false, ap, ap₂, sym, refl, codes, Some, None, unwrap_or, map}
 use Rattle.std.specs.Prelude.{string_bytes}
 use Rattle.std.proofs.lemmas.Bool.{true≢false}

@@ -1,3 +1,4 @@
+-- Where memory runs out, what `watch` printed is written, with `halt` after it where a step halted (`Appends-trans`), else with nothing.
 use Rattle.std.proofs.Common.{◌++◌, [], append-nil, codes, inl, inr, refl}
 use Rattle.std.specs.Io.KnownBytes.{Appends}
 use Rattle.std.proofs.KnownBytes.{Appends-trans}

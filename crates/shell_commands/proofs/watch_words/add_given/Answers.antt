@@ -1,3 +1,5 @@
+-- What an option's words give is added, by what `add_subjects` ensures of them (`some_given`); an option that was not given adds nothing
+-- (`none_given`).
 use Rattle.std.proofs.Common.{rules, ◌≡◌, List, [], ap, map, refl, sym, append-nil, Some, None, unwrap_or}
 use Rattle.clap.specs.Words.{Row, Text, all_of, found_of, rows_of}
 use Rattle.clap.proofs.WalkLemmas.{raw_values-rows}

@@ -1,3 +1,5 @@
+-- The loop over the words: after it none is left, so what is watched at all of them is added, and all are paths below the chroot; where one
+-- is refused, not all are.
 use Rattle.std.proofs.Common.{◌≡◌, ◌++◌, drop, map}
 use Rattle.std.specs.List.{list_all}
 use Rattle.shell_watch.specs.Watching.{aims_of}

@@ -1,3 +1,4 @@
+-- The duration is the first row's word, read by `count_of`, in milliseconds, or none without a word; a refusal is told of another word.
 use Rattle.std.proofs.Common.{rules, ◌≡◌, ◌∙◌, ◌*◌, ap, sym, codes, Some, None}
 use Rattle.std.specs.Option.{option_map}
 use Rattle.clap.specs.Words.{first_of, found_of, rows_of}

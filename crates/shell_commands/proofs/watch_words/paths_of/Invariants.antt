@@ -1,3 +1,4 @@
+-- The loop over the words: after it none is left, so the paths are those of all, below the chroot; where one is refused, not all are so.
 use Rattle.std.proofs.Common.{◌≡◌, ◌++◌, drop, map}
 use Rattle.std.specs.List.{list_all}
 use Rattle.shell_commands.specs.Asks.{absolute}

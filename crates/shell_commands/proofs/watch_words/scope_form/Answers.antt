@@ -1,3 +1,4 @@
+-- The form of what is watched has the rules of `scope_app`: a new form's, and five more, by what `arg` ensures.
 use Rattle.std.proofs.Common.{◌∙◌, ap₂}
 use Rattle.std.proofs.lemmas.Result.{IfOk-weaker}
 use Rattle.clap.specs.Words.{with_rule}

@@ -1,3 +1,4 @@
+-- What is watched is what the words give, as each function ensures of its part; where a part is refused, a refusal is told (`tells_on`).
 use Rattle.std.proofs.Common.{◌≡◌, ◌∙◌, sym}
 use Rattle.shell_commands.proofs.AddressLemmas.{tells_on}
 use Rattle.shell_commands.proofs.watch_words.scope_of.Goals as goal

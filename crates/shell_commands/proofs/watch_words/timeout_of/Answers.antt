@@ -1,3 +1,4 @@
+-- The timeout is the first row's word, read by `count_of`, and fits in 32 bits (`to_z_pos`); a refusal is told where there is none.
 use Rattle.std.proofs.Common.{rules, arith, ◌≡◌, ◌≤◌, ◌∙◌, ap, sym, codes, Some, None, w32}
 use Rattle.std.proofs.lemmas.Int.{to_z_pos}
 use Rattle.std.specs.Option.{option_and_then, option_map}

@@ -1,3 +1,5 @@
+-- The roots are the paths of the option's words, by what `paths_of` ensures (`some_given`), or none (`none_given`); where one is refused,
+-- there are no roots.
 use Rattle.std.proofs.Common.{rules, ◌≡◌, ◌∙◌, List, [], ap, map, refl, sym, Some, None, unwrap_or, codes, true, false}
 use Rattle.std.specs.Prelude.{Result, Ok, Err, IfErr, IfOk, OnOk}
 use Rattle.std.specs.List.{list_all}

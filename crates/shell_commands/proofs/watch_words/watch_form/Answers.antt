@@ -1,3 +1,4 @@
+-- The form of `watch` has the rules of `watch_app`: `scope_form`'s, and four more, by what `arg` ensures.
 use Rattle.std.proofs.Common.{◌∙◌, ap₂}
 use Rattle.std.proofs.lemmas.Result.{IfOk-weaker}
 use Rattle.clap.specs.Words.{with_rule}

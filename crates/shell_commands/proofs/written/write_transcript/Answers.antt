@@ -1,3 +1,4 @@
+-- Where a step halted, the line `halt` is written after the text: one write after the other, by `Appends-trans`.
 use Rattle.std.proofs.Common.{List, ℕ, codes, refl, rules}
 use Rattle.std.specs.Prelude.{string_bytes}
 use Rattle.std.specs.Io.KnownBytes.{Appends}

@@ -1,3 +1,4 @@
+-- The line of the bound is the object of the tokens that `begun` and `put_count` ensure: by `line_is`.
 use Rattle.std.proofs.Common.{◌≢◌, ◌∙◌, ◌++◌, [], List, ap, codes}
 use Rattle.std.proofs.lemmas.Result.{IfOk-weaker}
 use Rattle.std.specs.Prelude.{pos, string_bytes}

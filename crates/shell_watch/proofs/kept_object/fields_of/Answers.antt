@@ -1,3 +1,4 @@
+-- The seven fields are the stat's numbers: each is the same after it went through a machine integer, by rewriting.
 use Rattle.std.proofs.Common.{rules, ◌≡◌, refl, to_z, of_z, w32, w64}
 use Rattle.shell_watch.proofs.kept_object.fields_of.Goals as goal
 

@@ -1,3 +1,4 @@
+-- The loop over the texts of a set: after it none is left, so the tokens of all are written after the old ones.
 use Rattle.std.proofs.Common.{◌≡◌, ◌++◌, map}
 use Rattle.std.specs.Prelude.{string_bytes}
 use Rattle.json.specs.Token as json

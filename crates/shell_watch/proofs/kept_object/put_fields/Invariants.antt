@@ -1,3 +1,4 @@
+-- The loop over the fields of a stat: after it none is left, so the members of all are written after the old tokens.
 use Rattle.std.proofs.Common.{◌≡◌, ◌++◌, drop, map}
 use Rattle.shell_watch.specs.Lines.{field_members}
 use Rattle.shell_watch.proofs.kept_object.put_fields.Given as goal

@@ -1,3 +1,4 @@
+-- The members of the data and of the stat are written, one after the other: by `two_puts`.
 use Rattle.std.specs.Prelude.{option_map}
 use Rattle.shell_watch.specs.Lines.{data_members, stat_members}
 use Rattle.shell_watch.proofs.Objects.{two_puts}

@@ -1,3 +1,4 @@
+-- What is kept, and the last seen zxid after it, are written: by `kept_then`, of what `put_kept` and `put_number` ensure.
 use Rattle.std.proofs.Common.{rules, ◌≡◌, codes, to_z, of_z, w64}
 use Rattle.zk_client.specs.Clients.{view_of}
 use Rattle.shell_watch.specs.Lines.{number_members, AreMembers}

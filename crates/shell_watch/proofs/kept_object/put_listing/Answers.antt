@@ -1,3 +1,4 @@
+-- Each name is written once, in the order of bytes: the set's keys are sorted (`sorted_map`) and have its members (`same_members`).
 use Rattle.std.proofs.Common.{refl, ◌++◌, codes, map}
 use Rattle.std.specs.Prelude.{string_bytes}
 use Rattle.std.specs.Cmp.Lexicographic.{slice_cmp}

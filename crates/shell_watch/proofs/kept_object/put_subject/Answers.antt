@@ -1,3 +1,4 @@
+-- The path and side, and what is kept with the last seen zxid after them, are written: by `then_kept`.
 use Rattle.std.proofs.Common.{◌++◌, codes}
 use Rattle.zk_client.specs.Clients.{view_of}
 use Rattle.shell_watch.specs.Lines.{number_members, side_name, text_members, AreMembers}

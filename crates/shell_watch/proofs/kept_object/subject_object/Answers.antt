@@ -1,3 +1,4 @@
+-- The line of a subject is the object of the members that `put_subject` ensures: by `line_is`, as no kind is empty (`kind_some`).
 use Rattle.std.proofs.Common.{◌∙◌, ◌++◌, List, ap}
 use Rattle.std.proofs.lemmas.Result.{IfOk-weaker}
 use Rattle.std.specs.Prelude.{string_bytes}

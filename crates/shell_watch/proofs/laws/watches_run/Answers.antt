@@ -1,3 +1,4 @@
+-- What a watch prints, and that it follows its subjects, is a run of its driver: the lemmas `watches_run` and `follows_run`.
 use Rattle.shell_watch.proofs.Running.{follows_run, watches_run}
 use Rattle.shell_watch.proofs.laws.watches_run.Goals as goal
 

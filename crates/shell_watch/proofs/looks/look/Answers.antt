@@ -1,3 +1,4 @@
+-- A look tells that a missing node does not exist; else it is the line of what is kept, without its end, by what `words_of` ensures.
 use Rattle.std.proofs.Common.{◌∙◌, ◌++◌, ◌∷◌, [], ℕ, List, sym, subst}
 use Rattle.std.proofs.lemmas.Result.{IfOk-weaker}
 use Rattle.zk_client.specs.Clients.{view_of}

@@ -1,3 +1,5 @@
+-- The watcher begins with a new session, no connection, and nothing told or watched (`IsBegun`); by what `watch_for` ensures from there,
+-- the text is that of a watch (`watched`, `printed`).
 use Rattle.std.proofs.Common.{ap, refl, false, true, of_z, to_z, w32}
 use Rattle.std.specs.Prelude.{unsigned_abs}
 use Rattle.zk_agent.specs.Telling.{told_by}

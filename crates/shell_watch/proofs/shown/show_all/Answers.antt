@@ -1,3 +1,4 @@
+-- One more subject is shown after those before it (`shown_more`), and at the slice's end all are (`shown_all`), by arithmetic on the index.
 use Rattle.std.proofs.Common.{◌≤◌, ◌<◌, arith, length}
 use Rattle.std.specs.Prelude.{string_bytes}
 use Rattle.zk_client.specs.Clients.{view_of}

@@ -1,3 +1,4 @@
+-- The loop of `show_all`: subjects before the index are shown, the others are as they were; at the slice's end this tells of all.
 use Rattle.std.specs.Prelude.{string_bytes}
 use Rattle.zk_client.specs.Clients.{view_of}
 use Rattle.shell_watch.proofs.Showing.{Shown}

@@ -1,3 +1,4 @@
+-- A stamp is the seconds, a dot, the zeros and the rest: `four_pieces` puts together what each push ensures to have added.
 use Rattle.std.proofs.Common.{◌∙◌, ◌++◌, ℕ, List, ap, codes}
 use Rattle.std.specs.Prelude.{string_bytes, ◌/◌, ◌%◌}
 use Rattle.std.specs.Fmt.{decimal}

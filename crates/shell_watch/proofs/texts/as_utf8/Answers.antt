@@ -1,3 +1,4 @@
+-- `as_utf8`, by the case of what `str::from_utf8` gives: the test `is_utf8` is true exactly where `IsUtf8` holds of the bytes.
 use Rattle.std.proofs.Common.{◌≡◌, Bool, true, false, refl}
 use Rattle.std.proofs.lemmas.Str.{IsUtf8-from_is_utf8, is_utf8-from_IsUtf8}
 use Rattle.shell_watch.proofs.texts.as_utf8.Goals as goal

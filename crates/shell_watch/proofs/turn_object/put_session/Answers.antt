@@ -1,3 +1,4 @@
+-- The session's number and the timeout are put as two members: `two_puts`, with the numbers that `saved` and `timeout_ms` ensure.
 use Rattle.std.proofs.Common.{rules, ◌≡◌, ◌∙◌, codes, to_z, of_z, w64}
 use Rattle.std.specs.Prelude.{pos}
 use Rattle.zk_client.specs.Clients.{view_of}

@@ -1,3 +1,4 @@
+-- Why a read was refused, by the case of the refusal: rewritten with it, the members are what `put_code` or `put_coded` ensures.
 use Rattle.std.proofs.Common.{rules}
 use Rattle.shell_watch.proofs.turn_object.put_why.Goals as goal
 

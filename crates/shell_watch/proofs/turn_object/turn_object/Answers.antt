@@ -1,3 +1,4 @@
+-- A turn that is printed is one line of JSON: `line_is`, of what `begun` wrote, the members that `put_turn` adds, and what `ended` closes.
 use Rattle.std.proofs.Common.{◌≢◌, ◌∙◌, ◌++◌, [], List, ap, rules}
 use Rattle.std.proofs.lemmas.Result.{IfOk-weaker}
 use Rattle.std.specs.Prelude.{string_bytes}

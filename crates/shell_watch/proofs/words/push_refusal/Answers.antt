@@ -1,3 +1,4 @@
+-- By the case of the refusal: a code is three pieces, with its number and its words (`three_pieces`), any other is one text (`one_piece`).
 use Rattle.std.proofs.Common.{◌≡◌, ◌∙◌, ◌++◌, ℕ, ℤ, List, ap, codes, rules, subst, to_z, of_z, w32}
 use Rattle.std.specs.Prelude.{string_bytes, OnOk}
 use Rattle.std.specs.Fmt.{signed_decimal}

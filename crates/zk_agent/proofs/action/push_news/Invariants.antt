@@ -1,3 +1,4 @@
+-- The loop of `push_news`: told is what was told before, then the news before the index; at the slice's end these are all.
 use Rattle.std.proofs.Common.{◌≡◌, ◌++◌, map, take}
 use Rattle.zk_agent.specs.Telling.{news_told, told_by}
 use Rattle.zk_agent.proofs.action.push_news.Given as goal

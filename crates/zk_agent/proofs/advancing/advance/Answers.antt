@@ -1,3 +1,4 @@
+-- After a step each subject is followed, and stays so where news are told: `followed_told`, as `report` leaves the client.
 use Rattle.std.proofs.Common.{ap}
 use Rattle.zk_client.specs.Clients.{view_of}
 use Rattle.zk_agent.proofs.Moves.{followed_told}

@@ -1,3 +1,4 @@
+-- Where it is no call's turn nothing is handed over, and the line is as it was: `none_handed`, of what `next` ensures.
 use Rattle.std.proofs.Common.{refl, sym, ap, ◌∙◌}
 use Rattle.std.specs.Option.{option_map}
 use Rattle.zk_agent.proofs.Lines.{none_handed}

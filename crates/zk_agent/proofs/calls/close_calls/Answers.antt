@@ -1,3 +1,4 @@
+-- Every call of the line ends, as at an expiry (`all_at_expiry`, `none_at_expiry`), and each asker is told so by `push_closed`.
 use Rattle.std.proofs.Common.{◌++◌, map, ap, ◌∙◌}
 use Rattle.zk_calls.specs.Lines.{ended_of}
 use Rattle.zk_agent.specs.Telling.{closed_told, told_by}

@@ -1,3 +1,4 @@
+-- Where the line gives an outcome to tell, it is the one that was heard, by the case of whether it settles the call: `says_it`.
 use Rattle.std.proofs.Common.{◌≡◌, ◌∙◌, ◌++◌, ℕ, Bool, true, false, cond, [], ◌∷◌, Some, None, ap}
 use Rattle.zk_client.specs.Views.{outcome_view}
 use Rattle.zk_turns.specs.Turns.{Outcome, Answer}

@@ -1,3 +1,4 @@
+-- The loop of `push_closed`: told is what was told before, then the closings of the calls before the index; at the end these are all.
 use Rattle.std.proofs.Common.{◌≡◌, ◌++◌, map, take}
 use Rattle.zk_agent.specs.Telling.{closed_told, told_by}
 use Rattle.zk_agent.proofs.calls.push_closed.Given as goal

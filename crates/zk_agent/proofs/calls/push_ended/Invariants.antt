@@ -1,3 +1,4 @@
+-- The loop of `push_ended`: told is what was told before, then the endings of the calls before the index; at the end these are all.
 use Rattle.std.proofs.Common.{◌≡◌, ◌++◌, map, take}
 use Rattle.zk_agent.specs.Telling.{ended_told, told_by}
 use Rattle.zk_agent.proofs.calls.push_ended.Given as goal

@@ -1,3 +1,4 @@
+-- One more output is told, and heard by the line: `told_more` and `heard_more`, of the first of those that were left.
 use Rattle.std.proofs.Common.{ap}
 use Rattle.zk_client.specs.Views.{output_view, said}
 use Rattle.zk_agent.specs.Telling.{told_by}

@@ -1,3 +1,5 @@
+-- The loop of `push_outputs`: what is told, with what the outputs left will tell, is the whole, and the line will have heard all. At the
+-- end none is left, so all is told and heard. The outputs left become fewer.
 use Rattle.std.proofs.Common.{◌≡◌, ◌++◌, length}
 use Rattle.zk_client.specs.Views.{said}
 use Rattle.zk_agent.specs.Calls.{hears_all, tells_all}

@@ -1,3 +1,4 @@
+-- No reply to the client of a renewed session is older than what was seen before: the law `above_the_saved`, at the start of that session.
 use Rattle.zk_client.specs.Clients.{renewed_start}
 use Rattle.zk_agent.proofs.renewal.admits_nothing_older.Goals as goal
 

@@ -1,3 +1,4 @@
+-- Whether an output ends the connection: `any` tests the slice (`any_from_yields_List`), and so what its outputs say (`any_said`).
 use Rattle.std.proofs.Common.{◌∙◌, sym, rules, tests}
 use Rattle.std.proofs.lemmas.Iterator.{YieldsList-from_slice}
 use Rattle.std.proofs.lemmas.Iterator.Search.{any_from_yields_List}

@@ -1,3 +1,4 @@
+-- Whether an output is a reply to a call: `any_from_yields_List` for the search in the slice, and `any_said` for what the outputs say.
 use Rattle.std.proofs.Common.{◌∙◌, sym, rules, tests}
 use Rattle.std.proofs.lemmas.Iterator.{YieldsList-from_slice}
 use Rattle.std.proofs.lemmas.Iterator.Search.{any_from_yields_List}

@@ -1,3 +1,4 @@
+-- Of the loop over the outputs. At its end all were noted, and by `fold_said` that is `sent_in` of what the client says.
 use Rattle.std.proofs.Common.{◌≡◌, false, fold, take}
 use Rattle.zk_client.specs.Views.{output_view}
 use Rattle.zk_agent.specs.Waits.{none_sent, sent_by}

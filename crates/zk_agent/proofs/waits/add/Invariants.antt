@@ -1,3 +1,4 @@
+-- Of the loop that adds the moment to the line. At its end it was added as often as `count` says.
 use Rattle.std.proofs.Common.{◌≡◌, ◌++◌, replicate}
 use Rattle.zk_agent.proofs.waits.add.Given as goal
 

@@ -1,3 +1,4 @@
+-- The answer to a ConnectRequest has the timeout that was given, and with sixteen bytes of password it can be told, by `response_fits`.
 use Rattle.std.proofs.Common.{ℕ, refl, rules, ap, sym, subst, length, ◌≡◌, to_z, of_z, w32, w64}
 use Rattle.std.specs.Prelude.{FitsSigned}
 use Rattle.zk_bench.proofs.Staying.{response_fits}

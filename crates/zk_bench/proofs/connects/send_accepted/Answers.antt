@@ -1,3 +1,4 @@
+-- An answer with a timeout above 0 and no readOnly byte is the message that the client is accepted, by `accepts_so`.
 use Rattle.std.proofs.Common.{rules, ap, pos, ◌∙◌, ◌≡◌, to_z, of_z, w32}
 use Rattle.std.specs.Prelude.{int_lt}
 use Rattle.zk_records.specs.Views.{response_of}

@@ -1,3 +1,4 @@
+-- An answer with timeout 0 and no readOnly byte is the message that the session has expired, by `expires_so`.
 use Rattle.std.proofs.Common.{ap, pos}
 use Rattle.std.specs.Prelude.{int_lt}
 use Rattle.zk_records.specs.Views.{response_of}

@@ -1,3 +1,5 @@
+-- By whether `fire` finds a watch: the notice is what the event fires, by `tells_event`, or it fires none, by `tells_no_event`.
+-- The watches that are left are those that `fire` ensures.
 use Rattle.std.proofs.Common.{sym, refl, ◌∙◌}
 use Rattle.zk_bench.specs.inner.Serving.{watched}
 use Rattle.zk_bench.proofs.Watched.{tells_event, tells_no_event}

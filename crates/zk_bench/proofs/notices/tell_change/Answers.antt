@@ -1,3 +1,5 @@
+-- By the change: a node that is made or deleted fires at its path and then at its parent, by `moved_fires`, `moved_left` and
+-- `tells_both`; of the root nothing is told, by `moved_none`. The watches that new data leave are those of `left_set`.
 use Rattle.std.proofs.Common.{sym, refl, ap, subst, ◌∙◌, ◌≡◌, inl, inr, List}
 use Rattle.std.specs.Option.{option_map}
 use Rattle.zk_nodes.specs.Path.{path_of}

@@ -1,3 +1,5 @@
+-- The loop begins with nothing fired, and one more change tells what it fires after that: `tells_both`, `fires_next` and `left_next`.
+-- After it no change is left, so what was fired is what all changes fire.
 use Rattle.std.proofs.Common.{sym, refl, ap, subst, ◌∙◌, ◌≡◌, ◌++◌, List, map, drop, [], ◌∷◌, arith, ◌+◌}
 use Rattle.std.proofs.lemmas.List.{append-nil}
 use Rattle.std.proofs.Math.ListN.{drop_of_length-le}

@@ -1,3 +1,5 @@
+-- Of the loop over the changes. At its end none is left, so the notices of all were told, and the watches are those that all leave.
+-- The output still begins with what it was, so where a change fails it is cut back to that.
 use Rattle.std.proofs.Common.{◌≡◌, ◌++◌, map, take, drop, length, List}
 use Rattle.zk_history.specs.Made.{change_of}
 use Rattle.zk_laws.specs.Server.{Notice, fires_all, leaves_set_all}

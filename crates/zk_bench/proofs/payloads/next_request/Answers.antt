@@ -1,3 +1,5 @@
+-- The payload after the length spells the record that was asked, by `record_spelled`: so by what `Request::take` ensures, that one is read,
+-- or memory is refused.
 use Rattle.std.proofs.Common.{◌≡◌, ap, subst, ◌∙◌, [], drop, ℕ}
 use Rattle.std.proofs.Common.{take as first}
 use Rattle.zk_jute.specs.Cursor.{bytes_left}

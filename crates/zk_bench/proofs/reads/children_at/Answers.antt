@@ -1,3 +1,5 @@
+-- By what `names` finds in the tree: where there is nothing, no node is there, by `names_none`; else the texts are the names of the
+-- children, by `lists`, and they fit a reply where the set of names does, by `list_fits`.
 use Rattle.std.proofs.Common.{refl, sym, ap, ◌∙◌}
 use Rattle.zk_nodes.specs.Path.{path_of}
 use Rattle.zk_nodes.specs.History.{tree_at}

@@ -1,3 +1,6 @@
+-- By what `stat` finds at the path: a Stat is what there is to see, by `stat_read`, and spelled in the reply, by `stat_payload`; where
+-- there is none, no node is there, by `none_told`. The watch is left either way, by `exists_left` and `absence_left`. A Stat fits a
+-- frame, by `stat_fits`, so sending it ends no connection.
 use Rattle.std.proofs.Common.{rules, sym, refl, ap, subst, ◌∙◌, ◌≡◌, ◌++◌, Some, None, pos, cond, to_z, of_z, w32, w64}
 use Rattle.std.specs.FinSet as set
 use Rattle.zk_jute.specs.Lenient.{or_empty}

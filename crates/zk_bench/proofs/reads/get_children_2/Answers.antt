@@ -1,3 +1,6 @@
+-- The names and the Stat are what there is to see of the node, by `children_read` and `stat_read`, and spelled in the reply, by
+-- `names_payload`; the watch is left, by `children_left`. Where no Stat is found, no node is there, by `finds_none`, and where one is,
+-- the children are found too, by `both_told`. Names that fit a reply end no connection, by `names_fit`.
 use Rattle.std.proofs.Common.{rules, sym, refl, ap, subst, ◌∙◌, ◌≡◌, ◌++◌, Some, None, Option, ℕ, pos, cond, List, to_z, of_z, w32, w64}
 use Rattle.std.specs.Option.{option_map}
 use Rattle.std.specs.FinSet as set

@@ -1,3 +1,6 @@
+-- The data and the Stat are what there is to see of the node, by `data_read`, and spelled in the reply, by `data_payload`; the watch is
+-- left, by `left_by`. Where no Stat is found, no node is there, by `finds_none`, and where one is, the data are found too, by `both_told`.
+-- Data that fit a reply end no connection, by `data_fits`.
 use Rattle.std.proofs.Common.{rules, sym, refl, ap, subst, ◌∙◌, ◌≡◌, ◌++◌, Some, Option, ℕ, pos, cond, List, to_z, of_z, w32, w64}
 use Rattle.std.specs.Option.{option_map}
 use Rattle.std.specs.FinSet as set

@@ -1,3 +1,4 @@
+-- Of the loop over the names. At its end no name is left, so the elements are the texts of all names, in their order.
 use Rattle.std.proofs.Common.{◌≡◌, ◌++◌, map, Some, string_bytes}
 use Rattle.zk_bench.proofs.reads.list_of.Given as goal
 

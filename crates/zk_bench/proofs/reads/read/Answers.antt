@@ -1,3 +1,5 @@
+-- By the request: the call is its read, by `read_exists`, `read_data` and `read_children`, so what `exists`, `get_data` and
+-- `get_children_2` ensure holds of the call. For setWatches it is what `set_watches` ensures, of the same part.
 use Rattle.std.proofs.Common.{rules, ◌≡◌, subst, to_z, of_z, w32, sym, ℤ, pos}
 use Rattle.std.specs.Prelude.{OnOk, IsErrOf}
 use Rattle.zk_nodes.specs.History.{tree_at}

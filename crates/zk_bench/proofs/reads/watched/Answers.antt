@@ -1,3 +1,4 @@
+-- By what `stat` ensures of the node at the path, rewritten to the text that was asked: one is found with its Stat, or none is there.
 use Rattle.std.proofs.Common.{◌≡◌, refl, ap, subst, ◌∙◌, sym, Some, None, Option}
 use Rattle.zk_jute.specs.Lenient.{or_empty}
 use Rattle.zk_nodes.specs.Path.{path_of}

@@ -1,3 +1,4 @@
+-- A header takes 16 bytes, by `length-header`, so it fits a frame, and `push_frame` ends no connection.
 use Rattle.std.proofs.Common.{arith}
 use Rattle.zk_bench.proofs.Staying.{lent-length, length-header}
 use Rattle.zk_bench.proofs.replies.send_header.Goals as goal

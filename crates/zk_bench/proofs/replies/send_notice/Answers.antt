@@ -1,3 +1,4 @@
+-- A notice of a path fits a frame, by `notice_fits`, so it ends no connection, by what `send_result` ensures.
 use Rattle.std.proofs.Common.{rules}
 use Rattle.std.proofs.lemmas.Str.{is_utf8-from_IsUtf8}
 use Rattle.zk_bench.proofs.Staying.{notice_fits}

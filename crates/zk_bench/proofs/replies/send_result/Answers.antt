@@ -1,3 +1,5 @@
+-- The payload has 16 bytes for the header and those of the record, by `length-reply`: so what can be sent fits a frame, and `push_frame`
+-- ends no connection.
 use Rattle.std.proofs.Common.{arith, ◌≡◌, ◌+◌, ◌∙◌, length}
 use Rattle.zk_jute.specs.Spelling.{spelling}
 use Rattle.zk_bench.proofs.Staying.{lent-length, length-reply}

@@ -1,3 +1,5 @@
+-- What `missed` finds is the check of the path in the tree, by `missed_is`: an event is told, by `one_told`, and where there is none, the
+-- path is watched, by `one_watched`.
 use Rattle.std.proofs.Common.{ℕ, pos, Option, ◌≡◌, refl, ◌∙◌, rules, to_z, of_z, w64}
 use Rattle.zk_nodes.specs.Path.{path_of}
 use Rattle.zk_nodes.specs.History.{tree_at}

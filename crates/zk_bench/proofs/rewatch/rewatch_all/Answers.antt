@@ -1,3 +1,5 @@
+-- The loop begins with no path, by `no_path`, and each turn adds one, by `more_paths`; after it the paths are those of the whole list, by
+-- `texts_whole`. Each text is one of a path, by `text_has`, so no turn ends the connection.
 use Rattle.std.proofs.Common.{rules, ◌≡◌, ◌<◌, length, refl, sym, subst, ◌∙◌, [], ◌∷◌, take, arith, to_z, of_z, w64, ap}
 use Rattle.std.proofs.Math.Seq.{take-length}
 use Rattle.zk_jute.specs.Lenient.{or_empty}

@@ -1,3 +1,4 @@
+-- The loop over the paths of one list: those so far are watched again or told as missed; at its end that is the whole list.
 use Rattle.std.proofs.Common.{◌≡◌, ℕ, pos, take, length}
 use Rattle.std.specs.List.{AllByRecursion}
 use Rattle.zk_nodes.specs.History.{tree_at}

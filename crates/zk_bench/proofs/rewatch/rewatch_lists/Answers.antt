@@ -1,3 +1,5 @@
+-- Three lists, one after the other, tell what the part tells and set its watches: what `rewatch_all` ensures of each list, joined by
+-- `part_told` and `part_left`. Where one of them fails, the error is handed on, and it is not `End`: `handed_on`.
 use Rattle.std.proofs.Common.{◌≡◌, ◌∙◌, rules, to_z, of_z, w64, ℕ, ap}
 use Rattle.zk_nodes.specs.History.{tree_at}
 use Rattle.zk_history.specs.HistoryView.{history_of, natural}

@@ -1,3 +1,4 @@
+-- After the three lists comes the reply's header: `part_restored`, from what `rewatch_lists` and `send_header` ensure.
 use Rattle.std.proofs.Common.{◌≡◌, ◌∙◌, subst, pos, rules, to_z, of_z, w32, w64}
 use Rattle.zk_nodes.specs.History.{tree_at}
 use Rattle.zk_history.specs.HistoryView.{history_of, natural}

@@ -1,3 +1,5 @@
+-- The count goes up to all transactions, or stops at 2^64 - 1: `saturated` and `counted_more` add one transaction, `counted_all` ends the
+-- loop. The loop reaches each of them, since rising transactions are fewer than zxids (`short`).
 use Rattle.std.proofs.Common.{arith, ap, ◌∙◌, ℕ, ◌+◌}
 use Rattle.std.specs.Prelude.{min}
 use Rattle.zk_nodes.specs.Path.{path_of}

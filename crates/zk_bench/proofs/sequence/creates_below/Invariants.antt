@@ -1,3 +1,4 @@
+-- The loop over the transactions: the count is that of the first n, or 2^64 - 1 at most. At its end n is all, by `counted_all`.
 use Rattle.std.proofs.Common.{◌≡◌, ◌≤◌, length, take}
 use Rattle.std.specs.Prelude.{min}
 use Rattle.zk_nodes.specs.Path.{path_of}

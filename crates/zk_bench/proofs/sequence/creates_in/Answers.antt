@@ -1,3 +1,4 @@
+-- A change adds one to the count just where `is_made_below` says so: `count_by_more_yes` and `count_by_more_no`.
 use Rattle.std.proofs.Common.{ap, sym, ◌∙◌, ◌+◌, ℕ}
 use Rattle.std.proofs.lemmas.List.Sums.{count_by_more_yes, count_by_more_no}
 use Rattle.zk_nodes.specs.Path.{path_of}

@@ -1,3 +1,4 @@
+-- The loop over the changes: the count is that of those so far, so at its end it is that of all.
 use Rattle.std.proofs.Common.{◌≡◌, take}
 use Rattle.std.specs.Prelude.{count_by}
 use Rattle.zk_nodes.specs.Path.{path_of}

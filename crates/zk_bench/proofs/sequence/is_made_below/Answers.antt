@@ -1,3 +1,4 @@
+-- A create is below the parent where its path's parent has this text: `is_below-text`, from what `parent` and `==` ensure.
 use Rattle.zk_nodes.proofs.PathTexts.{is_below-text}
 use Rattle.zk_bench.proofs.sequence.is_made_below.Goals as goal
 

@@ -1,3 +1,4 @@
+-- The text is the path with ten digits (`numbered_as`), and so the path made (`path_told-path`), or that of no path (`no_path`).
 use Rattle.std.proofs.Common.{ap, ◌∙◌, ◌≡◌, ◌++◌, ◌^◌, ◌-◌}
 use Rattle.std.specs.Fmt.{styled_decimal, format_spec}
 use Rattle.zk_nodes.specs.Path.{path_of}

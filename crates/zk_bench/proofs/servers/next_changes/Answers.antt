@@ -1,3 +1,4 @@
+-- The transaction at this place has the next changes (`next_are`), within the history (`is_room`), below 2^63 as zxids rise (`few`).
 use Rattle.zk_history.specs.HistoryView.{history_of}
 use Rattle.zk_bench.proofs.Continuing.{few}
 use Rattle.zk_bench.proofs.Placed.{next_are, is_room}

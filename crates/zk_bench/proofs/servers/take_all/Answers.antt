@@ -1,3 +1,4 @@
+-- One transaction more is taken and told: `takes_one`. Only watches and output change: `rest-more`.
 use Rattle.std.proofs.Common.{ap, ◌∙◌, map}
 use Rattle.zk_history.specs.HistoryView.{history_of}
 use Rattle.zk_history.specs.Made.{change_of}

@@ -1,3 +1,4 @@
+-- The loop that takes transactions: those so far are taken and told. At its end that is `up`, as `next_changes` has no more to give.
 use Rattle.std.proofs.Common.{◌≡◌, ◌≤◌, ◌-◌, length}
 use Rattle.zk_history.specs.HistoryView.{history_of}
 use Rattle.zk_bench.specs.declared.phase.Phase.TheVariants.{Accepted}

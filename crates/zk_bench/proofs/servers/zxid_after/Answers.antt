@@ -1,3 +1,5 @@
+-- The zxid is that of the last transaction taken (`zxid_is`), fits 64 bits (`zxid_fits`), and is there if any was taken (`has_last`). The
+-- tree at it is that of the transactions taken, since zxids rise: `held_tree`.
 use Rattle.std.proofs.Common.{refl, ◌∙◌}
 use Rattle.std.proofs.lemmas.Int.{to_z-of_z}
 use Rattle.zk_bench.proofs.Placed.{held_tree, zxid_is, has_last, zxid_fits}

@@ -1,3 +1,4 @@
+-- The set holds one path more: `names_of-insert`, rewritten by what `from_str` ensures of the copy's bytes.
 use Rattle.std.proofs.Common.{ap, ◌∙◌}
 use Rattle.std.specs.FinSet as set
 use Rattle.zk_nodes.specs.Names.{names_of}

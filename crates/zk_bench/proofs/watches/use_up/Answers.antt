@@ -1,3 +1,4 @@
+-- An event of this side takes the path out (`names_of-remove`) and tells whether it was there (`contains-names_of`).
 use Rattle.std.proofs.Common.{ap, sym, ◌∙◌, ◌&&◌}
 use Rattle.std.specs.FinSet as set
 use Rattle.zk_nodes.specs.Names.{names_of}

@@ -1,3 +1,5 @@
+-- The outcome of `change` is that of the append: `append_accepted` where the tree takes the change, and `append_told` where it refuses.
+-- `room_left` says, by arithmetic on zxid and time, that there is room for one more.
 use Rattle.std.proofs.Common.{arith, ◌≡◌, ◌<◌, ◌≤◌, false}
 use Rattle.std.proofs.lemmas.Int.{ints}
 use Rattle.zk_nodes.specs.History.{newest}

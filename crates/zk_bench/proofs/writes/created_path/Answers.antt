@@ -1,3 +1,4 @@
+-- The parent's names are there: what `parent_of` ensures, carried from the path to the text that was asked for.
 use Rattle.std.proofs.Common.{subst}
 use Rattle.zk_nodes.specs.Path.{Text, path_of}
 use Rattle.zk_nodes.specs.Names.{Names}

@@ -1,3 +1,4 @@
+-- The tree takes a create that is not refused, unless its data are too long: `create_allowed`, from what `created_path` ensures.
 use Rattle.std.proofs.Common.{sym, subst, Option, List, ℕ, to_z, w64}
 use Rattle.zk_nodes.specs.Path.{path_of}
 use Rattle.zk_nodes.specs.History.{Creates}

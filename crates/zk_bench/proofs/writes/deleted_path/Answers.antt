@@ -1,3 +1,4 @@
+-- `kept-at` says whether the delete is refused, by what `refused_deletion` ensures; if not, the tree takes it: `delete_allowed`.
 use Rattle.std.proofs.Common.{rules, ◌≡◌, sym, ◌∙◌, to_z, of_z, w32, subst}
 use Rattle.zk_jute.specs.Lenient.{or_empty}
 use Rattle.zk_bench.specs.inner.Writing.{tree_of}

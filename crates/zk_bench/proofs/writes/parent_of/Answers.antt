@@ -1,3 +1,4 @@
+-- The parent's Stat counts the names beside the path (`beside_counted`), and there are such names (`beside_there`).
 use Rattle.std.proofs.Common.{subst, Option}
 use Rattle.zk_nodes.specs.Path.{path_of}
 use Rattle.zk_history.specs.Shown.{IsStat}

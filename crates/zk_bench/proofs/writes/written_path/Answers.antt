@@ -1,3 +1,4 @@
+-- `set-at` says whether the setData is refused, by what `node_at` and `refused_data` ensure; if not, the tree takes it: `set_allowed`.
 use Rattle.std.proofs.Common.{rules, ◌≡◌, to_z, of_z, w32}
 use Rattle.zk_bench.specs.inner.Writing.{tree_of}
 use Rattle.zk_bench.proofs.Written.{set-at}

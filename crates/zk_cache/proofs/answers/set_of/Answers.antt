@@ -1,3 +1,4 @@
+-- One name more is in the set: `names_of-insert`, then `set.from_list_push`, and `map_more` for the names so far.
 use Rattle.std.proofs.Common.{ap, sym, ◌∙◌, map, take, get_or, None, string_bytes}
 use Rattle.std.proofs.lemmas.Cmp.{nat_list_cmp_total}
 use Rattle.std.proofs.lemmas.List.{map_more}

@@ -1,3 +1,4 @@
+-- The loop over the names: the set holds those so far, so at its end it holds all.
 use Rattle.std.proofs.Common.{◌≡◌, take}
 use Rattle.zk_nodes.specs.Names.{names_of}
 use Rattle.zk_cache.specs.inner.Contents.{set_of}

@@ -1,3 +1,4 @@
+-- Only the text of the new key is changed: `hash_map_updates_text`, rewritten by what `from_str` and `marked_good` ensure.
 use Rattle.std.proofs.Common.{Some, ◌∙◌, bytes_eq, string_bytes, if◌then◌else◌}
 use Rattle.std.proofs.lemmas.Map.Text.{hash_map_updates_text}
 use Rattle.indexmap.specs.IndexMap.{get_by_text}

@@ -1,3 +1,5 @@
+-- `retain` filters the entries by their mark (`filter-RetainsPairs`), and a look-up in the filtered ones leaves out what is stale
+-- (`lookup-good`), since no key is there twice.
 use Rattle.std.proofs.Common.{◌≡◌, rules, filter, ap, ◌∙◌, bytes_eq, string_bytes}
 use Rattle.std.specs.Map.{lookup}
 use Rattle.indexmap.proofs.CallerLemmas.{filter-RetainsPairs}

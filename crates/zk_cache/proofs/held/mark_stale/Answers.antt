@@ -1,3 +1,4 @@
+-- A path that is in the map has its own entry marked stale, and no other: `hash_map_updates_text` of the lent entry.
 use Rattle.std.proofs.Common.{refl, ap, subst, ◌∙◌, IsSome, bytes_eq, if◌then◌else◌}
 use Rattle.std.proofs.lemmas.Map.Text.{hash_map_updates_text}
 use Rattle.indexmap.specs.IndexMap.{get_by_text}

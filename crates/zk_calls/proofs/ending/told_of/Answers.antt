@@ -1,3 +1,4 @@
+-- One call more is told if it has ended: `told_so_far` and `one_more_told`, from what `add_told` ensures.
 use Rattle.std.proofs.Common.{◌<◌, arith, length}
 use Rattle.zk_calls.proofs.Answering.{one_more_told, told_so_far}
 use Rattle.zk_calls.proofs.ending.told_of.Goals as goal

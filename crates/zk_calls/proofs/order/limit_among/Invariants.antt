@@ -1,3 +1,4 @@
+-- The loop over the calls: `first` is the first limit of those so far, so at its end it is that of all.
 use Rattle.std.proofs.Common.{◌≡◌, fold, take, None}
 use Rattle.zk_calls.specs.Lines.{first_of}
 use Rattle.zk_calls.proofs.order.limit_among.Given as goal

@@ -1,3 +1,4 @@
+-- The limit of the call in front is the first one, since limits rise: `limit_of_first`.
 use Rattle.zk_calls.proofs.Rising.{limit_of_first}
 use Rattle.zk_calls.proofs.order.limit_in_order.Goals as goal
 

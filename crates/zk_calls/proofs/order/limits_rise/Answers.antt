@@ -1,3 +1,4 @@
+-- One call more leaves the limits in order, if its own is not before the last one's: `in_order-added`, with `limits_join`.
 use Rattle.std.proofs.Common.{◌-◌, ◌∙◌, deque_len, sym, arith}
 use Rattle.zk_calls.specs.Orders.{ends_first}
 use Rattle.zk_calls.proofs.Orders.{in_order-added}

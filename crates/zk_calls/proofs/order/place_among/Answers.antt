@@ -1,3 +1,4 @@
+-- A hit is the first one, by the invariant: `position_is`. After the loop there is none: `position_none`.
 use Rattle.std.proofs.Common.{◌<◌, ◌∙◌, length, sym, ap, arith}
 use Rattle.zk_calls.specs.declared.entry.Ending.TheVariants.{LostOf}
 use Rattle.zk_calls.specs.Lines.{is_ended}

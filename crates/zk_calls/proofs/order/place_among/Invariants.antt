@@ -1,3 +1,4 @@
+-- The loop over the calls: none so far is handed over with this ticket. So a hit is the first, and at the end there is none.
 use Rattle.std.proofs.Common.{◌≡◌, ◌<◌, ℕ, false, get_or}
 use Rattle.zk_calls.specs.declared.entry.Entry.{Entry}
 use Rattle.zk_calls.specs.declared.entry.Ending.TheVariants.{LostOf}

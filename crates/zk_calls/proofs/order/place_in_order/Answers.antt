@@ -1,3 +1,5 @@
+-- Since tickets rise, `partition_point` finds the first call that is not below the ticket (`tickets_parted`). If that is the call sought,
+-- `found_by_search`, else no call is it: `not_found_by_search`.
 use Rattle.std.proofs.Common.{rules, of_calls, ◌<◌, ◌∙◌, length, nat_lt, sym, ap, arith}
 use Rattle.std.proofs.lemmas.Fn.{always_returns_same}
 use Rattle.std.proofs.lemmas.List.{get_or_default}

@@ -1,3 +1,4 @@
+-- One call more leaves the tickets in order, if its own is above the last one's: `in_order-added`, with `tickets_join`.
 use Rattle.std.proofs.Common.{◌-◌, deque_len, arith}
 use Rattle.zk_calls.specs.Orders.{is_below}
 use Rattle.zk_calls.proofs.Orders.{in_order-added}

@@ -1,3 +1,4 @@
+-- The first call that waits is marked as sent (`handed_there`), so all up to its place are handed over (`handed_next`).
 use Rattle.std.proofs.Common.{true, refl}
 use Rattle.zk_calls.specs.Lines.{waits_turn}
 use Rattle.zk_calls.proofs.Answering.{handed_there, within}

@@ -1,3 +1,4 @@
+-- A hit is the first call that waits, by the invariant: `position_is`. After the loop none waits: `position_none`.
 use Rattle.std.proofs.Common.{◌<◌, ◌∙◌, length, not, sym, ap, arith}
 use Rattle.zk_calls.specs.Lines.{waits_turn}
 use Rattle.zk_calls.proofs.Orders.{position_is, position_none}

@@ -1,3 +1,4 @@
+-- The loop behind the calls handed over: none before this place waits. So a hit is the first, and at the end none waits.
 use Rattle.std.proofs.Common.{◌≡◌, ◌<◌, ℕ, false, get_or}
 use Rattle.zk_calls.specs.declared.entry.Entry.{Entry}
 use Rattle.zk_calls.specs.Lines.{waits_turn}

@@ -1,3 +1,5 @@
+-- By whether the call goes back: it waits again in its place and nobody is told (`goes_back_there` and `not_told`), or it is taken out and
+-- its asker is told (`settled_there` and `told`).
 use Rattle.std.proofs.Common.{◌∙◌, sym}
 use Rattle.zk_client.specs.Views.{outcome_view}
 use Rattle.zk_calls.proofs.Answering.{goes_back_there, not_told, settled_there, told}

@@ -1,3 +1,5 @@
+-- Each turn sends one part more and has one reply more to wait for (`next-part`), and each part is short enough to send (`part-small`).
+-- After the loop all parts are sent: `all-parts` and `all-frames`, and `any-part` for whether there is one.
 use Rattle.std.proofs.Common.{◌≡◌, ℕ, ◌+◌, ◌++◌, ◌∷◌, [], List, take, map, length, eqb, nat_lt, ap, sym, ◌∙◌, w64, arith, append_assoc}
 use Rattle.std.proofs.Common.{vec_len}
 use mir.Val.{to_z, of_z}

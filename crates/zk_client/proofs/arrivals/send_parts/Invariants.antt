@@ -1,3 +1,4 @@
+-- The loop over the parts of setWatches: those so far are sent and pending, phase and xid stay. At its end that is all of them.
 use Rattle.std.proofs.Common.{◌≡◌, ◌++◌, map, take}
 use Rattle.zk_conversation.specs.declared.phase.Phase.TheVariants.{Talking}
 use Rattle.zk_watches.specs.Parts.{parts}

@@ -1,3 +1,4 @@
+-- One side after the other: `spoilt-nodes` and `spoilt-children`, from what `concerns` and `spoil_side` ensure.
 use Rattle.zk_nodes.specs.declared.side.Side.TheVariants.{Data, Child}
 use Rattle.zk_records.specs.Events.{concerns}
 use Rattle.zk_client.proofs.CacheLemmas.{spoilt-nodes, spoilt-children}

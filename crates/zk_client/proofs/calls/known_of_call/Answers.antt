@@ -1,3 +1,5 @@
+-- By the kind of call: the path's text is UTF-8 by its type (`is_utf8-from_IsUtf8`), a
+-- version fits 32 bits by `known_of_version`, and a create mode is from 0 to 3 by its cases.
 use Rattle.std.proofs.lemmas.Int.{ints}
 use Rattle.std.proofs.Common.{arith, to_z, of_z, w32}
 use Rattle.zk_conversation.specs.declared.call.CreateMode.{CreateMode}

@@ -1,3 +1,5 @@
+-- Each turn takes one call out and answers it (`takes-one`), so what was said, with the
+-- losses still to tell, stays the same. After the loop nothing is pending: `takes-none`.
 use Rattle.std.proofs.Common.{ap, sym, ◌∙◌, append_assoc, List, ◌++◌}
 use Rattle.std.proofs.lemmas.List.{append-nil}
 use Rattle.zk_turns.specs.Turns.{Output}

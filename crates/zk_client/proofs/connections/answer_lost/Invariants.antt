@@ -1,3 +1,5 @@
+-- The loop over the pending calls: what was said, with the losses of those still pending, is what is to be said at the end. Each turn
+-- leaves fewer of them, and after the last none is left to add.
 use Rattle.std.proofs.Common.{◌≡◌, ◌++◌, length}
 use Rattle.std.specs.List.{flat_map}
 use Rattle.zk_conversation.specs.declared.phase.Phase.TheVariants.{Closed}

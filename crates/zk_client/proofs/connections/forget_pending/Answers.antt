@@ -1,3 +1,4 @@
+-- Each turn takes one call out (`takes-one`), and where none is given nothing is pending any more (`takes-none`).
 use Rattle.std.proofs.Common.{sym, ◌∙◌}
 use Rattle.zk_client.proofs.Pendings.{TakesOne, takes-one, takes-none}
 use Rattle.zk_client.proofs.connections.forget_pending.Goals as goal

@@ -1,3 +1,4 @@
+-- The loop that takes pending calls out: the conversation stays closed, with its xid. At the end that is enough for `takes-none`.
 use Rattle.std.proofs.Common.{◌≡◌, length}
 use Rattle.zk_conversation.specs.declared.phase.Phase.TheVariants.{Closed}
 use Rattle.zk_client.proofs.connections.forget_pending.Given as goal

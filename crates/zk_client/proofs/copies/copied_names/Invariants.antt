@@ -1,3 +1,4 @@
+-- The loop over the names: the copies are those so far, a null name as the empty one. At its end they are all.
 use Rattle.std.proofs.Common.{◌≡◌, map, take}
 use Rattle.std.specs.Prelude.{string_bytes}
 use Rattle.std.specs.Option.{option_map}

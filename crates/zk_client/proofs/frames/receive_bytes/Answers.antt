@@ -1,3 +1,5 @@
+-- Where no connection is open the bytes change nothing and say nothing (`unheard_view` and `unheard_says`). Else they are held behind the
+-- old ones, and taking them as frames is taking them byte by byte: `whole-view` and `whole-says`.
 use Rattle.std.proofs.Common.{◌≡◌, ◌<◌, true, false, length, List, [], ◌++◌, ap, sym, ◌∙◌, map, arith}
 use Rattle.zk_session.specs.States.{is_open}
 use Rattle.std.proofs.lemmas.Result.{on_ok_weaker}

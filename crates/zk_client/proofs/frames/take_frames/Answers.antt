@@ -1,3 +1,6 @@
+-- By what `next_frame` gives: a whole frame is one arrival more (`frame-view`), a rest stays held
+-- (`rest-view`), and a bad length drops the connection (`bad-view`). After the loop no connection is
+-- open, so the bytes left go unheard (`unheard_view`). The same for what is said: `frame-says` and so on.
 use Rattle.std.proofs.Common.{◌≡◌, true, false, refl, List, [], ◌++◌, ap, sym, ◌∙◌, map, append_assoc}
 use Rattle.zk_session.specs.States.{is_open}
 use Rattle.std.proofs.lemmas.Result.{on_ok_weaker}

@@ -1,3 +1,5 @@
+-- The loop over the frames: taking the bytes still held leads to the view, and to the outputs, that taking all of them led to at the start.
+-- So at each exit it is enough to say what the bytes left do. Each turn leaves fewer bytes.
 use Rattle.std.proofs.Common.{◌≡◌, [], ◌++◌, map, None, false, length}
 use Rattle.zk_turns.specs.Turns.{Comes}
 use Rattle.zk_turns.specs.Rule.{after_signals, says_signals}

@@ -1,3 +1,4 @@
+-- One input more is copied: `one_more`, from what `push` and `two_copies` ensure.
 use Rattle.std.proofs.Common.{arith, ap, ◌∙◌, map}
 use Rattle.zk_client.specs.Views.{input_view}
 use Rattle.zk_client.proofs.Copying.{one_more}

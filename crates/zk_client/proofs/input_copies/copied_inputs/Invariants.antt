@@ -1,3 +1,4 @@
+-- The loop over the inputs: the copies to hand out show those so far, so at its end they show all.
 use Rattle.std.proofs.Common.{◌≡◌, map, take}
 use Rattle.zk_client.specs.Views.{input_view}
 use Rattle.zk_client.proofs.input_copies.copied_inputs.Given as goal

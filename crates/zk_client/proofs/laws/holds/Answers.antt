@@ -1,3 +1,4 @@
+-- Whoever stands, holds: that is the lemma `holds_here`.
 use Rattle.zk_client.proofs.Holding.{holds_here}
 use Rattle.zk_client.proofs.laws.holds.Goals as goal
 

@@ -1,3 +1,4 @@
+-- One input more is one turn more (`further`); the run halts with its step (`halted`), and is whole where no input comes (`ended`).
 use Rattle.zk_client.specs.Clients.{view_of}
 use Rattle.zk_client.specs.Views.{input_view, said}
 use Rattle.zk_client.specs.Runs.{RanUntilHalt}

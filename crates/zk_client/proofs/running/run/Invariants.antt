@@ -1,3 +1,4 @@
+-- The loop over the inputs: the turns so far led here, and the outside tells them. `ended` and `halted` need no more.
 use Rattle.zk_client.specs.Clients.{view_of}
 use Rattle.zk_client.proofs.Holding.{HasCome}
 use Rattle.zk_client.proofs.running.run.Given as goal

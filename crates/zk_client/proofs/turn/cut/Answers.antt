@@ -1,3 +1,4 @@
+-- Where a connection is open, its loss is all that happens: `turns-view` and `turns-says`, from what `lose` ensures.
 use Rattle.std.proofs.Common.{[], ◌∷◌, ap, sym, ◌∙◌}
 use Rattle.zk_session.specs.States.{is_open}
 use Rattle.std.proofs.lemmas.Result.{on_ok_weaker}

@@ -1,3 +1,4 @@
+-- After the moment comes what is due, a ping or a drop: `tick-view` and `tick-says`, from what `ping` and `give_up` ensure.
 use Rattle.std.proofs.Common.{ap, ◌∙◌}
 use Rattle.std.proofs.lemmas.Result.{on_ok_weaker}
 use Rattle.zk_frames.specs.Held.{Held}

@@ -1,3 +1,5 @@
+-- By the state: from idle, one connection begins; an open one is lost first and then one begins (`open-begins`). `turns-view` and
+-- `turns-says`, with `two-says` for the two outcomes in a row.
 use Rattle.std.proofs.Common.{[], ◌∷◌, ◌++◌, ap, sym, ◌∙◌}
 use Rattle.std.proofs.lemmas.Result.{on_ok_weaker}
 use Rattle.zk_frames.specs.Held.{Held}

@@ -1,3 +1,4 @@
+-- The own name is first just where no rival's is before it: `first_of`, by the negation of what `has_before` ensures.
 use Rattle.std.proofs.Common.{ap, not}
 use Rattle.zk_conclusions.specs.Kinds.{kind_of}
 use Rattle.zk_conclusions.specs.Numbers.{is_rival}

@@ -1,3 +1,4 @@
+-- A path lies below the directory where its parent has the directory's text: `is_below-text`.
 use Rattle.std.proofs.Common.{ap, ◌∙◌}
 use Rattle.std.specs.Prelude.{bytes_eq}
 use Rattle.zk_nodes.proofs.PathTexts.{is_below-text}

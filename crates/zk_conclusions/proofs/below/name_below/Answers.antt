@@ -1,3 +1,4 @@
+-- By the answer of `is_below`: no name puts the path below the directory (`not_below`), or its last one does (`below_by`).
 use Rattle.std.proofs.Common.{sym, ◌∙◌}
 use Rattle.zk_nodes.specs.Path.{path_of}
 use Rattle.zk_conclusions.proofs.Shown.{not_below, below_by}

@@ -1,3 +1,4 @@
+-- What `children_of` ensures, said of the cache: `has_children`, and `not_whole` and `too_many` where there are none to give.
 use Rattle.std.proofs.Common.{◌≡◌, true, ap, map, string_bytes}
 use Rattle.std.proofs.lemmas.Result.{IfOk-weaker, IfErr-weaker}
 use Rattle.zk_client.specs.Clients.{view_of}

@@ -1,3 +1,4 @@
+-- One name more is one path more (`added_one`), and a name that makes no path is a fault of the names (`at_fault`).
 use Rattle.std.proofs.Common.{◌≡◌, ◌≢◌, ◌++◌, ◌∷◌, ◌+◌, [], List, None, map, length, string_bytes, sym, ap, ◌∙◌, subst, arith}
 use Rattle.std.proofs.lemmas.List.{length-append}
 use Rattle.zk_nodes.specs.Path.{Text, Name, child_text}

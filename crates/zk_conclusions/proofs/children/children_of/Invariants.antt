@@ -1,3 +1,4 @@
+-- The loop over the names: the paths are those of the names done, and fit in the room. At its end no name is left.
 use Rattle.std.proofs.Common.{◌≤◌, map, length, string_bytes}
 use Rattle.zk_conclusions.specs.inner.Walks.{Added}
 use Rattle.zk_conclusions.proofs.children.children_of.Given as goal

@@ -1,3 +1,4 @@
+-- A node with full, good data and good names is full: `is_full`, from what `has_data` and `peek_children` ensure.
 use Rattle.std.proofs.Common.{sym, ◌∙◌}
 use Rattle.zk_cache.specs.Contents.{names_in}
 use Rattle.zk_client.specs.Clients.{view_of}

@@ -1,3 +1,4 @@
+-- The answer is the test of the bytes (`starts_text`), which says whether there is a prefix: `begins`, and back by `tells_prefix`.
 use Rattle.std.proofs.Common.{sym, ◌∙◌}
 use Rattle.std.proofs.lemmas.Str.Pattern.{starts_text}
 use Rattle.zk_conclusions.proofs.Rivals.{begins, tells_prefix}

@@ -1,3 +1,4 @@
+-- A name is the first exactly where none of the set is its rival: `is_first_of`, with what `has_rival` ensures, negated.
 use Rattle.std.proofs.Common.{ap, not, string_bytes}
 use Rattle.zk_conclusions.proofs.Rivals.{is_first_of}
 use Rattle.zk_conclusions.proofs.firsts.is_first.Goals as goal

@@ -1,3 +1,4 @@
+-- Where the directory's names are kept and good, their test is the view's: `shown_first`, by what `peek_children` and `is_first` ensure.
 use Rattle.zk_cache.specs.Contents.{names_in}
 use Rattle.zk_client.specs.Clients.{view_of}
 use Rattle.zk_conclusions.proofs.Shown.{shown_first}

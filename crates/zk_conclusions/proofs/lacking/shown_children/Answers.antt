@@ -1,3 +1,4 @@
+-- Good names make the children: `has_children`. What `children_of` refuses is refused of the cache: `no_path` and `too_many`.
 use Rattle.std.proofs.Common.{inl, inr, map, string_bytes}
 use Rattle.std.proofs.lemmas.Result.{IfOk-weaker, IfErr-weaker}
 use Rattle.zk_client.specs.Clients.{view_of}

@@ -1,3 +1,5 @@
+-- The walk begins with the root (`sought_new`), each turn adds one path's children (`sought_next`), and past the last path all are found
+-- (`sought_all`). What refuses the children of one path refuses all: `sought_fault`, `sought_many`.
 use Rattle.std.proofs.Common.{◌≡◌, ◌++◌, ◌∷◌, ◌+◌, ◌-◌, ◌<◌, ◌≤◌, [], ℕ, suc, List, Some, length, sym, refl, ap, ◌∙◌, subst, arith}
 use Rattle.std.proofs.lemmas.List.{length-append}
 use Rattle.std.proofs.lemmas.Option.{slice_get_read}

@@ -1,3 +1,4 @@
+-- The loop over the places: the paths before the place have their children in the list. So past the last path all shown paths are in it.
 use Rattle.std.proofs.Common.{◌≤◌, length}
 use Rattle.zk_client.specs.Clients.{view_of}
 use Rattle.zk_conclusions.proofs.Sought.{Sought}

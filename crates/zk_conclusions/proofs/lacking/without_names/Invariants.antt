@@ -1,3 +1,4 @@
+-- The loop over the paths: those found, and those of the rest without good names, are all without them. At the end no rest is left.
 use Rattle.std.proofs.Common.{◌≡◌, ◌++◌, drop}
 use Rattle.std.specs.List.{filter}
 use Rattle.zk_client.specs.Clients.{view_of}

@@ -1,3 +1,4 @@
+-- In the history by `tokens_rise`, by the case whether the later node was there before; of clients by `later_standings`, built on it.
 use Rattle.zk_conclusions.proofs.Stays.{tokens_rise}
 use Rattle.zk_conclusions.proofs.Stands.{later_standings}
 use Rattle.zk_conclusions.proofs.laws.later_standings.Goals as goal

@@ -1,3 +1,4 @@
+-- In one tree by `one_holds`: of two first names neither is before the other, so they are one. Of clients by `one_shows`, at one zxid.
 use Rattle.zk_conclusions.proofs.Holding.{one_holds, one_shows}
 use Rattle.zk_conclusions.proofs.laws.one_holder.Goals as goal
 

@@ -1,3 +1,4 @@
+-- The law is `same_conclusions`: the tests look at good answers alone, so what one cache shows the other shows too, and back.
 use Rattle.zk_conclusions.proofs.Same.{same_conclusions}
 use Rattle.zk_conclusions.proofs.laws.same_conclusions.Goals as goal
 

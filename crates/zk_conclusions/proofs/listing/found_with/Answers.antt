@@ -1,3 +1,4 @@
+-- One name more: one that is not later leaves what was found (`found_still`), and one that is becomes the last found (`found_here`).
 use Rattle.std.proofs.Common.{◌≡◌, ◌+◌, ◌<◌, ℕ, suc, true, false, length, map, string_bytes, sym, ap, ◌∙◌, subst, arith}
 use Rattle.std.proofs.lemmas.List.{length-map}
 use Rattle.zk_conclusions.specs.Kinds.{kind_of}

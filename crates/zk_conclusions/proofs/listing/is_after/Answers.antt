@@ -1,3 +1,4 @@
+-- Where one was found, the name is after it as `is_before` tests it: by what `is_before` and `name_at` ensure, rewritten.
 use Rattle.std.proofs.Common.{ℕ, Option, map, string_bytes, sym, ap, ◌∙◌}
 use Rattle.zk_nodes.specs.Path.{Name}
 use Rattle.zk_conclusions.specs.Numbers.{is_before}

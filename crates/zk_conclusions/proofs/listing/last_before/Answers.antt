@@ -1,3 +1,5 @@
+-- At first nothing is found (`found_none`), and `found_with` adds each name. At the end the last rival before `own` is found
+-- (`found_some`), or none is there (`found_first`).
 use Rattle.std.proofs.Common.{◌≡◌, length, map, string_bytes, arith}
 use Rattle.std.proofs.lemmas.List.{length-map}
 use Rattle.zk_conclusions.specs.Kinds.{kind_of}

@@ -1,3 +1,4 @@
+-- The loop over the places: `last` is the last rival before `own` in the names so far, or none is there. At the end these are all names.
 use Rattle.std.proofs.Common.{map, string_bytes}
 use Rattle.zk_conclusions.specs.Kinds.{kind_of}
 use Rattle.zk_conclusions.specs.inner.Predecessors.{Found}

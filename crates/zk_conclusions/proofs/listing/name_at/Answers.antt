@@ -1,3 +1,4 @@
+-- The text of the string at the place is the text at that place of all texts: by what `as_str` ensures, and `text_at`.
 use Rattle.std.proofs.Common.{◌∙◌}
 use Rattle.zk_conclusions.proofs.Later.{text_at}
 use Rattle.zk_conclusions.proofs.listing.name_at.Goals as goal

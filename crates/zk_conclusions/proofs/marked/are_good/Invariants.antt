@@ -1,3 +1,4 @@
+-- The loop over the paths: whether all are good is whether the rest are. One that is not gives `false`, and the end, with no rest, `true`.
 use Rattle.std.proofs.Common.{◌≡◌, drop}
 use Rattle.zk_client.specs.Clients.{view_of}
 use Rattle.zk_conclusions.specs.Snapshots.{all_good}

@@ -1,3 +1,4 @@
+-- The loop over the paths: whether all have good names is whether the rest have. One without gives `false`, and the end `true`.
 use Rattle.std.proofs.Common.{◌≡◌, drop}
 use Rattle.zk_client.specs.Clients.{view_of}
 use Rattle.zk_conclusions.specs.Snapshots.{all_good}

@@ -1,3 +1,4 @@
+-- A name is a rival's where it is numbered after one of the markers: by what `has_one` ensures, and `any_made` for the markers' texts.
 use Rattle.std.proofs.Common.{sym, ◌∙◌}
 use Rattle.zk_conclusions.specs.Numbers.{is_numbered}
 use Rattle.zk_conclusions.proofs.FirstNames.{any_made}

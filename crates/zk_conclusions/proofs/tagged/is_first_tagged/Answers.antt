@@ -1,3 +1,4 @@
+-- A name is the first with the tag exactly where none with it is before: `first_of`, with what `has_tagged_before` ensures, negated.
 use Rattle.std.proofs.Common.{ap, not}
 use Rattle.zk_conclusions.specs.Tags.{has_tag}
 use Rattle.zk_conclusions.proofs.FirstNames.{first_of}

@@ -1,3 +1,5 @@
+-- A name that passes `is_least` is the least (`least_here`), one that doesn't leaves none found (`no_least_still`), and where none of all
+-- is the least, none has the tag (`none_tagged`).
 use Rattle.std.proofs.Common.{◌≡◌, ◌+◌, ◌≤◌, suc, true, length, map, string_bytes, sym, subst, arith}
 use Rattle.std.proofs.lemmas.List.{length-map}
 use Rattle.zk_nodes.specs.Path.{Name}

@@ -1,3 +1,5 @@
+-- The walk begins with the root (`walked_new`), each turn adds one node's children (`walked_next`), and past the last path all are reached
+-- (`walked_all`, `walk_full`). What refuses the children of one node refuses the walk: `walked_lacking`, `walked_many`.
 use Rattle.std.proofs.Common.{◌≡◌, ◌++◌, ◌∷◌, ◌+◌, ◌-◌, ◌<◌, ◌≤◌, [], ℕ, suc, List, Some, length, sym, refl, ap, ◌∙◌, subst, arith}
 use Rattle.std.proofs.lemmas.List.{length-append}
 use Rattle.std.proofs.lemmas.Option.{slice_get_read}

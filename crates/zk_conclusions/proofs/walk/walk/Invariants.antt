@@ -1,3 +1,4 @@
+-- The loop over the places: the nodes before the place are kept whole, with their children in the list. So past the last path it is a walk.
 use Rattle.std.proofs.Common.{◌≤◌, length}
 use Rattle.zk_client.specs.Clients.{view_of}
 use Rattle.zk_conclusions.proofs.Walking.{Walked}

@@ -1,3 +1,4 @@
+-- Where the xid is the oldest request's, what is read is its reply: `oldest-read`; xid and err are the same as machine integers.
 use Rattle.std.proofs.Common.{◌≡◌, w32, arith}
 use mir.Val.{to_z, of_z}
 use Rattle.std.proofs.lemmas.Int.{ints}

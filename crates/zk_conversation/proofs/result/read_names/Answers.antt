@@ -1,3 +1,4 @@
+-- A list of lent names is read as the list of their texts, and a null one as empty: `names-lent`, in what the read of the record ensures.
 use Rattle.std.proofs.Common.{Result, ℕ, List, Ok, ap}
 use Rattle.std.specs.Option.{option_map}
 use Rattle.zk_jute.specs.declared.fault.TakeError.{TakeError}

@@ -1,3 +1,4 @@
+-- By the case of the question: what the read of its record ensures, with `record_of` unfolded; a delete and a close read nothing.
 use Rattle.std.proofs.Common.{refl}
 use Rattle.zk_conversation.specs.Results.{record_of}
 use Rattle.zk_conversation.proofs.result.read_record.Goals as goal

@@ -1,3 +1,5 @@
+-- The loop over the queue: the first ticket, and what comes after it, are as at the start, and the counts are right. So the first call met,
+-- or none at the end, is the answer. The queue gets shorter.
 use Rattle.std.proofs.Common.{◌≡◌, ◌≤◌, length, map}
 use Rattle.zk_conversation.specs.Counted.{counts_of}
 use Rattle.zk_conversation.specs.Pending.{first_ticket, after_ticket}

@@ -1,3 +1,4 @@
+-- The loop that pushes the numbers: the list has those below `number`, so at the end those below `count`.
 use Rattle.std.proofs.Common.{◌≡◌}
 use Rattle.zk_dialler.specs.Orders.{numbers}
 use Rattle.zk_dialler.proofs.ring.numbers.Given as goal

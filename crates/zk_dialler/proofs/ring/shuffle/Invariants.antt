@@ -1,3 +1,4 @@
+-- The loop of exchanges: shuffling what is left gives the order and the chance of the whole, and no place is lost. At the end none is left.
 use Rattle.std.proofs.Common.{◌≡◌, ◌≤◌, length}
 use Rattle.std.specs.List.Sorted.{IsPermutation}
 use Rattle.zk_dialler.specs.Orders.{shuffled}

@@ -1,3 +1,4 @@
+-- Setting the wait reads nothing (`consumes_none`), so what comes is the one read's (`read_kept`). Both keep what was written (`keeps_on`).
 use Rattle.zk_link.proofs.Streaming.{consumes_none, keeps_on, read_kept}
 use Rattle.zk_driver.specs.inner.Driving.{input_of}
 use Rattle.zk_driver.specs.Flowing.{bytes_in}

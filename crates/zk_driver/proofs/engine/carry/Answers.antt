@@ -1,3 +1,4 @@
+-- An action that is no dial, hang-up or send leaves the channel alone (`left_alone`) and waits for the program (`passed_on`).
 use Rattle.std.proofs.Common.{◌≡◌, ◌++◌, ◌∷◌, [], sym, ap, ◌∙◌}
 use Rattle.std.specs.List.{filter}
 use Rattle.zk_agent.specs.Telling.{action_view, told_by}

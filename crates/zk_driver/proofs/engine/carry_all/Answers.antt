@@ -1,3 +1,5 @@
+-- Each turn carries one action more: `made_more` for the channel, `kept_more` for what waits, `stays_on` for the stream, and `extends_on`
+-- for what waited, also where `carry` fails.
 use Rattle.std.proofs.Common.{◌++◌, ap}
 use Rattle.std.specs.Prelude.{fold}
 use Rattle.std.specs.List.{filter}

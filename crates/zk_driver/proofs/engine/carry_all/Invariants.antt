@@ -1,3 +1,4 @@
+-- The loop over the actions: what was carried, with those left, gives the channel and the waiting list of all. At the end none is left.
 use Rattle.std.proofs.Common.{◌≡◌, ◌++◌, length, true}
 use Rattle.std.specs.Prelude.{fold, is_some}
 use Rattle.std.specs.List.{filter}

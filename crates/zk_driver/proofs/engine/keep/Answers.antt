@@ -1,3 +1,4 @@
+-- What waited still waits: the list is the old one, with one more at its end or without (`extends_by`), by what `push_back` ensures.
 use Rattle.std.specs.Prelude.{is_ok}
 use Rattle.zk_driver.proofs.Carrying.{extends_by}
 use Rattle.zk_driver.proofs.engine.keep.Goals as goal

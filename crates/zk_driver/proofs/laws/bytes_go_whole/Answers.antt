@@ -1,3 +1,4 @@
+-- The law is `go_whole`: by induction over the deeds, what the stream took and what is unsent are what was sent.
 use Rattle.zk_driver.proofs.Flowed.{go_whole}
 use Rattle.zk_driver.proofs.laws.bytes_go_whole.Goals as goal
 

@@ -1,3 +1,4 @@
+-- A call's deeds are a run's steps (`calls_run`), the program's taking is a step (`taking_runs`), and two runs join as lists (`runs_join`).
 use Rattle.zk_driver.proofs.Running.{calls_run, runs_join, taking_runs}
 use Rattle.zk_driver.proofs.laws.calls_run.Goals as goal
 

@@ -1,3 +1,5 @@
+-- Each turn writes a front piece of what is left: `sends_front`, and `sends_on` after those before it. A write that takes nothing adds
+-- nothing (`sends_no_more`), and none reads (`keeps_on`).
 use Rattle.std.proofs.Common.{drop, take, sym, subst, refl}
 use Rattle.std.specs.Io.KnownBytes.{Appends}
 use Rattle.zk_link.specs.Streams.{Sends}

@@ -1,3 +1,4 @@
+-- The loop of writes: what was written and what is left are what was unsent, and nothing was read. So it is wherever the loop ends.
 use Rattle.std.specs.Io.KnownBytes.{Keeps}
 use Rattle.zk_link.specs.Written.{IsLeftOf}
 use Rattle.zk_link.specs.Streams.{Sends}

@@ -1,3 +1,4 @@
+-- A later holder's token is no smaller (`later_tokens`, `later_standings`), so after it an earlier is taken only if equal: `fenced_from`.
 use Rattle.zk_conclusions.proofs.Holding.{later_tokens}
 use Rattle.zk_conclusions.proofs.Stands.{later_standings}
 use Rattle.zk_fence.proofs.Fencing.{fenced_from}

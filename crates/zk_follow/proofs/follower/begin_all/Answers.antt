@@ -1,3 +1,4 @@
+-- Each turn makes one more subject due in its place: `map_over_more`, with what `begin` ensures; the index is in range by arithmetic.
 use Rattle.std.proofs.Common.{◌<◌, ◌∙◌, ap, arith, get_or, length, set}
 use Rattle.std.proofs.lemmas.List.{get_or_default}
 use Rattle.std.proofs.lemmas.List.Edits.{map_over_more}

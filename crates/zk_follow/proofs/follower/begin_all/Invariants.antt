@@ -1,3 +1,4 @@
+-- The loop over the subjects: those before the index are due, and the rest are as they were. At the end all are due.
 use Rattle.std.proofs.Common.{◌≡◌, ◌++◌, drop, map, take}
 use Rattle.zk_follow.specs.Following.{due_again}
 use Rattle.zk_follow.proofs.follower.begin_all.Given as goal

@@ -1,3 +1,4 @@
+-- The loop over the subjects: `first` is the fold over those before the index. At the end it is the fold over all.
 use Rattle.std.proofs.Common.{◌≡◌, fold, take, None}
 use Rattle.zk_follow.specs.Following.{again_at, first_of}
 use Rattle.zk_follow.proofs.follower.first_again.Given as goal

@@ -1,3 +1,5 @@
+-- The loop over the subjects: those before the index were visited and are followed, the rest are as they were, and the client was only
+-- asked reads. At the end all were visited.
 use Rattle.std.proofs.Common.{◌≡◌, length, true}
 use Rattle.zk_client.specs.Clients.{view_of}
 use Rattle.zk_client.specs.Views.{said}

@@ -1,3 +1,4 @@
+-- The test is `any` over the whole slice (`any_from_yields_List`), and a test of what outputs say is one of the outputs (`any_said`).
 use Rattle.std.proofs.Common.{◌∙◌, sym, rules, tests}
 use Rattle.std.proofs.lemmas.Iterator.{YieldsList-from_slice}
 use Rattle.std.proofs.lemmas.Iterator.Search.{any_from_yields_List}

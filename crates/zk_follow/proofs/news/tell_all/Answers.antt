@@ -1,3 +1,5 @@
+-- Each turn tells of one subject more: `map_over_more` in its place, which has the old subject (`at_seam`), and `flat_more` for its news.
+-- At the end all are told of: `whole_mapped`.
 use Rattle.std.proofs.Common.{◌≡◌, ◌≤◌, ◌<◌, ◌++◌, ◌∙◌, append_assoc, ap, arith, get_or, length, set, sym, take}
 use Rattle.std.specs.List.{flat_map}
 use Rattle.std.proofs.lemmas.List.{get_or_default}

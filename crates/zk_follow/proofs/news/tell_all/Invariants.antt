@@ -1,3 +1,4 @@
+-- The loop over the subjects: those before the index were told of and their news added, the rest are as they were. At the end none is left.
 use Rattle.std.proofs.Common.{◌≡◌, ◌++◌, drop, map, take}
 use Rattle.std.specs.List.{flat_map}
 use Rattle.zk_client.specs.Clients.{view_of}

@@ -1,3 +1,4 @@
+-- A name is added to the set: what `insert` and `from_str` ensure, by `names_of-insert`.
 use Rattle.std.proofs.Common.{ap, ◌∙◌}
 use Rattle.std.specs.FinSet as set
 use Rattle.zk_nodes.specs.Names.{names_of}

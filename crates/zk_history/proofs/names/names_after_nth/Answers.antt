@@ -1,3 +1,5 @@
+-- The names change by the change at place `j` of transaction `i`, or not at all where there is none: reading an element of a mapped list
+-- is mapping what is read (`slice_get-map`), and what `get` gives is that element, or the place is past the end.
 use Rattle.std.proofs.Common.{◌≡◌, List, Some, None, map, option_map, length, refl, sym, ap, ◌∙◌}
 use Rattle.std.proofs.lemmas.Option.{slice_get-map, slice_get_read, slice_get_past}
 use Rattle.std.specs.Prelude.{slice_get}

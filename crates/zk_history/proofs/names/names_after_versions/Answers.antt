@@ -1,3 +1,5 @@
+-- One more version leaves the walk's end as it is: its change is applied to the names where its zxid is not above `z`, as the first step
+-- of `names_told` over what is left does, by `walk_more`.
 use Rattle.std.proofs.Common.{◌≡◌, ◌∷◌, ◌+◌, arith, refl, None, get_or, drop, map, sym, ap, ◌∙◌, leb, cond, true, false}
 use Rattle.std.proofs.lemmas.Bool.{cond-true, cond-false}
 use Rattle.std.proofs.lemmas.Bool.Decides.{nat_tests}

@@ -1,3 +1,5 @@
+-- Going on with the versions that are left, from the names so far, gives what all versions give from the first names; at the end none
+-- is left, so the names so far are those.
 use Rattle.std.proofs.Common.{◌≡◌, map, drop}
 use Rattle.zk_nodes.specs.Path.{path_of}
 use Rattle.zk_history.specs.HistoryView.{HistoryView}

@@ -1,3 +1,4 @@
+-- A name is taken out of the set: what `remove` ensures, by `names_of-remove`.
 use Rattle.zk_nodes.proofs.NamesLemmas.{names_of-remove}
 use Rattle.zk_history.proofs.names.remove_name.Goals as goal
 

@@ -1,3 +1,4 @@
+-- Two texts of paths are equal exactly where their paths are: `path_eq-text`.
 use Rattle.zk_nodes.proofs.PathTexts.{path_eq-text}
 use Rattle.zk_history.proofs.place.is_at.Goals as goal
 

@@ -1,3 +1,4 @@
+-- A path lies right below another exactly where its parent's text is the other's: `is_below-text`.
 use Rattle.zk_nodes.proofs.PathTexts.{is_below-text}
 use Rattle.zk_history.proofs.place.is_right_below.Goals as goal
 

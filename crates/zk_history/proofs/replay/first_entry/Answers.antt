@@ -1,3 +1,4 @@
+-- A path whose text is not `/` has no node before all changes, by `first_absent`.
 use Rattle.std.proofs.Common.{sym, ◌∙◌}
 use Rattle.zk_history.proofs.VersionsLemmas.{first_absent}
 use Rattle.zk_history.proofs.replay.first_entry.Goals as goal

@@ -1,3 +1,5 @@
+-- The version after a change: its node by the kind of the change, from what `after_create`, `after_set` and `after_delete` ensure, and its
+-- number of children by what `counted_after` ensures. Times and owners stay themselves as 64-bit values.
 use Rattle.std.proofs.Common.{◌≡◌, ap, sym, ◌∙◌, Option, option_map, ℕ, ℤ, to_z, of_z, w64, arith}
 use Rattle.std.proofs.lemmas.Int.{ints}
 use Rattle.zk_nodes.specs.Path.{path_of}

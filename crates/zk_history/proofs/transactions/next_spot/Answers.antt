@@ -1,3 +1,5 @@
+-- The last element is the last transaction (`last_transaction-mapped`), so the spot has its zxid and time; the origin is built on its
+-- index and on the number of its changes, as mapping keeps lengths.
 use Rattle.std.proofs.Common.{◌≡◌, ◌+◌, ◌-◌, length, ap, sym, ◌∙◌, arith, to_z, of_z, w64, map}
 use Rattle.std.proofs.lemmas.Int.{ints}
 use Rattle.std.proofs.lemmas.List.{length-map}

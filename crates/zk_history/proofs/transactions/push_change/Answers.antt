@@ -1,3 +1,5 @@
+-- The last transaction alone is written: with the change added it is as `last_with` says, by `mapped_set`; where memory ran out the
+-- transactions are the same, by `mapped_set_same`.
 use Rattle.std.proofs.Common.{◌≡◌, ◌+◌, ◌-◌, length, arith}
 use Rattle.std.proofs.lemmas.Bool.Decides.{nat_tests}
 use Rattle.zk_history.specs.Made.{change_of, transaction_of}

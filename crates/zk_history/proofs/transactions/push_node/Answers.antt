@@ -1,3 +1,5 @@
+-- The node's transaction, with its one change, stands last: room was reserved, so the push succeeds, and mapping goes over the append
+-- (`map-append`).
 use Rattle.std.proofs.Common.{◌≡◌, ◌∷◌, ◌++◌, [], ◌+◌, ◌≤◌, ap, ◌∙◌, map, to_z, of_z, w64, ℤ, arith}
 use Rattle.std.proofs.lemmas.Bool.{cond-true}
 use Rattle.std.proofs.lemmas.List.{map-append}

@@ -1,3 +1,5 @@
+-- A write of data touched the versions of its own path alone, so one is taken away there: what `pop_version` ensures, as equal texts are
+-- equal paths, by `same_path`.
 use Rattle.std.proofs.Common.{cond, sym, ap, subst, ◌∙◌}
 use Rattle.zk_nodes.specs.Path.{path_eq, path_of}
 use Rattle.zk_nodes.specs.PathFault.{IsPath}

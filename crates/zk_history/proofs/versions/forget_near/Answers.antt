@@ -1,3 +1,5 @@
+-- A version is taken away of the path and of its parent, which differs from it (`parent_differs`): two writes in turn are one write of
+-- both (`both_written`), and these two texts are the near ones (`near_text`).
 use Rattle.std.proofs.Common.{◌≡◌, cond, sym, ap, subst, ◌∙◌, Some}
 use Rattle.zk_nodes.specs.Path.{path_of, parent_of}
 use Rattle.zk_nodes.specs.PathFault.{IsPath}

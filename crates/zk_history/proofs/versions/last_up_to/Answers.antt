@@ -1,3 +1,5 @@
+-- Zxids rise, so the versions up to a zxid come first (`lower_passes`) and the point found parts them from the others: none is before it
+-- (`version_at-none`), or the last one up to the zxid is right before it (`version_at-point`).
 use Rattle.std.proofs.Common.{rules, of_calls, ◌≡◌, ◌+◌, ◌-◌, nat_le, None, sym, arith}
 use Rattle.std.proofs.lemmas.Bool.Decides.{nat_tests}
 use Rattle.std.proofs.lemmas.Fn.{always_returns_same}

@@ -1,3 +1,4 @@
+-- A write of data adds a version to its own path alone: what `note_at` ensures, as equal texts are equal paths, by `same_path`.
 use Rattle.std.proofs.Common.{cond, sym, ap, subst, ◌∙◌}
 use Rattle.zk_nodes.specs.Path.{path_eq, path_of}
 use Rattle.zk_nodes.specs.PathFault.{IsPath}

@@ -1,3 +1,5 @@
+-- The parent's text differs, so the first write leaves the parent's versions as they were, and the second fits; both are one write
+-- (`both_written`). Where the second fails, the first is taken back (`pushed_undone`).
 use Rattle.std.proofs.Common.{◌≡◌, bytes_eq, sym, subst, ◌∙◌}
 use Rattle.std.proofs.lemmas.Bool.{cond-false}
 use Rattle.zk_nodes.specs.Path.{path_of}

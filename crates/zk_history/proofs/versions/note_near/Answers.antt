@@ -1,3 +1,5 @@
+-- The path's text and its parent's are those of the near paths, by `near_text`, so `note_both` writes what is asked. The root has no
+-- parent and no path near it, by `none_near`, so nothing is to be written.
 use Rattle.std.proofs.Common.{◌≡◌, cond, false, sym, ap, subst, ◌∙◌, Some}
 use Rattle.zk_nodes.specs.Path.{path_of, parent_of}
 use Rattle.zk_nodes.specs.PathFault.{IsPath}

@@ -1,3 +1,5 @@
+-- The last version of the text goes and the others' stay: `versions_written`, with what `pop` ensures of the vector lent. A text with no
+-- versions has none to lose, by `versions_kept`.
 use Rattle.std.proofs.Common.{◌≡◌, ◌-◌, [], refl, sym, ap, ◌∙◌, length, take, rules, arith}
 use Rattle.std.proofs.lemmas.Bool.Decides.{nat_tests}
 use Rattle.std.specs.Option.{option_map_or}

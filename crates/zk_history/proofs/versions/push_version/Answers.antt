@@ -1,3 +1,5 @@
+-- The version stands last of its text's and the others' stay, by `versions_written`: in the vector lent, or in a new one that is inserted.
+-- A push that fails leaves all as they were, by `written_same`.
 use Rattle.std.proofs.Common.{◌≡◌, ◌∷◌, ◌++◌, [], if◌then◌else◌, bytes_eq, sym, ap, ◌∙◌, rules, subst, List}
 use Rattle.std.proofs.lemmas.Result.{err_from_is_err_and}
 use Rattle.std.specs.Option.{option_map_or}

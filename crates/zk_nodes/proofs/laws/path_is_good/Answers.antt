@@ -1,3 +1,5 @@
+-- A text without fault passes each test of `fault_of`: `IsPath-absolute` for the slash, `IsPath-parts` for the length, `IsPath-names` for
+-- the names.
 use Rattle.zk_nodes.proofs.PathLemmas.{IsPath-parts, IsPath-absolute, IsPath-names}
 use Rattle.zk_nodes.proofs.laws.path_is_good.Goals as goal
 

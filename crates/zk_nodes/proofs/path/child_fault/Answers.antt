@@ -1,3 +1,5 @@
+-- The tests decide the fault in the order of the definition: a slash, a text that is too long (`child_fault-long`), then a refused
+-- character or dots, or none (`child_fault-short`); `any` over the characters tells what `is_refused` does.
 use Rattle.std.proofs.Common.{◌≡◌, rules, tests, arith, true, false, refl, sym, ◌∙◌}
 use Rattle.std.proofs.lemmas.Iterator.{YieldsList-from_chars}
 use Rattle.std.proofs.lemmas.Iterator.Search.{any_from_yields_List}

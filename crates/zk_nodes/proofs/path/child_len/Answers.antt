@@ -1,3 +1,4 @@
+-- By whether the path above is the root: the lengths of `child_text-root` or of `child_text-below`, added up.
 use Rattle.std.proofs.Common.{◌∷◌, length, ap, arith}
 use Rattle.std.proofs.lemmas.List.{length-append}
 use Rattle.zk_nodes.proofs.Children.{child_text-root, child_text-below, below_root}

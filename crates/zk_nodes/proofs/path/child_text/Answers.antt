@@ -1,3 +1,4 @@
+-- By whether the path above is the root: the bytes pushed are those of `child_text-below`, with a slash between, or of `child_text-root`.
 use Rattle.std.proofs.Common.{[], ◌∷◌, ◌++◌, sym, ap, ◌∙◌, append_assoc, arith}
 use Rattle.std.specs.Prelude.{string_bytes}
 use Rattle.zk_nodes.proofs.Children.{child_text-root, child_text-below, below_root, at_root}

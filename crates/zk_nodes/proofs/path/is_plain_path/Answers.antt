@@ -1,3 +1,4 @@
+-- Plain bytes that begin with a slash are ASCII, by `is_ascii-plain`, and have no fault, by `fault_of-plain`.
 use Rattle.std.proofs.Common.{◌≡◌, length, rules, arith}
 use Rattle.zk_nodes.proofs.PlainLemmas.{fault_of-plain, is_ascii-plain}
 use Rattle.zk_nodes.proofs.path.is_plain_path.Goals as goal

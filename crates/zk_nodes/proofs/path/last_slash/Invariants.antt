@@ -1,3 +1,4 @@
+-- There is a slash at `last`, and none after it before `i`; at the end `i` is past all bytes, so it is the last slash of all.
 use Rattle.std.proofs.Common.{◌≡◌, ℕ, ◌<◌, length, get_or}
 use Rattle.zk_nodes.proofs.path.last_slash.Given as goal
 

@@ -1,3 +1,4 @@
+-- The loop begins after the first slash: scanning the bytes from there on gives the first fault of the names, by `scan-path_of`.
 use Rattle.std.proofs.Common.{arith}
 use Rattle.zk_nodes.proofs.PathLemmas.{scan-path_of}
 use Rattle.zk_nodes.proofs.path.name_fault.Goals as goal

@@ -1,3 +1,5 @@
+-- Scanning the bytes that are left, with the name's length and dots so far, gives the first fault of all names; at the end none is left,
+-- and what the scan then tells is the answer.
 use Rattle.std.proofs.Common.{◌≡◌, ◌≤◌, drop}
 use Rattle.zk_nodes.specs.Path.{path_of}
 use Rattle.zk_nodes.specs.PathFault.{fault_of_names}

@@ -1,3 +1,5 @@
+-- A plain text has no fault (`fault_of-plain`). Else `any` over the characters tells whether one is refused: if so, that is the fault
+-- (`fault_of-refused`); if not, the fault is that of the names (`fault_of-names`).
 use Rattle.std.proofs.Common.{rules, tests, arith, sym, ◌∙◌, ap}
 use Rattle.std.proofs.lemmas.Iterator.{YieldsList-from_chars}
 use Rattle.std.proofs.lemmas.Iterator.Search.{any_from_yields_List}

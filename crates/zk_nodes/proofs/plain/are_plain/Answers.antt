@@ -1,3 +1,4 @@
+-- Where no bit is set for any of the 16 bytes, each of them may follow the one before it: `unset_are_plain`.
 use Rattle.std.proofs.Common.{arith}
 use Rattle.std.proofs.lemmas.Bool.{eqb-true}
 use Rattle.zk_nodes.proofs.PlainLanes.{unset_are_plain}

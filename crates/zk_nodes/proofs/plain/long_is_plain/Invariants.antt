@@ -1,3 +1,5 @@
+-- Each byte from the second to before `at` may follow the one before it; at the end `at` has reached `last`, and the look at the last 16
+-- bytes covers the rest. Each turn brings `at` nearer to `last`.
 use Rattle.std.proofs.Common.{◌-◌, ◌≤◌}
 use Rattle.zk_nodes.specs.inner.Plain.{ArePlain}
 use Rattle.zk_nodes.proofs.plain.long_is_plain.Given as goal

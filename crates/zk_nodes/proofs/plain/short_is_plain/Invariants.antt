@@ -1,3 +1,4 @@
+-- Each byte from the second to before `at` may follow the one before it; at the end `at` is the length, so all may.
 use Rattle.zk_nodes.specs.inner.Plain.{ArePlain}
 use Rattle.zk_nodes.proofs.plain.short_is_plain.Given as goal
 

@@ -1,3 +1,5 @@
+-- `reply_reads` goes both ways: what is read is spelled so, and what is spelled so is read, so a call gives the same reply (`is_the_one`),
+-- or fails for memory alone (`is_memory`).
 use Rattle.std.proofs.lemmas.Result.{err_from_is_err_and}
 use Rattle.std.proofs.Common.{ap, ◌∙◌}
 use Rattle.zk_jute.proofs.Taking.{is_memory, is_the_one}

@@ -1,3 +1,4 @@
+-- By the operation: a fault in reading its record is the fault of the body, by `handed_on`.
 use Rattle.std.proofs.Common.{◌≡◌, ℕ, List, Result, Err}
 use Rattle.std.specs.Prelude.{◌≢◌, MatchResult}
 use Rattle.std.specs.Result.{IsErrAnd}

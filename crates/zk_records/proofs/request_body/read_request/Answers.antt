@@ -1,3 +1,5 @@
+-- By what is found: a fault of the header (`header_fails`), a number that is no operation's (`is_unknown`), a fault of the record
+-- (`body_fails`), or both read (`is_read`). The header's numbers fit 32 bits, so they stay themselves.
 use Rattle.std.proofs.Common.{sym}
 use Rattle.std.specs.Int.{w32}
 use Rattle.std.proofs.lemmas.Int.{to_z-of_z}

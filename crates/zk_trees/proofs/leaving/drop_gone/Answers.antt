@@ -1,3 +1,4 @@
+-- `retain` keeps the members for which its closure answers true, and that is `stays`: `filter_same`.
 use Rattle.std.proofs.Common.{rules}
 use Rattle.std.proofs.lemmas.Fn.{filter_same}
 use Rattle.zk_trees.proofs.leaving.drop_gone.Goals as goal

@@ -1,3 +1,4 @@
+-- A member that is gone moves its ticket from what is left to what was found (`gone_more`); one that stays has none there (`gone_less`).
 use Rattle.std.proofs.Common.{◌++◌, ◌+◌, ◌∙◌, drop, sym, ap}
 use Rattle.zk_client.specs.Clients.{view_of}
 use Rattle.zk_trees.specs.Trees.{tickets_gone}

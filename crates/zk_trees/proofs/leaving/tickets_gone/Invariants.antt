@@ -1,3 +1,4 @@
+-- The loop over the members: at its end none is left, so the tickets found are those of all members that are gone.
 use Rattle.std.proofs.Common.{◌≡◌, ◌++◌, drop}
 use Rattle.zk_client.specs.Clients.{view_of}
 use Rattle.zk_trees.specs.Trees.{tickets_gone}

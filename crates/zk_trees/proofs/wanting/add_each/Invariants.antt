@@ -1,3 +1,4 @@
+-- The loop over the paths: at its end none is left, so the subjects are the old ones, then this side of each path.
 use Rattle.std.proofs.Common.{◌≡◌, ◌++◌, drop}
 use Rattle.zk_trees.specs.Trees.{aims_at}
 use Rattle.zk_trees.specs.Trees.{aims_of}

@@ -1,3 +1,4 @@
+-- The loop over the roots: at its end none is left, so the subjects are the old ones, then both sides of each root.
 use Rattle.std.proofs.Common.{◌≡◌, ◌++◌, drop}
 use Rattle.zk_trees.specs.Trees.{roots_aims}
 use Rattle.zk_trees.specs.Trees.{aims_of}

@@ -1,3 +1,4 @@
+-- Where it can be told what a tree lacks, that is what is wanted of it: what `Lacking::of` and `add_lacking` ensure, by `ok_all`.
 use Rattle.std.proofs.Common.{◌≡◌, ◌++◌, ℕ, List, ap}
 use Rattle.std.specs.Prelude.{Result, Ok, Err, OnOk}
 use Rattle.zk_client.specs.Clients.{view_of}

@@ -1,3 +1,4 @@
+-- One more root is one more step of the fold, by `folds_next`. After the loop the roots so far are all, by `take_all`.
 use Rattle.std.proofs.Common.{◌≤◌, [], arith, false, length, subst, List}
 use Rattle.std.proofs.lemmas.List.{take_all}
 use Rattle.std.specs.List.{FoldsTo}

@@ -1,3 +1,4 @@
+-- The loop over the roots: at its end those so far are all, so `wanted` is what is wanted of all the trees.
 use Rattle.std.proofs.Common.{[], false, take}
 use Rattle.std.specs.List.{FoldsTo}
 use Rattle.zk_client.specs.Clients.{view_of}

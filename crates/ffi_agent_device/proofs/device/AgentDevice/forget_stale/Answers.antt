@@ -1,3 +1,4 @@
+-- Each part of `Forgot` is what the agent's `forget_stale` ensures; the subjects are followed as before, as the latest moment is the same.
 use Rattle.std.proofs.Common.{refl, sym, subst}
 use Rattle.std.specs.Prelude.{All}
 use Rattle.zk_client.specs.Clients.{view_of}

@@ -1,3 +1,5 @@
+-- The session begins as the client of `Device::resume`: `begins_with`, as the timeout is read back from its word unchanged. Of bytes that
+-- do not read as a saved session no client comes, so that case is absurd.
 use Rattle.std.proofs.Common.{◌≡◌, ◌∙◌, ap, of_z, rules, subst, sym, to_z, true≢false, w32}
 use Rattle.std.specs.Prelude.{◌<ℤ◌, [], is_ok, pos}
 use Rattle.zk_client.specs.Clients.{view_of}

@@ -1,3 +1,4 @@
+-- Where it answers none, the held session shows no token: what `holder` ensures of the taken session's client, whose view is the same.
 use Rattle.std.proofs.Common.{◌≡◌, ◌∙◌, ℤ, Option, ap, refl, rules, subst, sym}
 use Rattle.std.specs.Prelude.{IfOk, None, unwrap_or}
 use Rattle.zk_turns.specs.View.{View}

@@ -1,3 +1,4 @@
+-- A refusal is true of the held session, and no byte is written: `told_refused`, as the taken session's client has the same view.
 use Rattle.std.proofs.Common.{◌≡◌, ◌∙◌, ap, of_z, subst, sym, to_z, w32}
 use Rattle.std.specs.Prelude.{unwrap_or}
 use Rattle.zk_turns.specs.View.{View}

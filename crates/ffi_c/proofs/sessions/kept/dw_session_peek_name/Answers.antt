@@ -1,3 +1,4 @@
+-- The name copied is the held session's: what `peek_name` ensures of the taken session's client, whose view is the same.
 use Rattle.std.proofs.Common.{◌≡◌, ◌∙◌, ap, subst, sym}
 use Rattle.std.specs.Prelude.{unwrap_or}
 use Rattle.zk_turns.specs.View.{View}

@@ -1,3 +1,4 @@
+-- No session comes of broken bytes: `resume` refuses them, as the fault is not want of memory (`not_memory`), so the good case is absurd.
 use Rattle.std.proofs.Common.{◌≡◌, ap, of_z, rules, subst, sym, to_z, true≢false, w32}
 use Rattle.std.specs.Prelude.{◌<ℤ◌, is_ok, pos}
 use Rattle.ffi_c.proofs.Saved.{not_memory}

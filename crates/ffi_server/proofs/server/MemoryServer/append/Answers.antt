@@ -1,3 +1,4 @@
+-- Two refusals as `NoTransaction`, by arithmetic: the moment is 2^63 or later, or the last zxid is the greatest, so the next is 2^63.
 use Rattle.std.proofs.Common.{◌≡◌, ◌≤◌, ◌^◌, ◌+◌, pos, inl, inr, refl, arith, rules}
 use Rattle.std.proofs.lemmas.Int.{ints}
 use Rattle.zk_nodes.specs.History.{newest}

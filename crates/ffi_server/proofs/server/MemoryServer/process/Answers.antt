@@ -1,3 +1,5 @@
+-- By how the bench ends: without memory the connection is given up (`gives_up`), else it has processed, and the bytes waiting before and
+-- after tell if any were taken.
 use Rattle.std.proofs.Common.{◌≤◌, ◌<◌, ℕ, subst, length, arith}
 use Rattle.zk_bench.specs.Served.{Served}
 use Rattle.ffi_server.specs.Moves.{GaveUp, Processed}

@@ -1,3 +1,4 @@
+-- Letting the stream go changes neither client nor outputs, so `step` does as if from before: `same_fails`, and `cut_so` for the bytes.
 use Rattle.std.proofs.Common.{rules, refl, false, None}
 use Rattle.script_live.specs.Trails.{trail_of}
 use Rattle.script_live.proofs.TrailLemmas.{same_fails}

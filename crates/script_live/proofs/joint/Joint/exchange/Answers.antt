@@ -1,3 +1,4 @@
+-- Three ends: with no stream, or after a failed write, nothing is read (`exchanges_none`); else a read follows the write (`exchanged`).
 use Rattle.std.proofs.Common.{[], subst, sym}
 use Rattle.std.specs.Prelude.{IfOk}
 use Rattle.zk_link.specs.Streams.{known_of, Exchanges, Known}

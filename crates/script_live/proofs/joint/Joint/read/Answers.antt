@@ -1,3 +1,4 @@
+-- One exchange after those that brought nothing makes one with them (`exchanges_on`); what is unsent after it is a rest (`left_of`).
 use Rattle.std.proofs.Common.{◌∙◌, [], ap, subst}
 use Rattle.zk_link.specs.Streams.{known_of, Exchanges}
 use Rattle.script_live.specs.Flowing.{piece_in}

@@ -1,3 +1,4 @@
+-- Loop over the waits: some unsent bytes were written, and nothing was read. So the last exchange alone brings the piece.
 use Rattle.std.proofs.Common.{◌≡◌, []}
 use Rattle.zk_link.specs.Written.{IsLeftOf}
 use Rattle.zk_link.specs.Streams.{known_of, Exchanges}

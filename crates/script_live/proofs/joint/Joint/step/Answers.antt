@@ -1,3 +1,4 @@
+-- The turn is by the rule, and `deliver` adds what is given: `on_ok` for what is heard, `lost_turn` without memory, `delivered` for bytes.
 use Rattle.std.proofs.Common.{◌≡◌, ◌++◌, ap, refl, subst, sym}
 use Rattle.std.specs.List.{filter}
 use Rattle.zk_turns.specs.Turns.{Turn}

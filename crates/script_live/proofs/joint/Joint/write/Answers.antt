@@ -1,3 +1,4 @@
+-- Where a stream is held, `queue` adds the frames and `send` writes the first bytes: rewriting, and `exchanges_none` as nothing is read.
 use Rattle.std.proofs.Common.{◌++◌, [], subst, sym}
 use Rattle.zk_client.specs.Views.{said}
 use Rattle.zk_link.specs.Written.{IsLeftOf}

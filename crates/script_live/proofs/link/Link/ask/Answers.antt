@@ -1,3 +1,5 @@
+-- A call is a step and a wait: `asks` joins them, `prints_after` what they print, and a halt is at the one or the other (`halts_asked`,
+-- `halts_awaiting`).
 use Rattle.std.proofs.Common.{rules}
 use Rattle.std.specs.Prelude.{string_bytes}
 use Rattle.zk_conversation.specs.Views.{call_view}

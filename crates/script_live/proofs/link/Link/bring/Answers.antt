@@ -1,3 +1,5 @@
+-- By the piece: one that comes is handed on (`piece`, `prints_piece`), else the connection ends (`one`, `prints_quiet`). Halts come by
+-- `halts_piece` and `halts_cut`.
 use Rattle.std.proofs.Common.{rules, ℕ, Option, Vec, subst}
 use Rattle.std.specs.Prelude.{string_bytes}
 use Rattle.zk_turns.specs.Turns.{Cut}

@@ -1,3 +1,5 @@
+-- What `end_if`, `hold`, `step` and `settle` ensure, in turn: `connects` joins what is heard, `halts_opened` and `halts_settling` the
+-- halts, and `prints_after` what is printed.
 use Rattle.std.proofs.Common.{◌≡◌, [], ◌∷◌, ap, refl, rules, subst}
 use Rattle.std.specs.Prelude.{is_some, string_bytes}
 use Rattle.zk_turns.specs.Turns.{Cut, Opened}

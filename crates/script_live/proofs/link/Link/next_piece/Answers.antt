@@ -1,3 +1,4 @@
+-- The next piece is what a read of the joint brings, with the same view: `ok_read`, from what `read` and `piece_of` ensure.
 use Rattle.std.proofs.Common.{ap, refl}
 use Rattle.script_live.specs.Flowing.{flow_of}
 use Rattle.script_live.specs.Trails.{Trail}

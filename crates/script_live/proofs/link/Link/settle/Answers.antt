@@ -1,3 +1,5 @@
+-- One more piece by `behind` and `prints_after`; after the last piece the end, by `ended`, and a client that does not wait (`cut_settles`).
+-- Halts come after what was brought: `halts_behind`, `halts_ended`.
 use Rattle.std.proofs.Common.{rules}
 use Rattle.script_live.proofs.Printing.{prints_after}
 use Rattle.script_live.proofs.HeardLemmas.{behind, cut_settles, ended, halts_behind, halts_ended}

@@ -1,3 +1,4 @@
+-- An input is handed on, then the connection may end; between the two is what `printed_step` leaves: by what the calls ensure.
 use Rattle.std.specs.Prelude.{string_bytes}
 use Rattle.script_live.specs.Flowing.{flow_of}
 use Rattle.script_live.proofs.link.Link.step.Goals as goal

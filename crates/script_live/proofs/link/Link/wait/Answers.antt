@@ -1,3 +1,5 @@
+-- One more piece by `behind` and `prints_after`; after the last piece the end, by `ended`. Halts come after what was brought:
+-- `halts_behind`, `halts_ended`.
 use Rattle.std.proofs.lemmas.Result.{err_from_is_err_and}
 use Rattle.script_live.proofs.Printing.{prints_after}
 use Rattle.script_live.proofs.HeardLemmas.{behind, ended, halts_behind, halts_ended}

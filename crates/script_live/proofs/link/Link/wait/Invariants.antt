@@ -1,3 +1,4 @@
+-- Loop over the pieces until the call is answered: the client took what came, and its words are printed. Exits add at most the end.
 use Rattle.std.specs.Prelude.{string_bytes}
 use Rattle.zk_client.specs.Clients.{view_of}
 use Rattle.script_live.specs.Flowing.{flow_of}

@@ -1,3 +1,4 @@
+-- By the kind of line: an end, a moment and a call print what the link ensures (`prints_from`); any other is a look (`prints_look`).
 use Rattle.std.proofs.Common.{◌≡◌, ℕ, [], refl}
 use Rattle.std.specs.Prelude.{string_bytes}
 use Rattle.zk_turns.specs.Turns.{Now}

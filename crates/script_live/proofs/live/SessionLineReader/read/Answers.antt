@@ -1,3 +1,4 @@
+-- A line that is done leads where the session stands next (`goes`); one that is not is due to stop there (`due`): from `read_line`.
 use Rattle.std.specs.Prelude.{string_bytes}
 use Rattle.zk_client.specs.Clients.{view_of}
 use Rattle.script_live.specs.Flowing.{flow_of}

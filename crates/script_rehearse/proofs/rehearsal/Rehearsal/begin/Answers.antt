@@ -1,3 +1,4 @@
+-- A client and servers are made over the history so far: `begins` and `made_so`, with the timeout read back from its word.
 use Rattle.std.proofs.Common.{◌≡◌, subst, arith, ℤ, to_z, of_z, w32}
 use Rattle.std.proofs.lemmas.Int.{ints}
 use Rattle.std.specs.Option.{option_map}

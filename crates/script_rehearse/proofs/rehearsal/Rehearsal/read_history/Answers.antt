@@ -1,3 +1,4 @@
+-- As no client was made, the story takes the line: `told` for what it does, `history_due` for why not, and it never halts (`never_halts`).
 use Rattle.std.specs.Option.{option_map}
 use Rattle.std.proofs.Common.{refl}
 use Rattle.script_story.specs.Stories as story

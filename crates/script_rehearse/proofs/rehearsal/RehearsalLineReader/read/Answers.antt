@@ -1,3 +1,4 @@
+-- A line that is done leads where the rehearsal stands next (`moved`); one that is not is due to stop there (`due_at`): from `read_line`.
 use Rattle.script_rehearse.specs.inner.Rehearsed.{position_of}
 use Rattle.script_rehearse.proofs.ScriptLemmas.{moved, due_at}
 use Rattle.script_rehearse.proofs.rehearsal.RehearsalLineReader.read.Goals as goal

@@ -1,3 +1,4 @@
+-- The called paths ascend (`sorted_map`) and are the set's members (`same_members`); `push_paths` tells their lines, rewritten.
 use Rattle.std.proofs.Common.{map, sym, ap, ◌++◌, ◌∙◌, subst}
 use Rattle.std.specs.Prelude.{string_bytes}
 use Rattle.std.specs.Cmp.Lexicographic.{slice_cmp}

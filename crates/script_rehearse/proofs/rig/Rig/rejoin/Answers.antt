@@ -1,3 +1,4 @@
+-- The new client takes up the session with no server connected: `rejoins`, and `resumes` for its range, from what the calls ensure.
 use Rattle.std.proofs.Common.{◌≡◌, rules, arith, subst, [], to_z, of_z, w32}
 use Rattle.std.proofs.lemmas.Int.{ints}
 use Rattle.zk_bench.specs.Served.{disconnected}

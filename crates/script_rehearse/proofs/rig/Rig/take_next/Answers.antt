@@ -1,3 +1,4 @@
+-- The line takes what the bench takes, part by part as `take` ensures, and prints nothing.
 use Rattle.std.proofs.Common.{refl}
 use Rattle.script_rehearse.proofs.rig.Rig.take_next.Goals as goal
 

@@ -1,3 +1,4 @@
+-- The first line makes a client as it says: `made`, where none was seen (`nothing_seen`), from what the parser and `make_client` ensure.
 use Rattle.std.proofs.Common.{◌≡◌, ◌∙◌, Some, None, false, is_some, map, refl, sym}
 use Rattle.zk_client.specs.Clients.{view_of}
 use Rattle.script_replay.specs.Lines.{begin_value_of}

@@ -1,3 +1,4 @@
+-- What a line does to a player follows its course: `followed`, from what `take_words` ensures of the words of the line.
 use Rattle.std.proofs.Common.{IfOk, rules}
 use Rattle.std.specs.Prelude.{string_bytes}
 use Rattle.script_replay.specs.inner.Played.{view_of_player}

@@ -1,3 +1,4 @@
+-- A line does what its words say: `taken`, as the keyword and the words after it say what `perform` does.
 use Rattle.std.proofs.Common.{◌≡◌, map, is_some, rules}
 use Rattle.script_replay.specs.inner.Played.{view_of_player}
 use Rattle.script_replay.specs.ReplayLines.{says_at, placed_at}

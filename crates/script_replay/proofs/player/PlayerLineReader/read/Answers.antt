@@ -1,3 +1,4 @@
+-- A line that is done leads where the player stands next (`moved`); one that is not is due to stop there (`due`): from `read_line`.
 use Rattle.std.specs.Prelude.{string_bytes}
 use Rattle.script_replay.specs.inner.Played.{view_of_player}
 use Rattle.script_replay.proofs.CourseLemmas.{moved, due}

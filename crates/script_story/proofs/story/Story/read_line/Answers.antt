@@ -1,3 +1,4 @@
+-- A line that says something is taken or refused as the history takes or refuses it: `taken` and `refused`, from what `perform` ensures.
 use Rattle.std.proofs.Common.{◌≡◌}
 use Rattle.std.specs.Prelude.{Ok, Some}
 use Rattle.script_story.specs.inner.HistoryLines.{value_of}

@@ -1,3 +1,4 @@
+-- A line that is not done is due to stop as its fault says: `due`, from what `read_line` ensures of a refused line.
 use Rattle.script_story.specs.Stories.{position_of}
 use Rattle.script_story.proofs.StoryLemmas.{due}
 use Rattle.script_story.proofs.story.StoryLineReader.read.Goals as goal

@@ -1,3 +1,4 @@
+-- The walk comes to its end by steps: none at first (`begins`), one more where `step` gives no ending (`steps`), until it gives one.
 use Rattle.std.proofs.Common.{None}
 use Rattle.zk_driver.specs.Flowing.{flow_of}
 use Rattle.shell_ask.specs.inner.Trees.{stage_of}

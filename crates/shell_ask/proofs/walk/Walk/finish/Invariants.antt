@@ -1,3 +1,4 @@
+-- The loop over the tickets: the stage at each turn is reached from the first, so an ending that `step` gives is one of such a stage.
 use Rattle.std.proofs.Common.{None}
 use Rattle.zk_driver.specs.Flowing.{flow_of}
 use Rattle.shell_ask.specs.inner.Trees.{stage_of}

@@ -1,3 +1,5 @@
+-- By what came of the call (`heard_of`): the node is printed (`prints_node`), a child's name has no path (`misnamed`), the node is gone
+-- (`leaves_out`), or the walk stops there (`stopped`).
 use Rattle.std.proofs.Common.{None, refl}
 use Rattle.std.proofs.lemmas.Option.{IfSome_then}
 use Rattle.std.proofs.lemmas.Result.{IfOk-weaker}

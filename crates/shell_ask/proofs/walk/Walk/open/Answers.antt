@@ -1,3 +1,4 @@
+-- Where a child has no path the walk ends as misnamed: by what `spots_below` ensures, rewritten by what `names_within` ensures.
 use Rattle.std.proofs.Common.{List, refl, subst}
 use Rattle.zk_nodes.specs.Path.{Text}
 use Rattle.shell_ask.specs.Trees.{AreInOrder}

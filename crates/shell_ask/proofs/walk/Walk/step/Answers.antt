@@ -1,3 +1,5 @@
+-- The node that is popped is the next one (`waiting_pop`): it is listed, and what `list` ensures holds (`ends_at`, `steps_from`), or it is
+-- printed (`prints_leaf`), as there is room for it by arithmetic.
 use Rattle.std.proofs.Common.{arith, ◌<◌, ◌∙◌, ◌∷◌, None, length, ap, refl}
 use Rattle.zk_driver.specs.Flowing.{flow_of}
 use Rattle.shell_ask.specs.inner.Trees.{spot_view, stage_of, waiting_view}

@@ -1,3 +1,4 @@
+-- The lines of a stat are those of its eleven fields: by what `push_fields` ensures.
 use Rattle.shell_commands.proofs.shown.StatShown.push_lines.Goals as goal
 
 pub returns : goal.returns

@@ -1,3 +1,4 @@
+-- To ask for the close is the move `Closes`: the call is handed to the agent, which is a run by `calls_run`, and no root is left.
 use Rattle.std.proofs.Common.{None, Some, ap, refl, subst}
 use Rattle.zk_agent.specs.declared.input.AgentInput.TheVariants as happens
 use Rattle.zk_conversation.specs.declared.call.Call.TheVariants as call

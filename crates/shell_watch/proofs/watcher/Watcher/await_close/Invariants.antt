@@ -1,3 +1,4 @@
+-- The loop of `await_close`: what was written since the call is what some moves print, so at the end it is what all rounds printed.
 use Rattle.shell_watch.specs.inner.Watching.{stand_of, Writes}
 use Rattle.shell_watch.proofs.watcher.Watcher.await_close.Given as goal
 

@@ -1,3 +1,4 @@
+-- By the state: not connected, nothing is written (`ends_none`); else the close comes first (`ok_ends`). Errors: `err_none`, `err_asked`.
 use Rattle.shell_watch.specs.inner.Watching.{stand_of}
 use Rattle.shell_watch.proofs.Ending.{ends_none, err_asked, err_none, ok_ends}
 use Rattle.shell_watch.proofs.watcher.Watcher.close.Goals as goal

@@ -1,3 +1,4 @@
+-- A subject is followed by the next ticket and watched as the last: `ok_follows`, of what `watched_of` and the driver's `follow` ensure.
 use Rattle.std.proofs.Common.{◌≡◌, ◌++◌, [], ◌∷◌, rules, None, subst}
 use Rattle.std.specs.Prelude.{OnOk}
 use Rattle.zk_nodes.specs.Path.{Text}

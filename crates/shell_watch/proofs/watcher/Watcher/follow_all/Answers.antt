@@ -1,3 +1,4 @@
+-- One more subject of the slice is followed after those before it: `follows_more`.
 use Rattle.shell_watch.specs.inner.Watching.{stand_of}
 use Rattle.shell_watch.proofs.Printing.{follows_more}
 use Rattle.shell_watch.proofs.watcher.Watcher.follow_all.Goals as goal

@@ -1,3 +1,4 @@
+-- The loop of `follow_all` over the subjects: those before the index are followed, in order, so at the slice's end all are.
 use Rattle.std.proofs.Common.{take}
 use Rattle.shell_watch.specs.Watching.{aims_of, FollowsAll}
 use Rattle.shell_watch.specs.inner.Watching.{stand_of}

@@ -1,3 +1,4 @@
+-- A watch runs to its moment and then ends the session (`ok_over`); on an error, what was written by then, as `run` or `err_after` tells.
 use Rattle.std.proofs.Common.{subst}
 use Rattle.zk_driver.specs.declared.engine.Engine.{Engine}
 use Rattle.shell_watch.specs.inner.Watching.{stand_of, Writes, WritesOn}

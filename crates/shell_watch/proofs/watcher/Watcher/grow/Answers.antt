@@ -1,3 +1,4 @@
+-- Each tree is taken on: `ok_grows`, of what `wanted_of` finds to be wanted below the roots, and of `take_all_on`, which takes that on.
 use Rattle.std.proofs.Common.{subst, List}
 use Rattle.zk_client.specs.Clients.{view_of}
 use Rattle.zk_nodes.specs.Path.{Text}

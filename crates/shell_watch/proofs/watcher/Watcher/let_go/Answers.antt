@@ -1,3 +1,4 @@
+-- `drop_gone` leaves those that stay; each ticket of those gone is unfollowed, one more by `folds_next`, and at the end all (`take_all`).
 use Rattle.std.proofs.Common.{◌≡◌, ◌≤◌, ◌∙◌, ap, arith, get_or, None, length, refl, subst, sym, take, List, ℕ}
 use Rattle.std.proofs.lemmas.Grind.{get_or_default_zero}
 use Rattle.std.proofs.lemmas.List.{take_all}

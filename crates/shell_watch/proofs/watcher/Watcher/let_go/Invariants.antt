@@ -1,3 +1,4 @@
+-- The loop of `let_go`: from a watch of those alone that stay, the tickets before the index are let go; at the end these are all gone ones.
 use Rattle.std.proofs.Common.{take}
 use Rattle.std.specs.List.{filter, FoldsTo}
 use Rattle.zk_client.specs.Clients.{view_of}

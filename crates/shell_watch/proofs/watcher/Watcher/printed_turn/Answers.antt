@@ -1,3 +1,4 @@
+-- What is printed of a turn is its line, and after it what `show` adds: `tells`.
 use Rattle.std.specs.Prelude.{string_bytes}
 use Rattle.zk_client.specs.Clients.{view_of}
 use Rattle.zk_agent.specs.Telling.{told_by}

@@ -1,3 +1,4 @@
+-- The turn, what is tended after it, and both texts written are one move (`rounds`); where the moment has come nothing is tended (`come`).
 use Rattle.std.proofs.Common.{◌++◌, rules}
 use Rattle.std.specs.Prelude.{string_bytes}
 use Rattle.std.specs.Io.KnownBytes.{Appends}

@@ -1,3 +1,4 @@
+-- Round by round, what is written is what moves print: `writes_none`, then `writes_after`; where a round fails it stays so (`writes_on`).
 use Rattle.std.proofs.Common.{ap}
 use Rattle.shell_watch.specs.inner.Watching.{stand_of}
 use Rattle.shell_watch.proofs.Printing.{writes_after, writes_none, writes_on}

@@ -1,3 +1,4 @@
+-- The loop of `run`: what was written since the call is what some moves print, so where the moment comes it is what all rounds printed.
 use Rattle.shell_watch.specs.inner.Watching.{stand_of, Writes}
 use Rattle.shell_watch.proofs.watcher.Watcher.run.Given as goal
 

@@ -1,3 +1,4 @@
+-- One turn is heard (`heard_so`) and printed as the driver then is (`same_tells`): clock, print and note change nothing of the engine.
 use Rattle.std.proofs.Common.{◌≡◌, ◌∙◌, ap, subst, sym}
 use Rattle.std.specs.Prelude.{string_bytes, ◌||◌}
 use Rattle.zk_client.specs.Clients.{view_of}

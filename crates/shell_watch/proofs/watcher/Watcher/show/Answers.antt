@@ -1,3 +1,4 @@
+-- Where something waits to be told nothing is shown (`shows_nothing`); else each subject is, in the whole vector (`ok_shows`).
 use Rattle.std.proofs.Common.{◌≡◌, List, arith, drop, length, subst, sym}
 use Rattle.std.specs.Prelude.{string_bytes, OnOk}
 use Rattle.zk_client.specs.Clients.{view_of}

@@ -1,3 +1,4 @@
+-- One more subject is taken on after those before it (`mapped_next`); after the loop all are (`take_all`, and arithmetic on the index).
 use Rattle.std.proofs.Common.{◌≤◌, List, arith, length, refl, subst}
 use Rattle.std.proofs.lemmas.List.{take_all}
 use Rattle.std.specs.List.{FoldsTo}

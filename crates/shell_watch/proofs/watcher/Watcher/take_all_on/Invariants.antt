@@ -1,3 +1,4 @@
+-- The loop of `take_all_on` over the subjects that are wanted: those before the index are taken on, in order, so at the end all are.
 use Rattle.std.proofs.Common.{take}
 use Rattle.std.specs.List.{FoldsTo}
 use Rattle.shell_watch.specs.Watching.{aims_of, TakesOn}

@@ -1,3 +1,4 @@
+-- By the test `is_settled`: a settled subject leaves all as it is (`settled`), any other is followed as one that was found (`ok_taken`).
 use Rattle.std.proofs.Common.{◌≡◌, ◌∙◌, ap, false, sym, true}
 use Rattle.zk_client.specs.Clients.{view_of}
 use Rattle.zk_trees.specs.Trees.{is_settled}

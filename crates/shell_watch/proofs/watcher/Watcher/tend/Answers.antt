@@ -1,3 +1,4 @@
+-- Nothing is done where the watch is over (`over_rests`) or something waits (`told_rests`); else what `tend_all` ensures (`ok_tends`).
 use Rattle.std.proofs.Common.{◌≡◌, [], refl, rules}
 use Rattle.std.specs.Prelude.{string_bytes}
 use Rattle.shell_watch.specs.inner.Watching.{stand_of}

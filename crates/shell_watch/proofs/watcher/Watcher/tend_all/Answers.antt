@@ -1,3 +1,4 @@
+-- What is gone is let go, the trees grow, and the line of the bound follows (`tends_all`); the clock changes nothing (`same_stand`).
 use Rattle.std.proofs.Common.{ap}
 use Rattle.std.specs.Prelude.{string_bytes}
 use Rattle.shell_watch.specs.inner.Watching.{stand_of}

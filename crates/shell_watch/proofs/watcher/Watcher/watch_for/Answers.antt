@@ -1,3 +1,5 @@
+-- A watch that ends well: `ends_from` tells how, `over_prints` what it printed; of one that
+-- fails, what was written by then (`prints_from`).
 use Rattle.shell_watch.specs.Watching.{aims_of}
 use Rattle.shell_watch.specs.inner.Watching.{stand_of}
 use Rattle.std.proofs.Common.{true, false, inr}

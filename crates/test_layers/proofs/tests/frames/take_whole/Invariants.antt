@@ -1,3 +1,4 @@
+-- The loop of `take_whole` ends: each turn takes a frame off the reader, so the reader holds fewer bytes.
 use Rattle.std.proofs.Common.{length}
 use Rattle.test_layers.proofs.tests.frames.take_whole.Given as goal
 

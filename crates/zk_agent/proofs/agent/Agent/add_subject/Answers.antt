@@ -1,3 +1,4 @@
+-- To add a subject is the one move `Follows` (`gives`): the subjects have one more at their end, and all else is as it was (`trail_eq`).
 use Rattle.std.proofs.Common.{[], refl, ap}
 use Rattle.zk_client.specs.Clients.{view_of}
 use Rattle.zk_calls.specs.declared.line.Line.{Line}

@@ -1,3 +1,4 @@
+-- To ask a call is the move `Asks`, by which the line ends in its entry (`gives`), and then the client hears the moment: `ok_after`.
 use Rattle.std.proofs.Common.{◌++◌, ◌∷◌, [], false, refl, ap}
 use Rattle.zk_turns.specs.Turns.{Now}
 use Rattle.zk_conversation.specs.Views.{call_view}

@@ -1,3 +1,4 @@
+-- By whether there is a connection, the client hears the bytes or the moment alone: what `step_client` ensures, rewritten with the test.
 use Rattle.std.proofs.Common.{sym, subst, ◌∙◌}
 use Rattle.std.specs.Prelude.{OnOk}
 use Rattle.zk_agent.specs.Agents.{bytes_at, trail_of, Comes}

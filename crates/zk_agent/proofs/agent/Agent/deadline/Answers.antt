@@ -1,3 +1,4 @@
+-- By the test of a close: after a close nothing is due at any moment; else it is what `first_due` ensures, rewritten with the test.
 use Rattle.std.proofs.Common.{◌≡◌, ◌<◌, ◌^◌, ℕ, None, sym, subst, ◌∙◌}
 use Rattle.std.specs.Prelude.{IfSome}
 use Rattle.zk_client.specs.Clients.{view_of}

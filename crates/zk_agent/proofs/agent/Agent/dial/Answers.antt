@@ -1,3 +1,4 @@
+-- By the test of a close: after a close nothing is done (`nothing`); else the dialler decides, as the last move (`decided`).
 use Rattle.std.proofs.Common.{refl, subst, sym, ◌∙◌}
 use Rattle.zk_client.specs.Clients.{view_of}
 use Rattle.zk_dialler.specs.Dialling.{DialsWell}

@@ -1,3 +1,4 @@
+-- That the connection is over is the move `Ended` (`ended`), and then the client hears the cut: `ok_after`.
 use Rattle.std.proofs.Common.{[], ◌∷◌, refl}
 use Rattle.zk_turns.specs.Turns.{Cut}
 use Rattle.zk_agent.specs.Agents.{trail_of, Ended, Hears}

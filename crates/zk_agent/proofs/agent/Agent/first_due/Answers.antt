@@ -1,3 +1,5 @@
+-- The first of five moments: before it none of the five has come (`none_came`), at it one has (`is_first`), and where there is none there
+-- is none of the five (`none_left`). What each part of the agent ensures of its own moment tells the rest.
 use Rattle.std.proofs.Common.{◌≡◌, ◌<◌, ◌^◌, ℕ, None, sym, ap, subst, ◌∙◌}
 use Rattle.std.specs.Prelude.{IfSome}
 use Rattle.zk_turns.specs.View.{View}

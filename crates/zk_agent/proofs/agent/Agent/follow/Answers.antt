@@ -1,3 +1,4 @@
+-- To follow a subject is the move `Follows` (`gives`, `trail_eq`), and then the client hears the moment: `ok_after`.
 use Rattle.std.proofs.Common.{[], ◌∷◌, refl, ap}
 use Rattle.zk_turns.specs.Turns.{Now}
 use Rattle.zk_client.specs.Clients.{view_of}

@@ -1,3 +1,4 @@
+-- A client that was led is still led: by the same items and `Forgets` after them, as the asker's `forget_stale` ensures.
 use Rattle.std.proofs.Common.{◌∷◌}
 use Rattle.zk_turns.specs.Turns.{Forgets}
 use Rattle.zk_agent.proofs.agent.Agent.forget_stale.Goals as goal

@@ -1,3 +1,4 @@
+-- Without a close late calls wait no more, and those left are in time (`late_left`); after a close none waits (`closed`).
 use Rattle.std.proofs.Common.{◌++◌, refl, sym, ap, subst, arith, ◌∙◌}
 use Rattle.std.specs.Prelude.{All}
 use Rattle.zk_client.specs.Clients.{view_of}

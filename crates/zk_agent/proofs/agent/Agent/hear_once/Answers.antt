@@ -1,3 +1,4 @@
+-- The client takes an input and the agent heeds what it says: `taken_and`, of what `step` and `heed` ensure. No call is heard this way.
 use Rattle.std.proofs.Common.{sym, ap, subst, ◌∙◌}
 use Rattle.std.specs.Prelude.{All}
 use Rattle.zk_client.specs.Clients.{view_of}

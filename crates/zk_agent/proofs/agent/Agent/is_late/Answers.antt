@@ -1,3 +1,4 @@
+-- Whether an answer is late: by what `has_come`, `ends_at` and `timeout_ms` ensure, rewritten one after the other.
 use Rattle.std.proofs.Common.{ap, ◌∙◌}
 use Rattle.zk_dialler.specs.Dialling.{has_come}
 use Rattle.zk_agent.specs.Waits.{ends_at, waited_of}

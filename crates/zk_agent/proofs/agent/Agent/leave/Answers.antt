@@ -1,3 +1,4 @@
+-- A server is left that is late: the connection is hung up, the client hears the cut, and nothing waits after it (`left_late`).
 use Rattle.std.proofs.Common.{◌++◌, ◌∷◌, [], refl, ap}
 use Rattle.zk_client.specs.Clients.{view_of}
 use Rattle.zk_agent.specs.declared.asker.Asker.{Asker}

@@ -1,3 +1,4 @@
+-- By whether the dialler asked for it: a connection of its own is the move `Opened` (`ours_makes`), any other is hung up (`late_makes`).
 use Rattle.std.proofs.Common.{◌++◌, ◌∷◌, [], refl, subst}
 use Rattle.std.specs.Prelude.{OnOk}
 use Rattle.zk_turns.specs.Turns as turns

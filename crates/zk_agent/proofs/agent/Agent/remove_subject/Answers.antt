@@ -1,3 +1,4 @@
+-- To remove a subject is the one move `Unfollows` (`gives`); the others are still followed, as those that pass a filter (`All-filter`).
 use Rattle.std.proofs.Common.{◌==◌, [], refl, sym, ap, subst}
 use Rattle.std.specs.Prelude.{not, All}
 use Rattle.std.proofs.lemmas.List.Elements.{All-filter}

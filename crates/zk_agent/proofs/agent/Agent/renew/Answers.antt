@@ -1,3 +1,4 @@
+-- By the test of an expiry: after an expiry the move is `Renews`, and the client is idle (`renewed`, `begun`); else nothing happens.
 use Rattle.std.proofs.Common.{ap}
 use Rattle.zk_client.specs.Clients.{view_of}
 use Rattle.zk_agent.specs.Agents.{trail_of}

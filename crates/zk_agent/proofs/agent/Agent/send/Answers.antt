@@ -1,3 +1,4 @@
+-- Each turn adds moves (`then_none`), and fewer calls wait (`fewer_left`); the invariant tells at the end that none waits or can be sent.
 use Rattle.std.proofs.Common.{◌≢◌, [], refl, sym, subst, ◌∙◌}
 use Rattle.zk_session.specs.declared.states.State.TheVariants.{Connected}
 use Rattle.zk_client.specs.Clients.{view_of}

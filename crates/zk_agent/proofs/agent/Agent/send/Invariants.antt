@@ -1,3 +1,5 @@
+-- The loop of `send`: all so far are moves of the agent's own, and once it is to stop, none waits for its turn or none can be sent: that is
+-- what holds at the end. The calls that wait become fewer.
 use Rattle.std.proofs.Common.{◌≡◌, ◌≢◌, ◌+◌, true, false, cond, []}
 use Rattle.std.specs.Prelude.{All}
 use Rattle.zk_session.specs.declared.states.State.{State}

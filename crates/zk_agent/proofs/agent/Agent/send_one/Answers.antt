@@ -1,3 +1,4 @@
+-- Where it is no call's turn nothing is sent (`sends_none`); else a call is handed over and heeded, the move `Hands` (`sends_one`).
 use Rattle.std.proofs.Common.{refl, ap}
 use Rattle.zk_client.specs.Clients.{view_of}
 use Rattle.zk_agent.specs.declared.asker.Asker.{Asker}

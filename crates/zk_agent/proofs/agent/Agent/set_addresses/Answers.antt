@@ -1,3 +1,4 @@
+-- To change the addresses is the move `Addressed`, by what the dialler ensures (`gives`), and then the client hears the moment: `ok_after`.
 use Rattle.std.proofs.Common.{[], ◌∷◌, refl}
 use Rattle.zk_turns.specs.Turns.{Now}
 use Rattle.zk_agent.specs.Agents.{trail_of, Addressed, Hears}

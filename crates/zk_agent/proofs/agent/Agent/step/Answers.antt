@@ -1,3 +1,5 @@
+-- A step is six parts in a row, of which the first alone comes from outside (`in_turn`). Calls balance over all of them (`calls_balance`);
+-- each other clause is what one part ensures, carried through those after it.
 use Rattle.std.proofs.Common.{◌≡◌, ◌+◌, [], refl, sym, ap, subst, ◌∙◌}
 use Rattle.std.specs.Prelude.{◌≢◌, All}
 use Rattle.zk_session.specs.declared.states.State.TheVariants.{Connected, Expired, Closed}

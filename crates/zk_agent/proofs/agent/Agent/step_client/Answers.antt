@@ -1,3 +1,5 @@
+-- The move `Hears`, by whether a server says that the session is not its own: then the client hears the cut after it
+-- (`hears_then`), else that was all (`hears_and`).
 use Rattle.zk_client.specs.Views.{input_view}
 use Rattle.zk_agent.specs.Agents.{trail_of}
 use Rattle.zk_agent.proofs.Moves.{hears_and, hears_then}

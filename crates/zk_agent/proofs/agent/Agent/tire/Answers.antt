@@ -1,3 +1,4 @@
+-- By the test of `is_late`: a server is left only where it is true, as `leave` requires; else none has waited for too long (`not_tired`).
 use Rattle.std.proofs.Common.{sym, ◌∙◌}
 use Rattle.zk_agent.specs.Agents.{trail_of}
 use Rattle.zk_agent.proofs.Leaving.{not_tired}

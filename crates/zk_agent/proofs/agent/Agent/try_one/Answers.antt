@@ -1,3 +1,4 @@
+-- By the test of the state: to a connected client a call may be handed, as `send_one` requires; else nothing is sent (`sends_nothing`).
 use Rattle.std.proofs.Common.{inl, inr, refl, sym, subst, ◌∙◌}
 use Rattle.std.specs.Prelude.{◌≢◌}
 use Rattle.zk_session.specs.declared.states.State.TheVariants.{Connected}

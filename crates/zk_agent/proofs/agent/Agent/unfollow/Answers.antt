@@ -1,3 +1,4 @@
+-- To unfollow is the move `Unfollows` (`gives`, `trail_eq`), and then the client hears the moment: `ok_after`.
 use Rattle.std.proofs.Common.{[], ◌∷◌, refl, ap}
 use Rattle.zk_turns.specs.Turns.{Now}
 use Rattle.zk_client.specs.Clients.{view_of}

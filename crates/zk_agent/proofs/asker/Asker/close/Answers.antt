@@ -1,3 +1,4 @@
+-- The type's invariant, that each call handed over waits for its reply: after a close the line is empty, so it holds of none.
 use Rattle.std.proofs.Common.{sym, subst, arith}
 use Rattle.std.specs.Prelude.{All}
 use Rattle.zk_client.specs.Clients.{view_of}

@@ -1,3 +1,4 @@
+-- The type's invariant, that each call handed over waits for its reply, does not read the cache, and nothing else changes.
 use Rattle.std.proofs.Common.{subst, sym}
 use Rattle.std.specs.Prelude.{All}
 use Rattle.zk_agent.specs.inner.Calls.{IsAsked}

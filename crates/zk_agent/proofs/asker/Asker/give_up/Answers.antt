@@ -1,3 +1,4 @@
+-- The type's invariant, that each call handed over waits for its reply, holds of those that are left: they are a filter (`All-filter`).
 use Rattle.std.proofs.Common.{not, sym, subst}
 use Rattle.std.specs.Prelude.{All}
 use Rattle.std.proofs.lemmas.List.Elements.{All-filter}

@@ -1,3 +1,4 @@
+-- The type's invariant, that each call handed over waits for its reply, also of the one that is handed over now: `hands_asked`.
 use Rattle.zk_client.specs.Clients.{view_of}
 use Rattle.zk_agent.specs.Telling.{told_by}
 use Rattle.zk_agent.proofs.Handing.{hands_asked}

@@ -1,3 +1,4 @@
+-- An expiry ends every call (`none_at_expiry`): the line is empty, so the type's invariant about calls handed over holds of none.
 use Rattle.std.proofs.Common.{◌∙◌, sym, subst, arith}
 use Rattle.std.specs.Prelude.{All}
 use Rattle.zk_client.specs.Clients.{view_of}

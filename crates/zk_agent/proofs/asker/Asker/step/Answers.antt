@@ -1,3 +1,4 @@
+-- The type's invariant, that each call handed over waits for its reply, after an input: `still_asked`, as the line heard all outputs.
 use Rattle.zk_client.specs.Clients.{view_of}
 use Rattle.zk_client.specs.Views.{input_view}
 use Rattle.zk_agent.proofs.Lines.{still_asked}

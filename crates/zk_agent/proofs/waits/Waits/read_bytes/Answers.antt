@@ -1,3 +1,5 @@
+-- One turn passes over some bytes of a frame and reads the one after them: all up to there are heard then, by `one_more_heard`.
+-- That the place stays within the bytes is arithmetic, from what `pass` ensures.
 use Rattle.std.proofs.Common.{refl, ap, arith}
 use Rattle.zk_agent.specs.Waits.{waited_of}
 use Rattle.zk_agent.proofs.Passing.{one_more_heard}

@@ -1,3 +1,4 @@
+-- Of the loop over the bytes. At its end the place is that of their end, so all bytes were heard.
 use Rattle.std.proofs.Common.{◌≡◌, ◌≤◌, ◌-◌, length, take}
 use Rattle.zk_agent.specs.Waits.{heard_bytes, waited_of}
 use Rattle.zk_agent.proofs.waits.Waits.read_bytes.Given as goal

@@ -1,3 +1,6 @@
+-- A ConnectRequest is answered by a step of the laws: `expires_so` where the session has expired, and `admits_so` where it is accepted.
+-- The client is not ahead of the server then, by `not_ahead`. One that has seen no more than the server is not turned away, by
+-- `no_more_seen`. And where the answer is not sent, the bench stays ready, by `ready_answered`.
 use Rattle.std.proofs.Common.{rules, ◌≡◌, ◌≤◌, refl, sym, ap, ◌∙◌, subst, pos, to_z, of_z, w32, w64}
 use Rattle.std.specs.Prelude.{slice_index, int_lt}
 use Rattle.zk_history.specs.HistoryView.{history_of}

@@ -1,3 +1,5 @@
+-- By the request: it is answered or declined as `create`, `set_data`, `delete`, `pong` or `read` ensures. One that is left for `read` is
+-- a read or a part of setWatches, by `look_if`. Data that were read are short, by `data_small`: so a create or setData ends no connection.
 use Rattle.std.proofs.Common.{rules, ◌≡◌, sym, ap, subst, ℤ, to_z, of_z, w32}
 use Rattle.std.specs.Prelude.{Err, OnOk, IfErr}
 use Rattle.zk_bench.specs.inner.Asking.{Asks}

@@ -1,3 +1,5 @@
+-- The steps that `take_all` ensures of the connection are steps of the bench, by `shows_caught`; the server's place before them is one
+-- of the history, by `taken_at`.
 use Rattle.std.proofs.Common.{sym, subst}
 use Rattle.std.specs.Prelude.{OnOk, slice_set}
 use Rattle.theory_serving.proofs.Later.{taken_at}

@@ -1,3 +1,4 @@
+-- The end of a session is answered by a step of the laws, which ends the connection: `closes_so`, from the header that `send_err` sends.
 use Rattle.std.proofs.Common.{rules, ◌≡◌, sym, subst, ℤ, pos, to_z, of_z, w32}
 use Rattle.zk_conversation.specs.Calls.{Close}
 use Rattle.zk_laws.specs.Messages.{Ask}

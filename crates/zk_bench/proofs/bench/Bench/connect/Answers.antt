@@ -1,3 +1,5 @@
+-- On a new connection nothing is watched, as both sets of paths are empty, so the bench stays ready.
+-- That the server is one of the eight is arithmetic.
 use Rattle.std.proofs.Common.{◌≡◌, ◌<◌, ◌-◌, Bool, true, false, ◌&&◌, [], length, ap, subst, ◌∙◌, refl, arith}
 use Rattle.std.specs.FinSet as set
 use mathlib.Core.Path.{fun_ext}

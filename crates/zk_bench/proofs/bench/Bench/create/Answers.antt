@@ -1,3 +1,6 @@
+-- The create that `make` makes is the one that was asked for, by `creates_asked`, and its mode that of the flags, by `mode_is`.
+-- What `make` ensures after catching up holds from before it: `processes_then` and `declines_then`. Where there is no mode, or
+-- catching up fails, the create is declined, by `ends_then`; with flags from 0 to 3 it does not end the connection.
 use Rattle.std.proofs.Common.{rules, ◌≡◌, ◌≤◌, ℕ, pos, ap, ◌∙◌, subst, ℤ, to_z, of_z, w32}
 use Rattle.std.specs.Prelude.{OnOk, IfErr, Err}
 use Rattle.zk_jute.specs.Lenient.{or_empty}

@@ -1,3 +1,6 @@
+-- A delete is answered by a header alone, by `deleted_so`: `takes_then` joins what was taken before the write and with it.
+-- By the call that fails it is declined: `ends_then`, `declines_left`, and `ends_sending` where no header is sent.
+-- The change at the path that `deleted_path` finds is one that the newest tree accepts, so the write ends no connection.
 use Rattle.std.proofs.Common.{rules, ◌≡◌, sym, ap, ◌∙◌, subst, ℤ, pos, to_z, of_z, w32}
 use Rattle.std.specs.Prelude.{Err, IfErr}
 use Rattle.std.specs.Result.{IsErrAnd}

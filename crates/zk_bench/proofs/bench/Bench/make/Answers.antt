@@ -1,3 +1,6 @@
+-- A create is answered with the path that was made, by `created_so`, from what `creation`, `write` and `send_created` ensure.
+-- Where one of the first two refuses, it is declined by `declines_unmade`, and where the answer is not sent, by `ends_sending`.
+-- A change with short data is accepted and its path fits a frame, so the connection does not end.
 use Rattle.std.proofs.Common.{rules, ◌≡◌, sym, ap, subst, ℤ, pos, Bool, Some, to_z, of_z, w32, w64}
 use Rattle.std.specs.Prelude.{Err}
 use Rattle.zk_records.specs.Layouts.{create_response}

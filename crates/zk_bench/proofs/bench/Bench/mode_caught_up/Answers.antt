@@ -1,3 +1,4 @@
+-- Flags from 0 to 3 have a mode, by `mode_there`: so the connection does not end for want of one.
 use Rattle.std.proofs.Common.{rules, ◌≡◌, ◌∙◌, to_z, of_z, w32}
 use Rattle.zk_bench.proofs.Called.{mode_there}
 use Rattle.zk_bench.proofs.bench.Bench.mode_caught_up.Goals as goal

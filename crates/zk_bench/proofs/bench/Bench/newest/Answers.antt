@@ -1,3 +1,5 @@
+-- As zxids rise, the tree at the last zxid is that after all transactions, by `newest_seen`, and where the connected server has taken
+-- all of them, it is the tree that this server holds, by `newest_tree`.
 use Rattle.std.proofs.Common.{rules, ◌≡◌, ℤ, ap, ◌∙◌, subst, to_z, of_z, w64}
 use Rattle.std.specs.Prelude.{slice_index}
 use Rattle.zk_history.specs.HistoryView.{history_of, natural, newest_tree as newest_tree_of}

@@ -1,3 +1,4 @@
+-- A ping is answered by a step of the laws: `pongs`, from the header that `send_err` sends.
 use Rattle.std.proofs.Common.{sym, subst}
 use Rattle.zk_laws.specs.Messages.{Ping}
 use Rattle.zk_bench.specs.Served.{Served}

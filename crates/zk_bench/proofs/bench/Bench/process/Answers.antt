@@ -1,3 +1,6 @@
+-- What `process_next` ensures holds after `settle` too, whether the connection goes on or has ended: `settled` and `settled_so`.
+-- With the frame of the request taken away, the first one is processed, by `first_processed`; one that is answerable is answered, as
+-- `process_next` does not end the connection then.
 use Rattle.std.proofs.Common.{◌≡◌, true, sym, ap, ◌∙◌, length}
 use Rattle.theory_serving.proofs.Fronts.{front_there, front_field}
 use Rattle.zk_bench.specs.Served.{Served, is_open, ended}

@@ -1,3 +1,5 @@
+-- The ConnectRequest that is read is the one in the frame, so `admit` answers it; that the frame's bytes are gone changes nothing of that,
+-- by `front_gone` and `ready_front`. Reading it fails for want of memory alone, which is no end of the connection.
 use Rattle.std.proofs.Common.{◌≡◌, sym, ap, ◌∙◌, subst, pos, Some, false, drop, ◌≤◌}
 use Rattle.std.proofs.Common.{take as first}
 use Rattle.std.specs.Prelude.{int_lt}

@@ -1,3 +1,4 @@
+-- The first request of a connection is a ConnectRequest with a timeout above 0, by `first_by`: so what `process_first` ensures holds of it.
 use Rattle.std.proofs.Common.{◌≡◌, sym, ap, ◌∙◌, subst, drop}
 use Rattle.std.proofs.Common.{take as first}
 use Rattle.std.specs.Prelude.{OnOk, IsErrOf}

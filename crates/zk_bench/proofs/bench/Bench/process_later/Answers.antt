@@ -1,3 +1,6 @@
+-- The request that is read is the one in the frame, under its xid, by `found_front`. It is answered or declined as `answer` ensures, and
+-- that the frame's bytes are gone changes nothing of that, by `front_gone`. A code that it is owed is sent, by `owed_to`, or the
+-- connection ends, by `owed_unsent`. Reading fails for want of memory alone, by `read_front`.
 use Rattle.std.proofs.Common.{rules, ◌≡◌, ap, ◌∙◌, subst, ℤ, pos, drop, to_z, of_z, w32, sym, refl}
 use Rattle.std.proofs.Common.{take as first}
 use Rattle.std.specs.Prelude.{Ok, Err}

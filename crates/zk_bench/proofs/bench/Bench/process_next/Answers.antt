@@ -1,3 +1,5 @@
+-- By what is at the front of the bytes: where a request stands first, that is no part of a frame and no negative length (`not_short`,
+-- `not_negative`). A whole frame has its payload, by `whole_payload`, so what `process_frame` ensures holds of the request.
 use Rattle.std.proofs.Common.{ap, ◌∙◌, subst, ℕ, List}
 use Rattle.zk_frames.specs.Frame.{IsNegative}
 use Rattle.zk_laws.specs.Parsed.{IsReadAs}

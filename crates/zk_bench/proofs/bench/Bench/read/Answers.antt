@@ -1,3 +1,6 @@
+-- The server reads at its place in the history, by `placed`, and the request is a read or a part of setWatches, by `looks`.
+-- So what `read` ensures of the tree is a step of the laws: `reads_so` and `restores_so`. What it refuses is declined: `declines_read`
+-- and `declines_part`.
 use Rattle.std.proofs.Common.{rules, ◌≡◌, refl, sym, subst, ◌∙◌, to_z, of_z, w32, w64, ℤ, pos}
 use Rattle.std.specs.Prelude.{OnOk, IfErr, slice_index, IsErrOf}
 use Rattle.zk_nodes.specs.History.{Tree}

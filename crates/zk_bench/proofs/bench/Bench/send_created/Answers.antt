@@ -1,3 +1,4 @@
+-- A path fits a frame, by `made_fits`, so the answer with it ends no connection, by what `send_result` ensures.
 use Rattle.std.proofs.lemmas.Str.{is_utf8-from_IsUtf8}
 use Rattle.zk_bench.proofs.Staying.{made_fits}
 use Rattle.zk_bench.proofs.bench.Bench.send_created.Goals as goal

@@ -1,3 +1,5 @@
+-- The Stat that is sent is that of the node in the server's tree: what `newest`, `stat`, `zxid` and `send_result` ensure, rewritten.
+-- A Stat fits a frame, by `stat_fits`, so sending it ends no connection.
 use Rattle.std.proofs.Common.{rules, ◌≡◌, ℤ, ap, ◌∙◌, subst, Option, Some, pos, to_z, of_z, w32, w64}
 use Rattle.std.specs.Prelude.{slice_index}
 use Rattle.zk_history.specs.HistoryView.{HistoryView, history_of, natural}

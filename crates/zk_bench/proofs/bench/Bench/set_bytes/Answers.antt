@@ -1,3 +1,6 @@
+-- A setData is answered with the Stat after the write, by `set_so`: `takes_then` joins what was taken before the write and with it.
+-- By the call that fails it is declined: `ends_then`, `declines_unmade`, and `declines_unsent` where no Stat is sent.
+-- A set of short data is one that the newest tree accepts, so the write ends no connection.
 use Rattle.std.proofs.Common.{rules, ◌≡◌, sym, subst, ℤ, ℕ, List, Option, to_z, of_z, w32}
 use Rattle.zk_nodes.specs.Path.{Text, path_of}
 use Rattle.zk_nodes.specs.History.{Sets, Tree}

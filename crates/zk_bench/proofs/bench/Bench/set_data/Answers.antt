@@ -1,3 +1,4 @@
+-- The setData that `set_bytes` makes is the one that was asked for, by `sets_asked`, so it is answered and declined as that ensures.
 use Rattle.std.proofs.Common.{rules, ◌≡◌, sym, ap, ◌∙◌, subst, ℤ, to_z, of_z, w32}
 use Rattle.std.specs.Prelude.{OnOk, IfErr}
 use Rattle.zk_jute.specs.Lenient.{or_empty}

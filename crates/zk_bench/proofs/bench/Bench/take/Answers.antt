@@ -1,3 +1,5 @@
+-- What `take_next` ensures holds after `settle` too: `settled` and `settled_so`, by the outcome. As `take_next` ends no connection, the
+-- phase stays, and a connection that is not open stays as it is.
 use Rattle.std.proofs.Common.{◌≡◌, refl, sym, ap, subst, ◌∙◌, Result, Ok, Err, OnOk, IsOk}
 use Rattle.theory_serving.specs.GoingOn.{GoesOn}
 use Rattle.zk_bench.specs.declared.stop.Stop.TheVariants as stops

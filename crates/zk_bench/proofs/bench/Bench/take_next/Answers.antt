@@ -1,3 +1,6 @@
+-- A server that takes a transaction goes a step of the laws, by `shows_taken`, told or not by whether the client was admitted
+-- (`told_or_silent`). How many it has taken is `advanced_is`, and the bench stays ready, by `ready_told` and `ready_taken`.
+-- On a connection that is not open nobody was admitted, so nothing is told.
 use Rattle.std.proofs.Common.{◌≡◌, ◌≢◌, ap, sym, subst, ◌∙◌, ◌+◌, ◌<◌, length, refl, true, false, map, IsOk}
 use Rattle.zk_laws.specs.ServerSteps.{changes_next}
 use Rattle.std.specs.Prelude.{slice_index, slice_set}

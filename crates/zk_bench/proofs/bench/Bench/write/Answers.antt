@@ -1,3 +1,6 @@
+-- The client is still there after the append, by `client_later`; what the server takes then, it takes from before the append too, by
+-- `takes_later`, and the change is the last that it holds, by `wrote_so`. Where the append is refused, nothing is made, by
+-- `leaves_append`; of a change that the newest tree accepts, that is for want of memory alone, by `taken_write`.
 use Rattle.std.proofs.Common.{◌≡◌, sym, ap, ◌∙◌, subst}
 use Rattle.std.specs.Prelude.{IfErr}
 use Rattle.zk_history.specs.Made.{change_of}

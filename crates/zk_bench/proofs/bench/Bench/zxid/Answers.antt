@@ -1,3 +1,4 @@
+-- By what `zxid_after` ensures, rewritten: the server's place is one of the history, by `taken_at`, as the bench is ready.
 use Rattle.std.proofs.Common.{rules, ◌≡◌, ◌∙◌, subst, pos, to_z, of_z, w64}
 use Rattle.std.specs.Prelude.{slice_index}
 use Rattle.zk_history.specs.HistoryView.{history_of}

@@ -1,3 +1,4 @@
+-- The Stat that `stat_at` tells of the path is that of the node at its text: `stat_found`, and the zxid is one of 64 bits.
 use Rattle.std.proofs.Common.{rules, ◌≡◌, sym, subst, ◌∙◌, to_z, of_z, w64, ℤ}
 use Rattle.zk_nodes.specs.Path.{path_of}
 use Rattle.zk_nodes.specs.History.{tree_at}

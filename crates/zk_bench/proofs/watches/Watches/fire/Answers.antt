@@ -1,3 +1,4 @@
+-- What `use_up` and `concerns` ensure on both sides, rewritten: `used_watches` for what is left, `was_watched` for whether there was one.
 use Rattle.std.proofs.Common.{ap, ◌∙◌, ◌&&◌, ◌||◌}
 use Rattle.std.specs.FinSet as set
 use Rattle.zk_records.specs.Events.{concerns}

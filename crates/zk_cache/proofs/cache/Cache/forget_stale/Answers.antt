@@ -1,3 +1,4 @@
+-- On each side the good answers stay: `as_map-good`, from what `keep_good` ensures.
 use Rattle.std.proofs.Common.{ap, ◌∙◌}
 use Rattle.zk_cache.specs.Cache.{with_good}
 use Rattle.zk_cache.specs.Contents.{answer_of, names_in}

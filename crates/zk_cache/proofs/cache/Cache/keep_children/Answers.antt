@@ -1,3 +1,4 @@
+-- The side of children gets the names at the path: `as_map-put`, from what `put` and `set_of` ensure. The other side stays.
 use Rattle.std.proofs.Common.{◌≡◌, ◌∙◌, w64, to_z, of_z}
 use Rattle.std.proofs.lemmas.Int.{to_z-of_z}
 use Rattle.zk_cache.specs.Look.{as_map}

@@ -1,3 +1,4 @@
+-- The side of data gets the answer at the path: `as_map-with_answer`, from what `keep` ensures. By `is_kept` a kept path is in the map.
 use Rattle.std.proofs.Common.{is_some, ◌∙◌}
 use Rattle.std.specs.FinMap as finite
 use Rattle.zk_cache.specs.Look.{as_map}

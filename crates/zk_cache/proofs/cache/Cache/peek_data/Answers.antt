@@ -1,3 +1,4 @@
+-- The look-up gives what the view keeps of the path's data: `seen`, from what `peek` ensures.
 use Rattle.std.proofs.Common.{◌∙◌}
 use Rattle.std.specs.FinMap as finite
 use Rattle.zk_cache.specs.Contents.{answer_of}

@@ -1,3 +1,4 @@
+-- By the side: its answer at the path is stale (`as_map-stale`, from what `mark_stale` ensures), and the other side stays.
 use Rattle.std.proofs.Common.{ap, sym, ◌∙◌}
 use Rattle.zk_nodes.specs.declared.side.Side.TheVariants.{Data, Child}
 use Rattle.zk_cache.specs.Look.{as_map}

@@ -1,3 +1,5 @@
+-- The order by ticket and by limit outlives an answer: `answered_in_order`, from what `settle` ensures. Where no call has this ticket, the
+-- line is as it was and nobody is told: `as_it_was` and `nobody_told`.
 use Rattle.std.proofs.Common.{◌≡◌, ◌∙◌, List, true, refl, subst, sym}
 use Rattle.zk_client.specs.Views.{outcome_view}
 use Rattle.zk_calls.specs.declared.entry.Entry.{Entry}

@@ -1,3 +1,5 @@
+-- Where it is known that none ends, all are left: `all_left`. Else the calls that are left keep both orders (`in_order-filter`), and as
+-- `handed` is 0, nothing is claimed of the first ones.
 use Rattle.std.proofs.Common.{◌≡◌, List, not, true, subst, sym, arith}
 use Rattle.zk_calls.specs.declared.entry.Entry.{Entry}
 use Rattle.zk_calls.specs.Lines.{is_ended}

@@ -1,3 +1,4 @@
+-- Handing a call over leaves the order by ticket and by limit: `handed_in_order`, from what `turn`'s `hand` ensures.
 use Rattle.std.proofs.Common.{◌≡◌, List, true, refl, subst, sym}
 use Rattle.zk_calls.specs.declared.entry.Entry.{Entry}
 use Rattle.zk_calls.specs.Orders.{ends_first, in_order, is_below}

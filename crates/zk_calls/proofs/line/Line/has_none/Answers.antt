@@ -1,3 +1,4 @@
+-- No call of the ticket is found, so none ends (`none_by_ticket`); or the first limit has not come, so none is late (`none_by_limit`).
 use Rattle.std.proofs.Common.{◌∙◌, ap, not}
 use Rattle.zk_calls.proofs.Rising.{none_by_limit, none_by_ticket}
 use Rattle.zk_calls.proofs.line.Line.has_none.Goals as goal

@@ -1,3 +1,4 @@
+-- Where no call waits for its turn there is no next one (`no_next`), and handing the first over changes nothing (`none_handed`).
 use Rattle.std.proofs.Common.{◌∙◌, sym}
 use Rattle.zk_calls.proofs.Answering.{no_next, none_handed}
 use Rattle.zk_calls.proofs.line.Line.next.Goals as goal

@@ -1,3 +1,4 @@
+-- All calls count as handed over, as none of them waits for its turn: `none_passes`, and arithmetic on the length.
 use Rattle.std.proofs.Common.{arith}
 use Rattle.zk_calls.specs.Lines.{waits_turn}
 use Rattle.zk_calls.proofs.Places.{none_passes}

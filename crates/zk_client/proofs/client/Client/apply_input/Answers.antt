@@ -1,3 +1,5 @@
+-- A halt leaves the state and what is saved of the session as they were, and no lists and no answers: `halts`. Else the rule of the turn is
+-- put together from what `turn` and `known_of_input` ensure.
 use Rattle.std.proofs.Common.{◌≡◌, refl, ◌∙◌, w64, arith}
 use mir.Val.{to_z, of_z}
 use Rattle.std.proofs.lemmas.Int.{ints}

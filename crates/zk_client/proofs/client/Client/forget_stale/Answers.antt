@@ -1,3 +1,4 @@
+-- The view is what the core's `forget_stale` ensures, and it stands after this item too: what `one_forget` ensures, rewritten.
 use Rattle.std.proofs.Common.{subst, sym, ◌∷◌}
 use Rattle.zk_turns.specs.Turns.{Forgets}
 use Rattle.zk_turns.specs.View.{View}

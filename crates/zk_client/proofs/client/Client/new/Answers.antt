@@ -1,3 +1,4 @@
+-- A new client is sound (`begins`), shows the first view of its start (`begins-view`), and stands there by `first_view`.
 use Rattle.std.proofs.Common.{◌≡◌, [], subst, sym, arith, w32}
 use mir.Val.{to_z, of_z}
 use Rattle.std.proofs.lemmas.Int.{ints}

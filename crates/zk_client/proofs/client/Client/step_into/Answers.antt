@@ -1,3 +1,4 @@
+-- The client stands after this turn too: what `one_turn` ensures. Outputs added to none are the turn's own: `alone`.
 use Rattle.std.proofs.Common.{ap}
 use Rattle.zk_client.specs.Views.{said, input_view}
 use Rattle.zk_client.proofs.Behind.{alone, on_ok}

@@ -1,3 +1,4 @@
+-- The client stands after the moment and then the input: `stands_behind`, from the rules of the two calls of `apply_input`.
 use Rattle.std.proofs.Common.{ap}
 use Rattle.zk_client.specs.Views.{said, input_view}
 use Rattle.zk_client.proofs.Behind.{stands_behind}

@@ -1,3 +1,4 @@
+-- The text of `Behind`: by what `write!` ensures, rewritten by the case.
 use Rattle.zk_client.proofs.fault.FaultDisplay.fmt.Goals as goal
 
 pub returns-in-Behind-clause-writes : goal.returns-in-Behind-clause-writes

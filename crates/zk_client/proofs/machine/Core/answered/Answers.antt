@@ -1,3 +1,4 @@
+-- By the timeout: 0 or less is an expiry (`takes-expiry`, by `expire`), and more is a welcome (`takes-welcome`, by `welcome`).
 use Rattle.std.proofs.Common.{◌≡◌, pos, ◌≤ℤ◌, ◌<ℤ◌, arith, w32, w64}
 use Rattle.std.proofs.lemmas.Result.{on_ok_weaker}
 use mir.Val.{to_z, of_z}

@@ -1,3 +1,4 @@
+-- A reply and a notice: what `reply` and `notice` ensure, rewritten by the case. The reply's zxid is one of 64 bits.
 use Rattle.std.proofs.Common.{◌≡◌, w64, rules}
 use mir.Val.{to_z, of_z}
 use Rattle.zk_client.proofs.machine.Core.arrive.Goals as goal

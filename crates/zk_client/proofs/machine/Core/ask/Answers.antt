@@ -1,3 +1,5 @@
+-- A call that is not refused may be sent: the connection talks, the payload fits and few
+-- are pending, by what `refusal` ensures. The core is sound after it: `asked-sound`.
 use Rattle.std.proofs.Common.{ap, ◌∙◌, []}
 use Rattle.std.proofs.lemmas.Result.{on_ok_weaker}
 use Rattle.zk_turns.specs.Taken.{phase_of}

@@ -1,3 +1,4 @@
+-- After an expiry nothing is kept and the session is over: `expired-view`, from what each of the called functions ensures.
 use Rattle.zk_client.proofs.Ends.{expired-view}
 use Rattle.std.proofs.lemmas.Result.{on_ok_weaker}
 use Rattle.zk_client.proofs.machine.Core.expire.Goals as goal

@@ -1,3 +1,4 @@
+-- The cache with its good answers alone is the forgotten one: `good-kept`, inside the view.
 use Rattle.std.proofs.Common.{ap}
 use Rattle.zk_turns.specs.View.{View, Cache}
 use Rattle.zk_client.specs.Seen.{view_with}

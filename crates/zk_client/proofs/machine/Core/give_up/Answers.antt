@@ -1,3 +1,4 @@
+-- The drop is said, and then the losses: what `say` and `lose` ensure, joined by `append_assoc`.
 use Rattle.std.proofs.Common.{ap, ◌∙◌, List, [], ◌∷◌, ◌++◌, append_assoc}
 use Rattle.std.proofs.lemmas.Result.{on_ok_weaker}
 use Rattle.zk_turns.specs.Turns.{Output, Drop}

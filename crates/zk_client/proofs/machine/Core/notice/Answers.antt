@@ -1,3 +1,4 @@
+-- The core stays sound: it still talks (`tied-talking`), and a fired watch leaves no more paths than before (`fired-room`).
 use Rattle.std.proofs.Common.{subst}
 use Rattle.std.proofs.lemmas.Result.{on_ok_weaker}
 use Rattle.zk_client.specs.Sound.{HasRoom}

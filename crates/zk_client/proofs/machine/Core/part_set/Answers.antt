@@ -1,3 +1,4 @@
+-- A code other than 0 refuses setWatches: `not-same` settles the rule's test, and the rest is what `give_up` ensures.
 use Rattle.std.proofs.Common.{◌≡◌, ◌≢◌, pos, w32, arith}
 use Rattle.std.proofs.lemmas.Result.{on_ok_weaker}
 use mir.Val.{to_z, of_z}

@@ -1,3 +1,5 @@
+-- What was read may arrive at a sound core (`comes`), and it is what happens by the payload (`arrives`). So what `arrive` ensures, or
+-- `give_up` where the payload is bad, is the effect of the payload, with `before-it` for the view before.
 use Rattle.std.proofs.Common.{◌++◌, ap, sym, ◌∙◌, Ok, Err, arith}
 use Rattle.std.proofs.lemmas.Result.{on_ok_weaker}
 use Rattle.zk_jute.specs.Spelling.{IsBytes}

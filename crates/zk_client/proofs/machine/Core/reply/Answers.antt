@@ -1,3 +1,5 @@
+-- A reply that leaves a watch, with a zxid below the last seen one, is behind (`is_behind`
+-- here), so the connection is dropped: what `give_up_reply` ensures, rewritten.
 use Rattle.std.proofs.Common.{◌≡◌, sym, ◌∙◌, true, ◌&&◌, w64, arith}
 use Rattle.std.proofs.lemmas.Result.{on_ok_weaker}
 use mir.Val.{to_z, of_z}

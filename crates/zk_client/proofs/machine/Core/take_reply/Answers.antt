@@ -1,3 +1,5 @@
+-- By the reply: a close ends the session (`closed-view`), any other leaves the view that its answer leads to (`left-view`). The core stays
+-- sound by `tied-talking` and `reply-room`, and the watch to be kept has a place by `room-for`.
 use Rattle.std.proofs.Common.{◌≡◌, refl, sym, ◌∙◌, subst, w64, arith, Result, OnOk, Ok, Err}
 use Rattle.std.proofs.lemmas.Result.{on_ok_weaker}
 use mir.Val.{to_z, of_z}

@@ -1,3 +1,4 @@
+-- A welcome leads to the next view and a sound core: `welcomes`, from what `accepted`, `send_parts` and `sent_if` ensure.
 use Rattle.std.proofs.Common.{[]}
 use Rattle.zk_client.proofs.Welcomes.{welcomes}
 use Rattle.zk_client.proofs.machine.Core.welcome.Goals as goal

@@ -1,3 +1,4 @@
+-- What is to come is the inputs in their order, though they are kept back to front: `map_back`. There are no turns yet.
 use Rattle.std.proofs.Common.{◌≡◌, map, reverse, List, ap, ◌∙◌, None}
 use Rattle.zk_turns.specs.Turns.{Input, Turn}
 use Rattle.zk_client.specs.Views.{input_view}

@@ -1,3 +1,4 @@
+-- Bytes that are read spell the session (`found_saved`), and bytes that spell one are read, unless memory runs out (`only_saved`).
 use Rattle.std.proofs.Common.{arith}
 use Rattle.zk_jute.specs.Spelling.{IsBytes}
 use Rattle.zk_client.proofs.PuttingAway.{only_saved, found_saved}

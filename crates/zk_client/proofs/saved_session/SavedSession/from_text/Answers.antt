@@ -1,3 +1,5 @@
+-- A text that spells a session decodes to its bytes (`decode_of-saved_text`), so `from_bytes` reads it. A fault of the digits can then only
+-- be memory, since a bad digit contradicts that.
 use Rattle.std.proofs.Common.{◌≡◌, length, inl, inr, ap, ◌∙◌}
 use Rattle.hex.proofs.HexLemmas.{decode_of-same}
 use Rattle.zk_client.specs.SavedSessions.{no_digits, saved_bytes}

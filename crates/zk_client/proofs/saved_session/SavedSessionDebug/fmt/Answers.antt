@@ -1,3 +1,4 @@
+-- The view's session and last zxid are those of the fields, so it is what `write!` ensures, rewritten.
 use Rattle.std.proofs.Common.{◌≡◌, ap, sym}
 use Rattle.zk_client.specs.SavedSessions.{PutAway}
 use Rattle.zk_client.proofs.saved_session.SavedSessionDebug.fmt.Goals as goal

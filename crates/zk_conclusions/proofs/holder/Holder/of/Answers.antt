@@ -1,3 +1,5 @@
+-- A holder is given where the tests show that the session holds (`shows_holder`), so it holds in the history (`held_here`). Where the name
+-- is not shown first, no token shows it: `not_first`.
 use Rattle.std.proofs.Common.{◌≡◌, arith, w64}
 use Rattle.std.proofs.lemmas.Int.{ints}
 use mir.Val.{to_z, of_z}

@@ -1,3 +1,4 @@
+-- What is lacking is what the filters leave of the shown paths (`lacking_of`): nothing exactly where there is a walk (`empty_is_walk`).
 use Rattle.std.proofs.Common.{ap, ◌∙◌}
 use Rattle.std.specs.List.{filter}
 use Rattle.zk_client.specs.Clients.{view_of}

@@ -1,3 +1,4 @@
+-- The names found at the place are good, since the snapshot is whole (`names_at`), and so fit the history's tree (`names_fit`).
 use Rattle.zk_client.specs.Clients.{view_of}
 use Rattle.zk_conclusions.proofs.Truths.{names_at, names_fit}
 use Rattle.zk_conclusions.proofs.snapshot.Snapshot.names.Goals as goal

@@ -1,3 +1,5 @@
+-- A standing is given where the tests show it (`shows_standing`), so it is so in the history (`standing_here`). Where a test fails, no
+-- token shows it: `not_numbered`, `not_first`, `not_between`. Zxids keep their order as machine integers: `le_as`.
 use Rattle.std.proofs.Common.{◌≡◌, ◌≤ℤ◌, ℤ, arith, w64, map, string_bytes, sym, ◌∙◌, subst}
 use Rattle.std.proofs.lemmas.Int.{ints}
 use mir.Val.{to_z, of_z}

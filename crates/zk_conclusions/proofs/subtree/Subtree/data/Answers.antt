@@ -1,3 +1,4 @@
+-- What is found of the node at the place is good, since each path is kept whole (`data_at`), and so fits the history's tree (`data_fits`).
 use Rattle.zk_client.specs.Clients.{view_of}
 use Rattle.zk_conclusions.proofs.Truths.{data_fits}
 use Rattle.zk_conclusions.proofs.Lent.{data_at}

@@ -1,3 +1,5 @@
+-- What passes `has_data` is found and good (`found_full`; `never_none`), and fits the history's tree (`data_fits`). What doesn't pass is
+-- none of the subtree's paths: `not_among`.
 use Rattle.std.proofs.Common.{sym, ◌∙◌}
 use Rattle.zk_client.specs.Clients.{view_of}
 use Rattle.zk_conclusions.proofs.Truths.{data_fits}

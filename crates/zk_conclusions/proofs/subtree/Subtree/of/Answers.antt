@@ -1,3 +1,4 @@
+-- The paths are those of a walk, as `walk` ensures, so they are the history's nodes there: `one_subtree_here` and `paths_are_all`.
 use Rattle.zk_client.specs.Clients.{view_of}
 use Rattle.zk_conclusions.proofs.Reached.{one_subtree_here, paths_are_all}
 use Rattle.zk_conclusions.proofs.subtree.Subtree.of.Goals as goal

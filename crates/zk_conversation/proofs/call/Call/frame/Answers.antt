@@ -1,3 +1,5 @@
+-- By the case of the call: its record has what the call has, rewritten, and the limit of payloads is below 2^30 (`small`), so
+-- `request_frame` makes the frame of `call_payload`, unfolded.
 use Rattle.std.proofs.Common.{◌≡◌, ℕ, ◌<◌, ◌≤◌, ◌^◌, w32, arith}
 use mir.Val.{to_z, of_z}
 use Rattle.std.proofs.lemmas.Int.{ints}

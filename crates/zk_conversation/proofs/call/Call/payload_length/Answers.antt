@@ -1,3 +1,4 @@
+-- By the case of the call: the length of its payload (`length-exists` and so on), with those of path and data rewritten.
 use Rattle.zk_conversation.proofs.Lengths.{length-exists, length-get_data, length-get_children, length-set_data, length-create}
 use Rattle.zk_conversation.proofs.Lengths.{length-delete, length-close}
 use Rattle.zk_conversation.proofs.call.Call.payload_length.Goals as goal

@@ -1,3 +1,4 @@
+-- What `payload_length` gives is the payload's length under any xid, and was tested; that few calls are pending is found by `rules`.
 use Rattle.std.proofs.Common.{◌≤◌, pos, subst, sym, rules}
 use Rattle.zk_limits.specs.declared.limits.TheConstants.{LONGEST_OUTGOING}
 use Rattle.zk_conversation.proofs.conversation.Conversation.ask.Goals as goal

@@ -1,3 +1,5 @@
+-- One call more is pending: the counts go with it (`counts-push_call`) and stay small (`counts-small`), its view comes last
+-- (`viewed-push`), and the next xid is in its range (`next-is`).
 use Rattle.std.proofs.Common.{◌≡◌, w32, pos, map, ap, sym, refl, ◌∙◌, arith}
 use mir.Val.{to_z, of_z}
 use Rattle.std.proofs.lemmas.Int.{ints}

@@ -1,3 +1,4 @@
+-- A fault of the first payload is the answer (`before-talking`), and so is what it reads as, with the phase `Talking` (`first-answers`).
 use Rattle.std.proofs.Common.{length, refl, ap, ◌∙◌}
 use Rattle.std.proofs.lemmas.Result.{err_from_is_err_and}
 use Rattle.zk_records.specs.Response.{response_at}

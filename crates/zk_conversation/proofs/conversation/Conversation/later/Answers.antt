@@ -1,3 +1,5 @@
+-- By the xid of the header: `notice-answers`, `pong-answers`, `skip-answers`, else `reply-answers`; a header that doesn't read is answered
+-- by `while-talking`. Memory runs out only where names come: `names-come`.
 use Rattle.std.proofs.Common.{refl, ◌∙◌, arith}
 use Rattle.std.proofs.lemmas.Int.{ints}
 use Rattle.std.proofs.lemmas.Result.{err_from_is_err_and}

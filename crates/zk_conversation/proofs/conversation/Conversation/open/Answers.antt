@@ -1,3 +1,4 @@
+-- A short password makes a small payload (`connect-small`), so the frame is the one that `framed` ensures, with `connect_payload` unfolded.
 use Rattle.zk_conversation.specs.Calls.{connect_payload}
 use Rattle.zk_conversation.proofs.Requests.{connect-small}
 use Rattle.zk_conversation.proofs.conversation.Conversation.open.Goals as goal

@@ -1,3 +1,4 @@
+-- A close is pending exactly where more than 0 are counted: `any-count`, with the counts of the invariant.
 use Rattle.std.proofs.Common.{map, ap, sym, ◌∙◌, ltb}
 use Rattle.zk_conversation.specs.declared.counts.Counts.{Counts}
 use Rattle.zk_conversation.specs.Pending.{Talk, is_close, is_close_pending}

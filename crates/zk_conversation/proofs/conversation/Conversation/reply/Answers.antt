@@ -1,3 +1,5 @@
+-- The reply goes to the oldest request (`viewed-first`), or there is none (`none-left`). Without it the rest is counted right
+-- (`counts-pop`, `fewer`), and what arrives takes it alone: `answer-takes`.
 use Rattle.std.proofs.Common.{◌≡◌, w32, List, ◌∷◌, Ok, Err, map, drop, refl, ap, sym, ◌∙◌, arith}
 use mir.Val.{to_z, of_z}
 use Rattle.std.proofs.lemmas.Int.{ints}

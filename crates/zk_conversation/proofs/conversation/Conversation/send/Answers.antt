@@ -1,3 +1,4 @@
+-- The xid is below 2^31 (the invariant), so it is the same as an int; the rest is what `frame` and `awaits` ensure, rewritten.
 use Rattle.std.proofs.Common.{◌≡◌, pos, w32, arith}
 use mir.Val.{to_z}
 use Rattle.std.proofs.lemmas.Int.{ints}

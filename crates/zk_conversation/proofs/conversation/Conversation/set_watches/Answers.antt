@@ -1,3 +1,4 @@
+-- The part's payload is that of its lent texts (`part-lent`): so it is small (`small`), and framed as `request_frame` ensures.
 use Rattle.zk_conversation.proofs.Requests.{small, part-lent}
 use Rattle.zk_conversation.proofs.conversation.Conversation.set_watches.Goals as goal
 

@@ -1,3 +1,4 @@
+-- While there is a connection nothing is taken: `untouched`, since the phase is not `Closed`.
 use Rattle.std.proofs.Common.{ap, ◌∙◌}
 use Rattle.zk_conversation.specs.Pending.{Talk}
 use Rattle.zk_conversation.proofs.Requests.{IsUntouched, untouched}

@@ -1,3 +1,4 @@
+-- Without a stream, or after a failed write, nothing is read (`exchanges_none`); else write and read are one exchange (`exchanged`).
 use Rattle.std.proofs.Common.{[], subst, sym}
 use Rattle.std.specs.Prelude.{IfOk}
 use Rattle.zk_driver.specs.inner.Driving.{input_of}

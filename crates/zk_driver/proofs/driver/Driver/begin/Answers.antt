@@ -1,3 +1,4 @@
+-- The client is a new one with this timeout: what `Client::new`, `Agent::new` and `Driver::new` ensure, one after the other.
 use Rattle.std.proofs.Common.{◌≡◌, [], ap, rules, unsigned_abs, ◌∙◌, to_z, of_z, w32}
 use Rattle.zk_turns.specs.Turns.{new_start}
 use Rattle.zk_turns.specs.View.{view_at}

@@ -1,3 +1,4 @@
+-- What is asked is patient at the moment told (`asked_patiently`), and handing it in is a flow (`flow_asked`); `now` leaves the engine.
 use Rattle.std.proofs.Common.{None, refl, subst}
 use Rattle.zk_driver.specs.Driving.{course_of}
 use Rattle.zk_driver.specs.declared.engine.Engine.{Engine}

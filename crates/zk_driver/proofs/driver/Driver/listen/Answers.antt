@@ -1,3 +1,4 @@
+-- Each further read goes on from the one before, which noted nothing: `by_after`, `flow_after` and `extends_on` join them.
 use Rattle.std.proofs.Common.{rules, ◌≡◌, [], None, true, subst}
 use Rattle.zk_agent.specs.Telling.{told_by}
 use Rattle.zk_driver.specs.Driving.{course_of}

@@ -1,3 +1,4 @@
+-- The loop of further reads: the course goes by the last read's notes, as those before it noted nothing. So its answer is that of all.
 use Rattle.std.proofs.Common.{◌≡◌, ◌≤◌, [], None, true, is_some}
 use Rattle.zk_agent.specs.Telling.{told_by}
 use Rattle.zk_driver.specs.Driving.{course_of, Extends}

@@ -1,3 +1,5 @@
+-- Rounds and pops are joined to one course and one flow: `after` and `flow_after`, where a pop changes nothing (`same`, `flow_same`). What
+-- waits is only added to, also where a round fails: `extends_on`.
 use Rattle.std.proofs.Common.{◌≡◌, [], None, Option, append-nil, refl, sym, subst}
 use Rattle.zk_agent.specs.Telling.{told_by}
 use Rattle.zk_agent.specs.declared.action.Action.{Action}

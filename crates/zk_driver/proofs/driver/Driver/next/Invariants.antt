@@ -1,3 +1,4 @@
+-- The loop of rounds: course and flow have gone on from the start, and what waited still waits. So what ends the loop goes on from it.
 use Rattle.std.proofs.Common.{None}
 use Rattle.zk_agent.specs.Telling.{told_by}
 use Rattle.zk_driver.specs.Driving.{course_of, Extends, Goes}

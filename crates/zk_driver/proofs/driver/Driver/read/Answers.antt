@@ -1,3 +1,5 @@
+-- The exchange is one look (`looked_by`, `flow_one`), the clock changes nothing (`same_by`, `flow_same`), and what was brought is applied
+-- after that: joined by `by_after` and `flow_after`.
 use Rattle.std.proofs.Common.{◌≡◌, [], None, refl, sym, ap, ◌∙◌}
 use Rattle.zk_driver.specs.declared.engine.Engine.{Engine}
 use Rattle.zk_driver.specs.Driving.{channel_view, course_of}

@@ -1,3 +1,4 @@
+-- To pop an action, or to announce an address, leaves course and flow as they were (`same_by`, `flow_same`): by what the two calls ensure.
 use Rattle.std.proofs.Common.{None, Some, sym, ap, ◌∙◌}
 use Rattle.zk_driver.specs.declared.engine.Engine.{Engine}
 use Rattle.zk_driver.specs.Driving.{course_of}

@@ -1,3 +1,5 @@
+-- The bytes are handed in first (`noted_so`, `first_so`, `flow_noted`), and `catch_up` may come after it: joined by `ok_by_after`,
+-- `first_then`, `ok_flow_after` and `extends_on`.
 use Rattle.std.proofs.Common.{None, refl}
 use Rattle.zk_agent.specs.Telling.{told_by}
 use Rattle.zk_agent.specs.declared.input.AgentInput.TheVariants as happens

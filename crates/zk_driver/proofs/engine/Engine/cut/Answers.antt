@@ -1,3 +1,4 @@
+-- `end` comes first, and `catch_up` after it: joined by `ok_by_then`, `first_then`, `ok_flow_after` and `extends_on`.
 use Rattle.std.proofs.Common.{[], ◌∷◌, None}
 use Rattle.zk_agent.specs.Telling.{told_by}
 use Rattle.zk_agent.specs.declared.input.AgentInput.TheVariants as happens

@@ -1,3 +1,4 @@
+-- The channel is closed and `Cut` is handed in: one note (`noted`, `first`, `ok_flow_noted`), and the stream stays shut (`ok_stays_shut`).
 use Rattle.std.proofs.Common.{None, ap, refl}
 use Rattle.zk_agent.specs.declared.input.AgentInput.TheVariants as happens
 use Rattle.zk_driver.specs.Driving.{ChannelView, channel_view, course_of}

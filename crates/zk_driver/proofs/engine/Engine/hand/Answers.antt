@@ -1,3 +1,5 @@
+-- What `step`, `carry_all` and `flush` ensure, in one record: the agent takes the input, its actions are carried, and then bytes are
+-- written. The writing reads nothing: `exchanges_none`.
 use Rattle.std.proofs.Common.{[], ap, refl}
 use Rattle.zk_agent.specs.Telling.{told_by}
 use Rattle.zk_driver.specs.Driving.{channel_view}

@@ -1,3 +1,4 @@
+-- Where the moment told is before this one, something is due right after it: arithmetic on the minimum, and what `deadline` ensures.
 use Rattle.std.proofs.Common.{◌≡◌, ◌+◌, subst, arith}
 use Rattle.std.proofs.lemmas.Bool.Decides.{nat_tests}
 use Rattle.zk_agent.specs.Agents.{NothingAt}

@@ -1,3 +1,4 @@
+-- The channel stays and `Moment` is handed in, which notes nothing of connections: `noted`, `first` and `ok_flow_noted`.
 use Rattle.std.proofs.Common.{None, refl}
 use Rattle.zk_agent.specs.declared.input.AgentInput.TheVariants as happens
 use Rattle.zk_driver.specs.Driving.{channel_view, course_of}

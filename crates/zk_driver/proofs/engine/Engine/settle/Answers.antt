@@ -1,3 +1,5 @@
+-- By the case of an attempt, a stream or neither: `fail`, `end` and then `settle_closed` (`ok_after`, `ok_flow_after`, `extends_on`), or
+-- `pass_moment`; notes are left out by `ok_goes`.
 use Rattle.std.proofs.Common.{[], ◌∷◌, None}
 use Rattle.zk_agent.specs.Telling.{told_by}
 use Rattle.zk_driver.specs.Driving.{course_of}

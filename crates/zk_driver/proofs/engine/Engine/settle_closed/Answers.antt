@@ -1,3 +1,4 @@
+-- By the case of an attempt: what `fail` or `pass_moment` ensures, with the notes left out by `ok_goes`.
 use Rattle.std.proofs.Common.{[], ◌∷◌, None}
 use Rattle.zk_driver.specs.Driving.{course_of}
 use Rattle.zk_driver.specs.Noting.{Missed}

@@ -1,3 +1,5 @@
+-- All subjects are written back as due (`whole_written`), so they are counted (`begun_counted`), and followed, since a new client is not
+-- connected (`begun_followed`, `not_connected`).
 use Rattle.std.proofs.Common.{◌≡◌, ◌≢◌, ◌∙◌, ◌++◌, ap, arith, drop, length, map, subst, sym, take}
 use Rattle.std.specs.Prelude.{All}
 use Rattle.zk_session.specs.declared.states.State.TheVariants.{Connected}

@@ -1,3 +1,4 @@
+-- The subjects are written back with what was told (`whole_written`), which changes nothing of whether they are counted: `All_changed`.
 use Rattle.std.proofs.Common.{◌≡◌, ◌∙◌, ap, arith, drop, length, map, subst, sym}
 use Rattle.std.specs.Prelude.{All}
 use Rattle.zk_client.specs.Clients.{view_of}

@@ -1,3 +1,4 @@
+-- What holds of all subjects holds of those that `remove` leaves: `All-filter`.
 use Rattle.std.proofs.Common.{◌==◌, not, sym, subst}
 use Rattle.std.specs.Prelude.{All}
 use Rattle.std.proofs.lemmas.List.Elements.{All-filter}

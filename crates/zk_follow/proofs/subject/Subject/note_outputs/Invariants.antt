@@ -1,3 +1,4 @@
+-- The loop over the outputs: the subject has heard those before the index, one after the other. At the end it has heard all.
 use Rattle.std.proofs.Common.{◌≡◌, fold, take}
 use Rattle.zk_client.specs.Views.{output_view}
 use Rattle.zk_follow.specs.Following.{heard}

@@ -1,3 +1,5 @@
+-- The payload lent is that of the first frame from the place on, and the place moves past it: `moves_past`, with both lent slices being the
+-- bytes from the place (`from_place`).
 use Rattle.std.proofs.Common.{ℕ, ◌+◌, ◌-◌, drop, take, length, refl, sym, ap, subst, ◌∙◌}
 use Rattle.zk_frames.specs.Held.{Held}
 use Rattle.zk_frames.specs.inner.Next.{IsWhole}

@@ -1,3 +1,5 @@
+-- An empty transaction above the newest zxid (`natural_above`) leaves the history sound (`IsSound-transaction`) and its versions right
+-- (`IsIndexed-transaction`).
 use Rattle.std.proofs.Common.{◌≡◌, ◌<◌, ◌<ℤ◌, List, map, sym, ap, subst, ◌∙◌, arith, to_z, of_z, w64}
 use Rattle.std.proofs.lemmas.Int.{ints, to_z-of_z}
 use Rattle.zk_nodes.specs.History as model

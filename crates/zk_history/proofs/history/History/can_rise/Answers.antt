@@ -1,3 +1,4 @@
+-- What `found` ensures of the tree above every zxid, which is the newest tree (`newest-tree_at`), in both cases of the answer.
 use Rattle.std.proofs.Common.{ap, ◌∙◌}
 use Rattle.zk_nodes.specs.Path.{path_of}
 use Rattle.zk_nodes.specs.History.{Tree}

@@ -1,3 +1,5 @@
+-- The test of `takes` decides (`accepted_by`, `refused_by`). A change that is taken leaves the history sound (`IsSound-change`) and its
+-- versions right (`IsIndexed-change`); a refusal for memory leaves the versions as they were (`IsIndexed-same`, `noted_forgotten`).
 use Rattle.std.proofs.Common.{◌≡◌, List, map, refl, sym, ap, ◌∙◌, subst, arith, length}
 use Rattle.std.proofs.lemmas.Bool.Decides.{nat_tests}
 use Rattle.zk_nodes.specs.History as model

@@ -1,3 +1,5 @@
+-- The number of children that is told is the number of names below the path: what `counted` ensures, for the names that
+-- `names_later-children` shows to be there.
 use Rattle.zk_nodes.specs.Path.{path_of}
 use Rattle.zk_history.specs.Replay.{children_at}
 use Rattle.zk_history.proofs.ViewLemmas.{names_first, names_later-children}

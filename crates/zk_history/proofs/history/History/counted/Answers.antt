@@ -1,3 +1,5 @@
+-- The count kept with a path's last version is the number of its children: `count_is`, and `same_count` for any other set of these names.
+-- That it fits in a `Stat` is `count_small`.
 use Rattle.std.proofs.Common.{◌≤◌, ℕ, sym, subst, ◌∙◌}
 use Rattle.zk_nodes.specs.Path.{path_of}
 use Rattle.zk_nodes.specs.History.{tree_at}

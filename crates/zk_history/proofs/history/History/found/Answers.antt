@@ -1,3 +1,5 @@
+-- The fields and bytes of a node that is found are in range: it is a node of the history's tree (`found_told`), and each of those is small
+-- (`node_small`).
 use Rattle.std.proofs.Common.{◌≤◌, ℕ, List, Option, Some, sym, subst, ◌∙◌, rules}
 use Rattle.std.specs.Option.{option_copied}
 use Rattle.zk_nodes.specs.Path.{path_of}

@@ -1,3 +1,4 @@
+-- A node is there after all transactions exactly where `found` finds one at a zxid above all: that tree is the newest, by `newest-tree_at`.
 use Rattle.std.proofs.Common.{Option, is_some, ap, sym, ◌∙◌}
 use Rattle.zk_nodes.specs.Path.{path_of}
 use Rattle.zk_nodes.specs.History.{Node, Tree}

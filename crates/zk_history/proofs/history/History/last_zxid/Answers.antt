@@ -1,3 +1,5 @@
+-- The last element kept has the newest zxid (`newest-mapped`), and it is below 2^63, so the cast keeps it.
+-- What is kept is a history, since the invariant says that it is sound: `IsHistory-sound`.
 use Rattle.std.proofs.Common.{subst, ◌≡◌, ◌+◌, ◌-◌, ◌<◌, ◌^◌, pos, sym, ap, ◌∙◌, arith, length, to_z, w64}
 use Rattle.std.proofs.lemmas.Int.{ints}
 use Rattle.std.proofs.lemmas.Bool.Decides.{nat_tests}

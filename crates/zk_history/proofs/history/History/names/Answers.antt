@@ -1,3 +1,5 @@
+-- A name is told exactly where a child of this name is there: the walk over the versions starts from no names and ends with those of
+-- the replay, by the index's invariant, and these name the children that are there, by `names_later-children`.
 use Rattle.std.proofs.Common.{◌≡◌, List, ◌∷◌, is_some, map, sym, ap, ◌∙◌}
 use Rattle.std.specs.FinSet as set
 use Rattle.std.specs.String.{string_bytes}

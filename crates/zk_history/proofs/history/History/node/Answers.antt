@@ -1,3 +1,5 @@
+-- The test of `takes` decides (`accepted_by`, `refused_by`). A node that is taken leaves the history sound (`IsSound-node`) and its
+-- versions right (`IsIndexed-node`); a refusal for memory leaves the versions as they were (`IsIndexed-same`, `noted_forgotten`).
 use Rattle.std.proofs.Common.{◌≡◌, refl, pos, List, map, sym, ap, ◌∙◌, subst, arith, length, to_z, of_z, w64}
 use Rattle.std.proofs.lemmas.List.{length-map}
 use Rattle.std.proofs.lemmas.Bool.Decides.{nat_tests}

@@ -1,3 +1,4 @@
+-- The `Stat`, or none, is told with the set of names that `names_later-children` shows to be the children's; the rest is rewriting.
 use Rattle.std.proofs.Common.{rules}
 use Rattle.zk_nodes.specs.Path.{path_of}
 use Rattle.zk_history.specs.HistoryView.{natural}

@@ -1,3 +1,5 @@
+-- The n-th transaction is told as it is kept: `nth-mapped`, and arithmetic for the casts of its zxid and time. Past the last there is
+-- none, by `nth-past`.
 use Rattle.std.proofs.Common.{◌≡◌, ◌<◌, ◌^◌, ℤ, pos, List, Some, sym, ap, ◌∙◌, arith, to_z, of_z, w64}
 use Rattle.std.proofs.lemmas.Int.{ints}
 use Rattle.std.proofs.lemmas.Bool.Decides.{nat_tests}

@@ -1,3 +1,4 @@
+-- What was written fits its layout: its length by what `write_contents` ensures, and UTF-8 because it is a `str`.
 use Rattle.std.proofs.lemmas.Str.{is_utf8-from_IsUtf8}
 use Rattle.zk_jute.proofs.lent.RefStrRecord.write.Goals as goal
 

@@ -1,3 +1,4 @@
+-- Bytes that are plainly a path's are UTF-8, since they are ASCII: `IsUtf8-from_ascii`.
 use Rattle.std.proofs.Common.{rules}
 use Rattle.std.proofs.lemmas.Str.{IsUtf8-from_ascii}
 use Rattle.std.specs.Str.{IsAscii}

@@ -1,3 +1,4 @@
+-- A path's text with one byte is the root's (`root_alone`), and the root's text has one byte (`root_text`).
 use Rattle.std.proofs.Common.{◌≡◌, length, sym, ap, ◌∙◌, arith}
 use Rattle.std.proofs.lemmas.Bool.Decides.{nat_tests}
 use Rattle.zk_nodes.proofs.PathTexts.{root_alone, root_text}

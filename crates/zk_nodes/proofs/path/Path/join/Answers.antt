@@ -1,3 +1,4 @@
+-- Where `child_fault` finds none, the text made is that of the path with this name right below: `joined_above`.
 use Rattle.std.proofs.Common.{sym, ap, ◌∙◌}
 use Rattle.zk_nodes.specs.Path.{path_of, parent_of, name_of}
 use Rattle.zk_nodes.proofs.Children.{joined_above}

@@ -1,3 +1,5 @@
+-- What comes after the last slash is the last name, by `parted`; a text may be cut there, since a slash is ASCII
+-- (`IsCharBoundary-after_ascii`).
 use Rattle.std.proofs.Common.{◌≡◌, ◌+◌, Some, drop, length, sym, ap, ◌∙◌, get_or, arith}
 use Rattle.std.proofs.lemmas.Str.{IsCharBoundary-after_ascii}
 use Rattle.zk_nodes.proofs.PathLemmas.{IsPath-text, IsPath-names}

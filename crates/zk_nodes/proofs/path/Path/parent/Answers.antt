@@ -1,3 +1,5 @@
+-- What comes before the last slash is the parent's text, and `/` is where nothing does: `parted`. So the path of this text is the parent
+-- (`parent_path`), and the text is a path's, as the front of one (`parent_valid`).
 use Rattle.std.proofs.Common.{◌≡◌, [], ◌∷◌, ◌++◌, Some, take, drop, length, sym, ap, ◌∙◌, arith}
 use Rattle.std.proofs.lemmas.List.{take-append-drop}
 use Rattle.std.proofs.lemmas.Grind.{common_steps}

@@ -1,3 +1,5 @@
+-- What is read is the payload's response, lent, by `response_takes`. A payload of a response gives it back (`response_again`), so a call
+-- gives the same one (`is_the_one`), or fails for memory alone (`is_memory`).
 use Rattle.std.proofs.lemmas.Result.{err_from_is_err_and}
 use Rattle.zk_jute.proofs.Taking.{is_memory, is_the_one}
 use Rattle.zk_records.specs.inner.ResponseLaws.{response_takes, response_again}

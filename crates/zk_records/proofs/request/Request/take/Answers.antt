@@ -1,3 +1,5 @@
+-- What is read is spelled so, by `request_takes`. A request that is spelled is read (`request_again`), so a call gives the same one
+-- (`is_the_one`), or fails for memory alone (`is_memory`).
 use Rattle.std.proofs.lemmas.Result.{err_from_is_err_and}
 use Rattle.zk_records.proofs.Asking.{is_memory, is_the_one, request_takes, request_again}
 use Rattle.zk_records.proofs.request.Request.take.Goals as goal

@@ -1,3 +1,5 @@
+-- In a connected session silence and a ping are due from a first moment on each, as `first_past` ensures, and the earlier of these is the
+-- first at which either is due: `due_first`.
 use Rattle.std.proofs.Common.{sym}
 use Rattle.zk_session.proofs.Deadlines.{due_first}
 use Rattle.zk_session.proofs.session.Session.deadline.Goals as goal

@@ -1,3 +1,5 @@
+-- The three windows are one run of the three lists in order: `lent`, where each list's start and end are less by the lengths of those
+-- before it.
 use Rattle.std.proofs.Common.{ap, map, take, drop, ◌∙◌}
 use Rattle.zk_watches.specs.Parts.{watches_of}
 use Rattle.zk_watches.proofs.PartsLemmas.{lent}

@@ -1,3 +1,5 @@
+-- A path that fits joins the open part (`so_far-fits`), else that part is cut before it (`so_far-cut`). At the end the open part is the
+-- last one (`so_far-last`), or there is none (`so_far-all`), and what is so cut is `parts` (`parts_are_one`). Each part made has the zxid.
 use Rattle.std.proofs.Common.{◌≡◌, ◌<◌, ◌++◌, ◌∷◌, [], take, drop, length, All, arith, ◌∙◌, ap, refl, subst, w64, to_z, of_z}
 use Rattle.std.proofs.lemmas.Int.{to_z-of_z}
 use Rattle.std.proofs.lemmas.List.{map-append}

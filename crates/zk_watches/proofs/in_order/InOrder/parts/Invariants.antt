@@ -1,3 +1,5 @@
+-- The parts so far are rightly cut of the watches before `start`, those from there to `at` weigh `weight`, and each part has the zxid; at
+-- the end `at` is past all watches, so one part at most is left to cut.
 use Rattle.std.proofs.Common.{◌≡◌, length, map, All}
 use Rattle.zk_watches.specs.Parts.{watches_of}
 use Rattle.zk_watches.specs.Lent.{lists_of}

@@ -1,3 +1,4 @@
+-- The lists stay sound when a short path comes to side Child, where there is room: `sound-child`.
 use Rattle.std.proofs.Common.{◌≡◌, ◌<◌, false, subst, sym}
 use Rattle.zk_nodes.specs.declared.side.Side.TheVariants.{Child}
 use Rattle.zk_watches.specs.Lists.{side_has, count_of}

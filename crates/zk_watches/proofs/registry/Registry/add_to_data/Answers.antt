@@ -1,3 +1,5 @@
+-- The lists stay sound when a path comes to one list of side Data and leaves the other: `sound-there`, `sound-absent`. One that was there
+-- already is not in the other list, so there is nothing to take out: `exist-same`, `data-same`.
 use Rattle.std.proofs.Common.{◌≡◌, ◌<◌, false, subst, sym, ◌∙◌}
 use Rattle.std.proofs.lemmas.Bool.{not-false}
 use Rattle.zk_nodes.specs.declared.side.Side.TheVariants.{Data}

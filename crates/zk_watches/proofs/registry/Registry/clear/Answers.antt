@@ -1,3 +1,4 @@
+-- Three empty lists are sound: what `clear` of each ensures, rewritten, and `sound-none`.
 use Rattle.zk_watches.proofs.SoundLemmas.{sound-none}
 use Rattle.zk_watches.proofs.registry.Registry.clear.Goals as goal
 

@@ -1,3 +1,4 @@
+-- The lists stay sound without the path on side Child: what `take_out` ensures, and `sound-child_fired`.
 use Rattle.zk_watches.proofs.SoundLemmas.{sound-child_fired}
 use Rattle.zk_watches.proofs.registry.Registry.fire_child.Goals as goal
 

@@ -1,3 +1,5 @@
+-- The lists stay sound without the path on side Data, by `sound-data_fired`. A path found in the data list is not in the exist list, so
+-- that one is the same without it: `exist-same`.
 use Rattle.std.proofs.Common.{sym, ◌∙◌}
 use Rattle.zk_watches.specs.Lists.{without}
 use Rattle.zk_watches.proofs.SoundLemmas.{exist-same, sound-data_fired}
