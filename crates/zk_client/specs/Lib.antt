@@ -1,3 +1,4 @@
+-- What a client shows and keeps true, step by step and after a whole run; and a session that is put away.
 pub mod Views
 pub mod FaultText
 pub mod Seen
