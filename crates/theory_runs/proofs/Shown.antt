@@ -1,4 +1,4 @@
--- The example meets the premises.
+-- The example meets the premises: each move may be made where it stands, and what it leads to is computed.
 use Rattle.std.proofs.Common.{◌≡◌, List, [], ◌∷◌, refl, ap, sym, inl, arith, Option, Some, None, ℕ, ◌≤◌, length, take, drop}
 use Rattle.std.specs.Str.{is_utf8, chars}
 use lib.Utf8.{encode}
