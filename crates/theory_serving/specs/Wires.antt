@@ -8,7 +8,6 @@ use Rattle.zk_turns.specs.Rule.{Stands}
 use Rattle.zk_turns.specs.Ranges.{IsResumable, IsTyped, IsPathCall, AllAskOf}
 use Rattle.zk_frames.specs.Frame.{frame, joined}
 use Rattle.zk_records.specs.Layouts.{connect_request}
-use Rattle.zk_conversation.specs.Calls.{Call}
 use Rattle.zk_turns.specs.Turns.{Start, Input, Output, Item, Turned}
 use Rattle.zk_turns.specs.Past.{Past, is_open}
 use Rattle.zk_turns.specs.Taken.{past_of}
