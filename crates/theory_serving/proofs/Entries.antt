@@ -7,7 +7,7 @@ use Rattle.zk_turns.specs.Turns.{Opened as Opening, Opens, Comes, Ticks, Calls}
 use Rattle.zk_turns.specs.View.{View}
 use Rattle.zk_turns.specs.Taken.{past_of}
 use Rattle.zk_turns.specs.Rule.{due_signals, Stands}
-use Rattle.zk_turns.specs.Ranges.{IsResumable, IsTyped, IsPathCall, AllAskOf}
+use Rattle.zk_turns.specs.Ranges.{IsResumable, AllAskOf}
 use Rattle.zk_laws.specs.ServerSteps.{ServerEnd}
 use Rattle.zk_laws.specs.Messages.{Request}
 use Rattle.theory_serving.specs.GoingOn.{GoesOn}
@@ -108,14 +108,12 @@ module _ (start : Start) (items : List Item) (old : Shown) (s : IsServedBy start
   pub there_served : is_going (past_of start items) ≡ true → old.phase ≢ Apart
   there_served going = (s.shows.wire (here (λ is. is_going (past_of start is) ≡ true) going)).there
 
-  module _ (view : View) (from : IsResumable start) (timed : 0 < start.timeout) (typed : AllAskOf IsTyped items)
-      (paths : AllAskOf IsPathCall items) (stands : Stands start items view) (going : is_going (past_of start items) ≡ true)
-      (up : old.phase ≡ Open) where
+  module _ (view : View) (from : IsResumable start) (timed : 0 < start.timeout) (stands : Stands start items view)
+      (going : is_going (past_of start items) ≡ true) (up : old.phase ≡ Open) where
     stands_first : (first : Sent) (more : List Sent) → unread start (past_of start (items_in s.entries))
         (wire_of old.history s.entries) ≡ first ∷ more → StandsFirst first.request first.xid first.payload (framed more) old.requests
     stands_first first more e =
-        first_stands start s.entries view old first more from timed (here (λ is. AllAskOf IsTyped is) typed)
-        (here (λ is. AllAskOf IsPathCall is) paths) (here (λ is. Stands start is view) stands) s.shows
+        first_stands start s.entries view old first more from timed (here (λ is. Stands start is view) stands) s.shows
         (here (λ is. is_going (past_of start is) ≡ true) going) up e
 
     -- whether any waits

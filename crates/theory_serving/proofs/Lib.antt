@@ -5,11 +5,11 @@ pub mod Stepping
 pub mod Later
 pub mod Turning
 pub mod Keeping
+pub mod Asked
 pub mod Waiting
 pub mod Staged
 pub mod Entries
 pub mod Fronts
-pub mod Asked
 pub mod Views
 pub mod Heard
 pub mod Denied

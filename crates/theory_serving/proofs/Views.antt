@@ -9,7 +9,7 @@ use Rattle.zk_turns.specs.View.{View, Standing}
 use Rattle.zk_turns.specs.Past.{is_open}
 use Rattle.zk_turns.specs.Taken.{past_of}
 use Rattle.zk_turns.specs.Rule.{Rule, Stands}
-use Rattle.zk_turns.specs.Ranges.{IsResumable, IsTyped, IsPathCall, AsksOf}
+use Rattle.zk_turns.specs.Ranges.{IsResumable}
 use Rattle.zk_turns.proofs.Stepped.{one_turn}
 use Rattle.zk_laws.specs.Messages.{Request}
 use Rattle.theory_serving.specs.GoingOn.{GoesOn}
@@ -29,8 +29,6 @@ first_session start view shown from timed stands = record {
   items = [];
   resumable = from;
   timed = timed;
-  typed = tt;
-  paths = tt;
   stands = stands;
   served = nobody start shown;
 }
@@ -41,10 +39,10 @@ good_session view shown is s = coherent_so s.start s.items view shown is s.stand
 module _ (view : View) (old : Shown) (s : WasServed view old) where
   -- a turn by the rule, in which the servers go on to serve
   turned : (input : Input) (outputs : List Output) (after : View) (new : Shown)
-      → AsksOf IsTyped input → AsksOf IsPathCall input → Rule view (record { input = input; outputs = outputs }) after
+      → Rule view (record { input = input; outputs = outputs }) after
       → (Stands s.start (item_of input outputs ∷ s.items) after → IsServedBy s.start (item_of input outputs ∷ s.items) new)
       → WasServed after new
-  turned input outputs after new typed path rule then_served =
+  turned input outputs after new rule then_served =
       let stands : Stands s.start (item_of input outputs ∷ s.items) after =
       one_turn s.start s.items view after (record { input = input; outputs = outputs }) s.stands rule in
       record {
@@ -52,8 +50,6 @@ module _ (view : View) (old : Shown) (s : WasServed view old) where
         items = item_of input outputs ∷ s.items;
         resumable = s.resumable;
         timed = s.timed;
-        typed = (typed, s.typed);
-        paths = (path, s.paths);
         stands = stands;
         served = then_served stands;
       }
@@ -61,28 +57,28 @@ module _ (view : View) (old : Shown) (s : WasServed view old) where
   pub opened_session : (place : ℕ) (outputs : List Output) (after : View) (new : Shown)
       → Rule view (record { input = Opening; outputs = outputs }) after → place ≤ length old.history.transactions
       → Hears outputs (connected place old) new → WasServed after new
-  opened_session place outputs after new rule low hears = turned Opening outputs after new tt tt rule
+  opened_session place outputs after new rule low hears = turned Opening outputs after new rule
       (λ stands. opened_served s.start s.items old s.served after place outputs new stands low hears)
 
   pub received_session : (bytes rest : List ℕ) (outputs : List Output) (after : View) (new : Shown)
       → Rule view (record { input = Bytes bytes; outputs = outputs }) after → old.output ≡ bytes ++ rest
       → Hears outputs (with_output rest old) new → WasServed after new
-  received_session bytes rest outputs after new rule e hears = turned (Bytes bytes) outputs after new tt tt rule
+  received_session bytes rest outputs after new rule e hears = turned (Bytes bytes) outputs after new rule
       (λ stands. bytes_served s.start s.items old s.served after bytes rest outputs new stands e hears)
 
   pub cut_session : (outputs : List Output) (after : View) (new : Shown)
       → Rule view (record { input = Cut; outputs = outputs }) after → new.history ≡ old.history → WasServed after new
   cut_session outputs after new rule same =
-      turned Cut outputs after new tt tt rule (λ stands. cut_served s.start s.items old s.served outputs new same)
+      turned Cut outputs after new rule (λ stands. cut_served s.start s.items old s.served outputs new same)
 
   pub told_session : (moment : ℕ) (outputs : List Output) (after : View) (new : Shown)
       → Rule view (record { input = Now moment; outputs = outputs }) after → Hears outputs old new → WasServed after new
-  told_session moment outputs after new rule hears = turned (Now moment) outputs after new tt tt rule
+  told_session moment outputs after new rule hears = turned (Now moment) outputs after new rule
       (λ stands. moment_served s.start s.items old s.served after moment outputs new stands hears)
 
-  pub asked_session : (ticket : ℕ) (call : Call) (outputs : List Output) (after : View) (new : Shown) → IsTyped call → IsPathCall call
+  pub asked_session : (ticket : ℕ) (call : Call) (outputs : List Output) (after : View) (new : Shown)
       → Rule view (record { input = Calling ticket call; outputs = outputs }) after → Hears outputs old new → WasServed after new
-  asked_session ticket call outputs after new typed path rule hears = turned (Calling ticket call) outputs after new typed path rule
+  asked_session ticket call outputs after new rule hears = turned (Calling ticket call) outputs after new rule
       (λ stands. call_served s.start s.items old s.served after ticket call outputs new stands hears)
 
   pub forget_session : (after : View)
@@ -92,8 +88,6 @@ module _ (view : View) (old : Shown) (s : WasServed view old) where
     items = Forgets ∷ s.items;
     resumable = s.resumable;
     timed = s.timed;
-    typed = s.typed;
-    paths = s.paths;
     stands = stands s.start s.items s.stands;
     served = forget_served s.start s.items old s.served;
   }
@@ -110,8 +104,6 @@ module _ (view : View) (old : Shown) (s : WasServed view old) where
     items = s.items;
     resumable = s.resumable;
     timed = s.timed;
-    typed = s.typed;
-    paths = s.paths;
     stands = s.stands;
     served = served;
   }
@@ -129,18 +121,18 @@ module _ (view : View) (old : Shown) (s : WasServed view old) where
   pub waits_session : is_up view ≡ true → old.phase ≡ Open → (old.requests ≡ [])
       ⊎ ((request : Request) × (xid : ℤ) × (payload : List ℕ) × (rest : List ℕ) × StandsFirst request xid payload rest old.requests)
   waits_session up open_now =
-      waits_served s.start s.items old s.served view s.resumable s.timed s.typed s.paths s.stands (going_up ∙ up) open_now
+      waits_served s.start s.items old s.served view s.resumable s.timed s.stands (going_up ∙ up) open_now
 
   pub processes_session : (new : Shown) → is_up view ≡ true → old.phase ≡ Open → old.requests ≢ []
       → ((request : Request) (xid : ℤ) (payload rest : List ℕ) → StandsFirst request xid payload rest old.requests
       → (steps : List Step) × Processes request xid payload steps old new) → WasServed view new
   processes_session new up open_now some does =
-      still new (processes_served s.start s.items old s.served view s.resumable s.timed s.typed s.paths s.stands
+      still new (processes_served s.start s.items old s.served view s.resumable s.timed s.stands
       (going_up ∙ up) open_now new some does)
 
   pub answers_session : IsHistory old.history → (new : Shown) → is_up view ≡ true → old.phase ≡ Open → old.requests ≢ []
       → ((request : Request) (xid : ℤ) (payload rest : List ℕ) → StandsFirst request xid payload rest old.requests
       → IsFor request old.server.stage → (steps : List Step) × Processes request xid payload steps old new) → WasServed view new
   answers_session is new up open_now some does =
-      still new (answers_served s.start s.items old s.served view s.resumable s.timed s.typed s.paths s.stands
+      still new (answers_served s.start s.items old s.served view s.resumable s.timed s.stands
       (going_up ∙ up) open_now is new some does)

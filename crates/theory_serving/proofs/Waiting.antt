@@ -31,6 +31,7 @@ use Rattle.zk_laws.proofs.Found.{all_told, first_found, each_read, connect_found
 use Rattle.theory_serving.specs.Shown.{Shown, Open}
 use Rattle.theory_serving.specs.Wires.{Shows, IsFit, StandsFirst, IsCutAt}
 use Rattle.theory_serving.proofs.Turning.{framed, framed_more}
+use Rattle.theory_serving.proofs.Asked.{all_typed, all_paths}
 
 -- ---- what is known of each request
 
@@ -156,22 +157,22 @@ all_read start items view s up from typed =
     each_read start items view (payloads_of start items) [] s up from typed told whole
 
 pub first_stands : (start : Start) (entries : List Entry) (view : View) (shown : Shown) (first : Sent) (more : List Sent)
-    → IsResumable start → 0 < start.timeout → AllAskOf IsTyped (items_in entries) → AllAskOf IsPathCall (items_in entries)
-    → Stands start (items_in entries) view → Shows start entries shown
+    → IsResumable start → 0 < start.timeout → Stands start (items_in entries) view → Shows start entries shown
     → is_going (past_of start (items_in entries)) ≡ true → shown.phase ≡ Open
     → unread start (past_of start (items_in entries)) (wire_of shown.history entries) ≡ first ∷ more
     → StandsFirst first.request first.xid first.payload (framed more) shown.requests
-first_stands start entries view shown first more from timed typed paths s shows going was e =
+first_stands start entries view shown first more from timed s shows going was e =
     let items : List Item = items_in entries in
     let past : Past = past_of start items in
     let wire : Wire = wire_of shown.history entries in
     let up = going_open start items view s going in
+    let typed : AllAskOf IsTyped items = all_typed items s.asked in
     record {
       whole = (shows.wire going).waiting was ∙ ap framed e;
       small = first_told wire.processed (requests start past) first more e (all_told start items from);
       read = first_read wire.processed (requests start past) first more e (all_read start items view s up from typed);
       fit = first_all IsSentFit wire.processed (requests start past) first more e
-          (sent_fit start items from timed [] past refl (items_ranged IsPathCall start items paths)
+          (sent_fit start items from timed [] past refl (items_ranged IsPathCall start items (all_paths items s.asked))
           (items_ranged IsTyped start items typed));
     }
 

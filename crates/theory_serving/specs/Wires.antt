@@ -5,7 +5,7 @@ use Rattle.zk_nodes.specs.PathFault.{IsPath}
 use Rattle.zk_watches.specs.Lists.{Lists}
 use Rattle.zk_turns.specs.View.{View}
 use Rattle.zk_turns.specs.Rule.{Stands}
-use Rattle.zk_turns.specs.Ranges.{IsResumable, IsTyped, IsPathCall, AllAskOf}
+use Rattle.zk_turns.specs.Ranges.{IsResumable, IsTyped, IsPathCall}
 use Rattle.zk_frames.specs.Frame.{frame, joined}
 use Rattle.zk_records.specs.Layouts.{connect_request}
 use Rattle.zk_turns.specs.Turns.{Start, Input, Output, Item, Turned}
@@ -48,8 +48,8 @@ abbrev pub HasPaths : Lists → Type 0
 HasPaths part = AllByRecursion IsPath part.data_watches × AllByRecursion IsPath part.exist_watches
     × AllByRecursion IsPath part.child_watches
 
--- What is known of a request beside its reading, where callers ask about paths with values of their types: a client that comes asks
--- for a timeout above 0.
+-- What is known of a request beside its reading: a client that comes asks for a timeout above 0, and a caller asks about a path, with
+-- values of their types.
 abbrev pub IsFit : Request → List ℕ → Type 0
 IsFit (Connect seen) payload = (timeout : ℕ) × (0 < timeout) × (session : ℤ) × (password : List ℕ)
     × IsRecord connect_request (pos 0, (pos seen, (pos timeout, (session, (Some password, false))))) payload
@@ -82,8 +82,6 @@ pub record WasServed (view : View) (shown : Shown) : Type 0 where
   pub items : List Item
   pub resumable : IsResumable start
   pub timed : 0 < start.timeout
-  pub typed : AllAskOf IsTyped items
-  pub paths : AllAskOf IsPathCall items
   pub stands : Stands start items view
   pub served : IsServedBy start items shown
 

@@ -20,7 +20,7 @@ ghost use Rattle.theory_serving.specs.Whole_example.{three_changes, first_part, 
 ghost use Rattle.theory_serving.specs.Whole_example.{until_written, until_expired};
 ghost use Rattle.zk_turns.specs.Taken.{past_of};
 ghost use Rattle.zk_turns.specs.Rule.{Rule, Stands};
-ghost use Rattle.zk_turns.specs.Ranges.{IsResumable, IsTyped, IsPathCall, AllAskOf};
+ghost use Rattle.zk_turns.specs.Ranges.{IsResumable, IsTyped, AllAskOf};
 ghost use Rattle.zk_laws.specs.Messages.{Request, Connect, Restore, Ask, Ping};
 ghost use Rattle.zk_laws.specs.ServerSteps.{ServerEnd, MayDo, messages_by, end_after};
 ghost use Rattle.zk_frames.specs.Frame.{frame, joined as frames, length_field};
@@ -167,7 +167,7 @@ pub fn servers_go_on()
     ensures takes { (start : Start) (items : List Client_item) (steps : List Step) (old new : Shown) → IsServedBy start items old
         → is_going (past_of start items) ≡ true → old.phase ≡ Open → Takes steps old new → IsServedBy start items new }
     ensures processes { (start : Start) (items : List Client_item) (view : View) (old new : Shown) → IsServedBy start items old
-        → IsResumable start → 0 < start.timeout → AllAskOf IsTyped items → AllAskOf IsPathCall items → Stands start items view
+        → IsResumable start → 0 < start.timeout → Stands start items view
         → is_going (past_of start items) ≡ true → old.phase ≡ Open → old.requests ≢ []
         → ((request : Request) (xid : ℤ) (payload rest : List ℕ) → StandsFirst request xid payload rest old.requests
         → (steps : List Step) × Processes request xid payload steps old new)
@@ -194,7 +194,7 @@ pub fn what_waits()
     ensures there { (start : Start) (items : List Client_item) (shown : Shown) → IsServedBy start items shown
         → is_going (past_of start items) ≡ true → shown.phase ≢ Apart }
     ensures first { (start : Start) (items : List Client_item) (view : View) (shown : Shown) → IsServedBy start items shown
-        → IsResumable start → 0 < start.timeout → AllAskOf IsTyped items → AllAskOf IsPathCall items → Stands start items view
+        → IsResumable start → 0 < start.timeout → Stands start items view
         → is_going (past_of start items) ≡ true → shown.phase ≡ Open
         → (shown.requests ≡ []) ⊎ ((request : Request) × (xid : ℤ) × (payload : List ℕ) × (rest : List ℕ)
         × StandsFirst request xid payload rest shown.requests) }
@@ -204,9 +204,8 @@ pub fn what_waits()
 {}
 
 /// The same by the view of the client alone: one that begins in range, with a timeout above 0, was served; so it is after each
-/// turn by the rule, where callers ask about paths with values of their types; and what the servers do keeps it so: over a history
-/// the server has to process a ConnectRequest alone where it has accepted nobody, and any other alone where it has. Then its good
-/// answers are those of the history at its last seen zxid.
+/// turn by the rule; and what the servers do keeps it so: over a history the server has to process a ConnectRequest alone where it
+/// has accepted nobody, and any other alone where it has. Then its good answers are those of the history at its last seen zxid.
 pub fn sessions()
     ensures begins { (start : Start) (view : View) (shown : Shown) → IsResumable start → 0 < start.timeout → Stands start [] view
         → WasServed view shown }
@@ -221,8 +220,7 @@ pub fn sessions()
     ensures told { (view after : View) (moment : ℕ) (outputs : List Output) (old new : Shown) → WasServed view old
         → Rule view (record { input = Now moment; outputs = outputs }) after → Hears outputs old new → WasServed after new }
     ensures asked { (view after : View) (ticket : ℕ) (call : Call) (outputs : List Output) (old new : Shown)
-        → WasServed view old → IsTyped call → IsPathCall call
-        → Rule view (record { input = Calling ticket call; outputs = outputs }) after → Hears outputs old new → WasServed after new }
+        → WasServed view old → Rule view (record { input = Calling ticket call; outputs = outputs }) after → Hears outputs old new → WasServed after new }
     ensures forgets { (view after : View) (shown : Shown) → WasServed view shown → ((start : Start) (items : List Client_item)
         → Stands start items view → Stands start (Forgets ∷ items) after) → WasServed after shown }
     ensures there { (view : View) (shown : Shown) → WasServed view shown → is_up view ≡ true → shown.phase ≢ Apart }

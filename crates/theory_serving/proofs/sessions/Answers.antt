@@ -21,8 +21,8 @@ pub returns-clause-told : goal.returns-clause-told
 returns-clause-told c view after moment outputs old new s rule hears = told_session view old s moment outputs after new rule hears
 
 pub returns-clause-asked : goal.returns-clause-asked
-returns-clause-asked c view after ticket call outputs old new s typed path rule hears =
-    asked_session view old s ticket call outputs after new typed path rule hears
+returns-clause-asked c view after ticket call outputs old new s rule hears =
+    asked_session view old s ticket call outputs after new rule hears
 
 pub returns-clause-forgets : goal.returns-clause-forgets
 returns-clause-forgets c view after shown s stands = forget_session view shown s after stands

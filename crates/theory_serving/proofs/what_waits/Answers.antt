@@ -7,8 +7,8 @@ pub returns-clause-there : goal.returns-clause-there
 returns-clause-there c start items shown s going = there_served start items shown s going
 
 pub returns-clause-first : goal.returns-clause-first
-returns-clause-first c start items view shown s from timed typed paths stands going up =
-    waits_served start items shown s view from timed typed paths stands going up
+returns-clause-first c start items view shown s from timed stands going up =
+    waits_served start items shown s view from timed stands going up
 
 pub returns-clause-cut : goal.returns-clause-cut
 returns-clause-cut c start items view shown s from stands going up = cut_served_at start items shown s view from stands going up
