@@ -9,6 +9,8 @@ pub mod Waiting
 pub mod Staged
 pub mod Entries
 pub mod Fronts
+pub mod Asked
 pub mod Views
 pub mod Heard
+pub mod Denied
 pub mod Whole_shown

@@ -20,7 +20,8 @@ use Rattle.zk_nodes.specs.History.{IsHistory}
 use Rattle.zk_turns.specs.Past.{kept_data, last_of, state_of}
 use Rattle.zk_turns.specs.View.{view_at}
 use Rattle.zk_turns.specs.Taken.{cut, past_of}
-use Rattle.zk_turns.specs.Rule.{Stands}
+use Rattle.zk_turns.specs.Turns.{IsAskable}
+use Rattle.zk_turns.specs.Rule.{AllSaid, Stands}
 use Rattle.zk_turns.specs.Ranges.{IsTyped, AllAskOf}
 use Rattle.zk_turns.proofs.Stepped.{given_stands}
 use Rattle.zk_laws.specs.Headline.{IsQuietAt}
@@ -28,13 +29,16 @@ use Rattle.theory_serving.specs.GoingOn.{GoesOn}
 use Rattle.theory_serving.proofs.GoingOn.{goes_serving}
 use Rattle.zk_laws.specs.ServerSteps.{Waiting, Serving, Ended}
 use Rattle.zk_laws.specs.Messages.{Connect, Restore, Ask, Ping}
-use Rattle.zk_laws.specs.Served.{items_in, wire_of, requests, unread, IsServing}
-use Rattle.theory_runs.specs.Example.{two_changes, at_a, fields_at_five, just_a, a_changed}
+use Rattle.zk_laws.specs.Served.{Entry, items_in, wire_of, requests, unread, IsServing}
+use Rattle.theory_runs.specs.Example.{two_changes, at_a, fields_at_five, a_changed}
 use Rattle.theory_runs.specs.Meeting_example.{welcome_payload, notice_payload, new_client, until_half_read}
 use Rattle.theory_runs.proofs.Shown.{all_sent, is_history}
-use Rattle.theory_runs.proofs.Meeting_shown.{half_read_then, stands_then, typed_then}
-use Rattle.theory_serving.specs.Whole_example.{third_change, three_changes, just_long, write_a, absent_payload, restored_payload}
-use Rattle.theory_serving.specs.Whole_example.{pong_payload, stat_bytes, written_payload, until_watched, until_lost, until_back, until_told}
+use Rattle.theory_runs.proofs.Meeting_shown.{half_read_then, stands_then}
+use Rattle.theory_serving.proofs.Asked.{all_typed}
+use Rattle.theory_serving.proofs.Denied.{asking_said, asking_serving, asked_still, denied_still}
+use Rattle.theory_serving.specs.Whole_example.{third_change, three_changes, first_part, second_part, write_a, restored_payload}
+use Rattle.theory_serving.specs.Whole_example.{pong_payload, stat_bytes, written_payload, numbers, asking, denying, until_read}
+use Rattle.theory_serving.specs.Whole_example.{until_watched, until_lost, until_back, until_told}
 use Rattle.theory_serving.specs.Whole_example.{until_ponged, until_written, expired_payload, until_expired}
 
 -- what the payloads spell
@@ -72,15 +76,11 @@ restored_headed : IsHeaded part_xid (pos 6) (pos 0) restored_payload []
 unfolding int_bytes long_bytes counted_bytes
 restored_headed = record { fits = (omega (arith, ints), (omega (arith, ints), omega (arith, ints))); whole = refl }
 
-absent_headed : IsHeaded (pos 2) (pos 5) (negsuc 100) absent_payload []
-unfolding int_bytes long_bytes counted_bytes
-absent_headed = record { fits = (omega (arith, ints), (omega (arith, ints), omega (arith, ints))); whole = refl }
-
 pong_headed : IsHeaded ping_xid (pos 6) (pos 0) pong_payload []
 unfolding int_bytes long_bytes counted_bytes
 pong_headed = record { fits = (omega (arith, ints), (omega (arith, ints), omega (arith, ints))); whole = refl }
 
-written_headed : IsHeaded (pos 3) (pos 7) (pos 0) written_payload stat_bytes
+written_headed : IsHeaded (pos 34) (pos 7) (pos 0) written_payload stat_bytes
 unfolding int_bytes long_bytes counted_bytes
 written_headed = record { fits = (omega (arith, ints), (omega (arith, ints), omega (arith, ints))); whole = refl }
 
@@ -126,16 +126,20 @@ goes = record { first = refl; more = _; transactions = refl }
 half_read_later : IsServing three_changes new_client until_half_read
 half_read_later = goes_serving two_changes three_changes new_client until_half_read goes half_read_then
 
+read_then : IsServing three_changes new_client until_read
+unfolding is_utf8 chars encode cut arriving connect_payload call_payload part_payload ping_payload int_bytes long_bytes counted_bytes
+    bytes_at int_at long_at boolean_at length_of length_at counted_at text_bytes_at elements_at flag_at response_at record_of
+read_then = (λ on. ([], refl), half_read_later)
+
+denied_then : IsServing three_changes new_client (denying numbers (asking numbers until_read))
+unfolding is_utf8 chars encode cut arriving connect_payload call_payload part_payload ping_payload int_bytes long_bytes counted_bytes
+    bytes_at int_at long_at boolean_at length_of length_at counted_at text_bytes_at elements_at flag_at response_at record_of
+denied_then = denied_still (asking numbers until_read) refl refl refl refl (asking_serving numbers until_read read_then)
+
 pub watched_then : IsServing three_changes new_client until_watched
 unfolding is_utf8 chars encode cut arriving connect_payload call_payload part_payload ping_payload int_bytes long_bytes counted_bytes
     bytes_at int_at long_at boolean_at length_of length_at counted_at text_bytes_at elements_at flag_at response_at record_of
-watched_then = (
-  λ on. ([], refl),
-  (
-    record { going = refl; may = (refl, refl, tt); told = (omega arith, (_, absent_headed, tt), tt) },
-    (tt, (λ on. ([], refl), half_read_later)),
-  ),
-)
+watched_then = (λ on. ([], refl), denied_then)
 
 pub lost_then : IsServing three_changes new_client until_lost
 unfolding is_utf8 chars encode cut arriving connect_payload call_payload part_payload ping_payload int_bytes long_bytes counted_bytes
@@ -257,7 +261,7 @@ stale_then = refl
 
 -- the requests of the second connection
 pub asked_then : map (λ sent. sent.request) (requests new_client (past_of new_client (items_in until_written)))
-    ≡ Connect 5 ∷ Restore false 5 just_a ∷ Restore true 5 just_long ∷ Ping ∷ Ask write_a ∷ []
+    ≡ Connect 5 ∷ Restore false 5 first_part ∷ Restore true 5 second_part ∷ Ping ∷ Ask write_a ∷ []
 unfolding is_utf8 chars encode cut arriving connect_payload call_payload part_payload ping_payload int_bytes long_bytes counted_bytes
     bytes_at int_at long_at boolean_at length_of length_at counted_at text_bytes_at elements_at flag_at response_at record_of
 asked_then = refl
@@ -285,18 +289,24 @@ unfolding is_utf8 chars encode cut arriving connect_payload call_payload part_pa
 over_then = refl
 
 -- a client stands there, and was asked with values of their types
+abbrev called : List Entry
+called = asking numbers until_read
+
+called_said : AllSaid new_client (items_in called)
+called_said = asking_said numbers until_read (refl, stands_then.said.1.1.1)
+
+called_asked : AllAskOf IsAskable (items_in called)
+called_asked = asked_still until_read (tt, stands_then.asked.1.1.1)
+
+write_askable : IsAskable write_a
+unfolding is_utf8 chars encode
+write_askable = ((refl, omega (arith, ints)), refl)
+
 pub whole_stands : Stands new_client (items_in until_expired) (view_at new_client (past_of new_client (items_in until_expired)))
 whole_stands =
-    given_stands new_client (items_in until_expired) (
-      refl,
-      (
-        refl,
-        (refl, (refl, (refl, (refl, (refl, (refl, (refl, (refl, (refl, (refl, (refl, (refl, (refl, stands_then.said.1.1.1))))))))))))),
-      ),
-    )
-    (tt, (tt, (tt, (tt, (refl, (tt, (tt, (tt, (tt, (tt, (tt, (tt, (tt, (refl, (tt, stands_then.asked.1.1.1)))))))))))))))
+    given_stands new_client (items_in until_expired)
+    (refl, (refl, (refl, (refl, (refl, (refl, (refl, (refl, (refl, (refl, (refl, (refl, (refl, called_said)))))))))))))
+    (tt, (tt, (tt, (tt, (write_askable, (tt, (tt, (tt, (tt, (tt, (tt, (tt, (tt, called_asked)))))))))))))
 
 pub whole_typed : AllAskOf IsTyped (items_in until_expired)
-unfolding is_utf8 chars encode
-whole_typed =
-    (tt, (tt, (tt, (tt, ((refl, omega (arith, ints)), (tt, (tt, (tt, (tt, (tt, (tt, (tt, (tt, (refl, (tt, typed_then.1.1.1)))))))))))))))
+whole_typed = all_typed (items_in until_expired) whole_stands.asked

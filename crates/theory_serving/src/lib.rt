@@ -14,13 +14,13 @@ ghost use Rattle.zk_turns.specs.Past.{kept_data, last_of, state_of};
 ghost use Rattle.zk_cache.specs.Kept.{Full};
 ghost use Rattle.zk_cache.specs.declared.held.Mark.TheVariants.{Good, Stale};
 ghost use Rattle.zk_session.specs.declared.states.State.TheVariants.{Expired};
-ghost use Rattle.theory_runs.specs.Example.{at_a, fields_at_five, just_a};
+ghost use Rattle.theory_runs.specs.Example.{at_a, fields_at_five};
 ghost use Rattle.theory_runs.specs.Meeting_example.{new_client};
-ghost use Rattle.theory_serving.specs.Whole_example.{three_changes, just_long, write_a, until_lost, until_back, until_told, until_written};
-ghost use Rattle.theory_serving.specs.Whole_example.{until_expired};
+ghost use Rattle.theory_serving.specs.Whole_example.{three_changes, first_part, second_part, write_a, until_lost, until_back, until_told};
+ghost use Rattle.theory_serving.specs.Whole_example.{until_written, until_expired};
 ghost use Rattle.zk_turns.specs.Taken.{past_of};
 ghost use Rattle.zk_turns.specs.Rule.{Rule, Stands};
-ghost use Rattle.zk_turns.specs.Ranges.{IsResumable, IsTyped, AllAskOf};
+ghost use Rattle.zk_turns.specs.Ranges.{IsResumable, IsTyped, IsPathCall, AllAskOf};
 ghost use Rattle.zk_laws.specs.Messages.{Request, Connect, Restore, Ask, Ping};
 ghost use Rattle.zk_laws.specs.ServerSteps.{ServerEnd, MayDo, messages_by, end_after};
 ghost use Rattle.zk_frames.specs.Frame.{frame, joined as frames, length_field};
@@ -30,7 +30,7 @@ ghost use Rattle.zk_laws.specs.Served.{ArePayloads, Entry, is_going, items_in, w
 ghost use Rattle.theory_serving.specs.Steps.{Step, used_by, Moves, ended_by, sent_by, processed_by};
 ghost use Rattle.theory_serving.specs.Shown.{Shown, Apart, Open, Over, AllTaken, connected, with_output, more_requests, Hears, Takes};
 ghost use Rattle.theory_serving.specs.Shown.{Processes};
-ghost use Rattle.theory_serving.specs.Wires.{IsServedBy, IsPathCall, StandsFirst, IsFor, IsCutAt, WasServed, item_of, is_up};
+ghost use Rattle.theory_serving.specs.Wires.{IsServedBy, StandsFirst, IsFor, IsCutAt, WasServed, item_of, is_up};
 
 /// A schedule stays one when the history goes on, its servers end where they did, and each stands at a place of the history.
 #[tactic(auto, using(crate::proofs::GoingOn::goes_serving, crate::proofs::GoingOn::goes_wire, crate::proofs::GoingOn::place_low, crate::proofs::GoingOn::goes_served))]
@@ -260,7 +260,7 @@ pub fn whole_schedule()
     ensures stale { kept_data at_a (past_of new_client (items_in until_told))
         ≡ Some (record { answer = Full (Some (104 ∷ 105 ∷ [])) fields_at_five; mark = Stale }) }
     ensures asked { map (λ sent. sent.request) (requests new_client (past_of new_client (items_in until_written)))
-        ≡ Connect 5 ∷ Restore false 5 just_a ∷ Restore true 5 just_long ∷ Ping ∷ Ask write_a ∷ [] }
+        ≡ Connect 5 ∷ Restore false 5 first_part ∷ Restore true 5 second_part ∷ Ping ∷ Ask write_a ∷ [] }
     ensures answered { unread new_client (past_of new_client (items_in until_written)) (wire_of three_changes until_written) ≡ [] }
     ensures quiet { IsQuietAt three_changes new_client until_written }
     ensures written { last_of new_client (past_of new_client (items_in until_written)) ≡ pos 7 }

@@ -1,4 +1,4 @@
--- What holds by what the driver wrote and read holds over streams, which took and gave the same: `streams_serve`.
+-- Over streams it is as by what the driver wrote and read, which is what they took and gave: `streams_serve`.
 use Rattle.zk_served.proofs.Served.{streams_serve}
 use Rattle.zk_served.proofs.streams_serve.Goals as goal
 

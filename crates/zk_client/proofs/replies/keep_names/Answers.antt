@@ -1,4 +1,4 @@
--- What is kept of each text's children: what `keep_children` ensures, and then `keeps_each`, by its `listed`.
+-- What is kept of each text's children: what `keep_children` ensures, then `listed` of `keeps_each`.
 use Rattle.std.proofs.Common.{◌≡◌, ap, ◌∙◌, w64, arith}
 use Rattle.std.proofs.lemmas.Result.{on_ok_weaker}
 use mir.Val.{to_z, of_z}

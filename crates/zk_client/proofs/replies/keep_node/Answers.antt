@@ -1,4 +1,4 @@
--- What is kept of each text's data: what `keep_data` ensures, and then `keeps_each`, by its `known`.
+-- What is kept of each text's data: what `keep_data` ensures, then `known` of `keeps_each`.
 use Rattle.std.proofs.Common.{ap, ◌∙◌}
 use Rattle.std.proofs.lemmas.Result.{on_ok_weaker}
 use Rattle.zk_cache.specs.Cache.{Answers, data_kept}

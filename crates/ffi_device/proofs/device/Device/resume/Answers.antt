@@ -1,4 +1,4 @@
--- Of bytes that do not read as a saved session no client comes: what `read_saved` ensures by `unread` makes the good case absurd.
+-- Of bytes that do not read as a saved session no client comes: the clause `unread` of `read_saved` makes the good case absurd.
 use Rattle.std.proofs.Common.{ap, true≢false}
 use Rattle.std.specs.Prelude.{is_ok}
 use Rattle.ffi_device.proofs.device.Device.resume.Goals as goal
