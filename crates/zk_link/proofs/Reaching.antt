@@ -133,3 +133,9 @@ ok_reaches_on (Err e) piece unsent mid rest old between new first more = tt
 pub reaches_same : {far : FarEnd} (unsent : List ℕ) (known : Reached far) → Reaches unsent unsent known known []
 reaches_same {far} unsent known =
     reaches_none unsent unsent known known (sends_none unsent known.took) (keeps_same known.left) (trades_none far unsent known.end)
+
+pub ok_goes_then : {X E : Type 0} (far : FarEnd) (result : Result X E) (piece : X → List ℕ) (taken : List ℕ) (a b c : far.State)
+    → Goes far taken [] a b → IfOk result (λ brought. Goes far [] (piece brought) b c)
+    → IfOk result (λ brought. Goes far taken (piece brought) a c)
+ok_goes_then far (Ok brought) piece taken a b c first rest = goes_then far taken (piece brought) a b c first rest
+ok_goes_then far (Err e) piece taken a b c first rest = tt
