@@ -1,0 +1,1 @@
+-- An example, whose functions have no contract: there is no definition to cite.

@@ -1,0 +1,1 @@
+-- A world in memory for examples, whose functions have no contract: there is no definition to cite.

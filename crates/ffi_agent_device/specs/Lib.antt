@@ -1,3 +1,4 @@
+-- What becomes of an agent's device, told by numbers: its actions one at a time, and when the revision of its session rises.
 pub mod Flats
 pub mod Outputs
 pub mod Revisions

@@ -1,3 +1,4 @@
+-- What a handle of the C interface owns and holds, what it tells, and its whole life, call by call.
 pub mod Held
 pub mod Kept
 pub mod Lives

@@ -1,3 +1,5 @@
+-- Lemmas on a device: texts that follow one another are told apart and read back, sets come in byte order, and a refusal
+-- leaves it as it was.
 pub mod Ordered
 pub mod Parents
 pub mod ReadTexts

@@ -1,3 +1,4 @@
+-- What becomes of a device, told by numbers and bytes: its outputs one at a time, what is kept of paths, and what follows of it.
 pub mod Codes
 pub mod Flats
 pub mod Holders

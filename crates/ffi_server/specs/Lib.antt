@@ -1,3 +1,4 @@
+-- What becomes of a server in memory, told by numbers: changes as a caller names them, and why one is refused.
 pub mod Changes
 pub mod Codes
 pub mod Moves

@@ -1,3 +1,4 @@
+-- Lemmas on a live script, piece by piece and line by line; and that what a whole script prints is what a list of deeds prints.
 pub mod HeardLemmas
 pub mod LiveLemmas
 pub mod TrailLemmas

@@ -1,3 +1,4 @@
+-- What a script makes of a client over a real connection: what goes through it byte by byte, and what is printed of that.
 pub mod Addresses
 pub mod LiveLines
 pub mod Begins

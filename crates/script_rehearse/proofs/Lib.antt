@@ -1,3 +1,4 @@
+-- Lemmas on a rehearsal: line by line its client stays served by servers of the laws, so its good answers agree with the history.
 pub mod GoodLemmas
 pub mod HeardLemmas
 pub mod DueLemmas

@@ -8,8 +8,8 @@ use Rattle.zk_history.specs.HistoryView.{HistoryView, history_of}
 use Rattle.zk_nodes.specs.Names.{Names as Texts}
 use Rattle.zk_conversation.specs.Calls as call
 use Rattle.zk_laws.specs.Messages.{Request}
-use Rattle.theory_serving.specs.Wires.{IsPathCall, IsFor, StandsFirst}
-use Rattle.zk_turns.specs.Ranges.{IsResumable, IsTyped, AsksOf}
+use Rattle.theory_serving.specs.Wires.{IsFor, StandsFirst}
+use Rattle.zk_turns.specs.Ranges.{IsResumable, IsTyped, IsPathCall, AsksOf}
 use Rattle.zk_turns.specs.Turns.{Input, Opened, Bytes, Cut, Now, Call, Output, Start, new_start}
 use Rattle.zk_turns.specs.View.{View, view_at}
 use Rattle.zk_turns.specs.Rule.{Rule}

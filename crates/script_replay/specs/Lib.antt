@@ -1,3 +1,4 @@
+-- What a script makes of a client that hears what the script says: its lines, their rules, and what they print, also by the whole past.
 pub mod Reads
 pub mod CallLines
 pub mod ClientLines

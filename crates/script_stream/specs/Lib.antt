@@ -1,3 +1,4 @@
+-- What is told of the bytes of a connection: the words of each record and frame, and the lines of a capture.
 pub mod Ways
 pub mod Names
 pub mod Words

@@ -1,3 +1,5 @@
+-- The words and lines of scripts and of what the commands print, as functions of the values that they mean, and how a
+-- whole script goes.
 pub mod Words
 pub mod Lines
 pub mod Pieces

@@ -1,3 +1,5 @@
+-- Lemmas on command lines: words and forms one by one, files by their bytes, the fields of a record by induction, and a
+-- script that reads nothing.
 pub mod ScriptLemmas
 pub mod AddressLemmas
 pub mod FileLemmas

@@ -1,0 +1,1 @@
+-- A test, whose functions have no contract: there is nothing to prove.

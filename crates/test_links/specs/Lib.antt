@@ -1,0 +1,1 @@
+-- A test, whose functions have no contract: there is no definition to cite.

@@ -1,0 +1,1 @@
+-- The contracts of `refusing` cite definitions of `Logic` alone: there is none here.

@@ -1,3 +1,5 @@
+-- The laws of `zk_laws` at some paths: the same invariant, kept only there; what servers tell of other paths changes
+-- nothing ahead of these.
 pub mod Elsewhere
 pub mod Kept_at
 pub mod Flow

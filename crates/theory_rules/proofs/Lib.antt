@@ -1,3 +1,4 @@
+-- Proofs of the rules: by a look back over a client's past, or by where a schedule of servers leads after a step.
 pub mod Seen
 pub mod Closed
 pub mod States

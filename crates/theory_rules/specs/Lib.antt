@@ -1,3 +1,4 @@
+-- Rules of a client in words of their own: how zxids, calls, moments, notices and answers hang together.
 pub mod Seeing
 pub mod Closing
 pub mod Ticking

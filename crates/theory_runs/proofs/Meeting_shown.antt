@@ -25,7 +25,7 @@ use Rattle.zk_turns.proofs.Requested.{new_resumable}
 use Rattle.zk_turns.proofs.Stepped.{given_stands}
 use Rattle.theory_runs.specs.Example.{two_changes, at_a, fields_at_five, a_changed}
 use Rattle.zk_laws.specs.ServerSteps.{Serving, Ended}
-use Rattle.theory_runs.proofs.Shown.{all_sent}
+use Rattle.theory_runs.proofs.Shown.{all_sent, a_askable}
 
 not_ended : Serving ≡ Ended → ⊥
 not_ended e = cc
@@ -151,12 +151,11 @@ last_then = refl
 pub stands_then : Stands new_client (items_in until_cut) (view_at new_client (past_of new_client (items_in until_cut)))
 stands_then =
     given_stands new_client (items_in until_cut) (refl, (refl, (refl, (refl, (refl, (refl, (refl, tt)))))))
-    (tt, (tt, (tt, (tt, (refl, (tt, (tt, tt)))))))
+    (tt, (tt, (tt, (tt, (a_askable, (tt, (tt, tt)))))))
 
 -- it began in range, and was asked with values of their types
 pub resumable_then : IsResumable new_client
 resumable_then = new_resumable 30000 (omega arith)
 
 pub typed_then : AllAskOf IsTyped (items_in until_cut)
-unfolding is_utf8 chars encode
-typed_then = (tt, (tt, (tt, (tt, (refl, (tt, (tt, tt)))))))
+typed_then = (tt, (tt, (tt, (tt, (a_askable.0, (tt, (tt, tt)))))))

@@ -1,4 +1,4 @@
--- A client that was served goes on to be.
+-- A client that was served goes on to be: for each turn and each move, the schedule so far with that entry more is one.
 use Rattle.std.proofs.Common.{ℕ, ℤ, ◌≡◌, ◌≢◌, ◌≤◌, ◌<◌, true, List, [], ◌∷◌, ◌++◌, map, length, refl, ap, sym, ◌∙◌, subst, inl, inr, ◌⊎◌}
 use Rattle.zk_nodes.specs.History.{IsHistory}
 use Rattle.zk_conversation.specs.Calls.{Call}
@@ -7,7 +7,7 @@ use Rattle.zk_turns.specs.Turns.{Opened as Opening, Opens, Comes, Ticks, Calls}
 use Rattle.zk_turns.specs.View.{View}
 use Rattle.zk_turns.specs.Taken.{past_of}
 use Rattle.zk_turns.specs.Rule.{due_signals, Stands}
-use Rattle.zk_turns.specs.Ranges.{IsResumable, IsTyped, AllAskOf}
+use Rattle.zk_turns.specs.Ranges.{IsResumable, IsTyped, IsPathCall, AllAskOf}
 use Rattle.zk_laws.specs.ServerSteps.{ServerEnd}
 use Rattle.zk_laws.specs.Messages.{Request}
 use Rattle.theory_serving.specs.GoingOn.{GoesOn}
@@ -17,7 +17,7 @@ use Rattle.zk_laws.proofs.Headlines.{coherent_client}
 use Rattle.theory_serving.specs.Steps.{Step}
 use Rattle.theory_serving.specs.inner.Steps.{behind}
 use Rattle.theory_serving.specs.Shown.{Shown, Apart, Open, Over, connected, with_output, Hears, Takes, Processes}
-use Rattle.theory_serving.specs.Wires.{Shows, IsServedBy, IsPathCall, StandsFirst, IsCutAt, IsFor}
+use Rattle.theory_serving.specs.Wires.{Shows, IsServedBy, StandsFirst, IsCutAt, IsFor}
 use Rattle.theory_serving.proofs.Stepping.{items_behind}
 use Rattle.theory_serving.proofs.Turning.{framed}
 use Rattle.theory_serving.proofs.Keeping.{opened_shown, bytes_shown, cut_shown, moment_shown, call_shown, forget_shown, halt_shown}

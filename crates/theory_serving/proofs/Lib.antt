@@ -1,3 +1,5 @@
+-- Lemmas on schedules with a server in memory: steps become entries, each keeps the relation to what is shown, and all of
+-- it outlasts a history that goes on.
 pub mod GoingOn
 pub mod Stepping
 pub mod Later

@@ -1,4 +1,5 @@
--- A client with a view, and servers in memory.
+-- A client with a view, and servers in memory: for each turn and each move, what held of the two goes on to hold, by its entry of a
+-- schedule.
 use Rattle.std.proofs.Common.{ℕ, ℤ, length, ◌≡◌, ◌≢◌, ◌≤◌, ◌<◌, true, List, [], ◌∷◌, ◌++◌, ap, sym, ◌∙◌, ◌⊎◌}
 use Rattle.std.specs.Prelude.{◌&&◌, not}
 use Rattle.zk_nodes.specs.History.{IsHistory}
@@ -8,7 +9,7 @@ use Rattle.zk_turns.specs.View.{View, Standing}
 use Rattle.zk_turns.specs.Past.{is_open}
 use Rattle.zk_turns.specs.Taken.{past_of}
 use Rattle.zk_turns.specs.Rule.{Rule, Stands}
-use Rattle.zk_turns.specs.Ranges.{IsResumable, IsTyped, AsksOf}
+use Rattle.zk_turns.specs.Ranges.{IsResumable, IsTyped, IsPathCall, AsksOf}
 use Rattle.zk_turns.proofs.Stepped.{one_turn}
 use Rattle.zk_laws.specs.Messages.{Request}
 use Rattle.theory_serving.specs.GoingOn.{GoesOn}
@@ -16,7 +17,7 @@ use Rattle.zk_laws.specs.Served.{is_going}
 use Rattle.zk_laws.specs.Headline.{IsCoherentWith}
 use Rattle.theory_serving.specs.Steps.{Step}
 use Rattle.theory_serving.specs.Shown.{Shown, Apart, Open, Over, connected, with_output, Hears, Takes, Processes}
-use Rattle.theory_serving.specs.Wires.{IsServedBy, IsPathCall, StandsFirst, IsFor, WasServed, item_of, is_up}
+use Rattle.theory_serving.specs.Wires.{IsServedBy, StandsFirst, IsFor, WasServed, item_of, is_up}
 use Rattle.theory_serving.proofs.Entries.{nobody, coherent_so, opened_served, bytes_served, cut_served, moment_served, call_served}
 use Rattle.theory_serving.proofs.Entries.{forget_served, there_served, takes_served, rests_served, waits_served, processes_served}
 use Rattle.theory_serving.proofs.Entries.{answers_served}

@@ -1,4 +1,5 @@
--- What stands first in the bytes that wait.
+-- What stands first in the bytes that wait is the frame of the first request that is not processed: the bytes that were sent are frames,
+-- and whole frames are cut off them.
 use Rattle.std.proofs.Common.{ℕ, zero, suc, ℤ, pos, ◌≡◌, ◌<◌, ◌≤◌, ◌^◌, Bool, true, false, List, [], ◌∷◌, ◌++◌, map, drop, take, length}
 use Rattle.std.proofs.Common.{Some, refl, ap, sym, ◌∙◌, subst, arith, append_assoc}
 use Rattle.std.specs.Prelude.{◌&&◌}
@@ -20,7 +21,7 @@ use Rattle.zk_turns.specs.Past.{Replies as Answers_call, Watches_set as Sets_wat
 use Rattle.zk_turns.specs.Past.{state_of, last_of, session_of, lists_of, in_known, in_missing, in_parents, path_of_read}
 use Rattle.zk_turns.specs.Taken.{past_of}
 use Rattle.zk_turns.specs.Rule.{Stands, IsOpen}
-use Rattle.zk_turns.specs.Ranges.{IsResumable, IsTyped, AllAskOf}
+use Rattle.zk_turns.specs.Ranges.{IsResumable, IsTyped, IsPathCall, AllAskOf}
 use Rattle.zk_turns.proofs.Ranged.{all_append, AreRanged, items_ranged, listed_short}
 use Rattle.zk_turns.proofs.Fitting.{IsShort, IsSmall, parts_small}
 use Rattle.zk_laws.specs.Messages.{Connect, from_zero}
@@ -28,7 +29,7 @@ use Rattle.zk_laws.specs.Served.{Sent, Entry, items_in, Wire, wire_of, is_going,
 use Rattle.zk_laws.specs.Parsed.{AreTold, IsRecord, IsReadAs, AreReadAs, stream_of, payloads_of}
 use Rattle.zk_laws.proofs.Found.{all_told, first_found, each_read, connect_found, last_counted}
 use Rattle.theory_serving.specs.Shown.{Shown, Open}
-use Rattle.theory_serving.specs.Wires.{Shows, IsPathCall, IsFit, StandsFirst, IsCutAt}
+use Rattle.theory_serving.specs.Wires.{Shows, IsFit, StandsFirst, IsCutAt}
 use Rattle.theory_serving.proofs.Turning.{framed, framed_more}
 
 -- ---- what is known of each request

@@ -1,3 +1,4 @@
+-- What a server in memory shows and does, as moves of servers in a schedule; and one whole schedule in bytes.
 pub mod GoingOn
 pub mod Steps
 pub mod Shown

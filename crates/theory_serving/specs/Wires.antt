@@ -3,10 +3,9 @@ use Rattle.std.specs.Prelude.{ℕ, ℤ, pos, ◌≡◌, ◌≢◌, ◌≤◌, �
 use Rattle.std.specs.List.{AllByRecursion}
 use Rattle.zk_nodes.specs.PathFault.{IsPath}
 use Rattle.zk_watches.specs.Lists.{Lists}
-use Rattle.zk_conversation.specs.Calls as call
 use Rattle.zk_turns.specs.View.{View}
 use Rattle.zk_turns.specs.Rule.{Stands}
-use Rattle.zk_turns.specs.Ranges.{IsResumable, IsTyped, AllAskOf}
+use Rattle.zk_turns.specs.Ranges.{IsResumable, IsTyped, IsPathCall, AllAskOf}
 use Rattle.zk_frames.specs.Frame.{frame, joined}
 use Rattle.zk_records.specs.Layouts.{connect_request}
 use Rattle.zk_conversation.specs.Calls.{Call}
@@ -44,16 +43,6 @@ pub record IsServedBy (start : Start) (items : List Item) (shown : Shown) : Type
 -- an input with the outputs that it gave, as an item
 abbrev pub item_of : Input → List Output → Item
 item_of input outputs = Turned (record { input = input; outputs = outputs })
-
--- what a caller asks is about a path
-abbrev pub IsPathCall : Call → Type 0
-IsPathCall (call.Exists path watch) = IsPath path
-IsPathCall (call.GetData path watch) = IsPath path
-IsPathCall (call.GetChildren path watch) = IsPath path
-IsPathCall (call.SetData path content version) = IsPath path
-IsPathCall (call.Create path content mode) = IsPath path
-IsPathCall (call.Delete path version) = IsPath path
-IsPathCall call.Close = ⊤
 
 -- the texts of a part are paths
 abbrev pub HasPaths : Lists → Type 0

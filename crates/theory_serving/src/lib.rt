@@ -20,7 +20,7 @@ ghost use Rattle.theory_serving.specs.Whole_example.{three_changes, just_long, w
 ghost use Rattle.theory_serving.specs.Whole_example.{until_expired};
 ghost use Rattle.zk_turns.specs.Taken.{past_of};
 ghost use Rattle.zk_turns.specs.Rule.{Rule, Stands};
-ghost use Rattle.zk_turns.specs.Ranges.{IsResumable, IsTyped, AllAskOf};
+ghost use Rattle.zk_turns.specs.Ranges.{IsResumable, IsTyped, IsPathCall, AllAskOf};
 ghost use Rattle.zk_laws.specs.Messages.{Request, Connect, Restore, Ask, Ping};
 ghost use Rattle.zk_laws.specs.ServerSteps.{ServerEnd, MayDo, messages_by, end_after};
 ghost use Rattle.zk_frames.specs.Frame.{frame, joined as frames, length_field};
@@ -30,7 +30,7 @@ ghost use Rattle.zk_laws.specs.Served.{ArePayloads, Entry, is_going, items_in, w
 ghost use Rattle.theory_serving.specs.Steps.{Step, used_by, Moves, ended_by, sent_by, processed_by};
 ghost use Rattle.theory_serving.specs.Shown.{Shown, Apart, Open, Over, AllTaken, connected, with_output, more_requests, Hears, Takes};
 ghost use Rattle.theory_serving.specs.Shown.{Processes};
-ghost use Rattle.theory_serving.specs.Wires.{IsServedBy, IsPathCall, StandsFirst, IsFor, IsCutAt, WasServed, item_of, is_up};
+ghost use Rattle.theory_serving.specs.Wires.{IsServedBy, StandsFirst, IsFor, IsCutAt, WasServed, item_of, is_up};
 
 /// A schedule stays one when the history goes on, its servers end where they did, and each stands at a place of the history.
 #[tactic(auto, using(crate::proofs::GoingOn::goes_serving, crate::proofs::GoingOn::goes_wire, crate::proofs::GoingOn::place_low, crate::proofs::GoingOn::goes_served))]

@@ -16,7 +16,7 @@ use Rattle.zk_conversation.specs.Arriving.{arriving}
 use Rattle.zk_conversation.specs.Calls.{connect_payload, call_payload, part_payload, part_xid}
 use Rattle.zk_conversation.specs.Results.{record_of}
 use Rattle.zk_turns.specs.Spelled.{IsHeaded, HasRecord}
-use Rattle.zk_turns.specs.Turns.{WatchesRefused}
+use Rattle.zk_turns.specs.Turns.{WatchesRefused, IsAskable}
 use Rattle.zk_turns.specs.Past.{kept_data, last_of, Dropped, Took as Takes_in, Replies as Answers_call}
 use Rattle.zk_turns.specs.View.{view_at}
 use Rattle.zk_turns.specs.Taken.{cut, past_of}
@@ -28,6 +28,7 @@ use Rattle.zk_laws.specs.Server.{Fits}
 use Rattle.zk_laws.specs.Served.{Served}
 use Rattle.theory_runs.specs.Example.{two_changes, at_a, fields_at_five}
 use Rattle.theory_runs.specs.Meeting_example.{new_client, welcome_payload, reply_ends, until_accepted}
+use Rattle.theory_runs.proofs.Shown.{a_askable}
 use Rattle.theory_runs.proofs.Meeting_shown.{accepted_then}
 use Rattle.zk_laws.proofs.Headlines.{true_reads}
 use Rattle.theory_local.specs.LocalSteps.{IsOf, IsAbout}
@@ -218,11 +219,15 @@ unfolding is_utf8 chars encode cut arriving connect_payload call_payload part_pa
     long_at boolean_at length_of length_at counted_at text_bytes_at elements_at flag_at response_at record_of
 dropped_then = inl refl
 
+config_askable : IsAskable read_config
+unfolding is_utf8 chars encode
+config_askable = (refl, refl)
+
 -- a client stands there
 pub refused_stands : Stands new_client (items_at until_refused) (view_at new_client (past_of new_client (items_at until_refused)))
 refused_stands =
     given_stands new_client (items_at until_refused) (refl, (refl, (refl, (refl, (refl, (refl, (refl, (refl, (refl, (refl, tt))))))))))
-    (tt, (tt, (tt, (tt, (tt, (refl, (tt, (refl, (tt, (tt, tt))))))))))
+    (tt, (tt, (tt, (tt, (tt, (a_askable, (tt, (config_askable, (tt, (tt, tt))))))))))
 
 -- the reply about the configuration was taken
 config_taken : Among (Takes_in (Answers_call 7 (question_of read_config) (pos 5) what_config_held))

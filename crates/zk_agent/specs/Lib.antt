@@ -1,3 +1,4 @@
+-- How an agent comes along, move by move: what becomes of calls, what it tells a program, what waits for an answer, and since when.
 pub mod Agents
 pub mod Calls
 pub mod Renewal

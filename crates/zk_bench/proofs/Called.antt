@@ -1,4 +1,4 @@
--- Which request stands in a payload.
+-- Which request stands in a payload: a record is read in one way, so the request that was read is the one that was asked, kind by kind.
 use Rattle.std.proofs.Common.{ℕ, ℤ, pos, ◌≡◌, refl, sym, ap, subst, ◌∙◌, Bool, List, None, Some, Option, take, drop}
 use Rattle.std.specs.Prelude.{◌≤◌, option_map, unwrap_or}
 use Rattle.zk_jute.specs.Layout.{Value}
@@ -17,11 +17,11 @@ use Rattle.zk_records.specs.Request.{operation_of, body_of}
 use Rattle.zk_conversation.specs.Calls as call
 use Rattle.zk_conversation.specs.Calls.{Call, call_operation, call_body, texts_value}
 use Rattle.zk_watches.specs.Lists.{Lists}
-use Rattle.zk_turns.specs.Ranges.{IsTyped}
+use Rattle.zk_turns.specs.Ranges.{IsTyped, IsPathCall}
 use Rattle.zk_laws.specs.Messages as wanted
 use Rattle.zk_laws.specs.Parsed.{IsRecord, IsReadAs}
 use Rattle.zk_laws.specs.ServerSteps.{Serving}
-use Rattle.theory_serving.specs.Wires.{IsPathCall, IsFit, IsFor}
+use Rattle.theory_serving.specs.Wires.{IsFit, IsFor}
 use Rattle.zk_bench.specs.inner.Answering.{IsRead, IsReadOf, IsRestoring}
 use Rattle.zk_bench.specs.inner.Asking.{Wants, IsBodyOf, IsPartOf, Asks, IsLook}
 use Rattle.zk_laws.specs.Server.{is_sequential}

@@ -1,3 +1,5 @@
+-- Lemmas on servers in memory: the request in a payload is found, each kind of it is a step of a server of the laws, and
+-- its reply fits a frame.
 mod Fields
 pub mod Continuing
 pub mod Watched

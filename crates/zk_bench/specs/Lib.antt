@@ -1,3 +1,4 @@
+-- What servers in memory over one history show and do, in the words of the laws: what is answered, told, refused and written.
 pub mod Served
 pub mod Linked
 pub mod Front

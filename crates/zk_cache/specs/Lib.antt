@@ -1,3 +1,4 @@
+-- What a cache keeps of each text, what each call makes of that, and what a look-up sees.
 pub mod Cache
 pub mod Code
 pub mod Contents

@@ -1,3 +1,5 @@
+-- Lemmas on a client: each happening (a reply, a notice, a call, a deadline) leaves the parts as the definitions say, and
+-- turns follow one another.
 pub mod Pendings
 pub mod CacheLemmas
 pub mod Ends

@@ -1,3 +1,4 @@
+-- What a client shows and keeps true, step by step and after a whole run; and a session that is put away.
 pub mod Views
 pub mod FaultText
 pub mod Seen
@@ -8,7 +9,6 @@ pub mod Outsides
 pub mod Runs
 pub mod Records
 pub mod SavedSessions
--- what its clauses name, for a crate that uses this one alone
 pub use Rattle.zk_turns.specs.Turns
 pub use Rattle.zk_turns.specs.View
 pub use Rattle.zk_turns.specs.Rule

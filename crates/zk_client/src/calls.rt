@@ -10,7 +10,6 @@ ghost use Rattle.zk_conversation.specs.Questions.{question_of, watched_side};
 ghost use Rattle.zk_conversation.specs.Views.{call_view};
 ghost use Rattle.zk_session.specs.declared.states.State.TheVariants.{Connected};
 ghost use Rattle.zk_watches.specs.Lists.{count_of};
-ghost use Rattle.zk_turns.specs.Ranges.{IsTyped};
 ghost use Rattle.zk_turns.specs.Taken.{refusal};
 ghost use Rattle.zk_turns.specs.Turns.{IsAskable};
 ghost use Rattle.zk_turns.specs.Rule.{after_all, says_all};
@@ -52,7 +51,6 @@ fn known_of_version(version: i32) -> i32
 /// is of no use.
 pub(crate) fn known_of_call<A: Allocator + Copy>(call: &Call<A>) -> usize
     ensures asked { IsAskable (call_view call.now) }
-    ensures typed { IsTyped (call_view call.now) }
 {
     match call {
         Call::Exists { path, .. } => path.as_str().len(),

@@ -1,3 +1,4 @@
+-- Lemmas on conclusions: what is good is the history's, so sets, orders and walks of what is shown are those of one tree.
 pub mod Truths
 pub mod Looks
 pub mod Made

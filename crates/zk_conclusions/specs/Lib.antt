@@ -1,3 +1,4 @@
+-- What follows from what a client shows: of one tree, of all nodes below a path, of who is first and who holds.
 pub mod Seen
 pub mod Snapshots
 pub mod Looks

@@ -1,3 +1,5 @@
+-- What is asked and answered on a connection: calls with their requests, what is pending in the order of asking, and how a
+-- payload is read by it.
 pub mod Calls
 pub mod Questions
 pub mod Results

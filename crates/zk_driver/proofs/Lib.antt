@@ -1,3 +1,4 @@
+-- Lemmas on a driver: its moves, deeds and calls one after the other; and that bytes come and go whole.
 pub mod Going
 pub mod Carrying
 pub mod Asking

@@ -1,3 +1,5 @@
+-- Lemmas on subjects: a read is a call that waits until it is answered, and subjects are visited one after the other, each
+-- changed in place.
 pub mod Waiting
 pub mod Reading
 pub mod Hearing

@@ -1,3 +1,5 @@
+-- Proofs of the laws, in two stages. A run is a client made of messages: its invariant says what the client will hold, and
+-- each move keeps it. A client that is served by bytes is then matched with a run, move by move.
 pub mod Basics
 pub mod Tables
 pub mod Firing

@@ -1,4 +1,5 @@
--- The moves of a server keep what is ahead of the client right.
+-- The moves of a server keep what is ahead of the client right. Going on tells each watch that is set and covers the rest; an answer leaves
+-- what there is to see and sets the watch; setting again tells or covers each path listed.
 use Rattle.std.specs.FinSet as set
 use Rattle.zk_watches.specs.Lists.{Lists}
 use Rattle.zk_cache.specs.Kept.{same_fields}
@@ -9,6 +10,7 @@ use Rattle.std.proofs.lemmas.Bool.{and_parts, and_from, and_right, or_left, or_r
 use Rattle.std.specs.Bool.{⊤}
 use Rattle.zk_nodes.specs.DataStats.{data_stat_of}
 use Rattle.zk_nodes.specs.Path.{Text, Name, NodePath, path_eq, text_of, path_of}
+use Rattle.zk_nodes.proofs.PathLemmas.{IsPath-text}
 use Rattle.zk_nodes.specs.History.{Node, Tree, Transaction, apply_all, History, IsHistory, tree_at, node_fields, View, Absence, Contents}
 use Rattle.zk_nodes.specs.History.{Children, view, contents_of, children_of}
 use Rattle.zk_conversation.specs.Calls.{Call, Exists, GetData, GetChildren}
@@ -39,7 +41,7 @@ use Rattle.zk_laws.proofs.Invariant.{IsThere, is_seen, IsRight, Ahead, is_in, Is
 use Rattle.zk_turns.proofs.Cached.{fields_same, fields_same-refl}
 use Rattle.zk_laws.proofs.Firing.{IsTold, IsSpared, spared_all}
 use Rattle.zk_laws.proofs.Stamps.{IsNextAt, tree_at_held, same_at, IsOld, IsAtMost, below_at}
-use Rattle.zk_laws.proofs.Basics.{text_eq-true, text_eq-refl, text_path, sent_among, path_eq_from, Among-left, Among-right}
+use Rattle.zk_laws.proofs.Basics.{text_eq-true, text_eq-refl, sent_among, path_eq_from, Among-left, Among-right}
 use Rattle.zk_laws.proofs.Ahead.{ahead_more, right_less, max_zero, told_log, told_less, told_none, notices_ahead}
 
 sure_none : (h : History) (side : Side) (path : Text) (requests : List Request) (place : ℕ) (watches : Watches) (seen : ℕ)
@@ -151,16 +153,16 @@ asked_named : (q : Call) (r : Result) (side : Side) (path : Text)
     → IsAskable q → leaves (question_of q) r side path ≡ true → text_of (path_of path) ≡ path
 asked_named (Exists at true) NoNode side path asked e = let p =
     text_eq-true path at (and_parts (same_side side Data) (bytes_eq path at) e).1 in
-    subst (λ (q : Text). text_of (path_of q) ≡ q) (sym p) (text_path at asked)
+    subst (λ (q : Text). text_of (path_of q) ≡ q) (sym p) (IsPath-text at asked.1)
 asked_named (Exists at true) (Found fields) side path asked e = let p =
     text_eq-true path at (and_parts (same_side side Data) (bytes_eq path at) e).1 in
-    subst (λ (q : Text). text_of (path_of q) ≡ q) (sym p) (text_path at asked)
+    subst (λ (q : Text). text_of (path_of q) ≡ q) (sym p) (IsPath-text at asked.1)
 asked_named (GetData at true) (Read bytes fields) side path asked e = let p =
     text_eq-true path at (and_parts (same_side side Data) (bytes_eq path at) e).1 in
-    subst (λ (q : Text). text_of (path_of q) ≡ q) (sym p) (text_path at asked)
+    subst (λ (q : Text). text_of (path_of q) ≡ q) (sym p) (IsPath-text at asked.1)
 asked_named (GetChildren at true) (Listing names pzxid) side path asked e = let p =
     text_eq-true path at (and_parts (same_side side Child) (bytes_eq path at) e).1 in
-    subst (λ (q : Text). text_of (path_of q) ≡ q) (sym p) (text_path at asked)
+    subst (λ (q : Text). text_of (path_of q) ≡ q) (sym p) (IsPath-text at asked.1)
 asked_named _ _ side path asked e = absurd cc
 
 -- and the server sets the watch there

@@ -1,3 +1,4 @@
+-- The model of servers, what passes between them and a client, and what holds of a client that they serve.
 pub mod Server
 pub mod Messages
 pub mod ServerSteps

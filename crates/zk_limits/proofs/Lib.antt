@@ -1,0 +1,1 @@
+-- The limits are constants: there is nothing to prove.

@@ -1,0 +1,1 @@
+-- The limits are constants, which have no contract: there is no definition to cite.

@@ -1,3 +1,4 @@
+-- Paths and names, the fields of a Stat, and the data model: nodes, trees, and histories of transactions.
 pub mod Path
 pub mod PathFault
 pub mod FaultText

@@ -1,3 +1,5 @@
+-- The records of ZooKeeper's protocol: their fields in wire order, the numbers of operations, codes and events, and how
+-- requests and replies are read.
 pub mod Asked
 pub mod Codes
 pub mod Events

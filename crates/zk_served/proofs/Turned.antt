@@ -15,13 +15,13 @@ use Rattle.zk_turns.specs.View.{View, Standing}
 use Rattle.zk_turns.specs.Past.{Past, is_open, Happening, Ticked, Denied}
 use Rattle.zk_turns.specs.Taken.{caused, happenings, if_open, past_of, past_after, refusal, comes, due}
 use Rattle.zk_turns.specs.Rule.{next, says_all, after_all, says_signals, Rule, Stands}
-use Rattle.zk_turns.specs.Ranges.{IsTyped}
+use Rattle.zk_turns.specs.Ranges.{IsTyped, IsPathCall}
 use Rattle.zk_turns.proofs.Stepped.{one_turn}
 use Rattle.zk_turns.proofs.Words.{calls}
 use Rattle.zk_laws.specs.Served.{is_going}
 use Rattle.theory_serving.specs.GoingOn.{GoesOn}
 use Rattle.theory_serving.specs.Shown.{Shown, Phase, Apart, Open, Over, connected, with_output, more_requests, sent_in, EndsNothing, Hears}
-use Rattle.theory_serving.specs.Wires.{item_of, is_up, IsPathCall, WasServed}
+use Rattle.theory_serving.specs.Wires.{item_of, is_up, WasServed}
 use Rattle.theory_serving.proofs.Turning.{NotOpens, KeepsOn, Begins, signals_on, opens_on, cut_over, comes_all}
 use Rattle.theory_serving.proofs.Views.{opened_session, received_session, cut_session, told_session, asked_session, rests_session}
 

@@ -3,8 +3,7 @@ use Rattle.std.specs.Prelude.{⊤, ℕ, Bool, true, false, List, [], ◌∷◌, 
 use Rattle.std.specs.List.{AllByRecursion, FoldsTo}
 use Rattle.zk_turns.specs.Turns.{Input, Turn}
 use Rattle.zk_turns.specs.Turns as turns
-use Rattle.zk_turns.specs.Ranges.{AsksOf, IsTyped}
-use Rattle.theory_serving.specs.Wires.{IsPathCall}
+use Rattle.zk_turns.specs.Ranges.{AsksOf, IsTyped, IsPathCall}
 use Rattle.zk_agent.specs.Agents.{Closes, Decides, Does, GivesUp, Hands, Hears, HearsSo, LeavesWhere, Move, Renews, Tires, Trail}
 use Rattle.zk_agent.specs.Agents as agents
 use Rattle.zk_driver.specs.Driving.{Noted}

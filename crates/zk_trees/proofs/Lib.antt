@@ -1,2 +1,3 @@
+-- Lemmas on loops over trees: steps of a fold, one subject, ticket or root after another.
 mod Going
 pub mod Growing

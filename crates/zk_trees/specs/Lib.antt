@@ -1,1 +1,2 @@
+-- Which nodes of trees are wanted, and which are let go.
 pub mod Trees

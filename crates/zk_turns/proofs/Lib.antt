@@ -1,3 +1,5 @@
+-- Lemmas on the definitions of `zk_turns` themselves: after each happening the view is what a look back gives; counts,
+-- lists and reports follow by induction on what happened.
 mod Rows
 pub mod Words
 pub mod Cases

@@ -1,3 +1,5 @@
+-- What a client does, in words of its inputs and outputs: each turn, what a client shows by all that happened, and what
+-- calls, frames and reports mean.
 pub mod Turns
 pub mod Past
 pub mod View

@@ -210,7 +210,7 @@ says_signals view (signal ∷ more) = says_all view (happenings view signal) ++ 
 abbrev pub IsOpen : State → Type 0
 IsOpen state = is_open state ≡ true
 
--- One turn of a client that has not halted. What a caller asks about are paths.
+-- One turn of a client that has not halted. What a caller asks is about a path, with values of their types.
 pub record Rule (view : View) (turn : Turn) (after : View) : Type 0 where
   pub asked : IsAsked turn.input
   pub goes_on : view.standing.halted ≡ false

@@ -1,5 +1,6 @@
 -- What goes into a client and what comes out of it, turn after turn.
-use Rattle.zk_nodes.specs.Path.{IsPathText, Text}
+use Rattle.zk_nodes.specs.Path.{Text}
+use Rattle.zk_nodes.specs.PathFault.{IsPath}
 use Rattle.zk_conversation.specs.Results.{Result}
 use Rattle.zk_conversation.specs.declared.fault.TalkFault.{TalkFault}
 use Rattle.zk_frames.specs.declared.fault.FrameFault.{FrameFault}
@@ -7,7 +8,9 @@ use Rattle.zk_nodes.specs.declared.side.Side.{Side}
 use Rattle.zk_records.specs.declared.event.Event.{Event}
 use Rattle.zk_session.specs.declared.states.State.{State}
 use Rattle.zk_session.specs.States.{is_final}
-use Rattle.std.specs.Prelude.{⊤, ℕ, ℤ, Bool, true, false, List, [], ◌∷◌, map, replicate}
+use Rattle.std.specs.Prelude.{◌≡◌, ◌≤◌, ⊤, ℕ, ℤ, Bool, true, false, List, [], ◌∷◌, map, replicate, FitsSigned}
+use Rattle.std.specs.Int.{w32}
+use Rattle.std.specs.Str.{is_utf8}
 use Rattle.zk_conversation.specs.Calls as call
 
 -- What a call is answered: its reply, with the zxid of the reply, or why there is none.
@@ -30,15 +33,29 @@ pub data Input : Type 0 where
   Now : ℕ → Input
   Call : (ticket : ℕ) → call.Call → Input
 
--- a caller asks about paths
+-- a path is UTF-8, a version is of 32 bits, a mode is from 0 to 3
+abbrev pub IsTyped : call.Call → Type 0
+IsTyped (call.Exists path watch) = is_utf8 path ≡ true
+IsTyped (call.GetData path watch) = is_utf8 path ≡ true
+IsTyped (call.GetChildren path watch) = is_utf8 path ≡ true
+IsTyped (call.SetData path bytes version) = (is_utf8 path ≡ true) × FitsSigned w32 version
+IsTyped (call.Create path bytes mode) = (is_utf8 path ≡ true) × (mode ≤ 3)
+IsTyped (call.Delete path version) = (is_utf8 path ≡ true) × FitsSigned w32 version
+IsTyped call.Close = ⊤
+
+-- it is about a path
+abbrev pub IsPathCall : call.Call → Type 0
+IsPathCall (call.Exists path watch) = IsPath path
+IsPathCall (call.GetData path watch) = IsPath path
+IsPathCall (call.GetChildren path watch) = IsPath path
+IsPathCall (call.SetData path bytes version) = IsPath path
+IsPathCall (call.Create path bytes mode) = IsPath path
+IsPathCall (call.Delete path version) = IsPath path
+IsPathCall call.Close = ⊤
+
+-- what a caller may ask: about a path, with values of their types
 abbrev pub IsAskable : call.Call → Type 0
-IsAskable (call.Exists path watch) = IsPathText path
-IsAskable (call.GetData path watch) = IsPathText path
-IsAskable (call.GetChildren path watch) = IsPathText path
-IsAskable (call.SetData path bytes version) = IsPathText path
-IsAskable (call.Create path bytes mode) = IsPathText path
-IsAskable (call.Delete path version) = IsPathText path
-IsAskable call.Close = ⊤
+IsAskable asked = IsTyped asked × IsPathCall asked
 
 pub data Output : Type 0 where
   Send : List ℕ → Output
@@ -73,7 +90,7 @@ AllAskOf P [] = ⊤
 AllAskOf P (Turned turn ∷ items) = AsksOf P turn.input × AllAskOf P items
 AllAskOf P (_ ∷ items) = AllAskOf P items
 
--- what a caller asks is about a path
+-- what a caller asks is about a path, with values of their types
 abbrev pub IsAsked : Input → Type 0
 IsAsked input = AsksOf IsAskable input
 
