@@ -61,7 +61,7 @@ quiet_run {A} old text new (one ∷ rest) some tends = still old new (sym (tends
     some_is_none : old.course.told ≡ [] → ⊥
     some_is_none none = let e : one ∷ rest ≡ [] = sym some ∙ none in absurd cc
 
-tended_run : {A : Type 0} {far : FarEnd} (is_over : Bool) (old : Stand A far) (text : List ℕ) (new : Stand A far) → TendsSo is_over old text new → RunsOn old new
+pub tended_run : {A : Type 0} {far : FarEnd} (is_over : Bool) (old : Stand A far) (text : List ℕ) (new : Stand A far) → TendsSo is_over old text new → RunsOn old new
 tended_run true old text new tends = still old new (sym (tends.over refl).0)
 tended_run false old text new tends = quiet_run old text new old.course.told refl tends
 

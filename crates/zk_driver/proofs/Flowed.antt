@@ -109,7 +109,7 @@ ok_stays_shut (Ok x) input old new shut hands = unless_true new.channel.is_open 
 ok_stays_shut (Err e) input old new shut hands = tt
 
 -- one deed, with which no connection begins
-open_before : {A : Type 0} {far : FarEnd} (deed : Deed A) (old new : Flow A far) → Carries old deed new → AreWithin (deed ∷ [])
+pub open_before : {A : Type 0} {far : FarEnd} (deed : Deed A) (old new : Flow A far) → Carries old deed new → AreWithin (deed ∷ [])
     → new.course.channel.is_open ≡ true
     → old.course.channel.is_open ≡ true
 open_before (Made Written) old new carries within there = sym carries.0.0.is_open ∙ there
@@ -128,7 +128,7 @@ open_before (Made (Noted now input)) old new carries within there = absurd carri
 open_before (Asked now input) old new carries within there = (open_taken now input old.course new.course carries.0 there).0
 
 -- what is sent by one that leaves a connection there, which is the one that was there
-goes_on : {A : Type 0} {far : FarEnd} (now : ℕ) (input : AgentInput A) (old new : Flow A far) (carries : Carries old (Made (Noted now input)) new)
+pub goes_on : {A : Type 0} {far : FarEnd} (now : ℕ) (input : AgentInput A) (old new : Flow A far) (carries : Carries old (Made (Noted now input)) new)
     → AreWithin (Made (Noted now input) ∷ [])
     → new.course.channel.is_open ≡ true
     → (new.known ≡ old.known) × (new.course.channel.unsent ≡ old.course.channel.unsent ++ flat_map frame_of (told_by carries.0.2.actions))
