@@ -48,7 +48,8 @@ waiting_first places more =
 -- ---- how it ends
 
 -- the call that stopped it is not done
-pub undone : {A : Type 0} {far : FarEnd} (bounds : Bounds) (last : Stage A far) (ending : Ending) → EndsAt bounds last ending → IsUndone ending
+pub undone : {A : Type 0} {far : FarEnd} (bounds : Bounds) (last : Stage A far) (ending : Ending)
+    → EndsAt bounds last ending → IsUndone ending
 undone bounds last Whole ends_so = tt
 undone bounds last Full ends_so = tt
 undone bounds last (Stopped name coming) ends_so = ends_so.undone
@@ -112,7 +113,8 @@ pub heard_of : {A : Type 0} {far : FarEnd} (bounds : Bounds) (old : Stage A far)
 heard_of bounds old spot coming last room listed heard runs =
     record { next = record { next = refl; room = room }; listed = listed; heard = heard; runs = runs }
 
-pub misnamed : {A : Type 0} {far : FarEnd} (bounds : Bounds) (old : Stage A far) (spot : Spot) (coming : Coming) (last : Flow A far) (each : List Text)
+pub misnamed : {A : Type 0} {far : FarEnd} (bounds : Bounds) (old : Stage A far) (spot : Spot) (coming : Coming)
+    (last : Flow A far) (each : List Text)
     (child : Text) (ending : Ending)
     → IsHeard bounds (with_next spot old) spot old.waiting coming last → end_of coming ≡ ends.Done
     → AreInOrder each (names_within bounds.deepest spot coming)
@@ -159,7 +161,8 @@ ends_at bounds flow waiting next printed now r same =
     subst (λ (w : List Spot).
     IfOk r (λ ending. IfSome ending (λ e. EndsAt bounds (stage flow w printed) (ending_view e) × (now ≡ printed)))) (sym same)
 
-pub steps_from : {A E : Type 0} {far : FarEnd} (bounds : Bounds) (flow : Flow A far) (waiting next : List Spot) (printed : List Text) (new : Stage A far)
+pub steps_from : {A E : Type 0} {far : FarEnd} (bounds : Bounds) (flow : Flow A far) (waiting next : List Spot)
+    (printed : List Text) (new : Stage A far)
     (r : Result (Option (Reached A)) E)
     → waiting ≡ next → IfOk r (λ ending. IfNone ending (Steps bounds (stage flow next printed) new))
     → IfOk r (λ ending. IfNone ending (Steps bounds (stage flow waiting printed) new))
@@ -168,7 +171,8 @@ steps_from bounds flow waiting next printed new r same =
 
 -- ---- from the beginning on
 
-pub from_there : {A : Type 0} {far : FarEnd} (bounds : Bounds) (flow : Flow A far) (waiting begun : List Spot) (printed none : List Text) (last : Stage A far)
+pub from_there : {A : Type 0} {far : FarEnd} (bounds : Bounds) (flow : Flow A far) (waiting begun : List Spot)
+    (printed none : List Text) (last : Stage A far)
     → waiting ≡ begun → printed ≡ none → Reaches bounds (record { flow = flow; waiting = waiting; printed = printed }) last
     → Reaches bounds (record { flow = flow; waiting = begun; printed = none }) last
 from_there {A} bounds flow waiting begun printed none last waits prints reaches =

@@ -176,7 +176,8 @@ EndsAt bounds last (Stopped name coming) = StopsAt bounds last name coming
 EndsAt bounds last (Misnamed name) = IsMisnamedAt bounds last name
 
 -- A driver walks so from the root on, and its calls wait to this moment.
-pub record WalksFrom {A : Type 0} {far : FarEnd} (start : Flow A far) (until : ℕ) (scope : Scope) (ending : Ending) (printed : List Text) : Type 0 where
+pub record WalksFrom {A : Type 0} {far : FarEnd} (start : Flow A far) (until : ℕ) (scope : Scope) (ending : Ending)
+    (printed : List Text) : Type 0 where
   pub bounds : Bounds
   pub deepest : bounds.deepest ≡ scope.deepest
   pub most : bounds.most ≡ scope.most

@@ -107,7 +107,8 @@ pub fn ask<A: Allocator + Copy, D: Dial + Drop, C: Clock + Drop, O: Write, E: Wr
         × Prints plan.entry.form plan.entry.chroot.now coming text × Appends (O.contents out.old) (O.contents out.new) text
         × (errors.new ≡ errors.old) }
     // It is not done, or may not be, and this is told.
-    ensures told { IsToldEnd result → (coming : Coming) × ComesOf A D.Stream.far (call_view plan.entry.call) coming × (result ≡ end_of coming)
+    ensures told { IsToldEnd result
+        → (coming : Coming) × ComesOf A D.Stream.far (call_view plan.entry.call) coming × (result ≡ end_of coming)
         × Appends (E.contents errors.old) (E.contents errors.new) (told plan.entry.name.now coming) × (out.new ≡ out.old) }
     ensures memory { result ≡ CallEnd.Memory → (out.new ≡ out.old) × (errors.new ≡ errors.old) }
 {

@@ -57,7 +57,8 @@ fn walked<A: Allocator + Copy, D: Dial + Drop, C: Clock + Drop>(
     until: u64,
 ) -> Result<Tour<A>, Stop>
     ensures { IfOk result
-        (λ tour. WalksFrom (flow_of D.Stream.remaining D.Stream.contents D.Stream.far D.Stream.state driver.old.engine None) until (scope_of plan.now)
+        (λ tour. WalksFrom (flow_of D.Stream.remaining D.Stream.contents D.Stream.far D.Stream.state driver.old.engine None)
+        until (scope_of plan.now)
         (ending_view tour.ending) tour.printed.items) }
 {
     let bounds = Bounds {

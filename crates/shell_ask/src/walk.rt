@@ -173,11 +173,13 @@ impl<A: Allocator + Copy> Walk<A> {
         requires room { length self.old.printed.items < bounds.most }
         ensures some { IfOk result (λ ending. IfSome ending (λ e.
             EndsAt bounds (with_next (spot_view spot)
-            (stage_of (flow_of D.Stream.remaining D.Stream.contents D.Stream.far D.Stream.state driver.old.engine None) self.old)) (ending_view e)
+            (stage_of (flow_of D.Stream.remaining D.Stream.contents D.Stream.far D.Stream.state driver.old.engine None) self.old))
+            (ending_view e)
             × (self.new.printed.items ≡ self.old.printed.items))) }
         ensures none { IfOk result (λ ending. IfNone ending (
             Steps bounds
-            (with_next (spot_view spot) (stage_of (flow_of D.Stream.remaining D.Stream.contents D.Stream.far D.Stream.state driver.old.engine None) self.old))
+            (with_next (spot_view spot)
+            (stage_of (flow_of D.Stream.remaining D.Stream.contents D.Stream.far D.Stream.state driver.old.engine None) self.old))
             (stage_of (flow_of D.Stream.remaining D.Stream.contents D.Stream.far D.Stream.state driver.new.engine None) self.new))) }
     {
         let came = listed(driver, alloc, &spot, ticket, bounds.until)?;
@@ -199,10 +201,12 @@ impl<A: Allocator + Copy> Walk<A> {
         ticket: u64,
     ) -> Result<Option<Ending<A>>, Stop>
         ensures some { IfOk result (λ ending. IfSome ending (λ e.
-            EndsAt bounds (stage_of (flow_of D.Stream.remaining D.Stream.contents D.Stream.far D.Stream.state driver.old.engine None) self.old) (ending_view e)
+            EndsAt bounds (stage_of (flow_of D.Stream.remaining D.Stream.contents D.Stream.far D.Stream.state driver.old.engine None)
+            self.old) (ending_view e)
             × (self.new.printed.items ≡ self.old.printed.items))) }
         ensures none { IfOk result (λ ending. IfNone ending (
-            Steps bounds (stage_of (flow_of D.Stream.remaining D.Stream.contents D.Stream.far D.Stream.state driver.old.engine None) self.old)
+            Steps bounds
+            (stage_of (flow_of D.Stream.remaining D.Stream.contents D.Stream.far D.Stream.state driver.old.engine None) self.old)
             (stage_of (flow_of D.Stream.remaining D.Stream.contents D.Stream.far D.Stream.state driver.new.engine None) self.new))) }
     {
         let Some(spot) = self.waiting.pop() else {
@@ -228,7 +232,8 @@ impl<A: Allocator + Copy> Walk<A> {
         bounds: Bounds,
     ) -> Result<Ending<A>, Stop>
         ensures { IfOk result (λ ending. (last : Stage A)
-            × Reaches bounds (stage_of (flow_of D.Stream.remaining D.Stream.contents D.Stream.far D.Stream.state driver.old.engine None) self.old) last
+            × Reaches bounds
+            (stage_of (flow_of D.Stream.remaining D.Stream.contents D.Stream.far D.Stream.state driver.old.engine None) self.old) last
             × EndsAt bounds last (ending_view ending) × (self.new.printed.items ≡ last.printed)) }
     {
         for ticket in CALL..u64::MAX {

@@ -46,7 +46,8 @@ IsRefusalText fault told = ⊥
 -- for a command that takes a script, and it is what all lines of the input print; or for a watch, and it is what that prints; or for a
 -- call, and it is what its answer brings; or for a tree, and it has a line for each node; or for help.
 pub data IsDone (far : FarEnd) (words : List Text) (files : Text → Option (List ℕ)) (input : Option (List ℕ)) (text : List ℕ) : Type 0 where
-  shows : (kind : FrameKind) (hex : Bor Text) → AsksFor words (Show kind hex) → ShowsFrame kind hex.now text → IsDone far words files input text
+  shows : (kind : FrameKind) (hex : Bor Text) → AsksFor words (Show kind hex)
+      → ShowsFrame kind hex.now text → IsDone far words files input text
   tells : (script : List ℕ)
       → asks_stream words ≡ true → IsInput input script → IsShown (lines_of script) text ends.Taken → IsDone far words files input text
   plays : (command : Command) (script : List ℕ)

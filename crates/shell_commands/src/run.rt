@@ -78,10 +78,12 @@ fn perform<F: Files, D: Dial + Drop, C: Clock + Drop, I: Read, O: Write, E: Writ
         × Appends (E.contents errors.old) (E.contents errors.new) told × (out.new ≡ out.old) }
     ensures never { result ≡ Status.NeverConnected → (words : List Text) → AsksFor words command.entry → (text : List ℕ)
         × IsNeverConnected D.Stream.far words text × Appends (O.contents out.old) (O.contents out.new) text × (errors.new ≡ errors.old) }
-    ensures more { result ≡ Status.More → (words : List Text) → AsksFor words command.entry → (text told : List ℕ) × IsCutOff D.Stream.far words text
+    ensures more { result ≡ Status.More → (words : List Text) → AsksFor words command.entry
+        → (text told : List ℕ) × IsCutOff D.Stream.far words text
         told × Appends (O.contents out.old) (O.contents out.new) text × Appends (E.contents errors.old) (E.contents errors.new) told }
     ensures memory { result ≡ Status.Memory → (words : List Text) → AsksFor words command.entry → (text : List ℕ)
-        × IsWhole D.Stream.far words (I.remaining input.old) text × Appends (O.contents out.old) (O.contents out.new) text × (errors.new ≡ errors.old) }
+        × IsWhole D.Stream.far words (I.remaining input.old) text × Appends (O.contents out.old) (O.contents out.new) text
+        × (errors.new ≡ errors.old) }
 {
     match command {
         Command::Show { kind, hex } => show(alloc, out, errors, kind, hex),
@@ -156,7 +158,8 @@ pub fn run<F: Files, D: Dial + Drop, C: Clock + Drop, I: Read, O: Write, E: Writ
         × Appends (E.contents errors.old) (E.contents errors.new) told × (out.new ≡ out.old) }
     // A call is not done, or may not be, or the file with its data is not read, and this is told.
     ensures undone { IsUndone result
-        → (told : List ℕ) × IsUndoneBy D.Stream.far (map (λ w. w.now) words.entry.now) (F.holds files.now) (I.remaining input.old) result told
+        → (told : List ℕ)
+        × IsUndoneBy D.Stream.far (map (λ w. w.now) words.entry.now) (F.holds files.now) (I.remaining input.old) result told
         × Appends (E.contents errors.old) (E.contents errors.new) told × (out.new ≡ out.old) }
     // The time of a watch is over, and no server has ever accepted its session.
     ensures never { result ≡ Status.NeverConnected → (text : List ℕ) × IsNeverConnected D.Stream.far (map (λ w. w.now) words.entry.now) text
@@ -166,7 +169,8 @@ pub fn run<F: Files, D: Dial + Drop, C: Clock + Drop, I: Read, O: Write, E: Writ
         × Appends (O.contents out.old) (O.contents out.new) text × Appends (E.contents errors.old) (E.contents errors.new) told }
     // Nothing is written, or whole answers of a history, or what whole lines of a replay, a rehearsal or a session print, or what a
     // watch prints.
-    ensures memory { result ≡ Status.Memory → (text : List ℕ) × IsWhole D.Stream.far (map (λ w. w.now) words.entry.now) (I.remaining input.old) text
+    ensures memory { result ≡ Status.Memory
+        → (text : List ℕ) × IsWhole D.Stream.far (map (λ w. w.now) words.entry.now) (I.remaining input.old) text
         × Appends (O.contents out.old) (O.contents out.new) text × (errors.new ≡ errors.old) }
 {
     if asks_stream(words) {

@@ -30,7 +30,8 @@ use Rattle.shell_watch.proofs.Printing.{after, none, on_after, one, writes_none}
 -- ---- the end of a session
 
 -- where there is none
-pub ends_none : {A : Type 0} {far : FarEnd} (here : Stand A far) (a : Option (List ℕ)) → (view_in here).standing.state ≢ Connected → WritesEnd here here a a
+pub ends_none : {A : Type 0} {far : FarEnd} (here : Stand A far) (a : Option (List ℕ))
+    → (view_in here).standing.state ≢ Connected → WritesEnd here here a a
 ends_none here a parted = ([], none here, record { asks = λ yes. absurd (parted yes); rests = λ no. refl }, Appends-nil a)
 
 -- where it is asked for
@@ -57,7 +58,8 @@ err_none P (Ok x) here a = tt
 err_none P (Err e) here a = λ well. (here, writes_none here a)
 
 -- what was written by then
-pub err_asked : {A X E : Type 0} {far : FarEnd} (P : E → Type 0) (result : Result X E) (until : ℕ) (old asked : Stand A far) (a b : Option (List ℕ))
+pub err_asked : {A X E : Type 0} {far : FarEnd} (P : E → Type 0) (result : Result X E) (until : ℕ)
+    (old asked : Stand A far) (a b : Option (List ℕ))
     → Does old (Closes until) asked
     → IfErr result (λ why. P why → WritesOn asked a b) → IfErr result (λ why. P why → WritesOn old a b)
 err_asked P (Ok x) until old asked a b does rest = tt
@@ -66,7 +68,8 @@ err_asked P (Err e) until old asked a b does rest =
 
 -- ---- a watch whose time is over
 
-pub ok_over : {A X E : Type 0} {far : FarEnd} (result : Result X E) (for_ms : Option ℕ) (begins : ℕ) (ready over last : Stand A far) (a b c : Option (List ℕ))
+pub ok_over : {A X E : Type 0} {far : FarEnd} (result : Result X E) (for_ms : Option ℕ) (begins : ℕ) (ready over last : Stand A far)
+    (a b c : Option (List ℕ))
     → Writes ready over a b → HasCome (end_of begins for_ms) over
     → OnOk result (WritesEnd over last b c) → OnOk result ((text : List ℕ) × IsOver for_ms ready last text × Appends a c text)
 ok_over (Ok x) for_ms begins ready over last a b c first comes rest = (
@@ -92,7 +95,8 @@ pub ends_from : {A : Type 0} {far : FarEnd} (aims : List (Side × Text)) (for_ms
 ends_from aims for_ms first ready last text is_accepted follows over accepted =
     record { ready = ready; last = last; follows = follows; over = over; accepted = accepted }
 
-pub over_prints : {A : Type 0} {far : FarEnd} (aims : List (Side × Text)) (for_ms : Option ℕ) (first ready last : Stand A far) (text : List ℕ)
+pub over_prints : {A : Type 0} {far : FarEnd} (aims : List (Side × Text)) (for_ms : Option ℕ)
+    (first ready last : Stand A far) (text : List ℕ)
     → FollowsAll aims first ready → IsOver for_ms ready last text
     → PrintsFrom aims first text
 over_prints {A} aims for_ms first ready last text follows is = record {
@@ -137,7 +141,8 @@ grown_led {A} {far} old new grows led =
     subst (λ (s : Stand A far). IsLed (view_in s)) (sym grows.takes.ends)
     (takes_led grows.wants.aims old grows.takes.last grows.takes.takes led)
 
-tends_led : {A : Type 0} {far : FarEnd} (old : Stand A far) (text : List ℕ) (new : Stand A far) → Tends old text new → IsLed (view_in old) → IsLed (view_in new)
+tends_led : {A : Type 0} {far : FarEnd} (old : Stand A far) (text : List ℕ) (new : Stand A far)
+    → Tends old text new → IsLed (view_in old) → IsLed (view_in new)
 tends_led old text new tends led =
     grown_led tends.left new tends.grows
     (lets_led (tickets_gone (view_in old) old.watched)
@@ -159,23 +164,27 @@ tended_led : {A : Type 0} {far : FarEnd} (is_over : Bool) (old : Stand A far) (t
 tended_led {A} {far} true old text new tends led = subst (λ (s : Stand A far). IsLed (view_in s)) (sym (tends.over refl).0) led
 tended_led false old text new tends led = quiet_led old text new old.course.told refl tends led
 
-does_led : {A : Type 0} {far : FarEnd} (move : Move A) (old new : Stand A far) → Does old move new → IsLed (view_in old) → IsLed (view_in new)
+does_led : {A : Type 0} {far : FarEnd} (move : Move A) (old new : Stand A far)
+    → Does old move new → IsLed (view_in old) → IsLed (view_in new)
 does_led (Takes turn text) old new rounds led =
     tended_led (is_come turn) rounds.between rounds.more new rounds.tends (rounds.turns.goes.led led)
 does_led (Closes until) old new does led = hands_led (happens.Call 0 call.Close (Some until)) old.course new.course does.0 led
 
-turn_led : {A : Type 0} {far : FarEnd} (move : Move A) (old new : Stand A far) (does : Does old move new) → IsLed (view_in old) → IsTurnLed move old new does
+turn_led : {A : Type 0} {far : FarEnd} (move : Move A) (old new : Stand A far) (does : Does old move new) → IsLed (view_in old)
+    → IsTurnLed move old new does
 turn_led (Takes turn text) old new rounds led = rounds.turns.goes.led led
 turn_led (Closes until) old new does led = tt
 
-all_stood : {A : Type 0} {far : FarEnd} (moves : List (Move A)) (old new : Stand A far) (does : FoldsTo Does old moves new) → IsLed (view_in old)
+all_stood : {A : Type 0} {far : FarEnd} (moves : List (Move A)) (old new : Stand A far)
+    (does : FoldsTo Does old moves new) → IsLed (view_in old)
     → AllStood moves old new does
 all_stood [] old new does led = tt
 all_stood (move ∷ moves) old new does led =
     let next = does_led move old does.0 does.1 led in
     (turn_led move old does.0 does.1 led, next, all_stood moves does.0 new does.2 next)
 
-led_on : {A : Type 0} {far : FarEnd} (moves : List (Move A)) (old new : Stand A far) → FoldsTo Does old moves new → IsLed (view_in old) → IsLed (view_in new)
+led_on : {A : Type 0} {far : FarEnd} (moves : List (Move A)) (old new : Stand A far)
+    → FoldsTo Does old moves new → IsLed (view_in old) → IsLed (view_in new)
 led_on {A} {far} [] old new same led = subst (λ (s : Stand A far). IsLed (view_in s)) same led
 led_on (move ∷ moves) old new does led = led_on moves does.0 new does.2 (does_led move old does.0 does.1 led)
 
@@ -195,7 +204,8 @@ begun_led style roots most first begun = subst IsLed (sym begun.client) (fresh (
 
 -- ---- the whole
 
-module _ {A : Type 0} {far : FarEnd} (style : Style) (aims : List (Side × Text)) (roots : List Text) (most : ℕ) (first : Stand A far) (text : List ℕ) where
+module _ {A : Type 0} {far : FarEnd} (style : Style) (aims : List (Side × Text)) (roots : List Text) (most : ℕ)
+    (first : Stand A far) (text : List ℕ) where
   pub printed : IsBegun style roots most first → (text ≡ []) ⊎ PrintsFrom (aims ++ roots_aims roots) first text
       → IsPrinted A far style aims roots most text
   printed begun (inl none) = inl none

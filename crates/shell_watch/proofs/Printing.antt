@@ -75,7 +75,8 @@ ok_writes_after (Ok x) old between new a b c first rest = writes_after old betwe
 ok_writes_after (Err e) old between new a b c first rest = tt
 
 -- what was written stays, where nothing more is
-pub writes_on : {A : Type 0} {far : FarEnd} (old between : Stand A far) (a b c : Option (List ℕ)) → c ≡ b → Writes old between a b → WritesOn old a c
+pub writes_on : {A : Type 0} {far : FarEnd} (old between : Stand A far) (a b c : Option (List ℕ))
+    → c ≡ b → Writes old between a b → WritesOn old a c
 writes_on old between a b c same writes = (between, subst (Writes old between a) (sym same) writes)
 
 pub on_after : {A : Type 0} {far : FarEnd} (old between : Stand A far) (a b c : Option (List ℕ))
@@ -83,7 +84,8 @@ pub on_after : {A : Type 0} {far : FarEnd} (old between : Stand A far) (a b c : 
 on_after old between a b c first rest = (rest.0, writes_after old between rest.0 a b c first rest.1)
 
 -- one turn, and what becomes of the trees
-pub rounds : {A : Type 0} {far : FarEnd} (until : ℕ) (is_over : Bool) (old between new : Stand A far) (told more : List ℕ) (a b : Option (List ℕ))
+pub rounds : {A : Type 0} {far : FarEnd} (until : ℕ) (is_over : Bool) (old between new : Stand A far)
+    (told more : List ℕ) (a b : Option (List ℕ))
     → Heard until is_over old told between
     → TendsSo is_over between more new → Appends a b (told ++ more) → Writes old new a b
 rounds {A} until is_over old between new told more a b heard tends adds = (
@@ -116,14 +118,16 @@ err_after P (Err e) old between a b c first rest = λ well. on_after old between
 -- ---- followed
 
 -- one more
-pub follows_more : {A : Type 0} {far : FarEnd} (subjects : List (NodeSide A)) (index : ℕ) (subject : NodeSide A) (first here new : Stand A far)
+pub follows_more : {A : Type 0} {far : FarEnd} (subjects : List (NodeSide A)) (index : ℕ) (subject : NodeSide A)
+    (first here new : Stand A far)
     → index < length subjects → subject ≡ get_or subjects index subject
     → FollowsAll (aims_of (take index subjects)) first here → FollowsSo false (aim_of subject) here new
     → FollowsAll (aims_of (take (index + 1) subjects)) first new
 follows_more {A} subjects index subject first here new within is follows next =
     mapped_next (λ at aim after. FollowsSo false aim at after) aim_of subjects index subject first here new within is follows next
 
-pub ok_follows : {A S X E : Type 0} (remaining contents : S → Option (List ℕ)) (far : FarEnd) (state : S → far.State) (result : Result X E) (is_found : Bool) (aim : Side × Text)
+pub ok_follows : {A S X E : Type 0} (remaining contents : S → Option (List ℕ)) (far : FarEnd) (state : S → far.State) (result : Result X E)
+    (is_found : Bool) (aim : Side × Text)
     (first last : Engine A S) (olds news : List (Member A (String A))) (one : Member A (String A)) (is_accepted : Bool) (style : Style)
     (trees : Trees A) (next : ℕ) → aim_of one.subject ≡ aim → string_bytes one.note ≡ none_words aim.0 → one.ticket ≡ trees.ticket
     → one.is_found ≡ is_found → news ≡ olds ++ one ∷ []
@@ -151,7 +155,8 @@ ok_follows remaining contents far state
 -- ---- one turn, heard
 
 -- what a driver has come to, with what it hands on
-pub heard_so : {A S : Type 0} (remaining contents : S → Option (List ℕ)) (far : FarEnd) (state : S → far.State) (until : ℕ) (is_over : Bool) (turn : Turn A)
+pub heard_so : {A S : Type 0} (remaining contents : S → Option (List ℕ)) (far : FarEnd) (state : S → far.State) (until : ℕ)
+    (is_over : Bool) (turn : Turn A)
     (first between last : Engine A S) (olds news : List (Member A (String A))) (was is : Bool) (style : Style) (trees : Trees A)
     (text : List ℕ) → last ≡ between
     → GoesBy (notes_of turn) (course_of first None) (course_of between (passed_in turn))

@@ -29,7 +29,8 @@ lets_run : {A : Type 0} {far : FarEnd} (tickets : List ℕ) (old new : Stand A f
 lets_run [] old new same = still old new same
 lets_run (ticket ∷ tickets) old new lets = on old lets.0 new lets.1.runs (lets_run tickets lets.0 new lets.2)
 
-taken_run : {A : Type 0} {far : FarEnd} (is : Bool) (aim : Side × Text) (old new : Stand A far) → TakesOnWhere is aim old new → RunsOn old new
+taken_run : {A : Type 0} {far : FarEnd} (is : Bool) (aim : Side × Text) (old new : Stand A far)
+    → TakesOnWhere is aim old new → RunsOn old new
 taken_run true aim old new same = still old new (sym same)
 taken_run false aim old new follows = follows.runs
 
@@ -61,7 +62,8 @@ quiet_run {A} old text new (one ∷ rest) some tends = still old new (sym (tends
     some_is_none : old.course.told ≡ [] → ⊥
     some_is_none none = let e : one ∷ rest ≡ [] = sym some ∙ none in absurd cc
 
-pub tended_run : {A : Type 0} {far : FarEnd} (is_over : Bool) (old : Stand A far) (text : List ℕ) (new : Stand A far) → TendsSo is_over old text new → RunsOn old new
+pub tended_run : {A : Type 0} {far : FarEnd} (is_over : Bool) (old : Stand A far) (text : List ℕ) (new : Stand A far)
+    → TendsSo is_over old text new → RunsOn old new
 tended_run true old text new tends = still old new (sym (tends.over refl).0)
 tended_run false old text new tends = quiet_run old text new old.course.told refl tends
 

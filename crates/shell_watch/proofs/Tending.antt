@@ -39,7 +39,8 @@ told_rests is_over here waits text are some none = record {
 }
 
 -- what is done
-pub tends_all : {A : Type 0} {far : FarEnd} (old left grown new : Stand A far) (ms : ℕ) (text : List ℕ) → LetsAllGo old left → Grows left grown → new ≡ grown
+pub tends_all : {A : Type 0} {far : FarEnd} (old left grown new : Stand A far) (ms : ℕ) (text : List ℕ)
+    → LetsAllGo old left → Grows left grown → new ≡ grown
     → text ≡ bound_text old.growth.is_bounded new.growth.is_bounded new.style ms new.growth.most → Tends old text new
 tends_all {A} {far} old left grown new ms text lets grows same is = record {
   ms = ms;
@@ -50,7 +51,8 @@ tends_all {A} {far} old left grown new ms text lets grows same is = record {
 }
 
 -- nothing waits, and the watch is not over
-pub ok_tends : {A T E : Type 0} {far : FarEnd} (result : Result T E) (bytes : T → List ℕ) (is_over : Bool) (old new : Stand A far) (waits : List (Action A))
+pub ok_tends : {A T E : Type 0} {far : FarEnd} (result : Result T E) (bytes : T → List ℕ) (is_over : Bool) (old new : Stand A far)
+    (waits : List (Action A))
     → old.course.told ≡ told_by waits → is_over ≡ false
     → waits ≡ [] → IfOk result (λ text. Tends old (bytes text) new) → IfOk result (λ text. TendsSo is_over old (bytes text) new)
 ok_tends (Ok text) bytes is_over old new waits are on none tends = record {
@@ -61,11 +63,13 @@ ok_tends (Ok text) bytes is_over old new waits are on none tends = record {
 ok_tends (Err e) bytes is_over old new waits are on none tends = tt
 
 -- a watch that is as it was
-pub same_stand : {A S : Type 0} (remaining contents : S → Option (List ℕ)) (far : FarEnd) (state : S → far.State) (engine other : Engine A S)
+pub same_stand : {A S : Type 0} (remaining contents : S → Option (List ℕ)) (far : FarEnd) (state : S → far.State)
+    (engine other : Engine A S)
     (watched others : List (Member A (String A))) (is was : Bool) (style once : Style) (trees before : Trees A)
     → engine ≡ other → watched ≡ others
     → is ≡ was → style ≡ once → trees ≡ before
-    → stand_of remaining contents far state engine watched is style trees ≡ stand_of remaining contents far state other others was once before
+    → stand_of remaining contents far state engine watched is style trees
+    ≡ stand_of remaining contents far state other others was once before
 same_stand remaining contents far state engine other watched others is was style once trees before e w a s t = cc
 
 pub ok_grows : {A X E : Type 0} {far : FarEnd} (result : Result X E) (wants : Wants) (old new : Stand A far)

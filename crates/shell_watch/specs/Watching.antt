@@ -271,7 +271,8 @@ abbrev pub AllStood : {A : Type 0} {far : FarEnd} → (moves : List (Move A)) �
 AllStood [] old new does = ⊤
 AllStood (move ∷ moves) old new does = IsTurnLed move old does.0 does.1 × IsLed (view_in does.0) × AllStood moves does.0 new does.2
 
-abbrev pub IsStood : {A : Type 0} {far : FarEnd} → (old : Stand A far) → (text : List ℕ) → (new : Stand A far) → Prints old text new → Type 0
+abbrev pub IsStood : {A : Type 0} {far : FarEnd} → (old : Stand A far) → (text : List ℕ) → (new : Stand A far)
+    → Prints old text new → Type 0
 IsStood old text new prints = AllStood prints.moves old new prints.does
 
 abbrev pub IsPrinted : (A : Type 0) → FarEnd → Style → List (Side × Text) → (roots : List Text) → (most : ℕ) → List ℕ → Type 0

@@ -46,7 +46,8 @@ pub fn watch<A: Allocator + Copy, D: Dial + Drop, C: Clock + Drop, O: Write>(
         × Appends (O.contents out.old) (O.contents out.new) text }
     // Turns are printed so, wherever it stopped.
     ensures printed { result ≢ WatchEnd.Stream
-        → (text : List ℕ) × IsPrinted A D.Stream.far plan.entry.style (aims_of plan.entry.subjects.items) plan.entry.trees.items plan.entry.most text
+        → (text : List ℕ)
+        × IsPrinted A D.Stream.far plan.entry.style (aims_of plan.entry.subjects.items) plan.entry.trees.items plan.entry.most text
         × Appends (O.contents out.old) (O.contents out.new) text }
 {
     let WatchPlan {

@@ -35,7 +35,8 @@ use Rattle.theory_shown.proofs.Watched.{moves_too}
 -- ---- a watch
 
 -- it begins as its laws want
-watch_begins : {A : Type 0} {far : FarEnd} (style : Style) (roots : List Text) (most : ℕ) (first : Stand A far) (begun : IsBegun style roots most first)
+watch_begins : {A : Type 0} {far : FarEnd} (style : Style) (roots : List Text) (most : ℕ) (first : Stand A far)
+    (begun : IsBegun style roots most first)
     → IsTimed begun.timeout first → Begins (flow_in first)
 watch_begins style roots most first begun timed = record {
   apart = ap (λ (c : ChannelView). c.is_open) begun.channel;

@@ -430,7 +430,8 @@ linked_end_agrees A past is style roots most aims for_ms first text is_accepted 
     AllCohere (history_of h) from.over.prints.moves from.ready from.over.over from.over.prints.does
     × AllCohere (history_of h) from.over.closes.moves from.over.over from.last from.over.closes.does) same
     (watch_end_agrees A (bench_end past) ByDriver closes.after (ends_cohere A (bench_end past))
-    (subst (λ (h : HistoryView). IsHistory (history_of h)) (sym same) is) style roots most aims for_ms first text is_accepted begun from timed
+    (subst (λ (h : HistoryView). IsHistory (history_of h)) (sym same) is) style roots most aims for_ms first text
+    is_accepted begun from timed
     (record {
       before = started past;
       ready = follows.after;

@@ -97,7 +97,8 @@ module _ {A : Type 0} {far : FarEnd} where
 
   -- ---- a run
 
-  record Waits (steps : List (Option (Deed A))) (old new : Flow A far) (passes : FoldsTo Passes old steps new) (before : Served) : Type 0 where
+  record Waits (steps : List (Option (Deed A))) (old new : Flow A far) (passes : FoldsTo Passes old steps new)
+      (before : Served) : Type 0 where
     after : Served
     meets : MeetsBench ByDriver steps old new passes before after
     history : after.history ≡ before.history
@@ -118,7 +119,11 @@ module _ {A : Type 0} {far : FarEnd} where
   waits (Some (Made (Noted now happens.Opened)) ∷ steps) old new passes quiet before ready =
       let then_ready = connected_ready before ready in
       let rest = waits steps passes.0 new passes.2 quiet (bench.connected before 0) then_ready in
-      record { after = rest.after; meets = (bench.connected before 0, (before, refl, 0, ready, then_ready, refl), rest.meets); history = rest.history }
+      record {
+        after = rest.after;
+        meets = (bench.connected before 0, (before, refl, 0, ready, then_ready, refl), rest.meets);
+        history = rest.history;
+      }
   waits (Some (Made (Noted now happens.Failed)) ∷ steps) old new passes quiet before ready =
       let rest = waits steps passes.0 new passes.2 quiet before ready in
       record { after = rest.after; meets = (before, refl, rest.meets); history = rest.history }

@@ -61,7 +61,8 @@ move_bound (Takes turn text) old new does before after meets bound =
     (run_bound (flow_in old) (flow_in does.between) before meets.0 meets.1 bound)
 move_bound (Closes until) old new does before after meets bound = run_bound (flow_in old) (flow_in new) before after meets bound
 
-move_coheres : {A : Type 0} {far : FarEnd} (move : Move A) (old new : Stand A far) (does : Does old move new) (before after : Shown) (history : History)
+move_coheres : {A : Type 0} {far : FarEnd} (move : Move A) (old new : Stand A far) (does : Does old move new)
+    (before after : Shown) (history : History)
     → MoveMeets (RunMeets ByDriver) move old new does before after → Bound (flow_in old) before
     → GoesOn after.history history → IsHistory history → IsMoveCoherent history move old new does
 move_coheres (Takes turn text) old new does before after history meets bound goes is =
@@ -76,14 +77,16 @@ move_coheres (Closes until) old new does before after history meets bound goes i
 
 -- ---- moves
 
-moves_on : {A : Type 0} {far : FarEnd} (moves : List (Move A)) (old new : Stand A far) (does : FoldsTo Does old moves new) (before after : Shown)
+moves_on : {A : Type 0} {far : FarEnd} (moves : List (Move A)) (old new : Stand A far)
+    (does : FoldsTo Does old moves new) (before after : Shown)
     → MovesMeet (RunMeets ByDriver) moves old new does before after → GoesOn before.history after.history
 moves_on [] old new does before after meets = same_on before after meets
 moves_on (move ∷ moves) old new does before after meets =
     goes_further before.history meets.0.history after.history (move_on move old does.0 does.1 before meets.0 meets.1)
     (moves_on moves does.0 new does.2 meets.0 after meets.2)
 
-moves_bound : {A : Type 0} {far : FarEnd} (moves : List (Move A)) (old new : Stand A far) (does : FoldsTo Does old moves new) (before after : Shown)
+moves_bound : {A : Type 0} {far : FarEnd} (moves : List (Move A)) (old new : Stand A far)
+    (does : FoldsTo Does old moves new) (before after : Shown)
     → MovesMeet (RunMeets ByDriver) moves old new does before after → Bound (flow_in old) before
     → Bound (flow_in new) after
 moves_bound [] old new same before after meets bound =
@@ -91,7 +94,8 @@ moves_bound [] old new same before after meets bound =
 moves_bound (move ∷ moves) old new does before after meets bound =
     moves_bound moves does.0 new does.2 meets.0 after meets.2 (move_bound move old does.0 does.1 before meets.0 meets.1 bound)
 
-all_cohere : {A : Type 0} {far : FarEnd} (moves : List (Move A)) (old new : Stand A far) (does : FoldsTo Does old moves new) (before after : Shown)
+all_cohere : {A : Type 0} {far : FarEnd} (moves : List (Move A)) (old new : Stand A far)
+    (does : FoldsTo Does old moves new) (before after : Shown)
     (history : History) → MovesMeet (RunMeets ByDriver) moves old new does before after → Bound (flow_in old) before
     → GoesOn after.history history → IsHistory history → AllCohere history moves old new does
 all_cohere [] old new does before after history meets bound goes is = tt
@@ -104,7 +108,8 @@ all_cohere (move ∷ moves) old new does before after history meets bound goes i
 
 -- ---- the whole
 
-ready_bound : {A : Type 0} {far : FarEnd} (first ready : Stand A far) (shown : Shown) → FollowsMeet ByDriver first ready shown → Bound (flow_in ready) shown
+ready_bound : {A : Type 0} {far : FarEnd} (first ready : Stand A far) (shown : Shown)
+    → FollowsMeet ByDriver first ready shown → Bound (flow_in ready) shown
 ready_bound first ready shown meets =
     run_bound (flow_in first) (flow_in ready) meets.before shown meets.runs (begins_bound (flow_in first) meets.before meets.begins)
 
@@ -127,7 +132,8 @@ ends_cohere A far aims for_ms first text is_accepted from after meets =
 
 -- ---- by what streams know
 
-moves_driver : {A : Type 0} {far : FarEnd} (moves : List (Move A)) (old new : Stand A far) (does : FoldsTo Does old moves new) (before after : Shown)
+moves_driver : {A : Type 0} {far : FarEnd} (moves : List (Move A)) (old new : Stand A far)
+    (does : FoldsTo Does old moves new) (before after : Shown)
     → MovesMeet (RunMeets ByStream) moves old new does before after → MovesMeet (RunMeets ByDriver) moves old new does before after
 moves_driver moves old new does before after meets =
     moves_too (λ (s : Shown). s) (RunMeets ByStream) (RunMeets ByDriver) run_driver moves old new does before after meets

@@ -29,14 +29,16 @@ use Rattle.theory_shown.specs.Watched.{AllCohere, MovesMeet}
 -- ---- a bench beside a watch
 
 -- A driver comes from one place to another by a run, beside which a bench does what its clauses say, with these bytes.
-pub record RunBenches {A : Type 0} {far : FarEnd} (By : List ℕ → List ℕ → Flow A far → Flow A far → Type 0) (old new : Flow A far) (before after : Served)
+pub record RunBenches {A : Type 0} {far : FarEnd} (By : List ℕ → List ℕ → Flow A far → Flow A far → Type 0)
+    (old new : Flow A far) (before after : Served)
     : Type 0 where
   pub runs : Runs old new
   pub fits : StepsFit runs.steps old new runs.passes
   pub meets : MeetsBench By runs.steps old new runs.passes before after
 
 -- So does a watch, from its beginning on: up to where each subject is followed, and up to where it has printed this.
-pub record PrintsBench {A : Type 0} {far : FarEnd} (By : List ℕ → List ℕ → Flow A far → Flow A far → Type 0) (aims : List (Side × Text)) (first : Stand A far)
+pub record PrintsBench {A : Type 0} {far : FarEnd} (By : List ℕ → List ℕ → Flow A far → Flow A far → Type 0)
+    (aims : List (Side × Text)) (first : Stand A far)
     (text : List ℕ) (from : PrintsFrom aims first text) (after : Served) : Type 0 where
   pub before : Served
   pub ready : Served
@@ -44,7 +46,8 @@ pub record PrintsBench {A : Type 0} {far : FarEnd} (By : List ℕ → List ℕ �
   pub prints : MovesMeet (RunBenches By) from.prints.moves from.ready from.last from.prints.does ready after
 
 -- And where its time is over: through the end of its session.
-pub record EndsBench {A : Type 0} {far : FarEnd} (By : List ℕ → List ℕ → Flow A far → Flow A far → Type 0) (aims : List (Side × Text)) (for_ms : Option ℕ)
+pub record EndsBench {A : Type 0} {far : FarEnd} (By : List ℕ → List ℕ → Flow A far → Flow A far → Type 0)
+    (aims : List (Side × Text)) (for_ms : Option ℕ)
     (first : Stand A far) (text : List ℕ) (is_accepted : Bool) (from : EndsFrom aims for_ms first text is_accepted) (after : Served)
     : Type 0 where
   pub before : Served

@@ -48,7 +48,8 @@ module _ {A : Type 0} {far : FarEnd} (By : List ℕ → List ℕ → Flow A far 
   MeetsBench (None ∷ steps) old new passes before after = MeetsBench steps passes.0 new passes.2 before after
 
 -- A driver goes on from its beginning, and a bench beside it, whose history is one in the end.
-pub record DrivesBench {A : Type 0} {far : FarEnd} (By : List ℕ → List ℕ → Flow A far → Flow A far → Type 0) (old new : Flow A far) (after : Served) : Type 0 where
+pub record DrivesBench {A : Type 0} {far : FarEnd} (By : List ℕ → List ℕ → Flow A far → Flow A far → Type 0) (old new : Flow A far)
+    (after : Served) : Type 0 where
   pub begins : Begins old
   pub runs : Runs old new
   pub fits : StepsFit runs.steps old new runs.passes
@@ -85,7 +86,8 @@ BenchesReceive A far =
     before (with_requests (bench.connected before server) bytes)
 
 -- In a run nothing comes: no read brings a byte.
-abbrev pub NothingComes : {A : Type 0} {far : FarEnd} → (steps : List (Option (Deed A))) → (old new : Flow A far) → FoldsTo Passes old steps new → Type 0
+abbrev pub NothingComes : {A : Type 0} {far : FarEnd} → (steps : List (Option (Deed A))) → (old new : Flow A far)
+    → FoldsTo Passes old steps new → Type 0
 NothingComes [] old new passes = ⊤
 NothingComes (Some (Made (Looked look)) ∷ steps) old new passes = (passes.0.held ≡ []) × NothingComes steps passes.0 new passes.2
 NothingComes (step ∷ steps) old new passes = NothingComes steps passes.0 new passes.2

@@ -33,19 +33,22 @@ module _ {A World : Type 0} {far : FarEnd} (Beside : (old new : Flow A far) → 
 -- ---- servers beside a watch
 
 -- A driver comes from one place to another by a run beside which servers go on so, with these bytes.
-pub record RunMeets {A : Type 0} {far : FarEnd} (By : List ℕ → List ℕ → Flow A far → Flow A far → Type 0) (old new : Flow A far) (before after : Shown) : Type 0 where
+pub record RunMeets {A : Type 0} {far : FarEnd} (By : List ℕ → List ℕ → Flow A far → Flow A far → Type 0) (old new : Flow A far)
+    (before after : Shown) : Type 0 where
   pub runs : Runs old new
   pub fits : StepsFit runs.steps old new runs.passes
   pub meets : Meets By runs.steps old new runs.passes before after
 
 -- From its beginning on, up to where each subject is followed.
-pub record FollowsMeet {A : Type 0} {far : FarEnd} (By : List ℕ → List ℕ → Flow A far → Flow A far → Type 0) (first ready : Stand A far) (shown : Shown) : Type 0 where
+pub record FollowsMeet {A : Type 0} {far : FarEnd} (By : List ℕ → List ℕ → Flow A far → Flow A far → Type 0) (first ready : Stand A far)
+    (shown : Shown) : Type 0 where
   pub begins : Begins (flow_in first)
   pub before : Shown
   pub runs : RunMeets By (flow_in first) (flow_in ready) before shown
 
 -- From its beginning up to where it has printed this, and what servers show then has a history.
-pub record PrintsMeet {A : Type 0} {far : FarEnd} (By : List ℕ → List ℕ → Flow A far → Flow A far → Type 0) (aims : List (Side × Text)) (first : Stand A far)
+pub record PrintsMeet {A : Type 0} {far : FarEnd} (By : List ℕ → List ℕ → Flow A far → Flow A far → Type 0)
+    (aims : List (Side × Text)) (first : Stand A far)
     (text : List ℕ) (from : PrintsFrom aims first text) (after : Shown) : Type 0 where
   pub ready : Shown
   pub follows : FollowsMeet By first from.ready ready
@@ -53,7 +56,8 @@ pub record PrintsMeet {A : Type 0} {far : FarEnd} (By : List ℕ → List ℕ �
   pub history : IsHistory after.history
 
 -- And where its time is over: through the end of its session.
-pub record EndsMeet {A : Type 0} {far : FarEnd} (By : List ℕ → List ℕ → Flow A far → Flow A far → Type 0) (aims : List (Side × Text)) (for_ms : Option ℕ)
+pub record EndsMeet {A : Type 0} {far : FarEnd} (By : List ℕ → List ℕ → Flow A far → Flow A far → Type 0)
+    (aims : List (Side × Text)) (for_ms : Option ℕ)
     (first : Stand A far) (text : List ℕ) (is_accepted : Bool) (from : EndsFrom aims for_ms first text is_accepted) (after : Shown)
     : Type 0 where
   pub ready : Shown
@@ -70,7 +74,8 @@ abbrev pub IsMoveCoherent : {A : Type 0} {far : FarEnd} → History → (move : 
 IsMoveCoherent history (Takes turn text) old new does = IsCoherentWith history (view_in does.between) × IsCoherentWith history (view_in new)
 IsMoveCoherent history (Closes until) old new does = IsCoherentWith history (view_in new)
 
-abbrev pub AllCohere : {A : Type 0} {far : FarEnd} → History → (moves : List (Move A)) → (old new : Stand A far) → FoldsTo Does old moves new → Type 0
+abbrev pub AllCohere : {A : Type 0} {far : FarEnd} → History → (moves : List (Move A)) → (old new : Stand A far)
+    → FoldsTo Does old moves new → Type 0
 AllCohere history [] old new does = ⊤
 AllCohere history (move ∷ moves) old new does = IsMoveCoherent history move old does.0 does.1 × AllCohere history moves does.0 new does.2
 

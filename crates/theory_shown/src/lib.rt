@@ -68,8 +68,8 @@ pub fn watches_agree<A: Allocator, S: Stream, B: Allocator + Copy>(bench: &Bench
     known_of(bench);
 }
 
-/// Over a dial whose streams say that a server in memory with this history is at their far end (`bench_end`), what `watch` prints agrees with
-/// the history, wherever pieces and cuts fall: nothing is premise of what a bench does beside the watch, since the streams say that.
+/// Over a dial whose streams say that a server in memory with this history is at their far end (`bench_end`), what `watch` prints agrees
+/// with the history, wherever pieces and cuts fall: nothing is premise of what a bench does beside the watch, since the streams say that.
 pub fn linked_watches_agree<A: Allocator, B: Allocator + Copy>(bench: &Bench<B>)
     ensures printed { LinkedWatchAgrees A bench.now.history }
     ensures over { LinkedEndAgrees A bench.now.history }

@@ -59,7 +59,8 @@ none_where false held none = refl
 
 -- ---- bytes are written and read
 
-module _ {A : Type 0} {far : FarEnd} (old new : Flow A far) (before after : Shown) (course : new.course ≡ record old.course { channel = new.course.channel })
+module _ {A : Type 0} {far : FarEnd} (old new : Flow A far) (before after : Shown)
+    (course : new.course ≡ record old.course { channel = new.course.channel })
     (there : new.course.channel.is_open ≡ old.course.channel.is_open) where
   stretch : (b : Bool) → old.course.channel.is_open ≡ b → Meanwhile ByDriver b old new before after → Bound old before → Bound new after
   stretch true is meets bound = record {
@@ -282,12 +283,14 @@ deed_bound (Asked now input) old new before after carries fits meets bound =
     subst (Bound new) (sym meets) (asked_bound now input old new before carries fits bound)
 
 -- what the program takes of what it is told changes nothing of that
-told_bound : {A : Type 0} {far : FarEnd} (old new : Flow A far) (shown : Shown) → new ≡ record old { course = record old.course { told = new.course.told } }
+told_bound : {A : Type 0} {far : FarEnd} (old new : Flow A far) (shown : Shown)
+    → new ≡ record old { course = record old.course { told = new.course.told } }
     → Bound old shown → Bound new shown
 told_bound old new shown same bound =
     subst (λ f. Bound f shown) (sym same) (record { here = bound.here; tied = bound.tied; later = bound.later })
 
-pub steps_bound : {A : Type 0} {far : FarEnd} (steps : List (Option (Deed A))) (old new : Flow A far) (passes : FoldsTo Passes old steps new)
+pub steps_bound : {A : Type 0} {far : FarEnd} (steps : List (Option (Deed A))) (old new : Flow A far)
+    (passes : FoldsTo Passes old steps new)
     (before after : Shown) → StepsFit steps old new passes → Meets ByDriver steps old new passes before after
     → Bound old before → Bound new after
 steps_bound [] old new same before after fits meets bound = subst (Bound new) (sym meets) (subst (λ f. Bound f before) same bound)
@@ -362,7 +365,8 @@ befalls_driver (Made (Noted now (happens.Follow ticket side path))) old new befo
 befalls_driver (Made (Noted now (happens.Unfollow ticket))) old new before after carries meets = meets
 befalls_driver (Asked now input) old new before after carries meets = meets
 
-pub meets_driver : {A : Type 0} {far : FarEnd} (steps : List (Option (Deed A))) (old new : Flow A far) (passes : FoldsTo Passes old steps new)
+pub meets_driver : {A : Type 0} {far : FarEnd} (steps : List (Option (Deed A))) (old new : Flow A far)
+    (passes : FoldsTo Passes old steps new)
     (before after : Shown) → Meets ByStream steps old new passes before after → Meets ByDriver steps old new passes before after
 meets_driver [] old new same before after meets = meets
 meets_driver (Some deed ∷ steps) old new passes before after meets = (
@@ -391,7 +395,8 @@ bytes_serve old new after meets =
           (served_so kept.was.start kept.was.items kept.met kept.was.served);
     }
 
-to_driver : {A : Type 0} {far : FarEnd} (old new : Flow A far) (after : Shown) → MeetsServers ByStream old new after → MeetsServers ByDriver old new after
+to_driver : {A : Type 0} {far : FarEnd} (old new : Flow A far) (after : Shown)
+    → MeetsServers ByStream old new after → MeetsServers ByDriver old new after
 to_driver old new after meets = record {
   begins = meets.begins;
   runs = meets.runs;

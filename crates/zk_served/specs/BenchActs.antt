@@ -58,7 +58,8 @@ pub record BenchGoes (old : Served) (took gave : List ℕ) (new : Served) : Type
   pub given : given_in acts ≡ gave
   pub history : new.history ≡ old.history
 
--- So it goes on a connection, until it is over: after whatever the bench did until then the stream gives nothing, and what it takes is lost.
+-- So it goes on a connection, until it is over: after whatever the bench did until then the stream gives nothing, and what it takes is
+-- lost.
 abbrev pub LineDoes : Option Served → (took gave : List ℕ) → Option Served → Type 0
 LineDoes (Some old) took gave (Some new) = BenchGoes old took gave new
 LineDoes (Some old) took gave None = (between : Served) × BenchGoes old took gave between

@@ -25,7 +25,8 @@ pub record Begins {A : Type 0} {far : FarEnd} (flow : Flow A far) : Type 0 where
   pub later_timed : 0 < unsigned_abs flow.course.agent.timeout_ms
 
 -- What it does meets servers from a beginning on, and what they show in the end has a history.
-pub record MeetsServers {A : Type 0} {far : FarEnd} (By : List ℕ → List ℕ → Flow A far → Flow A far → Type 0) (old new : Flow A far) (after : Shown) : Type 0 where
+pub record MeetsServers {A : Type 0} {far : FarEnd} (By : List ℕ → List ℕ → Flow A far → Flow A far → Type 0) (old new : Flow A far)
+    (after : Shown) : Type 0 where
   pub begins : Begins old
   pub runs : Runs old new
   pub fits : StepsFit runs.steps old new runs.passes

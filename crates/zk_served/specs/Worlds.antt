@@ -42,7 +42,8 @@ module _ {A : Type 0} {far : FarEnd} (By : List ℕ → List ℕ → Flow A far 
   Befalls old deed new before after = after ≡ before
 
   -- step after step
-  abbrev pub Meets : (steps : List (Option (Deed A))) → (old new : Flow A far) → FoldsTo Passes old steps new → (before after : Shown) → Type 0
+  abbrev pub Meets : (steps : List (Option (Deed A))) → (old new : Flow A far)
+      → FoldsTo Passes old steps new → (before after : Shown) → Type 0
   Meets [] old new passes before after = after ≡ before
   Meets (Some deed ∷ steps) old new passes before after =
       (between : Shown) × Befalls old deed passes.0 before between × Meets steps passes.0 new passes.2 between after

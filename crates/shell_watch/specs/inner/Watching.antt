@@ -43,7 +43,8 @@ pub record ShowsThen {A : Type 0} (style : Style) (ms : ℕ) (view : View) (wait
   pub added : after ≡ before ++ shown
 
 -- One turn, by whose moment this one may have come.
-pub record Heard {A : Type 0} {far : FarEnd} (until : ℕ) (is_over : Bool) (old : Stand A far) (text : List ℕ) (new : Stand A far) : Type 0 where
+pub record Heard {A : Type 0} {far : FarEnd} (until : ℕ) (is_over : Bool) (old : Stand A far) (text : List ℕ)
+    (new : Stand A far) : Type 0 where
   pub turn : Turn A
   pub turns : Turns turn old text new
   pub over : is_over ≡ is_come turn

@@ -23,5 +23,6 @@ returns g c =
     c.in_ok-ask.ensures.hands in
     let runs = subst (λ (e : Engine g.row.A.Denot g.row.D-Stream.Denot).
     Runs (flow_of remaining contents far state e None) (flow_of remaining contents far state asked None)) c.now.ensures.engine
-    (calls_run (flow_of remaining contents far state c.now.new.self.engine None) (flow_of remaining contents far state asked None) c.in_ok-ask.ensures.flows) in
+    (calls_run (flow_of remaining contents far state c.now.new.self.engine None)
+    (flow_of remaining contents far state asked None) c.in_ok-ask.ensures.flows) in
     (hands, runs, refl, refl, refl, ap (λ l. record (growth_of old.trees) { roots = l }) c.new.ensures.items)

@@ -17,7 +17,8 @@ loop-ticket-init g c =
     let old = c.args.self.now in
     let are : c.drop_gone.new.members.items ≡ filter (stays (view_of old.driver.engine.agent.asker.follower.client)) old.watched.items =
     rw c.client-client.ensures at c.drop_gone.ensures in
-    ap (λ ws. stand_of g.D.Stream.Read.remaining g.D.Stream.Write.contents g.D.Stream.Stream.far g.D.Stream.Stream.state old.driver.engine ws old.is_accepted old.style old.trees)
+    ap (λ ws. stand_of g.D.Stream.Read.remaining g.D.Stream.Write.contents g.D.Stream.Stream.far g.D.Stream.Stream.state old.driver.engine
+    ws old.is_accepted old.style old.trees)
     (sym are)
 
 pub loop-ticket-preserved : goal.loop-ticket-preserved
@@ -34,9 +35,11 @@ loop-ticket-preserved g c =
     folds_next (λ at ticket after. LetsGo ticket at after) tickets index ticket
     (stand_of g.D.Stream.Read.remaining g.D.Stream.Write.contents g.D.Stream.Stream.far g.D.Stream.Stream.state old.driver.engine
     (filter (stays (view_of old.driver.engine.agent.asker.follower.client)) old.watched.items) old.is_accepted old.style old.trees)
-    (stand_of g.D.Stream.Read.remaining g.D.Stream.Write.contents g.D.Stream.Stream.far g.D.Stream.Stream.state here.driver.engine here.watched.items
+    (stand_of g.D.Stream.Read.remaining g.D.Stream.Write.contents g.D.Stream.Stream.far g.D.Stream.Stream.state
+    here.driver.engine here.watched.items
     here.is_accepted here.style here.trees)
-    (stand_of g.D.Stream.Read.remaining g.D.Stream.Write.contents g.D.Stream.Stream.far g.D.Stream.Stream.state c.unfollow.new.self.engine here.watched.items
+    (stand_of g.D.Stream.Read.remaining g.D.Stream.Write.contents g.D.Stream.Stream.far g.D.Stream.Stream.state
+    c.unfollow.new.self.engine here.watched.items
     here.is_accepted here.style here.trees)
     c.loop-ticket-test.true (sym (get_or_default_zero tickets index ticket c.loop-ticket-test.true)) c.loop-ticket.invariant
     (record {
@@ -59,5 +62,6 @@ returns g c =
     subst (λ (l : List ℕ). FoldsTo (λ at ticket after. LetsGo ticket at after)
     (stand_of g.D.Stream.Read.remaining g.D.Stream.Write.contents g.D.Stream.Stream.far g.D.Stream.Stream.state old.driver.engine
     (filter (stays view) old.watched.items) old.is_accepted old.style old.trees) l
-    (stand_of g.D.Stream.Read.remaining g.D.Stream.Write.contents g.D.Stream.Stream.far g.D.Stream.Stream.state here.driver.engine here.watched.items here.is_accepted here.style
+    (stand_of g.D.Stream.Read.remaining g.D.Stream.Write.contents g.D.Stream.Stream.far g.D.Stream.Stream.state here.driver.engine
+    here.watched.items here.is_accepted here.style
     here.trees)) all c.loop-ticket.invariant

@@ -13,5 +13,6 @@ invariant-loop-ticket g l = FoldsTo (λ at ticket after. LetsGo ticket at after)
     (stand_of g.D.Stream.Read.remaining g.D.Stream.Write.contents g.D.Stream.Stream.far g.D.Stream.Stream.state l.fn.self.driver.engine
     (filter (stays (view_of l.fn.self.driver.engine.agent.asker.follower.client)) l.fn.self.watched.items) l.fn.self.is_accepted
     l.fn.self.style l.fn.self.trees)
-    (take l.ticket-index l.ticket-items) (stand_of g.D.Stream.Read.remaining g.D.Stream.Write.contents g.D.Stream.Stream.far g.D.Stream.Stream.state l.self.driver.engine
+    (take l.ticket-index l.ticket-items)
+    (stand_of g.D.Stream.Read.remaining g.D.Stream.Write.contents g.D.Stream.Stream.far g.D.Stream.Stream.state l.self.driver.engine
     l.self.watched.items l.self.is_accepted l.self.style l.self.trees)
