@@ -66,6 +66,8 @@ impl<'a, S: Server> Write for Partner<'a, S> {
 }
 
 impl<'a, S: Server> Stream for Partner<'a, S> {
+    ghost state = { λ _. tt };
+
     fn wait_at_most(&mut self, ms: u64) -> io::Result<()> {
         let is_patient = self
             .server

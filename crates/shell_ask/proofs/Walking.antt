@@ -3,6 +3,7 @@
 use Rattle.std.proofs.Common.{◌≡◌, ◌≢◌, ◌<◌, ◌⊎◌, ◌++◌, ◌∙◌, List, [], ◌∷◌, map, reverse, inl, inr, Contains, IfNone, IfOk, IfSome, Option}
 use Rattle.std.proofs.Common.{None, Some, Result, length, true, false, append_assoc, refl, sym, ap, subst}
 use Rattle.std.proofs.lemmas.List.{map-append, reverse-append, reverse-reverse}
+use Rattle.zk_link.specs.FarEnds.{FarEnd}
 use Rattle.zk_nodes.specs.Path.{Text}
 use Rattle.zk_driver.specs.Flowing.{Flow, Runs}
 use Rattle.zk_driver.proofs.Running.{runs_join, runs_same}
@@ -47,7 +48,8 @@ waiting_first places more =
 -- ---- how it ends
 
 -- the call that stopped it is not done
-pub undone : {A : Type 0} (bounds : Bounds) (last : Stage A) (ending : Ending) → EndsAt bounds last ending → IsUndone ending
+pub undone : {A : Type 0} {far : FarEnd} (bounds : Bounds) (last : Stage A far) (ending : Ending)
+    → EndsAt bounds last ending → IsUndone ending
 undone bounds last Whole ends_so = tt
 undone bounds last Full ends_so = tt
 undone bounds last (Stopped name coming) ends_so = ends_so.undone
@@ -101,17 +103,18 @@ is_full (Misnamed name) more = absurd cc
 
 -- ---- its steps
 
-abbrev pub stage : {A : Type 0} → Flow A → (waiting : List Spot) (printed : List Text) → Stage A
+abbrev pub stage : {A : Type 0} {far : FarEnd} → Flow A far → (waiting : List Spot) (printed : List Text) → Stage A far
 stage flow waiting printed = record { flow = flow; waiting = waiting; printed = printed }
 
-pub heard_of : {A : Type 0} (bounds : Bounds) (old : Stage A) (spot : Spot) (coming : Coming) (last : Flow A)
+pub heard_of : {A : Type 0} {far : FarEnd} (bounds : Bounds) (old : Stage A far) (spot : Spot) (coming : Coming) (last : Flow A far)
     → length old.printed < bounds.most → IsListed bounds.deepest spot
     → Heard (listing_of spot) bounds.until old.flow.course coming last.course → Runs old.flow last
     → IsHeard bounds (with_next spot old) spot old.waiting coming last
 heard_of bounds old spot coming last room listed heard runs =
     record { next = record { next = refl; room = room }; listed = listed; heard = heard; runs = runs }
 
-pub misnamed : {A : Type 0} (bounds : Bounds) (old : Stage A) (spot : Spot) (coming : Coming) (last : Flow A) (each : List Text)
+pub misnamed : {A : Type 0} {far : FarEnd} (bounds : Bounds) (old : Stage A far) (spot : Spot) (coming : Coming)
+    (last : Flow A far) (each : List Text)
     (child : Text) (ending : Ending)
     → IsHeard bounds (with_next spot old) spot old.waiting coming last → end_of coming ≡ ends.Done
     → AreInOrder each (names_within bounds.deepest spot coming)
@@ -132,7 +135,7 @@ misnamed bounds old spot coming last each child ending heard done order has path
       named = refl;
     })
 
-pub stopped : {A : Type 0} (bounds : Bounds) (old : Stage A) (spot : Spot) (coming : Coming) (last : Flow A)
+pub stopped : {A : Type 0} {far : FarEnd} (bounds : Bounds) (old : Stage A far) (spot : Spot) (coming : Coming) (last : Flow A far)
     → IsHeard bounds (with_next spot old) spot old.waiting coming last
     → end_of coming ≢ ends.Done → (IsGone spot coming → ⊥) → EndsAt bounds (with_next spot old) (Stopped spot.name coming)
 stopped bounds old spot coming last heard undone_so stays = record {
@@ -150,7 +153,7 @@ if_none None p f = f p
 if_none (Some x) p f = tt
 
 -- where the nodes that wait are the same
-pub ends_at : {A E : Type 0} (bounds : Bounds) (flow : Flow A) (waiting next : List Spot) (printed now : List Text)
+pub ends_at : {A E : Type 0} {far : FarEnd} (bounds : Bounds) (flow : Flow A far) (waiting next : List Spot) (printed now : List Text)
     (r : Result (Option (Reached A)) E) → waiting ≡ next
     → IfOk r (λ ending. IfSome ending (λ e. EndsAt bounds (stage flow next printed) (ending_view e) × (now ≡ printed)))
     → IfOk r (λ ending. IfSome ending (λ e. EndsAt bounds (stage flow waiting printed) (ending_view e) × (now ≡ printed)))
@@ -158,7 +161,8 @@ ends_at bounds flow waiting next printed now r same =
     subst (λ (w : List Spot).
     IfOk r (λ ending. IfSome ending (λ e. EndsAt bounds (stage flow w printed) (ending_view e) × (now ≡ printed)))) (sym same)
 
-pub steps_from : {A E : Type 0} (bounds : Bounds) (flow : Flow A) (waiting next : List Spot) (printed : List Text) (new : Stage A)
+pub steps_from : {A E : Type 0} {far : FarEnd} (bounds : Bounds) (flow : Flow A far) (waiting next : List Spot)
+    (printed : List Text) (new : Stage A far)
     (r : Result (Option (Reached A)) E)
     → waiting ≡ next → IfOk r (λ ending. IfNone ending (Steps bounds (stage flow next printed) new))
     → IfOk r (λ ending. IfNone ending (Steps bounds (stage flow waiting printed) new))
@@ -167,7 +171,8 @@ steps_from bounds flow waiting next printed new r same =
 
 -- ---- from the beginning on
 
-pub from_there : {A : Type 0} (bounds : Bounds) (flow : Flow A) (waiting begun : List Spot) (printed none : List Text) (last : Stage A)
+pub from_there : {A : Type 0} {far : FarEnd} (bounds : Bounds) (flow : Flow A far) (waiting begun : List Spot)
+    (printed none : List Text) (last : Stage A far)
     → waiting ≡ begun → printed ≡ none → Reaches bounds (record { flow = flow; waiting = waiting; printed = printed }) last
     → Reaches bounds (record { flow = flow; waiting = begun; printed = none }) last
 from_there {A} bounds flow waiting begun printed none last waits prints reaches =
@@ -188,14 +193,14 @@ spots_on spots child spot name rest is =
 
 -- ---- byte by byte
 
-step_runs : {A : Type 0} (bounds : Bounds) (old new : Stage A) → Steps bounds old new → Runs old.flow new.flow
+step_runs : {A : Type 0} {far : FarEnd} (bounds : Bounds) (old new : Stage A far) → Steps bounds old new → Runs old.flow new.flow
 step_runs bounds old new (prints_leaf spot rest next leaf becomes) = runs_same old.flow new.flow (sym becomes.0)
 step_runs bounds old new (prints_node spot rest coming last each heard done order becomes) =
     runs_join old.flow last new.flow heard.runs (runs_same last new.flow (sym becomes.0))
 step_runs bounds old new (leaves_out spot rest coming last heard gone becomes) =
     runs_join old.flow last new.flow heard.runs (runs_same last new.flow (sym becomes.0))
 
-pub walks_run : (A : Type 0) → WalksRun A
-walks_run A bounds start last begins = runs_same start.flow start.flow refl
-walks_run A bounds start last (steps old new reaches step) =
-    runs_join start.flow old.flow new.flow (walks_run A bounds start old reaches) (step_runs bounds old new step)
+pub walks_run : (A : Type 0) (far : FarEnd) → WalksRun A far
+walks_run A far bounds start last begins = runs_same start.flow start.flow refl
+walks_run A far bounds start last (steps old new reaches step) =
+    runs_join start.flow old.flow new.flow (walks_run A far bounds start old reaches) (step_runs bounds old new step)

@@ -1,5 +1,6 @@
 -- What a program asks of a driver, and what it hears of that.
 use Rattle.std.specs.Prelude.{◌≡◌, ◌≤◌, ℕ, Bool, true, [], ◌∷◌, Some, is_some}
+use Rattle.zk_link.specs.FarEnds.{FarEnd, Reached}
 use Rattle.zk_conversation.specs.Calls.{Call}
 use Rattle.zk_conversation.specs.Views.{call_view}
 use Rattle.zk_conversation.specs.declared.call.Call.{Call as Handed}
@@ -9,7 +10,6 @@ use Rattle.zk_client.specs.Clients.{view_of}
 use Rattle.zk_agent.specs.Telling.{Told, Says, TimesOut}
 use Rattle.zk_agent.specs.declared.input.AgentInput.TheVariants as happens
 use Rattle.zk_driver.specs.Driving.{closed, Course, Goes, Hands}
-use Rattle.zk_link.specs.Streams.{Known}
 use Rattle.zk_driver.specs.Flowing.{Flow, Runs}
 use Rattle.shell_ask.specs.declared.came.Came.TheVariants as came
 
@@ -43,12 +43,12 @@ pub record Heard {A : Type 0} (call : Call) (until : ℕ) (start : Course A) (co
   pub hands : Hands (happens.Call ticket handed (Some until)) start asked
   pub hears : Hears ticket until last asked coming
 
--- how far a driver has come, what its stream knows, and nothing that was read and is not handed in
-abbrev pub flow_at : {A : Type 0} → Course A → Known → Flow A
+-- how far a driver has come, what is known of its connection, and nothing that was read and is not handed in
+abbrev pub flow_at : {A : Type 0} {far : FarEnd} → Course A → Reached far → Flow A far
 flow_at course known = record { course = course; known = known; held = [] }
 
 -- So does a driver with a new session, which has no connection yet. Byte by byte it is a run of that driver.
-pub record ComesOf (A : Type 0) (call : Call) (coming : Coming) : Type 0 where
+pub record ComesOf (A : Type 0) (far : FarEnd) (call : Call) (coming : Coming) : Type 0 where
   pub timeout : ℕ
   pub until : ℕ
   pub start : Course A
@@ -57,6 +57,6 @@ pub record ComesOf (A : Type 0) (call : Call) (coming : Coming) : Type 0 where
   pub parted : start.channel ≡ closed
   pub untold : start.told ≡ []
   pub heard : Heard call until start coming last
-  pub before : Known
-  pub after : Known
+  pub before : Reached far
+  pub after : Reached far
   pub runs : Runs (flow_at start before) (flow_at last after)

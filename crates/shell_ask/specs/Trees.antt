@@ -4,6 +4,7 @@ use Rattle.std.specs.Prelude.{map, min, Contains, None, codes}
 use Rattle.std.specs.Fmt.{decimal}
 use Rattle.std.specs.FinSet as set
 use Rattle.std.specs.List.{flat_map}
+use Rattle.zk_link.specs.FarEnds.{FarEnd}
 use Rattle.zk_nodes.specs.Names.{Names as NameSet}
 use Rattle.zk_nodes.specs.Path.{Text, child_text}
 use Rattle.zk_nodes.specs.PathFault.{child_fault}
@@ -98,22 +99,22 @@ IsGone spot coming = (end_of coming ≡ ends.NoNode) × (spot.depth ≢ 0)
 -- ---- a walk
 
 -- How far a walk has come: how far the driver has, byte by byte, the nodes that wait, the next one first, and what is printed by then.
-pub record Stage (A : Type 0) : Type 0 where
-  pub flow : Flow A
+pub record Stage (A : Type 0) (far : FarEnd) : Type 0 where
+  pub flow : Flow A far
   pub waiting : List Spot
   pub printed : List Text
 
-abbrev pub Becomes : {A : Type 0} → Stage A → (flow : Flow A) (waiting : List Spot) (printed : List Text) → Type 0
+abbrev pub Becomes : {A : Type 0} {far : FarEnd} → Stage A far → (flow : Flow A far) (waiting : List Spot) (printed : List Text) → Type 0
 Becomes new flow waiting printed = (new.flow ≡ flow) × (new.waiting ≡ waiting) × (new.printed ≡ printed)
 
 -- This node is the next one, and it may be printed.
-pub record IsNext {A : Type 0} (bounds : Bounds) (old : Stage A) (spot : Spot) (rest : List Spot) : Type 0 where
+pub record IsNext {A : Type 0} {far : FarEnd} (bounds : Bounds) (old : Stage A far) (spot : Spot) (rest : List Spot) : Type 0 where
   pub next : old.waiting ≡ spot ∷ rest
   pub room : length old.printed < bounds.most
 
 -- It is listed by a call that waits to the walk's limit, and this comes of it. Byte by byte that is a run of the driver.
-pub record IsHeard {A : Type 0} (bounds : Bounds) (old : Stage A) (spot : Spot) (rest : List Spot) (coming : Coming)
-    (last : Flow A) : Type 0 where
+pub record IsHeard {A : Type 0} {far : FarEnd} (bounds : Bounds) (old : Stage A far) (spot : Spot) (rest : List Spot) (coming : Coming)
+    (last : Flow A far) : Type 0 where
   pub next : IsNext bounds old spot rest
   pub listed : IsListed bounds.deepest spot
   pub heard : Heard (listing_of spot) bounds.until old.flow.course coming last.course
@@ -121,21 +122,21 @@ pub record IsHeard {A : Type 0} (bounds : Bounds) (old : Stage A) (spot : Spot) 
 
 -- A node at the greatest depth is printed. Any other is listed first, and printed: those below it are next, in the order of their names.
 -- One that is gone by then is left out, unless it is the root.
-pub data Steps {A : Type 0} (bounds : Bounds) (old new : Stage A) : Type 0 where
+pub data Steps {A : Type 0} {far : FarEnd} (bounds : Bounds) (old new : Stage A far) : Type 0 where
   prints_leaf : (spot : Spot) (rest : List Spot) → IsNext bounds old spot rest → (IsListed bounds.deepest spot → ⊥)
       → Becomes new old.flow rest (old.printed ++ spot.name ∷ []) → Steps bounds old new
-  prints_node : (spot : Spot) (rest : List Spot) (coming : Coming) (last : Flow A) (each : List Text)
+  prints_node : (spot : Spot) (rest : List Spot) (coming : Coming) (last : Flow A far) (each : List Text)
       → IsHeard bounds old spot rest coming last
       → end_of coming ≡ ends.Done → AreInOrder each (names_within bounds.deepest spot coming)
       → Becomes new last (map (child_of spot) each ++ rest) (old.printed ++ spot.name ∷ []) → Steps bounds old new
-  leaves_out : (spot : Spot) (rest : List Spot) (coming : Coming) (last : Flow A)
+  leaves_out : (spot : Spot) (rest : List Spot) (coming : Coming) (last : Flow A far)
       → IsHeard bounds old spot rest coming last → IsGone spot coming
       → Becomes new last rest old.printed → Steps bounds old new
 
 -- It takes steps, one after the other.
-pub data Reaches {A : Type 0} (bounds : Bounds) (start : Stage A) : Stage A → Type 0 where
+pub data Reaches {A : Type 0} {far : FarEnd} (bounds : Bounds) (start : Stage A far) : Stage A far → Type 0 where
   begins : Reaches bounds start start
-  steps : (old new : Stage A) → Reaches bounds start old → Steps bounds old new → Reaches bounds start new
+  steps : (old new : Stage A far) → Reaches bounds start old → Steps bounds old new → Reaches bounds start new
 
 -- How a walk ends: all is printed; as many nodes as may be are printed, and there are more; a node could not be listed; or one below it has
 -- a name that no path has.
@@ -145,20 +146,20 @@ pub data Ending : Type 0 where
   Stopped : (name : Text) → Coming → Ending
   Misnamed : (name : Text) → Ending
 
-pub record StopsAt {A : Type 0} (bounds : Bounds) (last : Stage A) (name : Text) (coming : Coming) : Type 0 where
+pub record StopsAt {A : Type 0} {far : FarEnd} (bounds : Bounds) (last : Stage A far) (name : Text) (coming : Coming) : Type 0 where
   pub spot : Spot
   pub rest : List Spot
-  pub flow : Flow A
+  pub flow : Flow A far
   pub heard : IsHeard bounds last spot rest coming flow
   pub undone : end_of coming ≢ ends.Done
   pub stays : IsGone spot coming → ⊥
   pub named : name ≡ spot.name
 
-pub record IsMisnamedAt {A : Type 0} (bounds : Bounds) (last : Stage A) (name : Text) : Type 0 where
+pub record IsMisnamedAt {A : Type 0} {far : FarEnd} (bounds : Bounds) (last : Stage A far) (name : Text) : Type 0 where
   pub spot : Spot
   pub rest : List Spot
   pub coming : Coming
-  pub flow : Flow A
+  pub flow : Flow A far
   pub each : List Text
   pub child : Text
   pub heard : IsHeard bounds last spot rest coming flow
@@ -168,28 +169,29 @@ pub record IsMisnamedAt {A : Type 0} (bounds : Bounds) (last : Stage A) (name : 
   pub pathless : HasNoPath spot child
   pub named : name ≡ spot.name
 
-abbrev pub EndsAt : {A : Type 0} → Bounds → Stage A → Ending → Type 0
+abbrev pub EndsAt : {A : Type 0} {far : FarEnd} → Bounds → Stage A far → Ending → Type 0
 EndsAt bounds last Whole = last.waiting ≡ []
 EndsAt bounds last Full = (last.waiting ≢ []) × (bounds.most ≤ length last.printed)
 EndsAt bounds last (Stopped name coming) = StopsAt bounds last name coming
 EndsAt bounds last (Misnamed name) = IsMisnamedAt bounds last name
 
 -- A driver walks so from the root on, and its calls wait to this moment.
-pub record WalksFrom {A : Type 0} (start : Flow A) (until : ℕ) (scope : Scope) (ending : Ending) (printed : List Text) : Type 0 where
+pub record WalksFrom {A : Type 0} {far : FarEnd} (start : Flow A far) (until : ℕ) (scope : Scope) (ending : Ending)
+    (printed : List Text) : Type 0 where
   pub bounds : Bounds
   pub deepest : bounds.deepest ≡ scope.deepest
   pub most : bounds.most ≡ scope.most
   pub until_is : bounds.until ≡ until
-  pub last : Stage A
+  pub last : Stage A far
   pub reaches : Reaches bounds (record { flow = start; waiting = root_of scope ∷ []; printed = [] }) last
   pub ends : EndsAt bounds last ending
   pub prints : printed ≡ last.printed
 
 -- So does a driver with a new session, which has no connection yet. All its calls wait to one moment, which comes as long after another
 -- one, `from`, as the whole walk may wait.
-pub record Tours (A : Type 0) (scope : Scope) (ending : Ending) (printed : List Text) : Type 0 where
+pub record Tours (A : Type 0) (far : FarEnd) (scope : Scope) (ending : Ending) (printed : List Text) : Type 0 where
   pub timeout : ℕ
-  pub start : Flow A
+  pub start : Flow A far
   pub begins : view_of start.course.agent.asker.follower.client ≡ view_at (new_start timeout) []
   pub parted : start.course.channel ≡ closed
   pub untold : start.course.told ≡ []
@@ -199,8 +201,8 @@ pub record Tours (A : Type 0) (scope : Scope) (ending : Ending) (printed : List 
 -- ---- what follows byte by byte
 
 -- A walk is a run of its driver, up to each place that it reaches.
-abbrev pub WalksRun : Type 0 → Type 0
-WalksRun A = (bounds : Bounds) (start last : Stage A) → Reaches bounds start last → Runs start.flow last.flow
+abbrev pub WalksRun : Type 0 → FarEnd → Type 0
+WalksRun A far = (bounds : Bounds) (start last : Stage A far) → Reaches bounds start last → Runs start.flow last.flow
 
 -- ---- what is printed and told of it
 

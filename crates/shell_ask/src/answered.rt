@@ -48,8 +48,8 @@ pub(crate) fn answered<A: Allocator + Copy, D: Dial + Drop, C: Clock + Drop>(
 ) -> Result<Came<A>, Stop>
     ensures heard { IfOk result
         (λ came. Heard (call_view call) until (course_of driver.old.engine None) (came_view came) (course_of driver.new.engine None)) }
-    ensures runs { OnOk result (Runs (flow_of D.Stream.remaining D.Stream.contents driver.old.engine None)
-        (flow_of D.Stream.remaining D.Stream.contents driver.new.engine None)) }
+    ensures runs { OnOk result (Runs (flow_of D.Stream.remaining D.Stream.contents D.Stream.far D.Stream.state driver.old.engine None)
+        (flow_of D.Stream.remaining D.Stream.contents D.Stream.far D.Stream.state driver.new.engine None)) }
 {
     driver.ask(ticket, call, Some(until))?;
     wait_for_answer(driver, ticket, until)
@@ -65,7 +65,7 @@ pub(crate) fn come<A: Allocator + Copy, D: Dial + Drop, C: Clock + Drop>(
     call: Call<A>,
     wait_ms: u64,
 ) -> Option<Came<A>>
-    ensures { IfSome result (λ came. ComesOf A (call_view call) (came_view came)) }
+    ensures { IfSome result (λ came. ComesOf A D.Stream.far (call_view call) (came_view came)) }
 {
     let Ok(mut driver) = Driver::begin(alloc, TIMEOUT_MS, dial, clock, addresses) else {
         return None;

@@ -103,11 +103,12 @@ pub fn ask<A: Allocator + Copy, D: Dial + Drop, C: Clock + Drop, O: Write, E: Wr
 ) -> CallEnd
     // It is done, and this is printed.
     ensures done { result ≡ CallEnd.Done
-        → (coming : Coming) × (text : List ℕ) × ComesOf A (call_view plan.entry.call) coming × (end_of coming ≡ CallEnd.Done)
+        → (coming : Coming) × (text : List ℕ) × ComesOf A D.Stream.far (call_view plan.entry.call) coming × (end_of coming ≡ CallEnd.Done)
         × Prints plan.entry.form plan.entry.chroot.now coming text × Appends (O.contents out.old) (O.contents out.new) text
         × (errors.new ≡ errors.old) }
     // It is not done, or may not be, and this is told.
-    ensures told { IsToldEnd result → (coming : Coming) × ComesOf A (call_view plan.entry.call) coming × (result ≡ end_of coming)
+    ensures told { IsToldEnd result
+        → (coming : Coming) × ComesOf A D.Stream.far (call_view plan.entry.call) coming × (result ≡ end_of coming)
         × Appends (E.contents errors.old) (E.contents errors.new) (told plan.entry.name.now coming) × (out.new ≡ out.old) }
     ensures memory { result ≡ CallEnd.Memory → (out.new ≡ out.old) × (errors.new ≡ errors.old) }
 {

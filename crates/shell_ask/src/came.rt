@@ -31,8 +31,8 @@ pub(crate) fn wait_for_answer<A: Allocator + Copy, D: Dial + Drop, C: Clock + Dr
 ) -> Result<Came<A>, Stop>
     ensures hears { IfOk result
         (λ came. Hears ticket until (course_of driver.new.engine None) (course_of driver.old.engine None) (came_view came)) }
-    ensures runs { OnOk result (Runs (flow_of D.Stream.remaining D.Stream.contents driver.old.engine None)
-        (flow_of D.Stream.remaining D.Stream.contents driver.new.engine None)) }
+    ensures runs { OnOk result (Runs (flow_of D.Stream.remaining D.Stream.contents D.Stream.far D.Stream.state driver.old.engine None)
+        (flow_of D.Stream.remaining D.Stream.contents D.Stream.far D.Stream.state driver.new.engine None)) }
 {
     for _ in 0..u64::MAX {
         match driver.next(until)? {

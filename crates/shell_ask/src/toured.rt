@@ -57,7 +57,8 @@ fn walked<A: Allocator + Copy, D: Dial + Drop, C: Clock + Drop>(
     until: u64,
 ) -> Result<Tour<A>, Stop>
     ensures { IfOk result
-        (λ tour. WalksFrom (flow_of D.Stream.remaining D.Stream.contents driver.old.engine None) until (scope_of plan.now)
+        (λ tour. WalksFrom (flow_of D.Stream.remaining D.Stream.contents D.Stream.far D.Stream.state driver.old.engine None)
+        until (scope_of plan.now)
         (ending_view tour.ending) tour.printed.items) }
 {
     let bounds = Bounds {
@@ -79,7 +80,7 @@ fn make_tour<A: Allocator + Copy, D: Dial + Drop, C: Clock + Drop>(
     clock: C,
     plan: &TreePlan<'_, A>,
 ) -> Option<Tour<A>>
-    ensures tours { IfSome result (λ tour. Tours A (scope_of plan.now) (ending_view tour.ending) tour.printed.items) }
+    ensures tours { IfSome result (λ tour. Tours A D.Stream.far (scope_of plan.now) (ending_view tour.ending) tour.printed.items) }
     ensures undone { IfSome result (λ tour. IsUndone (ending_view tour.ending)) }
 {
     let Ok(mut driver) = Driver::begin(alloc, TIMEOUT_MS, dial, clock, plan.addresses) else {
@@ -156,15 +157,15 @@ pub fn tree<A: Allocator + Copy, D: Dial + Drop, C: Clock + Drop, O: Write, E: W
     errors: &mut E,
 ) -> CallEnd
     // It is whole, and this is printed.
-    ensures done { result ≡ CallEnd.Done → (printed : List Text) × Tours A (scope_of plan.entry) Whole printed
+    ensures done { result ≡ CallEnd.Done → (printed : List Text) × Tours A D.Stream.far (scope_of plan.entry) Whole printed
         × Appends (O.contents out.old) (O.contents out.new) (tree_text plan.entry.form printed) × (errors.new ≡ errors.old) }
     // As many nodes as may be are printed, and that there are more is told.
-    ensures more { result ≡ CallEnd.More → (printed : List Text) × Tours A (scope_of plan.entry) Full printed
+    ensures more { result ≡ CallEnd.More → (printed : List Text) × Tours A D.Stream.far (scope_of plan.entry) Full printed
         × Appends (O.contents out.old) (O.contents out.new) (tree_text plan.entry.form printed)
         × Appends (E.contents errors.old) (E.contents errors.new) (ending_told plan.entry.name plan.entry.most Full) }
     // It stopped, and this is told.
     ensures told { IsToldEnd result → result ≢ CallEnd.More
-        → (ending : Ends) × (printed : List Text) × Tours A (scope_of plan.entry) ending printed
+        → (ending : Ends) × (printed : List Text) × Tours A D.Stream.far (scope_of plan.entry) ending printed
         × (result ≡ ending_end ending) × Appends (E.contents errors.old) (E.contents errors.new)
         (ending_told plan.entry.name plan.entry.most ending) × (out.new ≡ out.old) }
     ensures memory { result ≡ CallEnd.Memory → (out.new ≡ out.old) × (errors.new ≡ errors.old) }

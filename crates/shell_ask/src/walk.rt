@@ -110,8 +110,8 @@ fn listed<A: Allocator + Copy, D: Dial + Drop, C: Clock + Drop>(
 ) -> Result<Came<A>, Stop>
     ensures heard { IfOk result (λ came. Heard (listing_of (spot_view spot.now)) until (course_of driver.old.engine None) (came_view came)
         (course_of driver.new.engine None)) }
-    ensures runs { OnOk result (Runs (flow_of D.Stream.remaining D.Stream.contents driver.old.engine None)
-        (flow_of D.Stream.remaining D.Stream.contents driver.new.engine None)) }
+    ensures runs { OnOk result (Runs (flow_of D.Stream.remaining D.Stream.contents D.Stream.far D.Stream.state driver.old.engine None)
+        (flow_of D.Stream.remaining D.Stream.contents D.Stream.far D.Stream.state driver.new.engine None)) }
 {
     let path = copied(alloc, &spot.path)?;
     answered(
@@ -173,12 +173,14 @@ impl<A: Allocator + Copy> Walk<A> {
         requires room { length self.old.printed.items < bounds.most }
         ensures some { IfOk result (λ ending. IfSome ending (λ e.
             EndsAt bounds (with_next (spot_view spot)
-            (stage_of (flow_of D.Stream.remaining D.Stream.contents driver.old.engine None) self.old)) (ending_view e)
+            (stage_of (flow_of D.Stream.remaining D.Stream.contents D.Stream.far D.Stream.state driver.old.engine None) self.old))
+            (ending_view e)
             × (self.new.printed.items ≡ self.old.printed.items))) }
         ensures none { IfOk result (λ ending. IfNone ending (
             Steps bounds
-            (with_next (spot_view spot) (stage_of (flow_of D.Stream.remaining D.Stream.contents driver.old.engine None) self.old))
-            (stage_of (flow_of D.Stream.remaining D.Stream.contents driver.new.engine None) self.new))) }
+            (with_next (spot_view spot)
+            (stage_of (flow_of D.Stream.remaining D.Stream.contents D.Stream.far D.Stream.state driver.old.engine None) self.old))
+            (stage_of (flow_of D.Stream.remaining D.Stream.contents D.Stream.far D.Stream.state driver.new.engine None) self.new))) }
     {
         let came = listed(driver, alloc, &spot, ticket, bounds.until)?;
         if is_done(&came) {
@@ -199,11 +201,13 @@ impl<A: Allocator + Copy> Walk<A> {
         ticket: u64,
     ) -> Result<Option<Ending<A>>, Stop>
         ensures some { IfOk result (λ ending. IfSome ending (λ e.
-            EndsAt bounds (stage_of (flow_of D.Stream.remaining D.Stream.contents driver.old.engine None) self.old) (ending_view e)
+            EndsAt bounds (stage_of (flow_of D.Stream.remaining D.Stream.contents D.Stream.far D.Stream.state driver.old.engine None)
+            self.old) (ending_view e)
             × (self.new.printed.items ≡ self.old.printed.items))) }
         ensures none { IfOk result (λ ending. IfNone ending (
-            Steps bounds (stage_of (flow_of D.Stream.remaining D.Stream.contents driver.old.engine None) self.old)
-            (stage_of (flow_of D.Stream.remaining D.Stream.contents driver.new.engine None) self.new))) }
+            Steps bounds
+            (stage_of (flow_of D.Stream.remaining D.Stream.contents D.Stream.far D.Stream.state driver.old.engine None) self.old)
+            (stage_of (flow_of D.Stream.remaining D.Stream.contents D.Stream.far D.Stream.state driver.new.engine None) self.new))) }
     {
         let Some(spot) = self.waiting.pop() else {
             return Ok(Some(Ending::Whole));
@@ -228,7 +232,8 @@ impl<A: Allocator + Copy> Walk<A> {
         bounds: Bounds,
     ) -> Result<Ending<A>, Stop>
         ensures { IfOk result (λ ending. (last : Stage A)
-            × Reaches bounds (stage_of (flow_of D.Stream.remaining D.Stream.contents driver.old.engine None) self.old) last
+            × Reaches bounds
+            (stage_of (flow_of D.Stream.remaining D.Stream.contents D.Stream.far D.Stream.state driver.old.engine None) self.old) last
             × EndsAt bounds last (ending_view ending) × (self.new.printed.items ≡ last.printed)) }
     {
         for ticket in CALL..u64::MAX {

@@ -2,6 +2,7 @@
 use Rattle.std.specs.Prelude.{⊤, ◌≡◌, ◌==◌, ◌&&◌, not, ℕ, ℤ, pos, negsuc, Bool, true, false, if◌then◌else◌, List, [], ◌∷◌, ◌++◌, codes}
 use Rattle.std.specs.Prelude.{bytes_eq, Option, Some, None, is_some, Result, Ok, Err, option_and_then, option_map}
 use Rattle.std.specs.List.{list_all, slice_split}
+use Rattle.zk_link.specs.FarEnds.{FarEnd}
 use Rattle.clap.specs.Words.{App, Row, Rule, Text, first_of, new_app, new_rule, with_rule, with_subcommand}
 use Rattle.clap.specs.declared.builder.action.ArgAction.TheVariants as action
 use Rattle.shell_ask.specs.declared.plan.Form.{Form}
@@ -232,15 +233,15 @@ IsUndone status.Unread = ⊤
 IsUndone _ = ⊥
 
 -- A call is done, and this is printed of its answer.
-pub record PrintsAnswer (A : Type 0) (call : Call) (form : Form) (chroot : Text) (text : List ℕ) : Type 0 where
+pub record PrintsAnswer (A : Type 0) (far : FarEnd) (call : Call) (form : Form) (chroot : Text) (text : List ℕ) : Type 0 where
   pub coming : Coming
-  pub comes : ComesOf A call coming
+  pub comes : ComesOf A far call coming
   pub done : end_of coming ≡ ends.Done
   pub prints : Prints form chroot coming text
 
 -- A call is not done, or may not be, and ends so, and this is told.
-pub record TellsWhy (A : Type 0) (call : Call) (name : Text) (status : Status) (text : List ℕ) : Type 0 where
+pub record TellsWhy (A : Type 0) (far : FarEnd) (call : Call) (name : Text) (status : Status) (text : List ℕ) : Type 0 where
   pub coming : Coming
-  pub comes : ComesOf A call coming
+  pub comes : ComesOf A far call coming
   pub ends : status ≡ status_of (end_of coming)
   pub tells : text ≡ told name coming

@@ -1,5 +1,6 @@
 -- What the file gives that a command line names, and the call that is asked with it.
 use Rattle.std.specs.Prelude.{◌≡◌, ◌≢◌, ◌≤◌, ◌<◌, ℕ, List, length, codes, bytes_eq, if◌then◌else◌, Option, Some, None, IfSome}
+use Rattle.zk_link.specs.FarEnds.{FarEnd}
 use Rattle.clap.specs.Words.{Text}
 use Rattle.shell_ask.specs.Printing.{fault_line}
 use Rattle.zk_conversation.specs.Calls.{Call, SetData, Create}
@@ -50,9 +51,11 @@ pub record TellsUnread (given : Option (List ℕ)) (name : Text) (text : List �
   pub tells : text ≡ fault_line (codes "unread: ") name (why_words why)
 
 -- A call is not done, or may not be, and ends so; or it is not asked, since the file with its data is not read. This is told.
-pub data TellsUndone (A : Type 0) (files : Text → Option (List ℕ)) (input : Option (List ℕ)) (from : Option Text) (call : Call)
+pub data TellsUndone (A : Type 0) (far : FarEnd) (files : Text → Option (List ℕ)) (input : Option (List ℕ))
+    (from : Option Text) (call : Call)
     (name : Text) (status : Status) (text : List ℕ) : Type 0 where
   unanswered : (asked : Call)
-      → IsAskedBy files input from call asked → TellsWhy A asked name status text → TellsUndone A files input from call name status text
+      → IsAskedBy files input from call asked → TellsWhy A far asked name status text
+      → TellsUndone A far files input from call name status text
   unread : (file : Text) → from ≡ Some file → status ≡ Unread → TellsUnread (given_by files input file) file text
-      → TellsUndone A files input from call name status text
+      → TellsUndone A far files input from call name status text

@@ -28,9 +28,9 @@ pub fn ask_over<A: Allocator + Copy, D: Dial + Drop, C: Clock + Drop, O: Write, 
     errors: &mut E,
 ) -> Status
     ensures done { result ≡ Status.Done
-        → (text : List ℕ) × PrintsAnswer A (call_view plan.entry.call) plan.entry.form plan.entry.chroot.now text
+        → (text : List ℕ) × PrintsAnswer A D.Stream.far (call_view plan.entry.call) plan.entry.form plan.entry.chroot.now text
         × Appends (O.contents out.old) (O.contents out.new) text × (errors.new ≡ errors.old) }
-    ensures undone { IsUndone result → (text : List ℕ) × TellsWhy A (call_view plan.entry.call) plan.entry.name.now result text
+    ensures undone { IsUndone result → (text : List ℕ) × TellsWhy A D.Stream.far (call_view plan.entry.call) plan.entry.name.now result text
         × Appends (E.contents errors.old) (E.contents errors.new) text × (out.new ≡ out.old) }
     ensures memory { result ≡ Status.Memory → (out.new ≡ out.old) × (errors.new ≡ errors.old) }
     ensures fault { result ≢ Status.Fault }
@@ -105,10 +105,10 @@ pub fn ask_with<F: Files, D: Dial + Drop, C: Clock + Drop, I: Read, O: Write, E:
     ensures done { result ≡ Status.Done → (asked : Calls) × (text : List ℕ)
         × IsAskedBy (F.holds files.now) (I.remaining input.old) (option_map (λ f. f.now) question.entry.from)
         (call_view question.entry.call) asked
-        × PrintsAnswer Global asked question.entry.form (string_bytes question.entry.chroot) text
+        × PrintsAnswer Global D.Stream.far asked question.entry.form (string_bytes question.entry.chroot) text
         × Appends (O.contents out.old) (O.contents out.new) text × (errors.new ≡ errors.old) }
     ensures undone { IsUndone result → (text : List ℕ)
-        × TellsUndone Global (F.holds files.now) (I.remaining input.old) (option_map (λ f. f.now) question.entry.from)
+        × TellsUndone Global D.Stream.far (F.holds files.now) (I.remaining input.old) (option_map (λ f. f.now) question.entry.from)
         (call_view question.entry.call) question.entry.name.now result text
         × Appends (E.contents errors.old) (E.contents errors.new) text × (out.new ≡ out.old) }
     ensures memory { result ≡ Status.Memory → (out.new ≡ out.old) × (errors.new ≡ errors.old) }

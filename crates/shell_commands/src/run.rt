@@ -67,21 +67,23 @@ fn perform<F: Files, D: Dial + Drop, C: Clock + Drop, I: Read, O: Write, E: Writ
     command: Command<'_>,
 ) -> Status
     ensures done { result ≡ Status.Done → (words : List Text) → AsksFor words command.entry
-        → (text : List ℕ) × IsDone words (F.holds files.now) (I.remaining input.old) text
+        → (text : List ℕ) × IsDone D.Stream.far words (F.holds files.now) (I.remaining input.old) text
         × Appends (O.contents out.old) (O.contents out.new) text × (errors.new ≡ errors.old) }
     ensures fault { result ≡ Status.Fault → (words : List Text) → AsksFor words command.entry
         → (text told : List ℕ) × IsFaulty words (I.remaining input.old) text told × Appends (O.contents out.old) (O.contents out.new) text
         × Appends (E.contents errors.old) (E.contents errors.new) told }
     ensures usage { result ≢ Status.Usage }
     ensures undone { IsUndone result → (words : List Text) → AsksFor words command.entry
-        → (told : List ℕ) × IsUndoneBy words (F.holds files.now) (I.remaining input.old) result told
+        → (told : List ℕ) × IsUndoneBy D.Stream.far words (F.holds files.now) (I.remaining input.old) result told
         × Appends (E.contents errors.old) (E.contents errors.new) told × (out.new ≡ out.old) }
     ensures never { result ≡ Status.NeverConnected → (words : List Text) → AsksFor words command.entry → (text : List ℕ)
-        × IsNeverConnected words text × Appends (O.contents out.old) (O.contents out.new) text × (errors.new ≡ errors.old) }
-    ensures more { result ≡ Status.More → (words : List Text) → AsksFor words command.entry → (text told : List ℕ) × IsCutOff words text
+        × IsNeverConnected D.Stream.far words text × Appends (O.contents out.old) (O.contents out.new) text × (errors.new ≡ errors.old) }
+    ensures more { result ≡ Status.More → (words : List Text) → AsksFor words command.entry
+        → (text told : List ℕ) × IsCutOff D.Stream.far words text
         told × Appends (O.contents out.old) (O.contents out.new) text × Appends (E.contents errors.old) (E.contents errors.new) told }
     ensures memory { result ≡ Status.Memory → (words : List Text) → AsksFor words command.entry → (text : List ℕ)
-        × IsWhole words (I.remaining input.old) text × Appends (O.contents out.old) (O.contents out.new) text × (errors.new ≡ errors.old) }
+        × IsWhole D.Stream.far words (I.remaining input.old) text × Appends (O.contents out.old) (O.contents out.new) text
+        × (errors.new ≡ errors.old) }
 {
     match command {
         Command::Show { kind, hex } => show(alloc, out, errors, kind, hex),
@@ -145,7 +147,7 @@ pub fn run<F: Files, D: Dial + Drop, C: Clock + Drop, I: Read, O: Write, E: Writ
     // A frame is shown, the frames of a capture are told, a history is answered, a replay, a rehearsal, a session, a watch or the answer to
     // a call is printed, or help is told.
     ensures done { result ≡ Status.Done
-        → (text : List ℕ) × IsDone (map (λ w. w.now) words.entry.now) (F.holds files.now) (I.remaining input.old) text
+        → (text : List ℕ) × IsDone D.Stream.far (map (λ w. w.now) words.entry.now) (F.holds files.now) (I.remaining input.old) text
         × Appends (O.contents out.old) (O.contents out.new) text × (errors.new ≡ errors.old) }
     // The frame or a line of the script is refused, and this is told.
     ensures fault { result ≡ Status.Fault
@@ -156,17 +158,19 @@ pub fn run<F: Files, D: Dial + Drop, C: Clock + Drop, I: Read, O: Write, E: Writ
         × Appends (E.contents errors.old) (E.contents errors.new) told × (out.new ≡ out.old) }
     // A call is not done, or may not be, or the file with its data is not read, and this is told.
     ensures undone { IsUndone result
-        → (told : List ℕ) × IsUndoneBy (map (λ w. w.now) words.entry.now) (F.holds files.now) (I.remaining input.old) result told
+        → (told : List ℕ)
+        × IsUndoneBy D.Stream.far (map (λ w. w.now) words.entry.now) (F.holds files.now) (I.remaining input.old) result told
         × Appends (E.contents errors.old) (E.contents errors.new) told × (out.new ≡ out.old) }
     // The time of a watch is over, and no server has ever accepted its session.
-    ensures never { result ≡ Status.NeverConnected → (text : List ℕ) × IsNeverConnected (map (λ w. w.now) words.entry.now) text
+    ensures never { result ≡ Status.NeverConnected → (text : List ℕ) × IsNeverConnected D.Stream.far (map (λ w. w.now) words.entry.now) text
         × Appends (O.contents out.old) (O.contents out.new) text × (errors.new ≡ errors.old) }
     // As many nodes of a tree as are to be are printed, there are more, and this is told.
-    ensures more { result ≡ Status.More → (text told : List ℕ) × IsCutOff (map (λ w. w.now) words.entry.now) text told
+    ensures more { result ≡ Status.More → (text told : List ℕ) × IsCutOff D.Stream.far (map (λ w. w.now) words.entry.now) text told
         × Appends (O.contents out.old) (O.contents out.new) text × Appends (E.contents errors.old) (E.contents errors.new) told }
     // Nothing is written, or whole answers of a history, or what whole lines of a replay, a rehearsal or a session print, or what a
     // watch prints.
-    ensures memory { result ≡ Status.Memory → (text : List ℕ) × IsWhole (map (λ w. w.now) words.entry.now) (I.remaining input.old) text
+    ensures memory { result ≡ Status.Memory
+        → (text : List ℕ) × IsWhole D.Stream.far (map (λ w. w.now) words.entry.now) (I.remaining input.old) text
         × Appends (O.contents out.old) (O.contents out.new) text × (errors.new ≡ errors.old) }
 {
     if asks_stream(words) {

@@ -24,13 +24,13 @@ pub fn tour_over<D: Dial + Drop, C: Clock + Drop, O: Write, E: Write>(
     errors: &mut E,
 ) -> Status
     ensures done { result ≡ Status.Done
-        → (text : List ℕ) × PrintsTree tour.entry Whole text × Appends (O.contents out.old) (O.contents out.new) text
+        → (text : List ℕ) × PrintsTree D.Stream.far tour.entry Whole text × Appends (O.contents out.old) (O.contents out.new) text
         × (errors.new ≡ errors.old) }
     ensures more { result ≡ Status.More
-        → (text : List ℕ) × PrintsTree tour.entry Full text × Appends (O.contents out.old) (O.contents out.new) text
+        → (text : List ℕ) × PrintsTree D.Stream.far tour.entry Full text × Appends (O.contents out.old) (O.contents out.new) text
         × Appends (E.contents errors.old) (E.contents errors.new) (ending_told tour.entry.name tour.entry.most Full) }
     ensures undone { IsUndone result
-        → (told : List ℕ) × TellsTree tour.entry result told × Appends (E.contents errors.old) (E.contents errors.new) told
+        → (told : List ℕ) × TellsTree D.Stream.far tour.entry result told × Appends (E.contents errors.old) (E.contents errors.new) told
         × (out.new ≡ out.old) }
     ensures memory { result ≡ Status.Memory → (out.new ≡ out.old) × (errors.new ≡ errors.old) }
     ensures fault { result ≢ Status.Fault }

@@ -23,13 +23,15 @@ pub fn watch_over<A: Allocator + Copy, D: Dial + Drop, C: Clock + Drop, O: Write
     plan: WatchPlan<'_, A>,
     out: &mut O,
 ) -> Status
-    ensures done { result ≡ Status.Done → (text : List ℕ) × IsWatched A plan.entry.style (aims_of plan.entry.subjects.items)
+    ensures done { result ≡ Status.Done → (text : List ℕ) × IsWatched A D.Stream.far plan.entry.style (aims_of plan.entry.subjects.items)
         plan.entry.trees.items plan.entry.most plan.entry.for_ms text true × Appends (O.contents out.old) (O.contents out.new) text }
-    ensures never { result ≡ Status.NeverConnected → (text : List ℕ) × IsWatched A plan.entry.style (aims_of plan.entry.subjects.items)
+    ensures never { result ≡ Status.NeverConnected
+        → (text : List ℕ) × IsWatched A D.Stream.far plan.entry.style (aims_of plan.entry.subjects.items)
         plan.entry.trees.items plan.entry.most plan.entry.for_ms text false × Appends (O.contents out.old) (O.contents out.new) text }
     // The line of a halt stands after what is printed where a step halted.
     ensures memory { result ≡ Status.Memory → (text told : List ℕ)
-        × IsPrinted A plan.entry.style (aims_of plan.entry.subjects.items) plan.entry.trees.items plan.entry.most text × IsHalt told
+        × IsPrinted A D.Stream.far plan.entry.style (aims_of plan.entry.subjects.items) plan.entry.trees.items plan.entry.most text
+        × IsHalt told
         × Appends (O.contents out.old) (O.contents out.new) (text ++ told) }
     ensures fault { result ≢ Status.Fault }
     ensures usage { result ≢ Status.Usage }

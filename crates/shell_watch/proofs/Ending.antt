@@ -5,6 +5,7 @@ use Rattle.std.specs.Prelude.{Result, Ok, Err, OnOk, IfErr, ◌⊎◌}
 use Rattle.std.specs.Io.KnownBytes.{Appends}
 use Rattle.std.proofs.KnownBytes.{Appends-nil, Appends-trans}
 use Rattle.std.specs.List.{filter, FoldsTo}
+use Rattle.zk_link.specs.FarEnds.{FarEnd}
 use Rattle.zk_nodes.specs.Path.{Text}
 use Rattle.zk_nodes.specs.declared.side.Side.{Side}
 use Rattle.zk_session.specs.declared.states.State.TheVariants.{Connected}
@@ -29,11 +30,12 @@ use Rattle.shell_watch.proofs.Printing.{after, none, on_after, one, writes_none}
 -- ---- the end of a session
 
 -- where there is none
-pub ends_none : {A : Type 0} (here : Stand A) (a : Option (List ℕ)) → (view_in here).standing.state ≢ Connected → WritesEnd here here a a
+pub ends_none : {A : Type 0} {far : FarEnd} (here : Stand A far) (a : Option (List ℕ))
+    → (view_in here).standing.state ≢ Connected → WritesEnd here here a a
 ends_none here a parted = ([], none here, record { asks = λ yes. absurd (parted yes); rests = λ no. refl }, Appends-nil a)
 
 -- where it is asked for
-ends_so : {A : Type 0} (until : ℕ) (old asked new : Stand A) (a b : Option (List ℕ))
+ends_so : {A : Type 0} {far : FarEnd} (until : ℕ) (old asked new : Stand A far) (a b : Option (List ℕ))
     → (view_in old).standing.state ≡ Connected → Does old (Closes until) asked → Writes asked new a b
     → WritesEnd old new a b
 ends_so until old asked new a b connected does rest = (
@@ -43,20 +45,21 @@ ends_so until old asked new a b connected does rest = (
   rest.2,
 )
 
-pub ok_ends : {A X E : Type 0} (result : Result X E) (until : ℕ) (old asked new : Stand A) (a b : Option (List ℕ))
+pub ok_ends : {A X E : Type 0} {far : FarEnd} (result : Result X E) (until : ℕ) (old asked new : Stand A far) (a b : Option (List ℕ))
     → (view_in old).standing.state ≡ Connected → Does old (Closes until) asked
     → OnOk result (Writes asked new a b) → OnOk result (WritesEnd old new a b)
 ok_ends (Ok x) until old asked new a b connected does rest = ends_so until old asked new a b connected does rest
 ok_ends (Err e) until old asked new a b connected does rest = tt
 
 -- nothing was
-pub err_none : {A X E : Type 0} (P : E → Type 0) (result : Result X E) (here : Stand A) (a : Option (List ℕ))
+pub err_none : {A X E : Type 0} {far : FarEnd} (P : E → Type 0) (result : Result X E) (here : Stand A far) (a : Option (List ℕ))
     → IfErr result (λ why. P why → WritesOn here a a)
 err_none P (Ok x) here a = tt
 err_none P (Err e) here a = λ well. (here, writes_none here a)
 
 -- what was written by then
-pub err_asked : {A X E : Type 0} (P : E → Type 0) (result : Result X E) (until : ℕ) (old asked : Stand A) (a b : Option (List ℕ))
+pub err_asked : {A X E : Type 0} {far : FarEnd} (P : E → Type 0) (result : Result X E) (until : ℕ)
+    (old asked : Stand A far) (a b : Option (List ℕ))
     → Does old (Closes until) asked
     → IfErr result (λ why. P why → WritesOn asked a b) → IfErr result (λ why. P why → WritesOn old a b)
 err_asked P (Ok x) until old asked a b does rest = tt
@@ -65,7 +68,8 @@ err_asked P (Err e) until old asked a b does rest =
 
 -- ---- a watch whose time is over
 
-pub ok_over : {A X E : Type 0} (result : Result X E) (for_ms : Option ℕ) (begins : ℕ) (ready over last : Stand A) (a b c : Option (List ℕ))
+pub ok_over : {A X E : Type 0} {far : FarEnd} (result : Result X E) (for_ms : Option ℕ) (begins : ℕ) (ready over last : Stand A far)
+    (a b c : Option (List ℕ))
     → Writes ready over a b → HasCome (end_of begins for_ms) over
     → OnOk result (WritesEnd over last b c) → OnOk result ((text : List ℕ) × IsOver for_ms ready last text × Appends a c text)
 ok_over (Ok x) for_ms begins ready over last a b c first comes rest = (
@@ -85,13 +89,14 @@ ok_over (Ok x) for_ms begins ready over last a b c first comes rest = (
 )
 ok_over (Err e) for_ms begins ready over last a b c first comes rest = tt
 
-pub ends_from : {A : Type 0} (aims : List (Side × Text)) (for_ms : Option ℕ) (first ready last : Stand A) (text : List ℕ)
+pub ends_from : {A : Type 0} {far : FarEnd} (aims : List (Side × Text)) (for_ms : Option ℕ) (first ready last : Stand A far) (text : List ℕ)
     (is_accepted : Bool) → FollowsAll aims first ready
     → IsOver for_ms ready last text → last.is_accepted ≡ is_accepted → EndsFrom aims for_ms first text is_accepted
 ends_from aims for_ms first ready last text is_accepted follows over accepted =
     record { ready = ready; last = last; follows = follows; over = over; accepted = accepted }
 
-pub over_prints : {A : Type 0} (aims : List (Side × Text)) (for_ms : Option ℕ) (first ready last : Stand A) (text : List ℕ)
+pub over_prints : {A : Type 0} {far : FarEnd} (aims : List (Side × Text)) (for_ms : Option ℕ)
+    (first ready last : Stand A far) (text : List ℕ)
     → FollowsAll aims first ready → IsOver for_ms ready last text
     → PrintsFrom aims first text
 over_prints {A} aims for_ms first ready last text follows is = record {
@@ -101,7 +106,7 @@ over_prints {A} aims for_ms first ready last text follows is = record {
   prints = subst (λ (t : List ℕ). Prints ready t last) (sym is.are) (after ready is.over last is.told is.rest is.prints is.closes);
 }
 
-pub prints_from : {A : Type 0} (aims : List (Side × Text)) (first ready : Stand A) (a b : Option (List ℕ))
+pub prints_from : {A : Type 0} {far : FarEnd} (aims : List (Side × Text)) (first ready : Stand A far) (a b : Option (List ℕ))
     → FollowsAll aims first ready → WritesOn ready a b
     → (text : List ℕ) × ((text ≡ []) ⊎ PrintsFrom aims first text) × Appends a b text
 prints_from aims first ready a b follows writes =
@@ -114,73 +119,78 @@ hands_led : {A : Type 0} (input : AgentInput A) (old new : Course A) → Hands i
 hands_led {A} input old new hands led =
     subst (λ (c : Course A). IsLed (view_of c.agent.asker.follower.client)) (sym hands.writes.1) (hands.takes.comes.led led)
 
-lets_led : {A : Type 0} (tickets : List ℕ) (old new : Stand A)
+lets_led : {A : Type 0} {far : FarEnd} (tickets : List ℕ) (old new : Stand A far)
     → FoldsTo (λ at ticket after. LetsGo ticket at after) old tickets new → IsLed (view_in old) → IsLed (view_in new)
-lets_led {A} [] old new same led = subst (λ (s : Stand A). IsLed (view_in s)) same led
+lets_led {A} {far} [] old new same led = subst (λ (s : Stand A far). IsLed (view_in s)) same led
 lets_led (ticket ∷ tickets) old new lets led =
     lets_led tickets lets.0 new lets.2 (hands_led (happens.Unfollow ticket) old.course lets.0.course lets.1.hands led)
 
-taken_led : {A : Type 0} (is : Bool) (aim : Side × Text) (old new : Stand A)
+taken_led : {A : Type 0} {far : FarEnd} (is : Bool) (aim : Side × Text) (old new : Stand A far)
     → TakesOnWhere is aim old new → IsLed (view_in old) → IsLed (view_in new)
-taken_led {A} true aim old new same led = subst (λ (s : Stand A). IsLed (view_in s)) (sym same) led
+taken_led {A} {far} true aim old new same led = subst (λ (s : Stand A far). IsLed (view_in s)) (sym same) led
 taken_led false aim old new follows led = hands_led (happens.Follow _ aim.0 aim.1) old.course new.course follows.hands led
 
-takes_led : {A : Type 0} (aims : List (Side × Text)) (old new : Stand A)
+takes_led : {A : Type 0} {far : FarEnd} (aims : List (Side × Text)) (old new : Stand A far)
     → FoldsTo (λ at aim after. TakesOn aim at after) old aims new → IsLed (view_in old) → IsLed (view_in new)
-takes_led {A} [] old new same led = subst (λ (s : Stand A). IsLed (view_in s)) same led
+takes_led {A} {far} [] old new same led = subst (λ (s : Stand A far). IsLed (view_in s)) same led
 takes_led (aim ∷ aims) old new takes led =
     takes_led aims takes.0 new takes.2 (taken_led (is_settled (view_in old) aim old.watched) aim old takes.0 takes.1 led)
 
-grown_led : {A : Type 0} (old new : Stand A) → Grows old new → IsLed (view_in old) → IsLed (view_in new)
-grown_led {A} old new grows led =
-    subst (λ (s : Stand A). IsLed (view_in s)) (sym grows.takes.ends)
+grown_led : {A : Type 0} {far : FarEnd} (old new : Stand A far) → Grows old new → IsLed (view_in old) → IsLed (view_in new)
+grown_led {A} {far} old new grows led =
+    subst (λ (s : Stand A far). IsLed (view_in s)) (sym grows.takes.ends)
     (takes_led grows.wants.aims old grows.takes.last grows.takes.takes led)
 
-tends_led : {A : Type 0} (old : Stand A) (text : List ℕ) (new : Stand A) → Tends old text new → IsLed (view_in old) → IsLed (view_in new)
+tends_led : {A : Type 0} {far : FarEnd} (old : Stand A far) (text : List ℕ) (new : Stand A far)
+    → Tends old text new → IsLed (view_in old) → IsLed (view_in new)
 tends_led old text new tends led =
     grown_led tends.left new tends.grows
     (lets_led (tickets_gone (view_in old) old.watched)
     (record old { watched = filter (stays (view_in old)) old.watched }) tends.left tends.lets led)
 
 -- where nothing waits
-quiet_led : {A : Type 0} (old : Stand A) (text : List ℕ) (new : Stand A) (told : List Told)
+quiet_led : {A : Type 0} {far : FarEnd} (old : Stand A far) (text : List ℕ) (new : Stand A far) (told : List Told)
     → old.course.told ≡ told → TendsSo false old text new
     → IsLed (view_in old) → IsLed (view_in new)
 quiet_led old text new [] none tends led = tends_led old text new (tends.tends refl none) led
-quiet_led {A} old text new (one ∷ rest) some tends led =
-    subst (λ (s : Stand A). IsLed (view_in s)) (sym (tends.waits (λ none. absurd (some_is_none none))).0) led
+quiet_led {A} {far} old text new (one ∷ rest) some tends led =
+    subst (λ (s : Stand A far). IsLed (view_in s)) (sym (tends.waits (λ none. absurd (some_is_none none))).0) led
   where
     some_is_none : old.course.told ≡ [] → ⊥
     some_is_none none = let e : one ∷ rest ≡ [] = sym some ∙ none in absurd cc
 
-tended_led : {A : Type 0} (is_over : Bool) (old : Stand A) (text : List ℕ) (new : Stand A)
+tended_led : {A : Type 0} {far : FarEnd} (is_over : Bool) (old : Stand A far) (text : List ℕ) (new : Stand A far)
     → TendsSo is_over old text new → IsLed (view_in old) → IsLed (view_in new)
-tended_led {A} true old text new tends led = subst (λ (s : Stand A). IsLed (view_in s)) (sym (tends.over refl).0) led
+tended_led {A} {far} true old text new tends led = subst (λ (s : Stand A far). IsLed (view_in s)) (sym (tends.over refl).0) led
 tended_led false old text new tends led = quiet_led old text new old.course.told refl tends led
 
-does_led : {A : Type 0} (move : Move A) (old new : Stand A) → Does old move new → IsLed (view_in old) → IsLed (view_in new)
+does_led : {A : Type 0} {far : FarEnd} (move : Move A) (old new : Stand A far)
+    → Does old move new → IsLed (view_in old) → IsLed (view_in new)
 does_led (Takes turn text) old new rounds led =
     tended_led (is_come turn) rounds.between rounds.more new rounds.tends (rounds.turns.goes.led led)
 does_led (Closes until) old new does led = hands_led (happens.Call 0 call.Close (Some until)) old.course new.course does.0 led
 
-turn_led : {A : Type 0} (move : Move A) (old new : Stand A) (does : Does old move new) → IsLed (view_in old) → IsTurnLed move old new does
+turn_led : {A : Type 0} {far : FarEnd} (move : Move A) (old new : Stand A far) (does : Does old move new) → IsLed (view_in old)
+    → IsTurnLed move old new does
 turn_led (Takes turn text) old new rounds led = rounds.turns.goes.led led
 turn_led (Closes until) old new does led = tt
 
-all_stood : {A : Type 0} (moves : List (Move A)) (old new : Stand A) (does : FoldsTo Does old moves new) → IsLed (view_in old)
+all_stood : {A : Type 0} {far : FarEnd} (moves : List (Move A)) (old new : Stand A far)
+    (does : FoldsTo Does old moves new) → IsLed (view_in old)
     → AllStood moves old new does
 all_stood [] old new does led = tt
 all_stood (move ∷ moves) old new does led =
     let next = does_led move old does.0 does.1 led in
     (turn_led move old does.0 does.1 led, next, all_stood moves does.0 new does.2 next)
 
-led_on : {A : Type 0} (moves : List (Move A)) (old new : Stand A) → FoldsTo Does old moves new → IsLed (view_in old) → IsLed (view_in new)
-led_on {A} [] old new same led = subst (λ (s : Stand A). IsLed (view_in s)) same led
+led_on : {A : Type 0} {far : FarEnd} (moves : List (Move A)) (old new : Stand A far)
+    → FoldsTo Does old moves new → IsLed (view_in old) → IsLed (view_in new)
+led_on {A} {far} [] old new same led = subst (λ (s : Stand A far). IsLed (view_in s)) same led
 led_on (move ∷ moves) old new does led = led_on moves does.0 new does.2 (does_led move old does.0 does.1 led)
 
-follows_led : {A : Type 0} (aims : List (Side × Text)) (first ready : Stand A)
+follows_led : {A : Type 0} {far : FarEnd} (aims : List (Side × Text)) (first ready : Stand A far)
     → FollowsAll aims first ready → IsLed (view_in first) → IsLed (view_in ready)
-follows_led {A} [] first ready same led = subst (λ (s : Stand A). IsLed (view_in s)) same led
+follows_led {A} {far} [] first ready same led = subst (λ (s : Stand A far). IsLed (view_in s)) same led
 follows_led (aim ∷ aims) first ready all led =
     follows_led aims all.0 ready all.2 (hands_led (happens.Follow _ aim.0 aim.1) first.course all.0.course all.1.hands led)
 
@@ -188,15 +198,16 @@ follows_led (aim ∷ aims) first ready all led =
 fresh : (start : Start) → IsLed (view_at start [])
 fresh start = (start, [], record { standing = refl; saved = refl; lists = refl; cache = refl; going = λ _. refl; said = tt; asked = tt })
 
-begun_led : {A : Type 0} (style : Style) (roots : List Text) (most : ℕ) (first : Stand A)
+begun_led : {A : Type 0} {far : FarEnd} (style : Style) (roots : List Text) (most : ℕ) (first : Stand A far)
     → IsBegun style roots most first → IsLed (view_in first)
 begun_led style roots most first begun = subst IsLed (sym begun.client) (fresh (new_start begun.timeout))
 
 -- ---- the whole
 
-module _ {A : Type 0} (style : Style) (aims : List (Side × Text)) (roots : List Text) (most : ℕ) (first : Stand A) (text : List ℕ) where
+module _ {A : Type 0} {far : FarEnd} (style : Style) (aims : List (Side × Text)) (roots : List Text) (most : ℕ)
+    (first : Stand A far) (text : List ℕ) where
   pub printed : IsBegun style roots most first → (text ≡ []) ⊎ PrintsFrom (aims ++ roots_aims roots) first text
-      → IsPrinted A style aims roots most text
+      → IsPrinted A far style aims roots most text
   printed begun (inl none) = inl none
   printed begun (inr from) =
       let led = follows_led (aims ++ roots_aims roots) first from.ready from.follows (begun_led style roots most first begun) in
@@ -204,7 +215,7 @@ module _ {A : Type 0} (style : Style) (aims : List (Side × Text)) (roots : List
 
   pub watched : (for_ms : Option ℕ) (is_accepted : Bool)
       → IsBegun style roots most first → EndsFrom (aims ++ roots_aims roots) for_ms first text is_accepted
-      → IsWatched A style aims roots most for_ms text is_accepted
+      → IsWatched A far style aims roots most for_ms text is_accepted
   watched for_ms is_accepted begun from =
       let led = follows_led (aims ++ roots_aims roots) first from.ready from.follows (begun_led style roots most first begun) in
       let over = from.over in (

@@ -10,6 +10,7 @@ use Rattle.zk_nodes.specs.declared.side.Side.{Side}
 use Rattle.shell_watch.specs.declared.plan.Style.{Style}
 use Rattle.zk_trees.specs.declared.member.Member.{Member}
 use Rattle.std.specs.declared.string.String.{String}
+use Rattle.zk_link.specs.FarEnds.{FarEnd}
 use Rattle.shell_watch.specs.declared.trees.Trees.{Trees}
 use Rattle.zk_trees.specs.Trees.{AreWanted, Wants}
 use Rattle.shell_watch.specs.Trees.{bound_text}
@@ -18,7 +19,7 @@ use Rattle.shell_watch.specs.Watching.{view_in, Grows, FollowsSo, LetsAllGo, Sta
 use Rattle.shell_watch.proofs.Telling.{none_told}
 
 -- the watch is over, and nothing is done
-pub over_rests : {A : Type 0} (is_over : Bool) (here : Stand A) (text : List ℕ)
+pub over_rests : {A : Type 0} {far : FarEnd} (is_over : Bool) (here : Stand A far) (text : List ℕ)
     → is_over ≡ true → text ≡ [] → TendsSo is_over here text here
 over_rests true here text is none = record {
   tends = λ no _. absurd cc;
@@ -28,7 +29,7 @@ over_rests true here text is none = record {
 over_rests false here text is none = absurd cc
 
 -- something waits to be told, and nothing is done
-pub told_rests : {A : Type 0} (is_over : Bool) (here : Stand A) (waits : List (Action A)) (text : List ℕ)
+pub told_rests : {A : Type 0} {far : FarEnd} (is_over : Bool) (here : Stand A far) (waits : List (Action A)) (text : List ℕ)
     → here.course.told ≡ told_by waits → waits ≢ [] → text ≡ []
     → TendsSo is_over here text here
 told_rests is_over here waits text are some none = record {
@@ -38,18 +39,20 @@ told_rests is_over here waits text are some none = record {
 }
 
 -- what is done
-pub tends_all : {A : Type 0} (old left grown new : Stand A) (ms : ℕ) (text : List ℕ) → LetsAllGo old left → Grows left grown → new ≡ grown
+pub tends_all : {A : Type 0} {far : FarEnd} (old left grown new : Stand A far) (ms : ℕ) (text : List ℕ)
+    → LetsAllGo old left → Grows left grown → new ≡ grown
     → text ≡ bound_text old.growth.is_bounded new.growth.is_bounded new.style ms new.growth.most → Tends old text new
-tends_all {A} old left grown new ms text lets grows same is = record {
+tends_all {A} {far} old left grown new ms text lets grows same is = record {
   ms = ms;
   left = left;
   lets = lets;
-  grows = subst (λ (s : Stand A). Grows left s) (sym same) grows;
+  grows = subst (λ (s : Stand A far). Grows left s) (sym same) grows;
   bound = is;
 }
 
 -- nothing waits, and the watch is not over
-pub ok_tends : {A T E : Type 0} (result : Result T E) (bytes : T → List ℕ) (is_over : Bool) (old new : Stand A) (waits : List (Action A))
+pub ok_tends : {A T E : Type 0} {far : FarEnd} (result : Result T E) (bytes : T → List ℕ) (is_over : Bool) (old new : Stand A far)
+    (waits : List (Action A))
     → old.course.told ≡ told_by waits → is_over ≡ false
     → waits ≡ [] → IfOk result (λ text. Tends old (bytes text) new) → IfOk result (λ text. TendsSo is_over old (bytes text) new)
 ok_tends (Ok text) bytes is_over old new waits are on none tends = record {
@@ -60,25 +63,27 @@ ok_tends (Ok text) bytes is_over old new waits are on none tends = record {
 ok_tends (Err e) bytes is_over old new waits are on none tends = tt
 
 -- a watch that is as it was
-pub same_stand : {A S : Type 0} (remaining contents : S → Option (List ℕ)) (engine other : Engine A S)
+pub same_stand : {A S : Type 0} (remaining contents : S → Option (List ℕ)) (far : FarEnd) (state : S → far.State)
+    (engine other : Engine A S)
     (watched others : List (Member A (String A))) (is was : Bool) (style once : Style) (trees before : Trees A)
     → engine ≡ other → watched ≡ others
     → is ≡ was → style ≡ once → trees ≡ before
-    → stand_of remaining contents engine watched is style trees ≡ stand_of remaining contents other others was once before
-same_stand remaining contents engine other watched others is was style once trees before e w a s t = cc
+    → stand_of remaining contents far state engine watched is style trees
+    ≡ stand_of remaining contents far state other others was once before
+same_stand remaining contents far state engine other watched others is was style once trees before e w a s t = cc
 
-pub ok_grows : {A X E : Type 0} (result : Result X E) (wants : Wants) (old new : Stand A)
+pub ok_grows : {A X E : Type 0} {far : FarEnd} (result : Result X E) (wants : Wants) (old new : Stand A far)
     → AreWanted (view_in old) old.growth.most old.growth.roots wants
     → OnOk result (TakesAllOn wants old new) → OnOk result (Grows old new)
 ok_grows (Ok x) wants old new wanted takes = record { wants = wants; wanted = wanted; takes = takes }
 ok_grows (Err e) wants old new wanted takes = tt
 
 -- what is settled stays as it is
-pub settled : {A : Type 0} (is : Bool) (aim : Side × Text) (here : Stand A) → is ≡ true → TakesOnWhere is aim here here
+pub settled : {A : Type 0} {far : FarEnd} (is : Bool) (aim : Side × Text) (here : Stand A far) → is ≡ true → TakesOnWhere is aim here here
 settled true aim here so = refl
 settled false aim here so = absurd cc
 
-pub ok_taken : {A X E : Type 0} (result : Result X E) (is : Bool) (aim : Side × Text) (old new : Stand A)
+pub ok_taken : {A X E : Type 0} {far : FarEnd} (result : Result X E) (is : Bool) (aim : Side × Text) (old new : Stand A far)
     → is ≡ false → OnOk result (FollowsSo true aim old new)
     → OnOk result (TakesOnWhere is aim old new)
 ok_taken result true aim old new so follows = absurd cc

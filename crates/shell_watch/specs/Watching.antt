@@ -13,7 +13,7 @@ use Rattle.zk_agent.specs.Agents.{IsLed}
 use Rattle.zk_agent.specs.Telling.{Told, Says, action_view}
 use Rattle.zk_agent.specs.declared.input.AgentInput.TheVariants as happens
 use Rattle.zk_driver.specs.Driving.{closed, passed_by, AreFollowed, Course, Hands}
-use Rattle.zk_link.specs.Streams.{Known}
+use Rattle.zk_link.specs.FarEnds.{FarEnd, Reached}
 use Rattle.zk_driver.specs.Flowing.{Flow, Runs}
 use Rattle.zk_driver.specs.Noting.{is_come, notes_of, passed_in, GoesBy}
 use Rattle.zk_driver.specs.declared.turn.Turn.{Turn}
@@ -52,21 +52,21 @@ ShowsAll style ms view olds news text = ⊥
 
 -- ---- how far a watch has come
 
--- The agent and its connection, with what it has told that was not taken yet; what the stream of the connection knows; the subjects with
+-- The agent and its connection, with what it has told that was not taken yet; what is known of the connection; the subjects with
 -- what was printed of each last; whether a server has accepted a session; how it is printed; and how far its trees are known.
-pub record Stand (A : Type 0) : Type 0 where
+pub record Stand (A : Type 0) (far : FarEnd) : Type 0 where
   pub course : Course A
-  pub known : Known
+  pub known : Reached far
   pub watched : List (Member A (String A))
   pub is_accepted : Bool
   pub style : Style
   pub growth : Growth
 
-abbrev pub view_in : {A : Type 0} → Stand A → View
+abbrev pub view_in : {A : Type 0} {far : FarEnd} → Stand A far → View
 view_in stand = view_of stand.course.agent.asker.follower.client
 
--- how far the driver has come, what its stream knows, and nothing that was read and is not handed in
-abbrev pub flow_in : {A : Type 0} → Stand A → Flow A
+-- how far the driver has come, what is known of its connection, and nothing that was read and is not handed in
+abbrev pub flow_in : {A : Type 0} {far : FarEnd} → Stand A far → Flow A far
 flow_in stand = record { course = stand.course; known = stand.known; held = [] }
 
 -- that a server has accepted a session
@@ -90,7 +90,7 @@ pub record TellsTurn {A : Type 0} (style : Style) (turn : Turn A) (view : View) 
   pub are : text ≡ turn_line style ms old at view turn ++ shown
 
 -- One turn of the driver, and what is printed of it. What waits to be told is neither lost nor told twice. Byte by byte it is a run.
-pub record Turns {A : Type 0} (turn : Turn A) (old : Stand A) (text : List ℕ) (new : Stand A) : Type 0 where
+pub record Turns {A : Type 0} {far : FarEnd} (turn : Turn A) (old : Stand A far) (text : List ℕ) (new : Stand A far) : Type 0 where
   pub goes : GoesBy (notes_of turn) old.course (record new.course { told = passed_by (passed_in turn) ++ new.course.told })
   pub runs : Runs (flow_in old) (flow_in new)
   pub tells : TellsTurn old.style turn (view_in new) new.course.told old.watched new.watched text
@@ -99,7 +99,7 @@ pub record Turns {A : Type 0} (turn : Turn A) (old : Stand A) (text : List ℕ) 
   pub growth : new.growth ≡ old.growth
 
 -- A subject is followed, by the next ticket: as if nothing were kept of it and that were printed.
-pub record FollowsSo {A : Type 0} (is_found : Bool) (aim : Side × Text) (old new : Stand A) : Type 0 where
+pub record FollowsSo {A : Type 0} {far : FarEnd} (is_found : Bool) (aim : Side × Text) (old new : Stand A far) : Type 0 where
   pub hands : Hands (happens.Follow old.growth.ticket aim.0 aim.1) old.course new.course
   pub runs : Runs (flow_in old) (flow_in new)
   pub one : Member A (String A)
@@ -113,62 +113,62 @@ pub record FollowsSo {A : Type 0} (is_found : Bool) (aim : Side × Text) (old ne
   pub growth : new.growth ≡ record old.growth { ticket = old.growth.ticket + 1 }
 
 -- Each of these is, in order. None was found below a root.
-abbrev pub FollowsAll : {A : Type 0} → List (Side × Text) → (old new : Stand A) → Type 0
+abbrev pub FollowsAll : {A : Type 0} {far : FarEnd} → List (Side × Text) → (old new : Stand A far) → Type 0
 FollowsAll aims old new = FoldsTo (λ at aim after. FollowsSo false aim at after) old aims new
 
 -- ---- what becomes of trees
 
 -- The subject of this ticket is followed no more.
-pub record LetsGo {A : Type 0} (ticket : ℕ) (old new : Stand A) : Type 0 where
+pub record LetsGo {A : Type 0} {far : FarEnd} (ticket : ℕ) (old new : Stand A far) : Type 0 where
   pub hands : Hands (happens.Unfollow ticket) old.course new.course
   pub runs : Runs (flow_in old) (flow_in new)
   pub same : new ≡ record old { course = new.course; known = new.known }
 
 -- What is gone is watched no more: each node that was found below a root and of which it is kept and good that there is none. All others
 -- stay, in their order.
-abbrev pub LetsAllGo : {A : Type 0} → (old new : Stand A) → Type 0
+abbrev pub LetsAllGo : {A : Type 0} {far : FarEnd} → (old new : Stand A far) → Type 0
 LetsAllGo old new =
     FoldsTo (λ at ticket after. LetsGo ticket at after) (record old { watched = filter (stays (view_in old)) old.watched })
     (tickets_gone (view_in old) old.watched) new
 
 -- A side of a path that is watched already stays so, and is not followed twice; that of a node of which it is kept and good that there is
 -- none is left; else it is followed, as one that was found.
-abbrev pub TakesOnWhere : {A : Type 0} → (is_settled : Bool) → Side × Text → (old new : Stand A) → Type 0
+abbrev pub TakesOnWhere : {A : Type 0} {far : FarEnd} → (is_settled : Bool) → Side × Text → (old new : Stand A far) → Type 0
 TakesOnWhere true aim old new = new ≡ old
 TakesOnWhere false aim old new = FollowsSo true aim old new
 
-abbrev pub TakesOn : {A : Type 0} → Side × Text → (old new : Stand A) → Type 0
+abbrev pub TakesOn : {A : Type 0} {far : FarEnd} → Side × Text → (old new : Stand A far) → Type 0
 TakesOn aim old new = TakesOnWhere (is_settled (view_in old) aim old.watched) aim old new
 
 -- Each of these is taken on, in order, and whether a tree has more nodes than the most is noted.
-pub record TakesAllOn {A : Type 0} (wants : Wants) (old new : Stand A) : Type 0 where
-  pub last : Stand A
+pub record TakesAllOn {A : Type 0} {far : FarEnd} (wants : Wants) (old new : Stand A far) : Type 0 where
+  pub last : Stand A far
   pub takes : FoldsTo (λ at aim after. TakesOn aim at after) old wants.aims last
   pub ends : new ≡ record last { growth = record last.growth { is_bounded = wants.is_bounded } }
 
 -- Each tree is taken on, as far as good names lead.
-pub record Grows {A : Type 0} (old new : Stand A) : Type 0 where
+pub record Grows {A : Type 0} {far : FarEnd} (old new : Stand A far) : Type 0 where
   pub wants : Wants
   pub wanted : AreWanted (view_in old) old.growth.most old.growth.roots wants
   pub takes : TakesAllOn wants old new
 
 -- What is gone is let go, each tree is taken on, and a line tells where one has more nodes than the most, and none had.
-pub record Tends {A : Type 0} (old : Stand A) (text : List ℕ) (new : Stand A) : Type 0 where
+pub record Tends {A : Type 0} {far : FarEnd} (old : Stand A far) (text : List ℕ) (new : Stand A far) : Type 0 where
   pub ms : ℕ
-  pub left : Stand A
+  pub left : Stand A far
   pub lets : LetsAllGo old left
   pub grows : Grows left new
   pub bound : text ≡ bound_text old.growth.is_bounded new.growth.is_bounded new.style ms new.growth.most
 
 -- That is done where nothing waits to be told, and the moment has not come at which the watch is over; else nothing is.
-pub record TendsSo {A : Type 0} (is_over : Bool) (old : Stand A) (text : List ℕ) (new : Stand A) : Type 0 where
+pub record TendsSo {A : Type 0} {far : FarEnd} (is_over : Bool) (old : Stand A far) (text : List ℕ) (new : Stand A far) : Type 0 where
   pub tends : is_over ≡ false → old.course.told ≡ [] → Tends old text new
   pub over : is_over ≡ true → (new ≡ old) × (text ≡ [])
   pub waits : old.course.told ≢ [] → (new ≡ old) × (text ≡ [])
 
 -- One turn of the driver, what is printed of it, and what becomes of the trees after it.
-pub record Rounds {A : Type 0} (turn : Turn A) (old : Stand A) (text : List ℕ) (new : Stand A) : Type 0 where
-  pub between : Stand A
+pub record Rounds {A : Type 0} {far : FarEnd} (turn : Turn A) (old : Stand A far) (text : List ℕ) (new : Stand A far) : Type 0 where
+  pub between : Stand A far
   pub told : List ℕ
   pub more : List ℕ
   pub turns : Turns turn old told between
@@ -186,7 +186,7 @@ text_of (Takes turn text) = text
 text_of (Closes until) = []
 
 -- A turn is made and printed, and the trees are tended; or the end of the session is asked for, and no tree is tended from then on.
-abbrev pub Does : {A : Type 0} → Stand A → Move A → Stand A → Type 0
+abbrev pub Does : {A : Type 0} {far : FarEnd} → Stand A far → Move A → Stand A far → Type 0
 Does old (Takes turn text) new = Rounds turn old text new
 Does old (Closes until) new =
     Hands (happens.Call 0 call.Close (Some until)) old.course new.course × Runs (flow_in old) (flow_in new) × (new.watched ≡ old.watched)
@@ -194,13 +194,13 @@ Does old (Closes until) new =
     × (new.style ≡ old.style) × (new.growth ≡ record old.growth { roots = [] })
 
 -- Some moves print this.
-pub record Prints {A : Type 0} (old : Stand A) (text : List ℕ) (new : Stand A) : Type 0 where
+pub record Prints {A : Type 0} {far : FarEnd} (old : Stand A far) (text : List ℕ) (new : Stand A far) : Type 0 where
   pub moves : List (Move A)
   pub does : FoldsTo Does old moves new
   pub are : text ≡ flat_map text_of moves
 
 -- The moment has come, and nothing waits to be told.
-abbrev pub HasCome : {A : Type 0} → (until : ℕ) → Stand A → Type 0
+abbrev pub HasCome : {A : Type 0} {far : FarEnd} → (until : ℕ) → Stand A far → Type 0
 HasCome until stand = (until ≤ stand.course.agent.latest) × (stand.course.told ≡ [])
 
 -- the moment at which a watch is over
@@ -215,14 +215,14 @@ AsksFirst (Takes turn text ∷ moves) = ⊥
 AsksFirst (Closes until ∷ moves) = ⊤
 
 -- Where the client is connected, the end of the session is asked for, and what comes of that is printed; else nothing happens.
-pub record EndsBy {A : Type 0} (old : Stand A) (moves : List (Move A)) : Type 0 where
+pub record EndsBy {A : Type 0} {far : FarEnd} (old : Stand A far) (moves : List (Move A)) : Type 0 where
   pub asks : (view_in old).standing.state ≡ Connected → AsksFirst moves
   pub rests : (view_in old).standing.state ≢ Connected → moves ≡ []
 
 -- The moment has come at which a watch is over, and then the session is ended.
-pub record IsOver {A : Type 0} (for_ms : Option ℕ) (ready last : Stand A) (text : List ℕ) : Type 0 where
+pub record IsOver {A : Type 0} {far : FarEnd} (for_ms : Option ℕ) (ready last : Stand A far) (text : List ℕ) : Type 0 where
   pub begins : ℕ
-  pub over : Stand A
+  pub over : Stand A far
   pub told : List ℕ
   pub rest : List ℕ
   pub prints : Prints ready told over
@@ -234,7 +234,7 @@ pub record IsOver {A : Type 0} (for_ms : Option ℕ) (ready last : Stand A) (tex
 -- ---- the whole
 
 -- A new session, which asks for some timeout, and no connection; how it is printed; and the roots of trees, of which nothing is known.
-pub record IsBegun {A : Type 0} (style : Style) (roots : List Text) (most : ℕ) (first : Stand A) : Type 0 where
+pub record IsBegun {A : Type 0} {far : FarEnd} (style : Style) (roots : List Text) (most : ℕ) (first : Stand A far) : Type 0 where
   pub timeout : ℕ
   pub client : view_in first ≡ view_at (new_start timeout) []
   pub followed : AreFollowed first.course.agent
@@ -246,50 +246,51 @@ pub record IsBegun {A : Type 0} (style : Style) (roots : List Text) (most : ℕ)
   pub growth : first.growth ≡ record { roots = roots; most = most; is_bounded = false; ticket = 1 }
 
 -- What a watch of these has printed, wherever it stopped: nothing before each is followed.
-pub record PrintsFrom {A : Type 0} (aims : List (Side × Text)) (first : Stand A) (text : List ℕ) : Type 0 where
-  pub ready : Stand A
-  pub last : Stand A
+pub record PrintsFrom {A : Type 0} {far : FarEnd} (aims : List (Side × Text)) (first : Stand A far) (text : List ℕ) : Type 0 where
+  pub ready : Stand A far
+  pub last : Stand A far
   pub follows : FollowsAll aims first ready
   pub prints : Prints ready text last
 
 -- What it has printed whose time is over, and whether a server has accepted a session.
-pub record EndsFrom {A : Type 0} (aims : List (Side × Text)) (for_ms : Option ℕ) (first : Stand A) (text : List ℕ)
+pub record EndsFrom {A : Type 0} {far : FarEnd} (aims : List (Side × Text)) (for_ms : Option ℕ) (first : Stand A far) (text : List ℕ)
     (is_accepted : Bool) : Type 0 where
-  pub ready : Stand A
-  pub last : Stand A
+  pub ready : Stand A far
+  pub last : Stand A far
   pub follows : FollowsAll aims first ready
   pub over : IsOver for_ms ready last text
   pub accepted : last.is_accepted ≡ is_accepted
 
 -- the client that a turn has led to, before the trees were tended
-abbrev pub IsTurnLed : {A : Type 0} → (move : Move A) → (old new : Stand A) → Does old move new → Type 0
+abbrev pub IsTurnLed : {A : Type 0} {far : FarEnd} → (move : Move A) → (old new : Stand A far) → Does old move new → Type 0
 IsTurnLed (Takes turn text) old new does = IsLed (view_in does.between)
 IsTurnLed (Closes until) old new does = ⊤
 
 -- Each client that something is printed of stands where turns by the rule have led it.
-abbrev pub AllStood : {A : Type 0} → (moves : List (Move A)) → (old new : Stand A) → FoldsTo Does old moves new → Type 0
+abbrev pub AllStood : {A : Type 0} {far : FarEnd} → (moves : List (Move A)) → (old new : Stand A far) → FoldsTo Does old moves new → Type 0
 AllStood [] old new does = ⊤
 AllStood (move ∷ moves) old new does = IsTurnLed move old does.0 does.1 × IsLed (view_in does.0) × AllStood moves does.0 new does.2
 
-abbrev pub IsStood : {A : Type 0} → (old : Stand A) → (text : List ℕ) → (new : Stand A) → Prints old text new → Type 0
+abbrev pub IsStood : {A : Type 0} {far : FarEnd} → (old : Stand A far) → (text : List ℕ) → (new : Stand A far)
+    → Prints old text new → Type 0
 IsStood old text new prints = AllStood prints.moves old new prints.does
 
-abbrev pub IsPrinted : (A : Type 0) → Style → List (Side × Text) → (roots : List Text) → (most : ℕ) → List ℕ → Type 0
-IsPrinted A style aims roots most text =
-    (text ≡ []) ⊎ ((first : Stand A) × IsBegun style roots most first × (from : PrintsFrom (aims ++ roots_aims roots) first text)
+abbrev pub IsPrinted : (A : Type 0) → FarEnd → Style → List (Side × Text) → (roots : List Text) → (most : ℕ) → List ℕ → Type 0
+IsPrinted A far style aims roots most text =
+    (text ≡ []) ⊎ ((first : Stand A far) × IsBegun style roots most first × (from : PrintsFrom (aims ++ roots_aims roots) first text)
     × IsStood from.ready text from.last from.prints)
 
-abbrev pub IsWatched : (A : Type 0) → Style → List (Side × Text) → (roots : List Text) → (most : ℕ)
+abbrev pub IsWatched : (A : Type 0) → FarEnd → Style → List (Side × Text) → (roots : List Text) → (most : ℕ)
     → Option ℕ → List ℕ → (is_accepted : Bool) → Type 0
-IsWatched A style aims roots most for_ms text is_accepted =
-    (first : Stand A) × IsBegun style roots most first × (from : EndsFrom (aims ++ roots_aims roots) for_ms first text is_accepted)
+IsWatched A far style aims roots most for_ms text is_accepted =
+    (first : Stand A far) × IsBegun style roots most first × (from : EndsFrom (aims ++ roots_aims roots) for_ms first text is_accepted)
     × IsStood from.ready from.over.told from.over.over from.over.prints × IsStood from.over.over from.over.rest from.last from.over.closes
 
 -- ---- what follows byte by byte
 
 -- A watch is a run of its driver, through all that it prints and follows.
-abbrev pub WatchesRun : Type 0 → Type 0
-WatchesRun A = (old new : Stand A) (text : List ℕ) → Prints old text new → Runs (flow_in old) (flow_in new)
+abbrev pub WatchesRun : Type 0 → FarEnd → Type 0
+WatchesRun A far = (old new : Stand A far) (text : List ℕ) → Prints old text new → Runs (flow_in old) (flow_in new)
 
-abbrev pub FollowsRun : Type 0 → Type 0
-FollowsRun A = (aims : List (Side × Text)) (old new : Stand A) → FollowsAll aims old new → Runs (flow_in old) (flow_in new)
+abbrev pub FollowsRun : Type 0 → FarEnd → Type 0
+FollowsRun A far = (aims : List (Side × Text)) (old new : Stand A far) → FollowsAll aims old new → Runs (flow_in old) (flow_in new)

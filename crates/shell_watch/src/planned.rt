@@ -37,16 +37,17 @@ pub fn watch<A: Allocator + Copy, D: Dial + Drop, C: Clock + Drop, O: Write>(
 ) -> WatchEnd
     // Its time is over. Each subject was followed; each turn of the driver was printed; after each, what was printed last of each subject
     // was what the client kept of it; and a server had accepted a session.
-    ensures over { result ≡ WatchEnd.Over → (text : List ℕ) × IsWatched A plan.entry.style
+    ensures over { result ≡ WatchEnd.Over → (text : List ℕ) × IsWatched A D.Stream.far plan.entry.style
         (aims_of plan.entry.subjects.items) plan.entry.trees.items plan.entry.most plan.entry.for_ms text true
         × Appends (O.contents out.old) (O.contents out.new) text }
     // The same, where none had.
-    ensures never { result ≡ WatchEnd.NeverConnected → (text : List ℕ) × IsWatched A plan.entry.style
+    ensures never { result ≡ WatchEnd.NeverConnected → (text : List ℕ) × IsWatched A D.Stream.far plan.entry.style
         (aims_of plan.entry.subjects.items) plan.entry.trees.items plan.entry.most plan.entry.for_ms text false
         × Appends (O.contents out.old) (O.contents out.new) text }
     // Turns are printed so, wherever it stopped.
     ensures printed { result ≢ WatchEnd.Stream
-        → (text : List ℕ) × IsPrinted A plan.entry.style (aims_of plan.entry.subjects.items) plan.entry.trees.items plan.entry.most text
+        → (text : List ℕ)
+        × IsPrinted A D.Stream.far plan.entry.style (aims_of plan.entry.subjects.items) plan.entry.trees.items plan.entry.most text
         × Appends (O.contents out.old) (O.contents out.new) text }
 {
     let WatchPlan {

@@ -158,9 +158,11 @@ impl<'a, A: Allocator + Copy, D: Dial + Drop, C: Clock + Drop> Watcher<'a, A, D,
 
     /// One turn, and what is printed of it. Whether the moment has come, and nothing waits to be told.
     fn run_turn(&mut self, until: u64) -> Result<(bool, String<A>), Failure>
-        ensures ok { IfOk result (λ heard. Heard until heard.0 (stand_of D.Stream.remaining D.Stream.contents self.old.driver.engine
+        ensures ok { IfOk result
+            (λ heard. Heard until heard.0 (stand_of D.Stream.remaining D.Stream.contents D.Stream.far D.Stream.state self.old.driver.engine
             self.old.watched.items self.old.is_accepted self.old.style self.old.trees) (string_bytes heard.1) (stand_of D.Stream.remaining
-            D.Stream.contents self.new.driver.engine self.new.watched.items self.new.is_accepted self.new.style self.new.trees)) }
+            D.Stream.contents D.Stream.far D.Stream.state self.new.driver.engine self.new.watched.items self.new.is_accepted
+            self.new.style self.new.trees)) }
         ensures err { IfErr result (λ why. why ≢ Failure.Stream) }
     {
         let turn = self.driver.turn(until)?;
@@ -172,8 +174,10 @@ impl<'a, A: Allocator + Copy, D: Dial + Drop, C: Clock + Drop> Watcher<'a, A, D,
 
     /// Follows no more what is gone.
     fn let_go(&mut self) -> Result<(), Stop>
-        ensures { OnOk result (LetsAllGo (stand_of D.Stream.remaining D.Stream.contents self.old.driver.engine self.old.watched.items
-            self.old.is_accepted self.old.style self.old.trees) (stand_of D.Stream.remaining D.Stream.contents self.new.driver.engine
+        ensures { OnOk result (LetsAllGo
+            (stand_of D.Stream.remaining D.Stream.contents D.Stream.far D.Stream.state self.old.driver.engine self.old.watched.items
+            self.old.is_accepted self.old.style self.old.trees)
+            (stand_of D.Stream.remaining D.Stream.contents D.Stream.far D.Stream.state self.new.driver.engine
             self.new.watched.items self.new.is_accepted self.new.style self.new.trees)) }
     {
         let client = self.driver.client();
@@ -189,8 +193,10 @@ impl<'a, A: Allocator + Copy, D: Dial + Drop, C: Clock + Drop> Watcher<'a, A, D,
 
     /// Follows a subject that was found, where it is not settled.
     fn take_on(&mut self, subject: &NodeSide<A>) -> Result<(), Stop>
-        ensures { OnOk result (TakesOn (aim_of subject.now) (stand_of D.Stream.remaining D.Stream.contents self.old.driver.engine
-            self.old.watched.items self.old.is_accepted self.old.style self.old.trees) (stand_of D.Stream.remaining D.Stream.contents
+        ensures { OnOk result
+            (TakesOn (aim_of subject.now) (stand_of D.Stream.remaining D.Stream.contents D.Stream.far D.Stream.state self.old.driver.engine
+            self.old.watched.items self.old.is_accepted self.old.style self.old.trees)
+            (stand_of D.Stream.remaining D.Stream.contents D.Stream.far D.Stream.state
             self.new.driver.engine self.new.watched.items self.new.is_accepted self.new.style self.new.trees)) }
     {
         let client = self.driver.client();
@@ -202,8 +208,10 @@ impl<'a, A: Allocator + Copy, D: Dial + Drop, C: Clock + Drop> Watcher<'a, A, D,
 
     /// Takes on each of these, and notes whether a tree has more nodes than the most.
     fn take_all_on(&mut self, wanted: &Wanted<A>) -> Result<(), Stop>
-        ensures { OnOk result (TakesAllOn (wants_of wanted.now) (stand_of D.Stream.remaining D.Stream.contents self.old.driver.engine
-            self.old.watched.items self.old.is_accepted self.old.style self.old.trees) (stand_of D.Stream.remaining D.Stream.contents
+        ensures { OnOk result (TakesAllOn (wants_of wanted.now)
+            (stand_of D.Stream.remaining D.Stream.contents D.Stream.far D.Stream.state self.old.driver.engine
+            self.old.watched.items self.old.is_accepted self.old.style self.old.trees)
+            (stand_of D.Stream.remaining D.Stream.contents D.Stream.far D.Stream.state
             self.new.driver.engine self.new.watched.items self.new.is_accepted self.new.style self.new.trees)) }
     {
         for subject in wanted.subjects.as_slice() {
@@ -215,8 +223,10 @@ impl<'a, A: Allocator + Copy, D: Dial + Drop, C: Clock + Drop> Watcher<'a, A, D,
 
     /// Takes on each tree, as far as good names lead.
     fn grow(&mut self) -> Result<(), Stop>
-        ensures { OnOk result (Grows (stand_of D.Stream.remaining D.Stream.contents self.old.driver.engine self.old.watched.items
-            self.old.is_accepted self.old.style self.old.trees) (stand_of D.Stream.remaining D.Stream.contents self.new.driver.engine
+        ensures { OnOk result
+            (Grows (stand_of D.Stream.remaining D.Stream.contents D.Stream.far D.Stream.state self.old.driver.engine self.old.watched.items
+            self.old.is_accepted self.old.style self.old.trees)
+            (stand_of D.Stream.remaining D.Stream.contents D.Stream.far D.Stream.state self.new.driver.engine
             self.new.watched.items self.new.is_accepted self.new.style self.new.trees)) }
     {
         let client = self.driver.client();
@@ -229,8 +239,10 @@ impl<'a, A: Allocator + Copy, D: Dial + Drop, C: Clock + Drop> Watcher<'a, A, D,
 
     /// Lets go what is gone, and takes on each tree. What is printed of it.
     fn tend_all(&mut self) -> Result<String<A>, Failure>
-        ensures ok { IfOk result (λ text. Tends (stand_of D.Stream.remaining D.Stream.contents self.old.driver.engine self.old.watched.items
-            self.old.is_accepted self.old.style self.old.trees) (string_bytes text) (stand_of D.Stream.remaining D.Stream.contents
+        ensures ok { IfOk result (λ text.
+            Tends (stand_of D.Stream.remaining D.Stream.contents D.Stream.far D.Stream.state self.old.driver.engine self.old.watched.items
+            self.old.is_accepted self.old.style self.old.trees) (string_bytes text)
+            (stand_of D.Stream.remaining D.Stream.contents D.Stream.far D.Stream.state
             self.new.driver.engine self.new.watched.items self.new.is_accepted self.new.style self.new.trees)) }
         ensures err { IfErr result (λ why. why ≢ Failure.Stream) }
     {
@@ -245,9 +257,11 @@ impl<'a, A: Allocator + Copy, D: Dial + Drop, C: Clock + Drop> Watcher<'a, A, D,
 
     /// The same where nothing waits to be told, and the watch is not over.
     fn tend(&mut self, is_over: bool) -> Result<String<A>, Failure>
-        ensures ok { IfOk result (λ text. TendsSo is_over (stand_of D.Stream.remaining D.Stream.contents self.old.driver.engine
+        ensures ok { IfOk result
+            (λ text. TendsSo is_over (stand_of D.Stream.remaining D.Stream.contents D.Stream.far D.Stream.state self.old.driver.engine
             self.old.watched.items self.old.is_accepted self.old.style self.old.trees) (string_bytes text) (stand_of D.Stream.remaining
-            D.Stream.contents self.new.driver.engine self.new.watched.items self.new.is_accepted self.new.style self.new.trees)) }
+            D.Stream.contents D.Stream.far D.Stream.state self.new.driver.engine self.new.watched.items self.new.is_accepted
+            self.new.style self.new.trees)) }
         ensures err { IfErr result (λ why. why ≢ Failure.Stream) }
     {
         if is_over {
@@ -261,10 +275,13 @@ impl<'a, A: Allocator + Copy, D: Dial + Drop, C: Clock + Drop> Watcher<'a, A, D,
 
     /// One turn, which is printed, and what becomes of the trees. Whether the moment has come, and nothing waits to be told.
     fn round<O: Write>(&mut self, until: u64, out: &mut O) -> Result<bool, Failure>
-        ensures ok { OnOk result (Writes (stand_of D.Stream.remaining D.Stream.contents self.old.driver.engine self.old.watched.items
-            self.old.is_accepted self.old.style self.old.trees) (stand_of D.Stream.remaining D.Stream.contents self.new.driver.engine
+        ensures ok { OnOk result
+            (Writes (stand_of D.Stream.remaining D.Stream.contents D.Stream.far D.Stream.state self.old.driver.engine self.old.watched.items
+            self.old.is_accepted self.old.style self.old.trees)
+            (stand_of D.Stream.remaining D.Stream.contents D.Stream.far D.Stream.state self.new.driver.engine
             self.new.watched.items self.new.is_accepted self.new.style self.new.trees) (O.contents out.old) (O.contents out.new)) }
-        ensures come { IfOk result (λ is_over. is_over ≡ true → HasCome until (stand_of D.Stream.remaining D.Stream.contents
+        ensures come { IfOk result
+            (λ is_over. is_over ≡ true → HasCome until (stand_of D.Stream.remaining D.Stream.contents D.Stream.far D.Stream.state
             self.new.driver.engine self.new.watched.items self.new.is_accepted self.new.style self.new.trees)) }
         ensures err { IfErr result (λ why. why ≢ Failure.Stream → out.new ≡ out.old) }
     {
@@ -277,13 +294,17 @@ impl<'a, A: Allocator + Copy, D: Dial + Drop, C: Clock + Drop> Watcher<'a, A, D,
 
     /// Goes on until this moment.
     fn run<O: Write>(&mut self, end: u64, out: &mut O) -> Result<(), Failure>
-        ensures ok { OnOk result (Writes (stand_of D.Stream.remaining D.Stream.contents self.old.driver.engine self.old.watched.items
-            self.old.is_accepted self.old.style self.old.trees) (stand_of D.Stream.remaining D.Stream.contents self.new.driver.engine
+        ensures ok { OnOk result
+            (Writes (stand_of D.Stream.remaining D.Stream.contents D.Stream.far D.Stream.state self.old.driver.engine self.old.watched.items
+            self.old.is_accepted self.old.style self.old.trees)
+            (stand_of D.Stream.remaining D.Stream.contents D.Stream.far D.Stream.state self.new.driver.engine
             self.new.watched.items self.new.is_accepted self.new.style self.new.trees) (O.contents out.old) (O.contents out.new)) }
-        ensures come { OnOk result (HasCome end (stand_of D.Stream.remaining D.Stream.contents self.new.driver.engine self.new.watched.items
+        ensures come { OnOk result (HasCome end
+            (stand_of D.Stream.remaining D.Stream.contents D.Stream.far D.Stream.state self.new.driver.engine self.new.watched.items
             self.new.is_accepted self.new.style self.new.trees)) }
         ensures err { IfErr result
-            (λ why. why ≢ Failure.Stream → WritesOn (stand_of D.Stream.remaining D.Stream.contents self.old.driver.engine
+            (λ why. why ≢ Failure.Stream
+            → WritesOn (stand_of D.Stream.remaining D.Stream.contents D.Stream.far D.Stream.state self.old.driver.engine
             self.old.watched.items self.old.is_accepted self.old.style self.old.trees) (O.contents out.old) (O.contents out.new)) }
     {
         for _ in 0..u64::MAX {
@@ -298,11 +319,14 @@ impl<'a, A: Allocator + Copy, D: Dial + Drop, C: Clock + Drop> Watcher<'a, A, D,
 
     /// Goes on until the client is not connected any more, and nothing waits to be told, but not past this moment.
     fn await_close<O: Write>(&mut self, until: u64, out: &mut O) -> Result<(), Failure>
-        ensures ok { OnOk result (Writes (stand_of D.Stream.remaining D.Stream.contents self.old.driver.engine self.old.watched.items
-            self.old.is_accepted self.old.style self.old.trees) (stand_of D.Stream.remaining D.Stream.contents self.new.driver.engine
+        ensures ok { OnOk result
+            (Writes (stand_of D.Stream.remaining D.Stream.contents D.Stream.far D.Stream.state self.old.driver.engine self.old.watched.items
+            self.old.is_accepted self.old.style self.old.trees)
+            (stand_of D.Stream.remaining D.Stream.contents D.Stream.far D.Stream.state self.new.driver.engine
             self.new.watched.items self.new.is_accepted self.new.style self.new.trees) (O.contents out.old) (O.contents out.new)) }
         ensures err { IfErr result
-            (λ why. why ≢ Failure.Stream → WritesOn (stand_of D.Stream.remaining D.Stream.contents self.old.driver.engine
+            (λ why. why ≢ Failure.Stream
+            → WritesOn (stand_of D.Stream.remaining D.Stream.contents D.Stream.far D.Stream.state self.old.driver.engine
             self.old.watched.items self.old.is_accepted self.old.style self.old.trees) (O.contents out.old) (O.contents out.new)) }
     {
         for _ in 0..u64::MAX {
@@ -321,8 +345,10 @@ impl<'a, A: Allocator + Copy, D: Dial + Drop, C: Clock + Drop> Watcher<'a, A, D,
     /// Asks for the end of the session, and tends no tree from then on. The answer is the moment until which it is waited for: a third of
     /// the timeout.
     fn ask_close(&mut self) -> Result<u64, Stop>
-        ensures { IfOk result (λ until. Does (stand_of D.Stream.remaining D.Stream.contents self.old.driver.engine self.old.watched.items
-            self.old.is_accepted self.old.style self.old.trees) (Closes until) (stand_of D.Stream.remaining D.Stream.contents
+        ensures { IfOk result (λ until.
+            Does (stand_of D.Stream.remaining D.Stream.contents D.Stream.far D.Stream.state self.old.driver.engine self.old.watched.items
+            self.old.is_accepted self.old.style self.old.trees) (Closes until)
+            (stand_of D.Stream.remaining D.Stream.contents D.Stream.far D.Stream.state
             self.new.driver.engine self.new.watched.items self.new.is_accepted self.new.style self.new.trees)) }
     {
         let wait = u64::from(self.driver.client().timeout_ms() / 3);
@@ -334,11 +360,14 @@ impl<'a, A: Allocator + Copy, D: Dial + Drop, C: Clock + Drop> Watcher<'a, A, D,
 
     /// Ends the session where the client is connected, and waits for that a third of the timeout at most.
     fn close<O: Write>(&mut self, out: &mut O) -> Result<(), Failure>
-        ensures ok { OnOk result (WritesEnd (stand_of D.Stream.remaining D.Stream.contents self.old.driver.engine self.old.watched.items
-            self.old.is_accepted self.old.style self.old.trees) (stand_of D.Stream.remaining D.Stream.contents self.new.driver.engine
+        ensures ok { OnOk result (WritesEnd
+            (stand_of D.Stream.remaining D.Stream.contents D.Stream.far D.Stream.state self.old.driver.engine self.old.watched.items
+            self.old.is_accepted self.old.style self.old.trees)
+            (stand_of D.Stream.remaining D.Stream.contents D.Stream.far D.Stream.state self.new.driver.engine
             self.new.watched.items self.new.is_accepted self.new.style self.new.trees) (O.contents out.old) (O.contents out.new)) }
         ensures err { IfErr result
-            (λ why. why ≢ Failure.Stream → WritesOn (stand_of D.Stream.remaining D.Stream.contents self.old.driver.engine
+            (λ why. why ≢ Failure.Stream
+            → WritesOn (stand_of D.Stream.remaining D.Stream.contents D.Stream.far D.Stream.state self.old.driver.engine
             self.old.watched.items self.old.is_accepted self.old.style self.old.trees) (O.contents out.old) (O.contents out.new)) }
     {
         if !self.is_connected() {
@@ -362,8 +391,10 @@ impl<'a, A: Allocator + Copy, D: Dial + Drop, C: Clock + Drop> Watcher<'a, A, D,
 
     /// Follows a subject, by the next ticket.
     fn follow(&mut self, subject: &NodeSide<A>, is_found: bool) -> Result<(), Stop>
-        ensures { OnOk result (FollowsSo is_found (aim_of subject.now) (stand_of D.Stream.remaining D.Stream.contents self.old.driver.engine
-            self.old.watched.items self.old.is_accepted self.old.style self.old.trees) (stand_of D.Stream.remaining D.Stream.contents
+        ensures { OnOk result (FollowsSo is_found (aim_of subject.now)
+            (stand_of D.Stream.remaining D.Stream.contents D.Stream.far D.Stream.state self.old.driver.engine
+            self.old.watched.items self.old.is_accepted self.old.style self.old.trees)
+            (stand_of D.Stream.remaining D.Stream.contents D.Stream.far D.Stream.state
             self.new.driver.engine self.new.watched.items self.new.is_accepted self.new.style self.new.trees)) }
     {
         let Ok(path) = copy_of(self.alloc, &subject.path) else {
@@ -385,8 +416,10 @@ impl<'a, A: Allocator + Copy, D: Dial + Drop, C: Clock + Drop> Watcher<'a, A, D,
 
     /// Follows each subject.
     fn follow_all(&mut self, subjects: &[NodeSide<A>]) -> Result<(), Stop>
-        ensures { OnOk result (FollowsAll (aims_of subjects.now) (stand_of D.Stream.remaining D.Stream.contents self.old.driver.engine
-            self.old.watched.items self.old.is_accepted self.old.style self.old.trees) (stand_of D.Stream.remaining D.Stream.contents
+        ensures { OnOk result (FollowsAll (aims_of subjects.now)
+            (stand_of D.Stream.remaining D.Stream.contents D.Stream.far D.Stream.state self.old.driver.engine
+            self.old.watched.items self.old.is_accepted self.old.style self.old.trees)
+            (stand_of D.Stream.remaining D.Stream.contents D.Stream.far D.Stream.state
             self.new.driver.engine self.new.watched.items self.new.is_accepted self.new.style self.new.trees)) }
     {
         for subject in subjects {
@@ -397,12 +430,15 @@ impl<'a, A: Allocator + Copy, D: Dial + Drop, C: Clock + Drop> Watcher<'a, A, D,
 
     /// Goes on for this many milliseconds, and then ends the session.
     fn go_on<O: Write>(&mut self, for_ms: Option<u64>, out: &mut O) -> Result<(), Failure>
-        ensures ok { OnOk result ((text : List ℕ) × IsOver for_ms (stand_of D.Stream.remaining D.Stream.contents self.old.driver.engine
-            self.old.watched.items self.old.is_accepted self.old.style self.old.trees) (stand_of D.Stream.remaining D.Stream.contents
+        ensures ok { OnOk result ((text : List ℕ)
+            × IsOver for_ms (stand_of D.Stream.remaining D.Stream.contents D.Stream.far D.Stream.state self.old.driver.engine
+            self.old.watched.items self.old.is_accepted self.old.style self.old.trees)
+            (stand_of D.Stream.remaining D.Stream.contents D.Stream.far D.Stream.state
             self.new.driver.engine self.new.watched.items self.new.is_accepted self.new.style self.new.trees) text
             × Appends (O.contents out.old) (O.contents out.new) text) }
         ensures err { IfErr result
-            (λ why. why ≢ Failure.Stream → WritesOn (stand_of D.Stream.remaining D.Stream.contents self.old.driver.engine
+            (λ why. why ≢ Failure.Stream
+            → WritesOn (stand_of D.Stream.remaining D.Stream.contents D.Stream.far D.Stream.state self.old.driver.engine
             self.old.watched.items self.old.is_accepted self.old.style self.old.trees) (O.contents out.old) (O.contents out.new)) }
     {
         self.begins = self.driver.now();
@@ -433,13 +469,16 @@ impl<'a, A: Allocator + Copy, D: Dial + Drop, C: Clock + Drop> Watcher<'a, A, D,
         out: &mut O,
     ) -> WatchEnd
         ensures over { result ≡ WatchEnd.Over → (text : List ℕ) × EndsFrom (aims_of subjects.now) for_ms (stand_of D.Stream.remaining
-            D.Stream.contents self.old.driver.engine self.old.watched.items self.old.is_accepted self.old.style self.old.trees) text true
+            D.Stream.contents D.Stream.far D.Stream.state self.old.driver.engine self.old.watched.items self.old.is_accepted self.old.style
+            self.old.trees) text true
             × Appends (O.contents out.old) (O.contents out.new) text }
         ensures never { result ≡ WatchEnd.NeverConnected → (text : List ℕ) × EndsFrom (aims_of subjects.now) for_ms
-            (stand_of D.Stream.remaining D.Stream.contents self.old.driver.engine self.old.watched.items self.old.is_accepted self.old.style
+            (stand_of D.Stream.remaining D.Stream.contents D.Stream.far D.Stream.state self.old.driver.engine self.old.watched.items
+            self.old.is_accepted self.old.style
             self.old.trees) text false × Appends (O.contents out.old) (O.contents out.new) text }
         ensures printed { result ≢ WatchEnd.Stream → (text : List ℕ) × ((text ≡ [])
-            ⊎ PrintsFrom (aims_of subjects.now) (stand_of D.Stream.remaining D.Stream.contents self.old.driver.engine self.old.watched.items
+            ⊎ PrintsFrom (aims_of subjects.now)
+            (stand_of D.Stream.remaining D.Stream.contents D.Stream.far D.Stream.state self.old.driver.engine self.old.watched.items
             self.old.is_accepted self.old.style self.old.trees) text) × Appends (O.contents out.old) (O.contents out.new) text }
     {
         if let Err(stop) = self.follow_all(subjects) {

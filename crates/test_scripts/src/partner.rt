@@ -164,6 +164,8 @@ impl<'a> Write for Partner<'a> {
 }
 
 impl<'a> Stream for Partner<'a> {
+    ghost state = { λ _. tt };
+
     /// A read waits for an answer that comes later, and for nothing else.
     fn wait_at_most(&mut self, ms: u64) -> io::Result<()> {
         self.wait_ms = ms;

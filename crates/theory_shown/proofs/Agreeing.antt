@@ -1,6 +1,7 @@
 -- What is printed over connections to a server in memory is what its history has: such a server does what servers of the model do, so their
 -- laws hold.
 use Rattle.std.proofs.Common.{ℕ, Bool, true, false, List, [], ◌++◌, refl, sym, subst, ap}
+use Rattle.zk_link.specs.FarEnds.{FarEnd}
 use Rattle.zk_nodes.specs.History.{IsHistory}
 use Rattle.zk_turns.specs.Turns.{new_start}
 use Rattle.zk_turns.specs.View.{View, view_at}
@@ -34,7 +35,8 @@ use Rattle.theory_shown.proofs.Watched.{moves_too}
 -- ---- a watch
 
 -- it begins as its laws want
-watch_begins : {A : Type 0} (style : Style) (roots : List Text) (most : ℕ) (first : Stand A) (begun : IsBegun style roots most first)
+watch_begins : {A : Type 0} {far : FarEnd} (style : Style) (roots : List Text) (most : ℕ) (first : Stand A far)
+    (begun : IsBegun style roots most first)
     → IsTimed begun.timeout first → Begins (flow_in first)
 watch_begins style roots most first begun timed = record {
   apart = ap (λ (c : ChannelView). c.is_open) begun.channel;
@@ -47,8 +49,8 @@ watch_begins style roots most first begun timed = record {
   later_timed = timed.later_least;
 }
 
-module _ {A : Type 0} (By : List ℕ → List ℕ → Flow A → Flow A → Type 0) where
-  run_servers : (old new : Flow A) (before after : Served)
+module _ {A : Type 0} {far : FarEnd} (By : List ℕ → List ℕ → Flow A far → Flow A far → Type 0) where
+  run_servers : (old new : Flow A far) (before after : Served)
       → RunBenches By old new before after → RunMeets By old new (shown_of before) (shown_of after)
   run_servers old new before after run = record {
     runs = run.runs;
@@ -56,9 +58,9 @@ module _ {A : Type 0} (By : List ℕ → List ℕ → Flow A → Flow A → Type
     meets = benches_meet By run.runs.steps old new run.runs.passes before after run.meets;
   }
 
-pub watch_agrees : (A : Type 0) (By : List ℕ → List ℕ → Flow A → Flow A → Type 0) (after : Served)
-    → PrintsCohere A By → IsHistory (history_of after.history) → WatchAgrees A By after
-watch_agrees A By after cohere is style roots most aims first text begun from timed beside =
+pub watch_agrees : (A : Type 0) (far : FarEnd) (By : List ℕ → List ℕ → Flow A far → Flow A far → Type 0) (after : Served)
+    → PrintsCohere A far By → IsHistory (history_of after.history) → WatchAgrees A far By after
+watch_agrees A far By after cohere is style roots most aims first text begun from timed beside =
     cohere aims first text from (shown_of after) (record {
       ready = shown_of beside.ready;
       follows = record {
@@ -71,9 +73,9 @@ watch_agrees A By after cohere is style roots most aims first text begun from ti
       history = is;
     })
 
-pub watch_end_agrees : (A : Type 0) (By : List ℕ → List ℕ → Flow A → Flow A → Type 0) (after : Served)
-    → EndsCohere A By → IsHistory (history_of after.history) → WatchEndAgrees A By after
-watch_end_agrees A By after cohere is style roots most aims for_ms first text is_accepted begun from timed beside =
+pub watch_end_agrees : (A : Type 0) (far : FarEnd) (By : List ℕ → List ℕ → Flow A far → Flow A far → Type 0) (after : Served)
+    → EndsCohere A far By → IsHistory (history_of after.history) → WatchEndAgrees A far By after
+watch_end_agrees A far By after cohere is style roots most aims for_ms first text is_accepted begun from timed beside =
     cohere aims for_ms first text is_accepted from (shown_of after) (record {
       ready = shown_of beside.ready;
       over = shown_of beside.over;

@@ -1,9 +1,10 @@
 -- What a bench does beside a driver is what servers of the model do: act by act, and so stretch by stretch of a run.
-use Rattle.std.proofs.Common.{◌≡◌, ◌∙◌, ℕ, inl, inr, Bool, true, false, List, [], ◌∷◌, Some, None, ap, append-nil, refl, sym, subst}
-use Rattle.std.specs.Prelude.{take}
+use Rattle.std.proofs.Common.{◌≡◌, ◌≤◌, ◌∙◌, ℕ, inl, inr, Bool, true, false, List, [], ◌∷◌, Some, None, ap, append-nil, refl, sym, subst}
+use Rattle.std.specs.Prelude.{length, take}
 use Rattle.std.specs.List.{FoldsTo}
-use Rattle.theory_serving.specs.Shown.{more_requests}
-use Rattle.zk_history.specs.HistoryView.{history_of}
+use Rattle.zk_link.specs.FarEnds.{FarEnd}
+use Rattle.theory_serving.specs.Shown.{connected, more_requests}
+use Rattle.zk_history.specs.HistoryView.{history_of, HistoryView}
 use Rattle.zk_client.specs.Clients.{view_of}
 use Rattle.zk_conclusions.proofs.Truths.{coherent}
 use Rattle.zk_bench.specs.declared.phase.Phase.{Phase}
@@ -20,7 +21,8 @@ use Rattle.zk_served.specs.Worlds.{Befalls, ByDriver, ByStream, Meanwhile}
 use Rattle.zk_served.proofs.Benched.{bench_advances, bench_connects, bench_ends, bench_gives, bench_processes, bench_takes}
 use Rattle.zk_served.proofs.Served.{bytes_serve, streams_cohere, streams_serve}
 use Rattle.theory_shown.specs.Benched.{BenchesReceive}
-use Rattle.theory_shown.specs.Benched.{BefallsBench, BenchDoes, BenchesCohere, BenchesMeet, BenchesServe, DrivesBench, MeanwhileBench}
+use Rattle.zk_served.specs.BenchActs.{BenchDoes}
+use Rattle.theory_shown.specs.Benched.{BefallsBench, BenchesCohere, BenchesMeet, BenchesServe, DrivesBench, MeanwhileBench}
 
 -- ---- acts
 
@@ -65,8 +67,8 @@ acts_done (act ∷ acts) old new does =
 
 -- ---- a run
 
-module _ {A : Type 0} (By : List ℕ → List ℕ → Flow A → Flow A → Type 0) where
-  meanwhile_done : (there : Bool) (old new : Flow A) (before after : Served)
+module _ {A : Type 0} {far : FarEnd} (By : List ℕ → List ℕ → Flow A far → Flow A far → Type 0) where
+  meanwhile_done : (there : Bool) (old new : Flow A far) (before after : Served)
       → MeanwhileBench By there old new before after → Meanwhile By there old new (shown_of before) (shown_of after)
   meanwhile_done true old new before after meets = (meets.0, acts_done meets.0 before after meets.1, meets.2)
   meanwhile_done false old new before after meets = meets
@@ -74,13 +76,17 @@ module _ {A : Type 0} (By : List ℕ → List ℕ → Flow A → Flow A → Type
   same_shown : (before after : Served) → after ≡ before → shown_of after ≡ shown_of before
   same_shown before after same = ap (λ (s : Served). shown_of s) same
 
-  befalls_done : (deed : Deed A) (old new : Flow A) (before after : Served)
+  befalls_done : (deed : Deed A) (old new : Flow A far) (before after : Served)
       → BefallsBench By old deed new before after → Befalls By old deed new (shown_of before) (shown_of after)
   befalls_done (Made Written) old new before after meets = meanwhile_done old.course.channel.is_open old new before after meets
   befalls_done (Made (Looked look)) old new before after meets = meanwhile_done old.course.channel.is_open old new before after meets
   befalls_done (Made (Noted now happens.Opened)) old new before after meets =
-      subst (λ (s : Served). Befalls By old (Made (Noted now happens.Opened)) new (shown_of before) (shown_of s)) (sym meets.3)
-      (bench_connects before meets.0 meets.1 (subst (λ (s : Served). IsReady s) meets.3 meets.2))
+      let connects = bench_connects meets.0 meets.2 meets.3 (subst (λ (s : Served). IsReady s) meets.5 meets.4) in (
+        connects.0,
+        subst (λ (h : HistoryView). connects.0 ≤ length (history_of h).transactions) meets.1 connects.1,
+        ap (λ (s : Served). shown_of s) meets.5 ∙ connects.2
+            ∙ ap (λ (h : HistoryView). connected connects.0 (record (shown_of before) { history = history_of h })) meets.1,
+      )
   befalls_done (Made (Noted now happens.Failed)) old new before after meets = same_shown before after meets
   befalls_done (Made (Noted now happens.Cut)) old new before after meets = same_shown before after meets
   befalls_done (Made (Noted now (happens.Bytes bytes))) old new before after meets = same_shown before after meets
@@ -91,7 +97,7 @@ module _ {A : Type 0} (By : List ℕ → List ℕ → Flow A → Flow A → Type
   befalls_done (Made (Noted now (happens.Unfollow ticket))) old new before after meets = same_shown before after meets
   befalls_done (Asked now input) old new before after meets = same_shown before after meets
 
-  pub benches_meet : BenchesMeet A By
+  pub benches_meet : BenchesMeet A far By
   benches_meet [] old new passes before after meets = same_shown before after meets
   benches_meet (Some deed ∷ steps) old new passes before after meets = (
     shown_of meets.0,
@@ -100,7 +106,7 @@ module _ {A : Type 0} (By : List ℕ → List ℕ → Flow A → Flow A → Type
   )
   benches_meet (None ∷ steps) old new passes before after meets = benches_meet steps passes.0 new passes.2 before after meets
 
-  pub as_servers : (old new : Flow A) (after : Served) → DrivesBench By old new after → MeetsServers By old new (shown_of after)
+  pub as_servers : (old new : Flow A far) (after : Served) → DrivesBench By old new after → MeetsServers By old new (shown_of after)
   as_servers old new after drives = record {
     begins = drives.begins;
     runs = drives.runs;
@@ -112,23 +118,23 @@ module _ {A : Type 0} (By : List ℕ → List ℕ → Flow A → Flow A → Type
 
 -- ---- the whole
 
-pub benches_serve : (A : Type 0) → BenchesServe A ByStream
-benches_serve A old new after drives = streams_serve old new (shown_of after) (as_servers ByStream old new after drives)
+pub benches_serve : (A : Type 0) (far : FarEnd) → BenchesServe A far ByStream
+benches_serve A far old new after drives = streams_serve old new (shown_of after) (as_servers ByStream old new after drives)
 
-pub benches_serve_bytes : (A : Type 0) → BenchesServe A ByDriver
-benches_serve_bytes A old new after drives = bytes_serve old new (shown_of after) (as_servers ByDriver old new after drives)
+pub benches_serve_bytes : (A : Type 0) (far : FarEnd) → BenchesServe A far ByDriver
+benches_serve_bytes A far old new after drives = bytes_serve old new (shown_of after) (as_servers ByDriver old new after drives)
 
-pub benches_cohere : (A : Type 0) → BenchesCohere A ByStream
-benches_cohere A old new after drives = streams_cohere old new (shown_of after) (as_servers ByStream old new after drives)
+pub benches_cohere : (A : Type 0) (far : FarEnd) → BenchesCohere A far ByStream
+benches_cohere A far old new after drives = streams_cohere old new (shown_of after) (as_servers ByStream old new after drives)
 
-pub benches_cohere_bytes : (A : Type 0) → BenchesCohere A ByDriver
-benches_cohere_bytes A old new after drives =
-    coherent (history_of after.history) (view_of new.course.agent.asker.follower.client) (benches_serve_bytes A old new after drives)
+pub benches_cohere_bytes : (A : Type 0) (far : FarEnd) → BenchesCohere A far ByDriver
+benches_cohere_bytes A far old new after drives =
+    coherent (history_of after.history) (view_of new.course.agent.asker.follower.client) (benches_serve_bytes A far old new after drives)
 
 -- ---- such a bench can be
 
-pub benches_receive : (A : Type 0) → BenchesReceive A
-benches_receive A now old new passes before server bytes ready then_ready up by =
+pub benches_receive : (A : Type 0) (far : FarEnd) → BenchesReceive A far
+benches_receive A far now old new passes before server bytes ready then_ready up by =
     let one = bench.connected before server in
     let after = with_requests one bytes in
     let done = subst (λ b. MeanwhileBench ByDriver b passes.0 passes.2.0 one after) (sym up) (
@@ -136,4 +142,4 @@ benches_receive A now old new passes before server bytes ready then_ready up by 
       (after, (λ up. refl, λ down. let e : true ≡ false = down in cc), refl),
       subst (λ took. ByDriver took [] passes.0 passes.2.0) (sym (append-nil bytes)) by,
     ) in
-    (one, (server, ready, then_ready, refl), (after, done, refl))
+    (one, (before, refl, server, ready, then_ready, refl), (after, done, refl))

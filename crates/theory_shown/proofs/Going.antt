@@ -2,6 +2,7 @@
 use Rattle.std.proofs.Common.{◌≡◌, inl, inr, Bool, true, false, List, [], ◌∷◌, Option, Some, None, refl, sym, subst}
 use Rattle.std.specs.Prelude.{ℕ}
 use Rattle.std.specs.List.{FoldsTo}
+use Rattle.zk_link.specs.FarEnds.{FarEnd}
 use Rattle.zk_nodes.specs.History.{History, IsHistory}
 use Rattle.zk_turns.specs.View.{View}
 use Rattle.zk_laws.specs.Headline.{IsCoherentWith}
@@ -37,13 +38,13 @@ acts_on (act ∷ acts) old new happens =
 
 -- ---- a run
 
-module _ {A : Type 0} (By : List ℕ → List ℕ → Flow A → Flow A → Type 0) where
-  meanwhile_on : (there : Bool) (old new : Flow A) (before after : Shown)
+module _ {A : Type 0} {far : FarEnd} (By : List ℕ → List ℕ → Flow A far → Flow A far → Type 0) where
+  meanwhile_on : (there : Bool) (old new : Flow A far) (before after : Shown)
       → Meanwhile By there old new before after → GoesOn before.history after.history
   meanwhile_on true old new before after meets = acts_on meets.0 before after meets.1
   meanwhile_on false old new before after meets = meets
 
-  befalls_on : (deed : Deed A) (old new : Flow A) (before after : Shown)
+  befalls_on : (deed : Deed A) (old new : Flow A far) (before after : Shown)
       → Befalls By old deed new before after → GoesOn before.history after.history
   befalls_on (Made Written) old new before after meets = meanwhile_on old.course.channel.is_open old new before after meets
   befalls_on (Made (Looked look)) old new before after meets = meanwhile_on old.course.channel.is_open old new before after meets
@@ -59,7 +60,7 @@ module _ {A : Type 0} (By : List ℕ → List ℕ → Flow A → Flow A → Type
   befalls_on (Made (Noted now (happens.Unfollow ticket))) old new before after meets = same_on before after meets
   befalls_on (Asked now input) old new before after meets = same_on before after meets
 
-  steps_on : (steps : List (Option (Deed A))) (old new : Flow A) (passes : FoldsTo Passes old steps new) (before after : Shown)
+  steps_on : (steps : List (Option (Deed A))) (old new : Flow A far) (passes : FoldsTo Passes old steps new) (before after : Shown)
       → Meets By steps old new passes before after
       → GoesOn before.history after.history
   steps_on [] old new same before after meets = same_on before after meets
@@ -68,16 +69,16 @@ module _ {A : Type 0} (By : List ℕ → List ℕ → Flow A → Flow A → Type
       (steps_on steps passes.0 new passes.2 meets.0 after meets.2)
   steps_on (None ∷ steps) old new passes before after meets = steps_on steps passes.0 new passes.2 before after meets
 
-  pub run_on : (old new : Flow A) (before after : Shown) → RunMeets By old new before after → GoesOn before.history after.history
+  pub run_on : (old new : Flow A far) (before after : Shown) → RunMeets By old new before after → GoesOn before.history after.history
   run_on old new before after run = steps_on run.runs.steps old new run.runs.passes before after run.meets
 
-pub run_bound : {A : Type 0} (old new : Flow A) (before after : Shown)
+pub run_bound : {A : Type 0} {far : FarEnd} (old new : Flow A far) (before after : Shown)
     → RunMeets ByDriver old new before after → Bound old before → Bound new after
 run_bound old new before after run bound =
     steps_bound run.runs.steps old new run.runs.passes before after run.fits run.meets bound
 
 -- by what streams know it is also by what was written and read
-pub run_driver : {A : Type 0} (old new : Flow A) (before after : Shown)
+pub run_driver : {A : Type 0} {far : FarEnd} (old new : Flow A far) (before after : Shown)
     → RunMeets ByStream old new before after → RunMeets ByDriver old new before after
 run_driver old new before after run = record {
   runs = run.runs;

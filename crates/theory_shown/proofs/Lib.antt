@@ -7,3 +7,4 @@ pub mod Benched
 pub mod Starting
 pub mod Agreeing
 pub mod Waiting
+pub mod Linked

@@ -6,6 +6,7 @@ use Rattle.std.specs.List.{FoldsTo}
 use mathlib.Core.Path.{fun_ext}
 use Rattle.std.specs.Cmp.Lexicographic.{slice_cmp}
 use Rattle.std.specs.Ordering.{nat_cmp}
+use Rattle.zk_link.specs.FarEnds.{FarEnd}
 use Rattle.zk_nodes.specs.Path.{NodePath, text_of}
 use Rattle.zk_nodes.specs.declared.side.Side.{Side}
 use Rattle.zk_nodes.specs.declared.side.Side.TheVariants as sides
@@ -42,7 +43,7 @@ nothing sides.Child path = none (is_named path) _ (set.contains-empty (slice_cmp
 nothing_watched : shown_watches (linked Opening) ≡ no_watches
 nothing_watched = fun_ext (λ side. fun_ext (λ path. nothing side path))
 
-connected_ready : (before : Served) → IsReady before → IsReady (bench.connected before 0)
+pub connected_ready : (before : Served) → IsReady before → IsReady (bench.connected before 0)
 connected_ready before ready =
     let there : before.server < length before.taken = ready.there in
     record { taken = ready.taken; there = omega (arith, there); unwatched = λ opening. nothing_watched }
@@ -52,22 +53,22 @@ received_ready before bytes ready = record { taken = ready.taken; there = ready.
 
 -- ---- one deed
 
-module _ {A : Type 0} where
+module _ {A : Type 0} {far : FarEnd} where
   -- what a bench is after a stretch in which nothing came
-  record Stretch (there : Bool) (old new : Flow A) (before : Served) : Type 0 where
+  record Stretch (there : Bool) (old new : Flow A far) (before : Served) : Type 0 where
     after : Served
     ready : IsReady after
     meets : MeanwhileBench ByDriver there old new before after
     history : after.history ≡ before.history
 
-  wrote_all : (written : List ℕ) (old new : Flow A) → old.course.channel.unsent ≡ written ++ new.course.channel.unsent
+  wrote_all : (written : List ℕ) (old new : Flow A far) → old.course.channel.unsent ≡ written ++ new.course.channel.unsent
       → new.held ≡ old.held ++ [] → ByDriver (written ++ []) [] old new
   wrote_all written old new wrote read = record {
     wrote = wrote ∙ ap (λ took. took ++ new.course.channel.unsent) (sym (append-nil written));
     read = read;
   }
 
-  there_stretch : (up : Bool) (written : List ℕ) (old new : Flow A) (before : Served) → is_open before.connection.phase ≡ up
+  there_stretch : (up : Bool) (written : List ℕ) (old new : Flow A far) (before : Served) → is_open before.connection.phase ≡ up
       → ByDriver (written ++ []) [] old new → IsReady before → Stretch true old new before
   there_stretch true written old new before up by ready = record {
     after = with_requests before written;
@@ -86,7 +87,7 @@ module _ {A : Type 0} where
     history = refl;
   }
 
-  stretch : (there : Bool) (written : List ℕ) (old new : Flow A) (before : Served)
+  stretch : (there : Bool) (written : List ℕ) (old new : Flow A far) (before : Served)
       → old.course.channel.unsent ≡ written ++ new.course.channel.unsent → new.held ≡ old.held ++ [] → IsReady before
       → Stretch there old new before
   stretch true written old new before wrote read ready =
@@ -96,12 +97,13 @@ module _ {A : Type 0} where
 
   -- ---- a run
 
-  record Waits (steps : List (Option (Deed A))) (old new : Flow A) (passes : FoldsTo Passes old steps new) (before : Served) : Type 0 where
+  record Waits (steps : List (Option (Deed A))) (old new : Flow A far) (passes : FoldsTo Passes old steps new)
+      (before : Served) : Type 0 where
     after : Served
     meets : MeetsBench ByDriver steps old new passes before after
     history : after.history ≡ before.history
 
-  waits : (steps : List (Option (Deed A))) (old new : Flow A) (passes : FoldsTo Passes old steps new)
+  waits : (steps : List (Option (Deed A))) (old new : Flow A far) (passes : FoldsTo Passes old steps new)
       → NothingComes steps old new passes → (before : Served) → IsReady before → Waits steps old new passes before
   waits [] old new passes quiet before ready = record { after = before; meets = refl; history = refl }
   waits (Some (Made Written) ∷ steps) old new passes quiet before ready =
@@ -117,7 +119,11 @@ module _ {A : Type 0} where
   waits (Some (Made (Noted now happens.Opened)) ∷ steps) old new passes quiet before ready =
       let then_ready = connected_ready before ready in
       let rest = waits steps passes.0 new passes.2 quiet (bench.connected before 0) then_ready in
-      record { after = rest.after; meets = (bench.connected before 0, (0, ready, then_ready, refl), rest.meets); history = rest.history }
+      record {
+        after = rest.after;
+        meets = (bench.connected before 0, (before, refl, 0, ready, then_ready, refl), rest.meets);
+        history = rest.history;
+      }
   waits (Some (Made (Noted now happens.Failed)) ∷ steps) old new passes quiet before ready =
       let rest = waits steps passes.0 new passes.2 quiet before ready in
       record { after = rest.after; meets = (before, refl, rest.meets); history = rest.history }
@@ -149,8 +155,8 @@ module _ {A : Type 0} where
       let rest = waits steps passes.0 new passes.2 quiet before ready in
       record { after = rest.after; meets = rest.meets; history = rest.history }
 
-pub benches_wait : (A : Type 0) → BenchesWait A
-benches_wait A steps old new passes quiet before ready =
+pub benches_wait : (A : Type 0) (far : FarEnd) → BenchesWait A far
+benches_wait A far steps old new passes quiet before ready =
     let all = waits steps old new passes quiet before ready in
     (all.after, all.meets, all.history)
 

@@ -1,6 +1,7 @@
 -- What a watch prints is the history's: move by move the watch's client stays served, so what it shows is what the history has.
 use Rattle.std.proofs.Common.{ℕ, List, [], ◌∷◌, ap, sym, subst}
 use Rattle.std.specs.List.{FoldsTo}
+use Rattle.zk_link.specs.FarEnds.{FarEnd}
 use Rattle.zk_nodes.specs.History.{History, IsHistory}
 use Rattle.zk_laws.specs.Headline.{IsCoherentWith}
 use Rattle.theory_serving.specs.GoingOn.{GoesOn}
@@ -14,7 +15,7 @@ use Rattle.shell_watch.specs.Watching.{flow_in, view_in, Closes, Does, Move, Sta
 use Rattle.theory_shown.specs.Watched.{AllCohere, EndsCohere, FollowsMeet, IsMoveCoherent, MoveMeets, MovesMeet, PrintsCohere, RunMeets}
 use Rattle.theory_shown.proofs.Going.{kept_coheres, run_bound, run_driver, run_on, same_on}
 
-coheres : {A : Type 0} (stand : Stand A) (shown : Shown) (history : History)
+coheres : {A : Type 0} {far : FarEnd} (stand : Stand A far) (shown : Shown) (history : History)
     → Bound (flow_in stand) shown → GoesOn shown.history history → IsHistory history → IsCoherentWith history (view_in stand)
 coheres stand shown history bound goes is =
     kept_coheres (view_in stand) stand.course.channel.is_open stand.course.channel.unsent
@@ -23,10 +24,10 @@ coheres stand shown history bound goes is =
 -- ---- what goes on otherwise
 
 -- Where each run is beside another world too, so are moves.
-module _ {A World Other : Type 0} (seen : World → Other) (Beside : (old new : Flow A) → (before after : World) → Type 0)
-    (Too : (old new : Flow A) → (before after : Other) → Type 0)
-    (each : (old new : Flow A) (before after : World) → Beside old new before after → Too old new (seen before) (seen after)) where
-  move_too : (move : Move A) (old new : Stand A) (does : Does old move new) (before after : World)
+module _ {A World Other : Type 0} {far : FarEnd} (seen : World → Other) (Beside : (old new : Flow A far) → (before after : World) → Type 0)
+    (Too : (old new : Flow A far) → (before after : Other) → Type 0)
+    (each : (old new : Flow A far) (before after : World) → Beside old new before after → Too old new (seen before) (seen after)) where
+  move_too : (move : Move A) (old new : Stand A far) (does : Does old move new) (before after : World)
       → MoveMeets Beside move old new does before after → MoveMeets Too move old new does (seen before) (seen after)
   move_too (Takes turn text) old new does before after meets = (
     seen meets.0,
@@ -35,7 +36,7 @@ module _ {A World Other : Type 0} (seen : World → Other) (Beside : (old new : 
   )
   move_too (Closes until) old new does before after meets = each (flow_in old) (flow_in new) before after meets
 
-  pub moves_too : (moves : List (Move A)) (old new : Stand A) (does : FoldsTo Does old moves new) (before after : World)
+  pub moves_too : (moves : List (Move A)) (old new : Stand A far) (does : FoldsTo Does old moves new) (before after : World)
       → MovesMeet Beside moves old new does before after → MovesMeet Too moves old new does (seen before) (seen after)
   moves_too [] old new does before after same = ap seen same
   moves_too (move ∷ moves) old new does before after meets = (
@@ -46,21 +47,22 @@ module _ {A World Other : Type 0} (seen : World → Other) (Beside : (old new : 
 
 -- ---- a move
 
-move_on : {A : Type 0} (move : Move A) (old new : Stand A) (does : Does old move new) (before after : Shown)
+move_on : {A : Type 0} {far : FarEnd} (move : Move A) (old new : Stand A far) (does : Does old move new) (before after : Shown)
     → MoveMeets (RunMeets ByDriver) move old new does before after → GoesOn before.history after.history
 move_on (Takes turn text) old new does before after meets =
     goes_further before.history meets.0.history after.history (run_on ByDriver (flow_in old) (flow_in does.between) before meets.0 meets.1)
     (run_on ByDriver (flow_in does.between) (flow_in new) meets.0 after meets.2)
 move_on (Closes until) old new does before after meets = run_on ByDriver (flow_in old) (flow_in new) before after meets
 
-move_bound : {A : Type 0} (move : Move A) (old new : Stand A) (does : Does old move new) (before after : Shown)
+move_bound : {A : Type 0} {far : FarEnd} (move : Move A) (old new : Stand A far) (does : Does old move new) (before after : Shown)
     → MoveMeets (RunMeets ByDriver) move old new does before after → Bound (flow_in old) before → Bound (flow_in new) after
 move_bound (Takes turn text) old new does before after meets bound =
     run_bound (flow_in does.between) (flow_in new) meets.0 after meets.2
     (run_bound (flow_in old) (flow_in does.between) before meets.0 meets.1 bound)
 move_bound (Closes until) old new does before after meets bound = run_bound (flow_in old) (flow_in new) before after meets bound
 
-move_coheres : {A : Type 0} (move : Move A) (old new : Stand A) (does : Does old move new) (before after : Shown) (history : History)
+move_coheres : {A : Type 0} {far : FarEnd} (move : Move A) (old new : Stand A far) (does : Does old move new)
+    (before after : Shown) (history : History)
     → MoveMeets (RunMeets ByDriver) move old new does before after → Bound (flow_in old) before
     → GoesOn after.history history → IsHistory history → IsMoveCoherent history move old new does
 move_coheres (Takes turn text) old new does before after history meets bound goes is =
@@ -75,14 +77,16 @@ move_coheres (Closes until) old new does before after history meets bound goes i
 
 -- ---- moves
 
-moves_on : {A : Type 0} (moves : List (Move A)) (old new : Stand A) (does : FoldsTo Does old moves new) (before after : Shown)
+moves_on : {A : Type 0} {far : FarEnd} (moves : List (Move A)) (old new : Stand A far)
+    (does : FoldsTo Does old moves new) (before after : Shown)
     → MovesMeet (RunMeets ByDriver) moves old new does before after → GoesOn before.history after.history
 moves_on [] old new does before after meets = same_on before after meets
 moves_on (move ∷ moves) old new does before after meets =
     goes_further before.history meets.0.history after.history (move_on move old does.0 does.1 before meets.0 meets.1)
     (moves_on moves does.0 new does.2 meets.0 after meets.2)
 
-moves_bound : {A : Type 0} (moves : List (Move A)) (old new : Stand A) (does : FoldsTo Does old moves new) (before after : Shown)
+moves_bound : {A : Type 0} {far : FarEnd} (moves : List (Move A)) (old new : Stand A far)
+    (does : FoldsTo Does old moves new) (before after : Shown)
     → MovesMeet (RunMeets ByDriver) moves old new does before after → Bound (flow_in old) before
     → Bound (flow_in new) after
 moves_bound [] old new same before after meets bound =
@@ -90,7 +94,8 @@ moves_bound [] old new same before after meets bound =
 moves_bound (move ∷ moves) old new does before after meets bound =
     moves_bound moves does.0 new does.2 meets.0 after meets.2 (move_bound move old does.0 does.1 before meets.0 meets.1 bound)
 
-all_cohere : {A : Type 0} (moves : List (Move A)) (old new : Stand A) (does : FoldsTo Does old moves new) (before after : Shown)
+all_cohere : {A : Type 0} {far : FarEnd} (moves : List (Move A)) (old new : Stand A far)
+    (does : FoldsTo Does old moves new) (before after : Shown)
     (history : History) → MovesMeet (RunMeets ByDriver) moves old new does before after → Bound (flow_in old) before
     → GoesOn after.history history → IsHistory history → AllCohere history moves old new does
 all_cohere [] old new does before after history meets bound goes is = tt
@@ -103,17 +108,18 @@ all_cohere (move ∷ moves) old new does before after history meets bound goes i
 
 -- ---- the whole
 
-ready_bound : {A : Type 0} (first ready : Stand A) (shown : Shown) → FollowsMeet ByDriver first ready shown → Bound (flow_in ready) shown
+ready_bound : {A : Type 0} {far : FarEnd} (first ready : Stand A far) (shown : Shown)
+    → FollowsMeet ByDriver first ready shown → Bound (flow_in ready) shown
 ready_bound first ready shown meets =
     run_bound (flow_in first) (flow_in ready) meets.before shown meets.runs (begins_bound (flow_in first) meets.before meets.begins)
 
-pub prints_cohere : (A : Type 0) → PrintsCohere A ByDriver
-prints_cohere A aims first text from after meets =
+pub prints_cohere : (A : Type 0) (far : FarEnd) → PrintsCohere A far ByDriver
+prints_cohere A far aims first text from after meets =
     all_cohere from.prints.moves from.ready from.last from.prints.does meets.ready after after.history meets.prints
     (ready_bound first from.ready meets.ready meets.follows) (goes_nowhere after.history) meets.history
 
-pub ends_cohere : (A : Type 0) → EndsCohere A ByDriver
-ends_cohere A aims for_ms first text is_accepted from after meets =
+pub ends_cohere : (A : Type 0) (far : FarEnd) → EndsCohere A far ByDriver
+ends_cohere A far aims for_ms first text is_accepted from after meets =
     let over = from.over in
     let ready = ready_bound first from.ready meets.ready meets.follows in
     let later = moves_on over.closes.moves over.over from.last over.closes.does meets.over after meets.closes in (
@@ -126,12 +132,13 @@ ends_cohere A aims for_ms first text is_accepted from after meets =
 
 -- ---- by what streams know
 
-moves_driver : {A : Type 0} (moves : List (Move A)) (old new : Stand A) (does : FoldsTo Does old moves new) (before after : Shown)
+moves_driver : {A : Type 0} {far : FarEnd} (moves : List (Move A)) (old new : Stand A far)
+    (does : FoldsTo Does old moves new) (before after : Shown)
     → MovesMeet (RunMeets ByStream) moves old new does before after → MovesMeet (RunMeets ByDriver) moves old new does before after
 moves_driver moves old new does before after meets =
     moves_too (λ (s : Shown). s) (RunMeets ByStream) (RunMeets ByDriver) run_driver moves old new does before after meets
 
-follows_driver : {A : Type 0} (first ready : Stand A) (shown : Shown)
+follows_driver : {A : Type 0} {far : FarEnd} (first ready : Stand A far) (shown : Shown)
     → FollowsMeet ByStream first ready shown → FollowsMeet ByDriver first ready shown
 follows_driver first ready shown meets = record {
   begins = meets.begins;
@@ -139,17 +146,17 @@ follows_driver first ready shown meets = record {
   runs = run_driver (flow_in first) (flow_in ready) meets.before shown meets.runs;
 }
 
-pub streams_cohere : (A : Type 0) → PrintsCohere A ByStream
-streams_cohere A aims first text from after meets = prints_cohere A aims first text from after (record {
+pub streams_cohere : (A : Type 0) (far : FarEnd) → PrintsCohere A far ByStream
+streams_cohere A far aims first text from after meets = prints_cohere A far aims first text from after (record {
   ready = meets.ready;
   follows = follows_driver first from.ready meets.ready meets.follows;
   prints = moves_driver from.prints.moves from.ready from.last from.prints.does meets.ready after meets.prints;
   history = meets.history;
 })
 
-pub ended_cohere : (A : Type 0) → EndsCohere A ByStream
-ended_cohere A aims for_ms first text is_accepted from after meets =
-    ends_cohere A aims for_ms first text is_accepted from after (record {
+pub ended_cohere : (A : Type 0) (far : FarEnd) → EndsCohere A far ByStream
+ended_cohere A far aims for_ms first text is_accepted from after meets =
+    ends_cohere A far aims for_ms first text is_accepted from after (record {
       ready = meets.ready;
       over = meets.over;
       follows = follows_driver first from.ready meets.ready meets.follows;

@@ -1,6 +1,7 @@
 -- What `watch` and `live` print over connections to a server in memory is what that server's history has.
 use Rattle.std.specs.Prelude.{◌≡◌, ◌<◌, ◌^◌, ◌++◌, ⊤, ℕ, Bool, true, false, List, [], ◌∷◌, Option, unsigned_abs}
 use Rattle.std.specs.List.{FoldsTo}
+use Rattle.zk_link.specs.FarEnds.{FarEnd}
 use Rattle.zk_nodes.specs.Path.{Text}
 use Rattle.zk_nodes.specs.declared.side.Side.{Side}
 use Rattle.zk_history.specs.HistoryView.{history_of}
@@ -19,7 +20,8 @@ use Rattle.script_live.specs.Lives.{Lives}
 use Rattle.script_live.specs.Printed as lived
 use Rattle.shell_watch.specs.declared.plan.Style.{Style}
 use Rattle.shell_watch.specs.Watching.{flow_in, EndsFrom, IsBegun, PrintsFrom, Stand}
-use Rattle.theory_shown.specs.Benched.{BenchDoes, MeetsBench}
+use Rattle.zk_served.specs.BenchActs.{BenchDoes}
+use Rattle.theory_shown.specs.Benched.{MeetsBench}
 use Rattle.theory_shown.specs.Lived.{ByClient, DeedsMeet}
 use Rattle.theory_shown.specs.Lived as lived_so
 use Rattle.theory_shown.specs.Watched.{AllCohere, MovesMeet}
@@ -27,14 +29,16 @@ use Rattle.theory_shown.specs.Watched.{AllCohere, MovesMeet}
 -- ---- a bench beside a watch
 
 -- A driver comes from one place to another by a run, beside which a bench does what its clauses say, with these bytes.
-pub record RunBenches {A : Type 0} (By : List ℕ → List ℕ → Flow A → Flow A → Type 0) (old new : Flow A) (before after : Served)
+pub record RunBenches {A : Type 0} {far : FarEnd} (By : List ℕ → List ℕ → Flow A far → Flow A far → Type 0)
+    (old new : Flow A far) (before after : Served)
     : Type 0 where
   pub runs : Runs old new
   pub fits : StepsFit runs.steps old new runs.passes
   pub meets : MeetsBench By runs.steps old new runs.passes before after
 
 -- So does a watch, from its beginning on: up to where each subject is followed, and up to where it has printed this.
-pub record PrintsBench {A : Type 0} (By : List ℕ → List ℕ → Flow A → Flow A → Type 0) (aims : List (Side × Text)) (first : Stand A)
+pub record PrintsBench {A : Type 0} {far : FarEnd} (By : List ℕ → List ℕ → Flow A far → Flow A far → Type 0)
+    (aims : List (Side × Text)) (first : Stand A far)
     (text : List ℕ) (from : PrintsFrom aims first text) (after : Served) : Type 0 where
   pub before : Served
   pub ready : Served
@@ -42,8 +46,9 @@ pub record PrintsBench {A : Type 0} (By : List ℕ → List ℕ → Flow A → F
   pub prints : MovesMeet (RunBenches By) from.prints.moves from.ready from.last from.prints.does ready after
 
 -- And where its time is over: through the end of its session.
-pub record EndsBench {A : Type 0} (By : List ℕ → List ℕ → Flow A → Flow A → Type 0) (aims : List (Side × Text)) (for_ms : Option ℕ)
-    (first : Stand A) (text : List ℕ) (is_accepted : Bool) (from : EndsFrom aims for_ms first text is_accepted) (after : Served)
+pub record EndsBench {A : Type 0} {far : FarEnd} (By : List ℕ → List ℕ → Flow A far → Flow A far → Type 0)
+    (aims : List (Side × Text)) (for_ms : Option ℕ)
+    (first : Stand A far) (text : List ℕ) (is_accepted : Bool) (from : EndsFrom aims for_ms first text is_accepted) (after : Served)
     : Type 0 where
   pub before : Served
   pub ready : Served
@@ -53,7 +58,7 @@ pub record EndsBench {A : Type 0} (By : List ℕ → List ℕ → Flow A → Flo
   pub closes : MovesMeet (RunBenches By) from.over.closes.moves from.over.over from.last from.over.closes.does over after
 
 -- The timeouts that a watch asks for, for its first session and for later ones, are above 0, and of 31 bits: so are those of its driver.
-pub record IsTimed {A : Type 0} (timeout : ℕ) (first : Stand A) : Type 0 where
+pub record IsTimed {A : Type 0} {far : FarEnd} (timeout : ℕ) (first : Stand A far) : Type 0 where
   pub least : 0 < timeout
   pub most : timeout < 2 ^ 31
   pub later_least : 0 < unsigned_abs first.course.agent.timeout_ms
@@ -61,17 +66,17 @@ pub record IsTimed {A : Type 0} (timeout : ℕ) (first : Stand A) : Type 0 where
 
 -- Each good answer of the client of which a watch prints a line is the answer of the bench's history at the last seen zxid that this line
 -- has, wherever pieces and cuts fall: by what a watch has printed (`IsPrinted` of its contract), and by the bench as it is in the end.
-abbrev pub WatchAgrees : (A : Type 0) → (List ℕ → List ℕ → Flow A → Flow A → Type 0) → Served → Type 0
-WatchAgrees A By after =
-    (style : Style) (roots : List Text) (most : ℕ) (aims : List (Side × Text)) (first : Stand A) (text : List ℕ)
+abbrev pub WatchAgrees : (A : Type 0) (far : FarEnd) → (List ℕ → List ℕ → Flow A far → Flow A far → Type 0) → Served → Type 0
+WatchAgrees A far By after =
+    (style : Style) (roots : List Text) (most : ℕ) (aims : List (Side × Text)) (first : Stand A far) (text : List ℕ)
     (begun : IsBegun style roots most first) (from : PrintsFrom aims first text) → IsTimed begun.timeout first
     → PrintsBench By aims first text from after
     → AllCohere (history_of after.history) from.prints.moves from.ready from.last from.prints.does
 
 -- And of one whose time is over (`IsWatched`): what it has printed then, and what it prints at the end.
-abbrev pub WatchEndAgrees : (A : Type 0) → (List ℕ → List ℕ → Flow A → Flow A → Type 0) → Served → Type 0
-WatchEndAgrees A By after =
-    (style : Style) (roots : List Text) (most : ℕ) (aims : List (Side × Text)) (for_ms : Option ℕ) (first : Stand A) (text : List ℕ)
+abbrev pub WatchEndAgrees : (A : Type 0) (far : FarEnd) → (List ℕ → List ℕ → Flow A far → Flow A far → Type 0) → Served → Type 0
+WatchEndAgrees A far By after =
+    (style : Style) (roots : List Text) (most : ℕ) (aims : List (Side × Text)) (for_ms : Option ℕ) (first : Stand A far) (text : List ℕ)
     (is_accepted : Bool) (begun : IsBegun style roots most first) (from : EndsFrom aims for_ms first text is_accepted)
     → IsTimed begun.timeout first → EndsBench By aims for_ms first text is_accepted from after
     → AllCohere (history_of after.history) from.over.prints.moves from.ready from.over.over from.over.prints.does

@@ -2,4 +2,5 @@
 pub mod Watched
 pub mod Lived
 pub mod Benched
+pub mod Linked
 pub mod Agreeing

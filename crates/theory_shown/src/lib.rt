@@ -8,20 +8,22 @@ ghost use Rattle.zk_nodes.specs.History.{IsHistory};
 ghost use Rattle.zk_served.specs.Worlds.{ByDriver, ByStream};
 ghost use Rattle.theory_shown.specs.Agreeing.{LifeAgrees, LivesWait, WatchAgrees, WatchEndAgrees};
 ghost use Rattle.theory_shown.specs.Benched.{BenchesCohere, BenchesMeet, BenchesReceive, BenchesServe, BenchesWait};
+ghost use Rattle.theory_shown.specs.Linked.{LinkedEndAgrees, LinkedWatchAgrees};
 ghost use Rattle.theory_shown.specs.Lived.{ByClient, ByKnown, LifeCoheres};
 ghost use Rattle.theory_shown.specs.Watched.{EndsCohere, PrintsCohere};
 
 use std::alloc::Allocator;
 use zk_bench::Bench;
+use zk_link::Stream;
 
 /// Where what each connection took was what a server of the model had, and what it gave was what this server had sent: each good answer of
 /// the client of which a watch prints is the history's, at the last seen zxid that is printed with it. Over streams that know their bytes,
 /// and by what was written and read, over any stream.
-pub fn watches_cohere<A: Allocator>()
-    ensures printed { PrintsCohere A ByStream }
-    ensures over { EndsCohere A ByStream }
-    ensures printed_bytes { PrintsCohere A ByDriver }
-    ensures over_bytes { EndsCohere A ByDriver }
+pub fn watches_cohere<A: Allocator, S: Stream>()
+    ensures printed { PrintsCohere A S.far ByStream }
+    ensures over { EndsCohere A S.far ByStream }
+    ensures printed_bytes { PrintsCohere A S.far ByDriver }
+    ensures over_bytes { EndsCohere A S.far ByDriver }
 {}
 
 /// The same of a client that a script drives over such connections: each good answer that it has, and that is looked up and printed, is the
@@ -34,17 +36,17 @@ pub fn lives_cohere()
 /// A driver whose connections lead to a server in memory was served from the bench's history: over a whole run, beside which a bench does
 /// what its clauses say, with the bytes that streams took and gave, or that the driver wrote and read. What the bench shows is then what
 /// servers of the model show, so its client was served from that history, and each good answer that it has is the history's.
-pub fn benches_serve<A: Allocator>()
-    ensures meets { BenchesMeet A ByStream }
-    ensures meets_bytes { BenchesMeet A ByDriver }
-    ensures served { BenchesServe A ByStream }
-    ensures served_bytes { BenchesServe A ByDriver }
-    ensures coheres { BenchesCohere A ByStream }
-    ensures coheres_bytes { BenchesCohere A ByDriver }
+pub fn benches_serve<A: Allocator, S: Stream>()
+    ensures meets { BenchesMeet A S.far ByStream }
+    ensures meets_bytes { BenchesMeet A S.far ByDriver }
+    ensures served { BenchesServe A S.far ByStream }
+    ensures served_bytes { BenchesServe A S.far ByDriver }
+    ensures coheres { BenchesCohere A S.far ByStream }
+    ensures coheres_bytes { BenchesCohere A S.far ByDriver }
     // And each ready bench can begin a connection and receive what is written on it.
-    ensures receives { BenchesReceive A }
+    ensures receives { BenchesReceive A S.far }
     // Beside any run in which nothing comes it can go on.
-    ensures waits { BenchesWait A }
+    ensures waits { BenchesWait A S.far }
 {}
 
 /// What is known of the history of any bench: it is one.
@@ -57,11 +59,20 @@ fn known_of<B: Allocator + Copy>(bench: &Bench<B>) -> i64
 /// What `watch` prints over connections to a server in memory agrees with its history, wherever pieces and cuts fall: each good answer of
 /// the client of which it prints a line is what the history of the bench has, as it is in the end, at the last seen zxid in that line. The
 /// bench did beside the watch what its clauses say, with the bytes that the driver wrote and read, or that streams took and gave.
-pub fn watches_agree<A: Allocator, B: Allocator + Copy>(bench: &Bench<B>)
-    ensures printed { WatchAgrees A ByDriver bench.now }
-    ensures over { WatchEndAgrees A ByDriver bench.now }
-    ensures printed_known { WatchAgrees A ByStream bench.now }
-    ensures over_known { WatchEndAgrees A ByStream bench.now }
+pub fn watches_agree<A: Allocator, S: Stream, B: Allocator + Copy>(bench: &Bench<B>)
+    ensures printed { WatchAgrees A S.far ByDriver bench.now }
+    ensures over { WatchEndAgrees A S.far ByDriver bench.now }
+    ensures printed_known { WatchAgrees A S.far ByStream bench.now }
+    ensures over_known { WatchEndAgrees A S.far ByStream bench.now }
+{
+    known_of(bench);
+}
+
+/// Over a dial whose streams say that a server in memory with this history is at their far end (`bench_end`), what `watch` prints agrees
+/// with the history, wherever pieces and cuts fall: nothing is premise of what a bench does beside the watch, since the streams say that.
+pub fn linked_watches_agree<A: Allocator, B: Allocator + Copy>(bench: &Bench<B>)
+    ensures printed { LinkedWatchAgrees A bench.now.history }
+    ensures over { LinkedEndAgrees A bench.now.history }
 {
     known_of(bench);
 }

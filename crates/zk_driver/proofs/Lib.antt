@@ -4,3 +4,4 @@ pub mod Carrying
 pub mod Asking
 pub mod Flowed
 pub mod Running
+pub mod Fronts

@@ -7,28 +7,29 @@ use Rattle.zk_agent.specs.declared.action.Action.{Action}
 use Rattle.zk_agent.specs.declared.input.AgentInput.{AgentInput}
 use Rattle.zk_agent.specs.declared.input.AgentInput.TheVariants as happens
 use Rattle.zk_agent.specs.Telling.{Told, Says, told_by}
-use Rattle.zk_link.specs.Streams.{known_of, Exchanges, Known}
+use Rattle.zk_link.specs.FarEnds.{reached_of, Begun, FarEnd, Reached, Reaches}
 use Rattle.zk_driver.specs.declared.engine.Engine.{Engine}
 use Rattle.zk_driver.specs.Driving.{course_of, Course, Does, IsAsked, Move, Written, Looked, Noted, Takes}
 
--- How far a driver has come, what the stream of its connection knows, and what was read and is not handed to the agent yet.
-pub record Flow (A : Type 0) : Type 0 where
+-- How far a driver has come, what is known of its connection, and what was read and is not handed to the agent yet.
+pub record Flow (A : Type 0) (far : FarEnd) : Type 0 where
   pub course : Course A
-  pub known : Known
+  pub known : Reached far
   pub held : List ℕ
 
-abbrev pub flow_of : {A S : Type 0} → (remaining contents : S → Option (List ℕ)) → Engine A S → Option (Action A) → Flow A
-flow_of remaining contents engine passed =
-    record { course = course_of engine passed; known = known_of remaining contents engine.channel.stream; held = [] }
+abbrev pub flow_of : {A S : Type 0} → (remaining contents : S → Option (List ℕ)) → (far : FarEnd) → (state : S → far.State)
+    → Engine A S → Option (Action A) → Flow A far
+flow_of remaining contents far state engine passed =
+    record { course = course_of engine passed; known = reached_of remaining contents far state engine.channel.stream; held = [] }
 
 -- the bytes that the agent is handed by an input
 abbrev pub bytes_in : {A : Type 0} → AgentInput A → List ℕ
 bytes_in (happens.Bytes bytes) = bytes.items
 bytes_in input = []
 
--- The stream is as it was, unless a connection begins or is over.
-abbrev pub Lasts : {A : Type 0} → AgentInput A → (old new : Flow A) → Type 0
-Lasts happens.Opened old new = ⊤
+-- The connection is as it was, unless it is over, or one begins.
+abbrev pub Lasts : {A : Type 0} {far : FarEnd} → AgentInput A → (old new : Flow A far) → Type 0
+Lasts {A} {far} happens.Opened old new = new.course.channel.is_open ≡ true → Begun far new.known.end
 Lasts happens.Failed old new = ⊤
 Lasts happens.Cut old new = ⊤
 Lasts input old new = new.course.channel.is_open ≡ true → new.known ≡ old.known
@@ -40,13 +41,13 @@ pub data Deed (A : Type 0) : Type 0 where
 
 -- What each does. What a read brings is held, and is what the agent is handed next, whole; nothing else is handed to it as bytes, and
 -- nothing is read before that.
-abbrev pub Carries : {A : Type 0} → Flow A → Deed A → Flow A → Type 0
+abbrev pub Carries : {A : Type 0} {far : FarEnd} → Flow A far → Deed A → Flow A far → Type 0
 Carries old (Made Written) new =
     Does old.course Written new.course
-    × Exchanges old.course.channel.unsent new.course.channel.unsent old.known new.known [] × (new.held ≡ old.held)
+    × Reaches old.course.channel.unsent new.course.channel.unsent old.known new.known [] × (new.held ≡ old.held)
 Carries old (Made (Looked look)) new =
     Does old.course (Looked look) new.course
-    × Exchanges old.course.channel.unsent new.course.channel.unsent old.known new.known new.held × (old.held ≡ [])
+    × Reaches old.course.channel.unsent new.course.channel.unsent old.known new.known new.held × (old.held ≡ [])
 Carries old (Made (Noted now input)) new =
     Does old.course (Noted now input) new.course × Lasts input old new × (bytes_in input ≡ old.held) × (new.held ≡ [])
 Carries old (Asked now input) new =
@@ -54,31 +55,31 @@ Carries old (Asked now input) new =
     × (old.held ≡ []) × (new.held ≡ [])
 
 -- deeds, the oldest first
-pub record Flows {A : Type 0} (old new : Flow A) : Type 0 where
+pub record Flows {A : Type 0} {far : FarEnd} (old new : Flow A far) : Type 0 where
   pub deeds : List (Deed A)
   pub carries : FoldsTo Carries old deeds new
 
 -- ---- call after call
 
 -- A driver does something; or its program takes of what it is told.
-abbrev pub Passes : {A : Type 0} → Flow A → Option (Deed A) → Flow A → Type 0
+abbrev pub Passes : {A : Type 0} {far : FarEnd} → Flow A far → Option (Deed A) → Flow A far → Type 0
 Passes old (Some deed) new = Carries old deed new
 Passes old None new = new ≡ record old { course = record old.course { told = new.course.told } }
 
 -- some of that, the oldest first
-pub record Runs {A : Type 0} (old new : Flow A) : Type 0 where
+pub record Runs {A : Type 0} {far : FarEnd} (old new : Flow A far) : Type 0 where
   pub steps : List (Option (Deed A))
   pub passes : FoldsTo Passes old steps new
 
 -- So is a call of a driver, that the program takes of what it is told, and one after the other.
-abbrev pub CallsRun : Type 0 → Type 0
-CallsRun A = (old new : Flow A) → Flows old new → Runs old new
+abbrev pub CallsRun : Type 0 → FarEnd → Type 0
+CallsRun A far = (old new : Flow A far) → Flows old new → Runs old new
 
-abbrev pub TakingRuns : Type 0 → Type 0
-TakingRuns A = (old : Flow A) (told : List Told) → Runs old (record old { course = record old.course { told = told } })
+abbrev pub TakingRuns : Type 0 → FarEnd → Type 0
+TakingRuns A far = (old : Flow A far) (told : List Told) → Runs old (record old { course = record old.course { told = told } })
 
-abbrev pub RunsJoin : Type 0 → Type 0
-RunsJoin A = (old between new : Flow A) → Runs old between → Runs between new → Runs old new
+abbrev pub RunsJoin : Type 0 → FarEnd → Type 0
+RunsJoin A far = (old between new : Flow A far) → Runs old between → Runs between new → Runs old new
 
 -- ---- what follows, as long as one connection lasts
 
@@ -99,7 +100,7 @@ frame_of (Says (Send bytes)) = bytes
 frame_of told = []
 
 -- what is sent, in order
-abbrev pub sent_in : {A : Type 0} → (deeds : List (Deed A)) → (old new : Flow A) → FoldsTo Carries old deeds new → List ℕ
+abbrev pub sent_in : {A : Type 0} {far : FarEnd} → (deeds : List (Deed A)) → (old new : Flow A far) → FoldsTo Carries old deeds new → List ℕ
 sent_in [] old new carries = []
 sent_in (Made (Noted now input) ∷ deeds) old new carries =
     flat_map frame_of (told_by carries.1.0.2.actions) ++ sent_in deeds carries.0 new carries.2
@@ -108,15 +109,15 @@ sent_in (Made Written ∷ deeds) old new carries = sent_in deeds carries.0 new c
 sent_in (Made (Looked look) ∷ deeds) old new carries = sent_in deeds carries.0 new carries.2
 
 -- Whatever a driver does on a connection: what the agent is handed, joined, is a beginning of what the stream had to give.
-abbrev pub BytesComeWhole : Type 0 → Type 0
-BytesComeWhole A =
-    (deeds : List (Deed A)) → (old new : Flow A) → FoldsTo Carries old deeds new → AreWithin deeds
+abbrev pub BytesComeWhole : Type 0 → FarEnd → Type 0
+BytesComeWhole A far =
+    (deeds : List (Deed A)) → (old new : Flow A far) → FoldsTo Carries old deeds new → AreWithin deeds
     → old.held ≡ [] → IfSome old.known.left (λ bytes. (rest : List ℕ) × (bytes ≡ flat_map handed_by deeds ++ rest))
 
 -- And as long as the connection is there, what the stream took is a beginning of what was unsent, and was sent since: the rest is unsent.
-abbrev pub BytesGoWhole : Type 0 → Type 0
-BytesGoWhole A =
-    (deeds : List (Deed A)) → (old new : Flow A) → (carries : FoldsTo Carries old deeds new) → AreWithin deeds
+abbrev pub BytesGoWhole : Type 0 → FarEnd → Type 0
+BytesGoWhole A far =
+    (deeds : List (Deed A)) → (old new : Flow A far) → (carries : FoldsTo Carries old deeds new) → AreWithin deeds
     → new.course.channel.is_open ≡ true
     → (written : List ℕ) × Appends old.known.took new.known.took written
     × (old.course.channel.unsent ++ sent_in deeds old new carries ≡ written ++ new.course.channel.unsent)

@@ -1,7 +1,8 @@
 //! What a connection brings.
 
-ghost use Rattle.std.specs.Prelude.{◌≡◌, IfOk};
+ghost use Rattle.std.specs.Prelude.{◌≡◌, [], IfOk};
 ghost use Rattle.std.specs.Io.KnownBytes.{Consumes, Keeps};
+ghost use Rattle.zk_link.specs.FarEnds.{Goes};
 ghost use Rattle.zk_driver.specs.inner.Driving.{input_of};
 ghost use Rattle.zk_driver.specs.Flowing.{bytes_in};
 ghost use Rattle.zk_driver.specs.inner.Reads.{is_late, reading_of, Gives};
@@ -65,6 +66,7 @@ fn read_once<A: Allocator, S: Stream>(
     ensures brings { IfOk result (λ brought. Gives (S.remaining stream.old) (S.remaining stream.new) brought) }
     ensures whole { IfOk result (λ brought. Consumes (S.remaining stream.old) (S.remaining stream.new) (bytes_in (input_of brought))) }
     ensures took { Keeps (S.contents stream.old) (S.contents stream.new) }
+    ensures goes { IfOk result (λ brought. Goes S.far [] (bytes_in (input_of brought)) (S.state stream.old) (S.state stream.new)) }
 {
     match reading_of(Stream::read_some(stream, room.as_mut_slice())) {
         Reading::Bytes(count) => {
@@ -90,6 +92,7 @@ pub(crate) fn bring<A: Allocator, S: Stream>(
     ensures brings { IfOk result (λ brought. (before : S) × Gives (S.remaining before) (S.remaining stream.new) brought) }
     ensures whole { IfOk result (λ brought. Consumes (S.remaining stream.old) (S.remaining stream.new) (bytes_in (input_of brought))) }
     ensures took { Keeps (S.contents stream.old) (S.contents stream.new) }
+    ensures goes { IfOk result (λ brought. Goes S.far [] (bytes_in (input_of brought)) (S.state stream.old) (S.state stream.new)) }
 {
     if stream.wait_at_most(ms).is_err() {
         *why = Reason::Other;

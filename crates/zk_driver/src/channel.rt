@@ -1,13 +1,14 @@
 //! What a driver has of a connection.
 
-ghost use Rattle.std.specs.Prelude.{◌≡◌, ◌++◌, None, Some, IfOk, OnOk, is_some};
+ghost use Rattle.std.specs.Prelude.{◌≡◌, ◌++◌, [], None, Some, IfOk, OnOk, is_some};
 ghost use Rattle.zk_driver.specs.Driving.{channel_view, closed, opened, Looks, Writes};
 ghost use Rattle.zk_driver.specs.inner.Driving.{is_nothing, look_after};
 ghost use Rattle.zk_driver.specs.inner.Noting.{notes_of_event};
 ghost use Rattle.zk_driver.specs.Noting.{notes_in};
 ghost use Rattle.std.specs.Io.KnownBytes.{Keeps};
 ghost use Rattle.zk_driver.specs.inner.Driving.{input_of};
-ghost use Rattle.zk_link.specs.Streams.{known_of, Exchanges, Sends};
+ghost use Rattle.zk_link.specs.FarEnds.{reached_of, Reaches, Trades};
+ghost use Rattle.zk_link.specs.Streams.{Sends};
 ghost use Rattle.zk_driver.specs.Flowing.{bytes_in};
 ghost use Rattle.zk_driver.specs.inner.Reads.{IsBrought};
 
@@ -73,7 +74,8 @@ impl<A: Allocator + Copy, S: Stream> Channel<A, S> {
 
     /// A connection begins.
     pub(crate) fn hold(&mut self, stream: S)
-        ensures { channel_view self.new ≡ opened }
+        ensures view { channel_view self.new ≡ opened }
+        ensures stream { self.new.stream ≡ Some stream }
     {
         self.close();
         self.stream = Some(stream);
@@ -103,9 +105,12 @@ impl<A: Allocator + Copy, S: Stream> Channel<A, S> {
     pub(crate) fn flush(&mut self) -> bool
         ensures writes { Writes (channel_view self.old) (channel_view self.new) }
         ensures sends { Sends self.old.unsent.items self.new.unsent.items
-            ((known_of S.remaining S.contents self.old.stream).took) ((known_of S.remaining S.contents self.new.stream).took) }
-        ensures gives { Keeps ((known_of S.remaining S.contents self.old.stream).left)
-            ((known_of S.remaining S.contents self.new.stream).left) }
+            ((reached_of S.remaining S.contents S.far S.state self.old.stream).took) ((reached_of S.remaining S.contents S.far S.state self.new.stream).took) }
+        ensures gives { Keeps ((reached_of S.remaining S.contents S.far S.state self.old.stream).left)
+            ((reached_of S.remaining S.contents S.far S.state self.new.stream).left) }
+        ensures trades { Trades S.far self.old.unsent.items self.new.unsent.items []
+            ((reached_of S.remaining S.contents S.far S.state self.old.stream).end)
+            ((reached_of S.remaining S.contents S.far S.state self.new.stream).end) }
     {
         match &mut self.stream {
             Some(stream) => send(stream, &mut self.unsent),
@@ -125,8 +130,8 @@ impl<A: Allocator + Copy, S: Stream> Channel<A, S> {
         ensures looks { IfOk result (λ brought.
             Looks (look_after began is_again (is_nothing brought) self.old.looked) (channel_view self.old) (channel_view self.new)) }
         ensures brings { IfOk result (λ brought. IsBrought S.remaining self.new.stream brought) }
-        ensures whole { IfOk result (λ brought. Exchanges self.old.unsent.items self.new.unsent.items
-            (known_of S.remaining S.contents self.old.stream) (known_of S.remaining S.contents self.new.stream)
+        ensures whole { IfOk result (λ brought. Reaches self.old.unsent.items self.new.unsent.items
+            (reached_of S.remaining S.contents S.far S.state self.old.stream) (reached_of S.remaining S.contents S.far S.state self.new.stream)
             (bytes_in (input_of brought))) }
     {
         let brought = self.read(alloc, ms)?;
@@ -139,8 +144,8 @@ impl<A: Allocator + Copy, S: Stream> Channel<A, S> {
     fn read(&mut self, alloc: A, ms: u64) -> Result<Brought<A>, AllocError>
         ensures writes { Writes (channel_view self.old) (channel_view self.new) }
         ensures brings { IfOk result (λ brought. IsBrought S.remaining self.new.stream brought) }
-        ensures whole { IfOk result (λ brought. Exchanges self.old.unsent.items self.new.unsent.items
-            (known_of S.remaining S.contents self.old.stream) (known_of S.remaining S.contents self.new.stream)
+        ensures whole { IfOk result (λ brought. Reaches self.old.unsent.items self.new.unsent.items
+            (reached_of S.remaining S.contents S.far S.state self.old.stream) (reached_of S.remaining S.contents S.far S.state self.new.stream)
             (bytes_in (input_of brought))) }
     {
         make_room(&mut self.room)?;

@@ -117,8 +117,8 @@ impl<'a, A: Allocator + Copy, D: Dial + Drop, C: Clock + Drop> Driver<'a, A, D, 
     pub fn follow(&mut self, ticket: u64, side: Side, path: Path<A>) -> Result<(), Stop>
         ensures hands { OnOk result
             (Hands (happens.Follow ticket side path) (course_of self.old.engine None) (course_of self.new.engine None)) }
-        ensures flows { OnOk result (Flows (flow_of D.Stream.remaining D.Stream.contents self.old.engine None)
-            (flow_of D.Stream.remaining D.Stream.contents self.new.engine None)) }
+        ensures flows { OnOk result (Flows (flow_of D.Stream.remaining D.Stream.contents D.Stream.far D.Stream.state self.old.engine None)
+            (flow_of D.Stream.remaining D.Stream.contents D.Stream.far D.Stream.state self.new.engine None)) }
         ensures kept { Extends (told_by self.old.engine.waiting.items) (told_by self.new.engine.waiting.items) }
     {
         self.hand(AgentInput::Follow { ticket, side, path })
@@ -127,8 +127,8 @@ impl<'a, A: Allocator + Copy, D: Dial + Drop, C: Clock + Drop> Driver<'a, A, D, 
     /// Follows the subject of this ticket no more.
     pub fn unfollow(&mut self, ticket: u64) -> Result<(), Stop>
         ensures hands { OnOk result (Hands (happens.Unfollow ticket) (course_of self.old.engine None) (course_of self.new.engine None)) }
-        ensures flows { OnOk result (Flows (flow_of D.Stream.remaining D.Stream.contents self.old.engine None)
-            (flow_of D.Stream.remaining D.Stream.contents self.new.engine None)) }
+        ensures flows { OnOk result (Flows (flow_of D.Stream.remaining D.Stream.contents D.Stream.far D.Stream.state self.old.engine None)
+            (flow_of D.Stream.remaining D.Stream.contents D.Stream.far D.Stream.state self.new.engine None)) }
         ensures kept { Extends (told_by self.old.engine.waiting.items) (told_by self.new.engine.waiting.items) }
     {
         self.hand(AgentInput::Unfollow { ticket })
@@ -139,8 +139,8 @@ impl<'a, A: Allocator + Copy, D: Dial + Drop, C: Clock + Drop> Driver<'a, A, D, 
     pub fn ask(&mut self, ticket: u64, call: Call<A>, until: Option<u64>) -> Result<(), Stop>
         ensures hands { OnOk result
             (Hands (happens.Call ticket call until) (course_of self.old.engine None) (course_of self.new.engine None)) }
-        ensures flows { OnOk result (Flows (flow_of D.Stream.remaining D.Stream.contents self.old.engine None)
-            (flow_of D.Stream.remaining D.Stream.contents self.new.engine None)) }
+        ensures flows { OnOk result (Flows (flow_of D.Stream.remaining D.Stream.contents D.Stream.far D.Stream.state self.old.engine None)
+            (flow_of D.Stream.remaining D.Stream.contents D.Stream.far D.Stream.state self.new.engine None)) }
         ensures kept { Extends (told_by self.old.engine.waiting.items) (told_by self.new.engine.waiting.items) }
     {
         self.hand(AgentInput::Call {
@@ -154,8 +154,8 @@ impl<'a, A: Allocator + Copy, D: Dial + Drop, C: Clock + Drop> Driver<'a, A, D, 
     pub fn set_addresses(&mut self, addresses: &'a [&'a str]) -> Result<(), Stop>
         ensures hands { OnOk result
             (Hands (happens.Addresses (length addresses.now)) (course_of self.old.engine None) (course_of self.new.engine None)) }
-        ensures flows { OnOk result (Flows (flow_of D.Stream.remaining D.Stream.contents self.old.engine None)
-            (flow_of D.Stream.remaining D.Stream.contents self.new.engine None)) }
+        ensures flows { OnOk result (Flows (flow_of D.Stream.remaining D.Stream.contents D.Stream.far D.Stream.state self.old.engine None)
+            (flow_of D.Stream.remaining D.Stream.contents D.Stream.far D.Stream.state self.new.engine None)) }
         ensures kept { Extends (told_by self.old.engine.waiting.items) (told_by self.new.engine.waiting.items) }
     {
         self.addresses = addresses;
@@ -167,8 +167,8 @@ impl<'a, A: Allocator + Copy, D: Dial + Drop, C: Clock + Drop> Driver<'a, A, D, 
     fn hand(&mut self, input: AgentInput<A>) -> Result<(), Stop>
         requires { IsAsked input }
         ensures hands { OnOk result (Hands input (course_of self.old.engine None) (course_of self.new.engine None)) }
-        ensures flows { OnOk result (Flows (flow_of D.Stream.remaining D.Stream.contents self.old.engine None)
-            (flow_of D.Stream.remaining D.Stream.contents self.new.engine None)) }
+        ensures flows { OnOk result (Flows (flow_of D.Stream.remaining D.Stream.contents D.Stream.far D.Stream.state self.old.engine None)
+            (flow_of D.Stream.remaining D.Stream.contents D.Stream.far D.Stream.state self.new.engine None)) }
         ensures kept { Extends (told_by self.old.engine.waiting.items) (told_by self.new.engine.waiting.items) }
     {
         let now = self.now();
@@ -190,8 +190,8 @@ impl<'a, A: Allocator + Copy, D: Dial + Drop, C: Clock + Drop> Driver<'a, A, D, 
     /// another driver, from what was saved.
     pub fn next(&mut self, until: u64) -> Result<Option<Action<A>>, Stop>
         ensures goes { IfOk result (λ passed. Goes (course_of self.old.engine None) (course_of self.new.engine passed)) }
-        ensures flows { IfOk result (λ passed. Flows (flow_of D.Stream.remaining D.Stream.contents self.old.engine None)
-            (flow_of D.Stream.remaining D.Stream.contents self.new.engine passed)) }
+        ensures flows { IfOk result (λ passed. Flows (flow_of D.Stream.remaining D.Stream.contents D.Stream.far D.Stream.state self.old.engine None)
+            (flow_of D.Stream.remaining D.Stream.contents D.Stream.far D.Stream.state self.new.engine passed)) }
         ensures come { IfOk result (λ passed. IfNone passed (until ≤ self.new.engine.agent.latest)) }
         ensures none { IfOk result (λ passed. IfNone passed (self.new.engine.waiting.items ≡ [])) }
         ensures kept { OnErr result (Extends (told_by self.old.engine.waiting.items) (told_by self.new.engine.waiting.items)) }
@@ -216,8 +216,8 @@ impl<'a, A: Allocator + Copy, D: Dial + Drop, C: Clock + Drop> Driver<'a, A, D, 
     pub fn turn(&mut self, until: u64) -> Result<Turn<A>, Stop>
         ensures goes { IfOk result
             (λ turn. GoesBy (notes_of turn) (course_of self.old.engine None) (course_of self.new.engine (passed_in turn))) }
-        ensures flows { IfOk result (λ turn. Flows (flow_of D.Stream.remaining D.Stream.contents self.old.engine None)
-            (flow_of D.Stream.remaining D.Stream.contents self.new.engine (passed_in turn))) }
+        ensures flows { IfOk result (λ turn. Flows (flow_of D.Stream.remaining D.Stream.contents D.Stream.far D.Stream.state self.old.engine None)
+            (flow_of D.Stream.remaining D.Stream.contents D.Stream.far D.Stream.state self.new.engine (passed_in turn))) }
         ensures come { IfOk result (λ turn. is_come turn ≡ true → until ≤ self.new.engine.agent.latest) }
         ensures none { IfOk result (λ turn. is_come turn ≡ true → self.new.engine.waiting.items ≡ []) }
         ensures kept { OnErr result (Extends (told_by self.old.engine.waiting.items) (told_by self.new.engine.waiting.items)) }
@@ -269,8 +269,8 @@ impl<'a, A: Allocator + Copy, D: Dial + Drop, C: Clock + Drop> Driver<'a, A, D, 
     fn round(&mut self, until: u64) -> Result<(u64, Event), Stop>
         ensures goes { IfOk result
             (λ round. GoesBy (notes_of_event round.1) (course_of self.old.engine None) (course_of self.new.engine None)) }
-        ensures flows { OnOk result (Flows (flow_of D.Stream.remaining D.Stream.contents self.old.engine None)
-            (flow_of D.Stream.remaining D.Stream.contents self.new.engine None)) }
+        ensures flows { OnOk result (Flows (flow_of D.Stream.remaining D.Stream.contents D.Stream.far D.Stream.state self.old.engine None)
+            (flow_of D.Stream.remaining D.Stream.contents D.Stream.far D.Stream.state self.new.engine None)) }
         ensures told { IfOk result (λ round. round.0 ≤ self.new.engine.agent.latest) }
         ensures kept { Extends (told_by self.old.engine.waiting.items) (told_by self.new.engine.waiting.items) }
     {
@@ -282,6 +282,7 @@ impl<'a, A: Allocator + Copy, D: Dial + Drop, C: Clock + Drop> Driver<'a, A, D, 
 
     /// A connection to the address at a place of the list, or why there is none: none is made in time, or the list is shorter.
     fn dial(&mut self, attempt: Attempt) -> Result<D::Stream, Reason>
+        ensures begins { IfOk result (λ stream. D.Stream.far.begins (D.Stream.state stream)) }
         ensures engine { self.new.engine ≡ self.old.engine }
         ensures latest { self.new.latest ≡ self.old.latest }
     {
@@ -301,8 +302,8 @@ impl<'a, A: Allocator + Copy, D: Dial + Drop, C: Clock + Drop> Driver<'a, A, D, 
         requires { is_some self.old.engine.channel.attempt ≡ true }
         ensures goes { IfOk result
             (λ round. GoesBy (notes_of_event round.1) (course_of self.old.engine None) (course_of self.new.engine None)) }
-        ensures flows { OnOk result (Flows (flow_of D.Stream.remaining D.Stream.contents self.old.engine None)
-            (flow_of D.Stream.remaining D.Stream.contents self.new.engine None)) }
+        ensures flows { OnOk result (Flows (flow_of D.Stream.remaining D.Stream.contents D.Stream.far D.Stream.state self.old.engine None)
+            (flow_of D.Stream.remaining D.Stream.contents D.Stream.far D.Stream.state self.new.engine None)) }
         ensures told { IfOk result (λ round. round.0 ≤ self.new.engine.agent.latest) }
         ensures kept { Extends (told_by self.old.engine.waiting.items) (told_by self.new.engine.waiting.items) }
     {
@@ -319,8 +320,8 @@ impl<'a, A: Allocator + Copy, D: Dial + Drop, C: Clock + Drop> Driver<'a, A, D, 
         requires { self.old.engine.channel.attempt ≡ None }
         ensures goes { IfOk result
             (λ round. GoesBy (notes_of_event round.1) (course_of self.old.engine None) (course_of self.new.engine None)) }
-        ensures flows { OnOk result (Flows (flow_of D.Stream.remaining D.Stream.contents self.old.engine None)
-            (flow_of D.Stream.remaining D.Stream.contents self.new.engine None)) }
+        ensures flows { OnOk result (Flows (flow_of D.Stream.remaining D.Stream.contents D.Stream.far D.Stream.state self.old.engine None)
+            (flow_of D.Stream.remaining D.Stream.contents D.Stream.far D.Stream.state self.new.engine None)) }
         ensures told { IfOk result (λ round. round.0 ≤ self.new.engine.agent.latest) }
         ensures kept { Extends (told_by self.old.engine.waiting.items) (told_by self.new.engine.waiting.items) }
     {
@@ -342,8 +343,8 @@ impl<'a, A: Allocator + Copy, D: Dial + Drop, C: Clock + Drop> Driver<'a, A, D, 
         requires open { is_some self.old.engine.channel.stream ≡ true }
         ensures goes { IfOk result
             (λ glance. GoesBy (notes_of_event glance.event) (course_of self.old.engine None) (course_of self.new.engine None)) }
-        ensures flows { OnOk result (Flows (flow_of D.Stream.remaining D.Stream.contents self.old.engine None)
-            (flow_of D.Stream.remaining D.Stream.contents self.new.engine None)) }
+        ensures flows { OnOk result (Flows (flow_of D.Stream.remaining D.Stream.contents D.Stream.far D.Stream.state self.old.engine None)
+            (flow_of D.Stream.remaining D.Stream.contents D.Stream.far D.Stream.state self.new.engine None)) }
         ensures told { IfOk result (λ glance. glance.told ≤ self.new.engine.agent.latest) }
         ensures none { IfOk result (λ glance. glance.is_again ≡ true → self.new.engine.channel.attempt ≡ None) }
         ensures open { IfOk result (λ glance. glance.is_again ≡ true → is_some self.new.engine.channel.stream ≡ true) }
@@ -385,8 +386,8 @@ impl<'a, A: Allocator + Copy, D: Dial + Drop, C: Clock + Drop> Driver<'a, A, D, 
         requires open { is_some self.old.engine.channel.stream ≡ true }
         ensures goes { IfOk result
             (λ round. GoesBy (notes_of_event round.1) (course_of self.old.engine None) (course_of self.new.engine None)) }
-        ensures flows { OnOk result (Flows (flow_of D.Stream.remaining D.Stream.contents self.old.engine None)
-            (flow_of D.Stream.remaining D.Stream.contents self.new.engine None)) }
+        ensures flows { OnOk result (Flows (flow_of D.Stream.remaining D.Stream.contents D.Stream.far D.Stream.state self.old.engine None)
+            (flow_of D.Stream.remaining D.Stream.contents D.Stream.far D.Stream.state self.new.engine None)) }
         ensures told { IfOk result (λ round. round.0 ≤ self.new.engine.agent.latest) }
         ensures kept { Extends (told_by self.old.engine.waiting.items) (told_by self.new.engine.waiting.items) }
     {

@@ -1,8 +1,9 @@
 //! How what goes to the server is written: what a connection does not take at once is kept.
 
-ghost use Rattle.std.specs.Prelude.{◌≡◌, ◌≤◌, length, drop, take, unwrap_or, vec_len, IfSome};
+ghost use Rattle.std.specs.Prelude.{◌≡◌, ◌≤◌, [], length, drop, Some, take, unwrap_or, vec_len, IfSome};
 ghost use Rattle.std.specs.Io.KnownBytes.{Appends, Keeps};
 ghost use Rattle.zk_link.specs.Written.{IsLeftOf};
+ghost use Rattle.zk_link.specs.FarEnds.{Goes, Trades};
 ghost use Rattle.zk_link.specs.Streams.{Sends};
 ghost use Rattle.zk_driver.specs.inner.Reads.{written_by};
 
@@ -34,6 +35,7 @@ fn write_some<S: Stream>(stream: &mut S, bytes: &[u8]) -> Option<usize>
     ensures most { IfSome result (λ count. count ≤ length bytes.now) }
     ensures takes { Appends (S.contents stream.old) (S.contents stream.new) (take (unwrap_or result 0) bytes.now) }
     ensures left { Keeps (S.remaining stream.old) (S.remaining stream.new) }
+    ensures goes { Goes S.far (take (unwrap_or result 0) bytes.now) [] (S.state stream.old) (S.state stream.new) }
 {
     let count = written_by(stream.give(bytes))?;
     Some(count.min(bytes.len()))
@@ -54,6 +56,7 @@ pub(crate) fn send<A: Allocator, S: Stream>(stream: &mut S, unsent: &mut Vec<u8,
     ensures left { IsLeftOf unsent.old.items unsent.new.items }
     ensures sends { Sends unsent.old.items unsent.new.items (S.contents stream.old) (S.contents stream.new) }
     ensures gives { Keeps (S.remaining stream.old) (S.remaining stream.new) }
+    ensures trades { Trades S.far unsent.old.items unsent.new.items [] (Some (S.state stream.old)) (Some (S.state stream.new)) }
 {
     for _ in 0..WRITES {
         let piece = unsent.len().min(PIECE);

@@ -2,3 +2,4 @@
 pub mod Hosts
 pub mod Written
 pub mod Streams
+pub mod FarEnds

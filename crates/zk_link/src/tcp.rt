@@ -45,6 +45,8 @@ impl<S: Write + Drop> Write for Socket<S> {
 }
 
 impl<S: Read + Write + OpenStream + Drop> Stream for Socket<S> {
+    ghost state = { λ _. tt };
+
     fn wait_at_most(&mut self, ms: u64) -> io::Result<()> {
         self.stream
             .set_read_timeout(Some(Duration::from_millis(ms)))

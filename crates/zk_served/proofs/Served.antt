@@ -26,7 +26,7 @@ use Rattle.zk_agent.specs.declared.input.AgentInput.TheVariants as happens
 use Rattle.zk_agent.specs.Telling.{Told}
 use Rattle.zk_agent.specs.Agents.{bytes_at, given_of, opened_at, trail_of, Ended, Hears, HungUp, Move, Opened, Trail}
 use Rattle.zk_driver.specs.Driving.{closed, opened, ChannelView, Course, Looked, Noted, Takes, Written}
-use Rattle.zk_link.specs.Streams.{Exchanges}
+use Rattle.zk_link.specs.FarEnds.{FarEnd, Reaches}
 use Rattle.zk_driver.specs.Flowing.{Asked, Carries, Deed, Flow, Made, Passes}
 use Rattle.zk_served.specs.Asking.{DeedFits, StepsFit, MovesFit}
 use Rattle.zk_served.specs.Acts.{given_in, taken_in}
@@ -47,7 +47,7 @@ held_where true held = held
 held_where false held = []
 
 -- between deeds
-pub record Bound {A : Type 0} (flow : Flow A) (shown : Shown) : Type 0 where
+pub record Bound {A : Type 0} {far : FarEnd} (flow : Flow A far) (shown : Shown) : Type 0 where
   pub here : Kept (view_in flow.course) flow.course.channel.is_open flow.course.channel.unsent
       (held_where flow.course.channel.is_open flow.held) shown
   pub tied : is_up (view_in flow.course) ≡ true → is_open flow.course.agent.dialler.phase ≡ true
@@ -59,7 +59,8 @@ none_where false held none = refl
 
 -- ---- bytes are written and read
 
-module _ {A : Type 0} (old new : Flow A) (before after : Shown) (course : new.course ≡ record old.course { channel = new.course.channel })
+module _ {A : Type 0} {far : FarEnd} (old new : Flow A far) (before after : Shown)
+    (course : new.course ≡ record old.course { channel = new.course.channel })
     (there : new.course.channel.is_open ≡ old.course.channel.is_open) where
   stretch : (b : Bool) → old.course.channel.is_open ≡ b → Meanwhile ByDriver b old new before after → Bound old before → Bound new after
   stretch true is meets bound = record {
@@ -87,7 +88,7 @@ module _ {A : Type 0} (old new : Flow A) (before after : Shown) (course : new.co
 
 -- ---- the agent takes an input
 
-module _ {A : Type 0} (old new : Flow A) (now : ℕ) (input : AgentInput A) (between : ChannelView)
+module _ {A : Type 0} {far : FarEnd} (old new : Flow A far) (now : ℕ) (input : AgentInput A) (between : ChannelView)
     (takes : Takes now input (record old.course { channel = between }) new.course)
     (fits : MovesFit takes.comes.moves (trail_of old.course.agent []) (trail_of new.course.agent takes.actions) takes.comes.does)
     (none : new.held ≡ []) where
@@ -223,7 +224,7 @@ module _ {A : Type 0} (old new : Flow A) (now : ℕ) (input : AgentInput A) (bet
 
 -- ---- one deed
 
-noted_bound : {A : Type 0} (now : ℕ) (input : AgentInput A) (old new : Flow A) (before after : Shown)
+noted_bound : {A : Type 0} {far : FarEnd} (now : ℕ) (input : AgentInput A) (old new : Flow A far) (before after : Shown)
     (carries : Carries old (Made (Noted now input)) new) → DeedFits old (Made (Noted now input)) new carries
     → Befalls ByDriver old (Made (Noted now input)) new before after → Bound old before → Bound new after
 noted_bound now happens.Opened old new before after carries fits meets bound =
@@ -249,7 +250,7 @@ noted_bound now (happens.Call ticket call until) old new before after carries fi
 noted_bound now (happens.Follow ticket side path) old new before after carries fits meets bound = absurd carries.0.1
 noted_bound now (happens.Unfollow ticket) old new before after carries fits meets bound = absurd carries.0.1
 
-asked_bound : {A : Type 0} (now : ℕ) (input : AgentInput A) (old new : Flow A) (before : Shown)
+asked_bound : {A : Type 0} {far : FarEnd} (now : ℕ) (input : AgentInput A) (old new : Flow A far) (before : Shown)
     (carries : Carries old (Asked now input) new) → DeedFits old (Asked now input) new carries → Bound old before → Bound new before
 asked_bound now happens.Opened old new before carries fits bound = absurd carries.1
 asked_bound now happens.Failed old new before carries fits bound = absurd carries.1
@@ -269,7 +270,7 @@ asked_bound now (happens.Unfollow ticket) old new before carries fits bound =
     plain_bound old new now (happens.Unfollow ticket) old.course.channel carries.0 fits carries.4 before bound _ refl
     (tt, (tt, tt)) refl carries.3
 
-deed_bound : {A : Type 0} (deed : Deed A) (old new : Flow A) (before after : Shown) (carries : Carries old deed new)
+deed_bound : {A : Type 0} {far : FarEnd} (deed : Deed A) (old new : Flow A far) (before after : Shown) (carries : Carries old deed new)
     → DeedFits old deed new carries → Befalls ByDriver old deed new before after → Bound old before
     → Bound new after
 deed_bound (Made Written) old new before after carries fits meets bound =
@@ -282,12 +283,14 @@ deed_bound (Asked now input) old new before after carries fits meets bound =
     subst (Bound new) (sym meets) (asked_bound now input old new before carries fits bound)
 
 -- what the program takes of what it is told changes nothing of that
-told_bound : {A : Type 0} (old new : Flow A) (shown : Shown) → new ≡ record old { course = record old.course { told = new.course.told } }
+told_bound : {A : Type 0} {far : FarEnd} (old new : Flow A far) (shown : Shown)
+    → new ≡ record old { course = record old.course { told = new.course.told } }
     → Bound old shown → Bound new shown
 told_bound old new shown same bound =
     subst (λ f. Bound f shown) (sym same) (record { here = bound.here; tied = bound.tied; later = bound.later })
 
-pub steps_bound : {A : Type 0} (steps : List (Option (Deed A))) (old new : Flow A) (passes : FoldsTo Passes old steps new)
+pub steps_bound : {A : Type 0} {far : FarEnd} (steps : List (Option (Deed A))) (old new : Flow A far)
+    (passes : FoldsTo Passes old steps new)
     (before after : Shown) → StepsFit steps old new passes → Meets ByDriver steps old new passes before after
     → Bound old before → Bound new after
 steps_bound [] old new same before after fits meets bound = subst (Bound new) (sym meets) (subst (λ f. Bound f before) same bound)
@@ -297,7 +300,7 @@ steps_bound (Some deed ∷ steps) old new passes before after fits meets bound =
 steps_bound (None ∷ steps) old new passes before after fits meets bound =
     steps_bound steps passes.0 new passes.2 before after fits meets (told_bound old passes.0 before passes.1 bound)
 
-pub begins_bound : {A : Type 0} (flow : Flow A) (before : Shown) → Begins flow → Bound flow before
+pub begins_bound : {A : Type 0} {far : FarEnd} (flow : Flow A far) (before : Shown) → Begins flow → Bound flow before
 begins_bound flow before begins = record {
   here = record {
     met = before;
@@ -326,26 +329,26 @@ pub known_gave : (gave rest piece : List ℕ) (old new : Option (List ℕ)) → 
 known_gave gave rest piece old new is then_is consumes =
     append_cancel_right gave piece rest (subst (λ o. Consumes o (Some rest) piece) is (subst (λ o. Consumes old o piece) then_is consumes))
 
-by_driver : {A : Type 0} (took gave piece : List ℕ) (old new : Flow A)
-    → Exchanges old.course.channel.unsent new.course.channel.unsent old.known new.known piece → new.held ≡ old.held ++ piece
+by_driver : {A : Type 0} {far : FarEnd} (took gave piece : List ℕ) (old new : Flow A far)
+    → Reaches old.course.channel.unsent new.course.channel.unsent old.known new.known piece → new.held ≡ old.held ++ piece
     → ByStream took gave old new → ByDriver took gave old new
-by_driver took gave piece old new exchanges held by_stream = record {
+by_driver took gave piece old new reaches held by_stream = record {
   wrote =
-      exchanges.sends.1
-      ∙ ap (λ w. w ++ new.course.channel.unsent) (sym (known_took by_stream.before took exchanges.sends.0 old.known.took new.known.took
-      by_stream.taken by_stream.then_taken exchanges.sends.2));
+      reaches.sends.1
+      ∙ ap (λ w. w ++ new.course.channel.unsent) (sym (known_took by_stream.before took reaches.sends.0 old.known.took new.known.took
+      by_stream.taken by_stream.then_taken reaches.sends.2));
   read = held ∙ ap (λ p. old.held ++ p)
-      (sym (known_gave gave by_stream.rest piece old.known.left new.known.left by_stream.left by_stream.then_left exchanges.gives));
+      (sym (known_gave gave by_stream.rest piece old.known.left new.known.left by_stream.left by_stream.then_left reaches.gives));
 }
 
-meanwhile_driver : {A : Type 0} (there : Bool) (piece : List ℕ) (old new : Flow A) (before after : Shown)
-    → Exchanges old.course.channel.unsent new.course.channel.unsent old.known new.known piece → new.held ≡ old.held ++ piece
+meanwhile_driver : {A : Type 0} {far : FarEnd} (there : Bool) (piece : List ℕ) (old new : Flow A far) (before after : Shown)
+    → Reaches old.course.channel.unsent new.course.channel.unsent old.known new.known piece → new.held ≡ old.held ++ piece
     → Meanwhile ByStream there old new before after → Meanwhile ByDriver there old new before after
-meanwhile_driver true piece old new before after exchanges held meets =
-    (meets.0, meets.1, by_driver (taken_in meets.0) (given_in meets.0) piece old new exchanges held meets.2)
-meanwhile_driver false piece old new before after exchanges held meets = meets
+meanwhile_driver true piece old new before after reaches held meets =
+    (meets.0, meets.1, by_driver (taken_in meets.0) (given_in meets.0) piece old new reaches held meets.2)
+meanwhile_driver false piece old new before after reaches held meets = meets
 
-befalls_driver : {A : Type 0} (deed : Deed A) (old new : Flow A) (before after : Shown)
+befalls_driver : {A : Type 0} {far : FarEnd} (deed : Deed A) (old new : Flow A far) (before after : Shown)
     → Carries old deed new → Befalls ByStream old deed new before after → Befalls ByDriver old deed new before after
 befalls_driver (Made Written) old new before after carries meets =
     meanwhile_driver old.course.channel.is_open [] old new before after carries.1 (carries.2 ∙ sym (append-nil old.held)) meets
@@ -362,7 +365,8 @@ befalls_driver (Made (Noted now (happens.Follow ticket side path))) old new befo
 befalls_driver (Made (Noted now (happens.Unfollow ticket))) old new before after carries meets = meets
 befalls_driver (Asked now input) old new before after carries meets = meets
 
-pub meets_driver : {A : Type 0} (steps : List (Option (Deed A))) (old new : Flow A) (passes : FoldsTo Passes old steps new)
+pub meets_driver : {A : Type 0} {far : FarEnd} (steps : List (Option (Deed A))) (old new : Flow A far)
+    (passes : FoldsTo Passes old steps new)
     (before after : Shown) → Meets ByStream steps old new passes before after → Meets ByDriver steps old new passes before after
 meets_driver [] old new same before after meets = meets
 meets_driver (Some deed ∷ steps) old new passes before after meets = (
@@ -374,11 +378,11 @@ meets_driver (None ∷ steps) old new passes before after meets = meets_driver s
 
 -- ---- in the end
 
-kept_in : {A : Type 0} (old new : Flow A) (after : Shown) (meets : MeetsServers ByDriver old new after) → Bound new after
+kept_in : {A : Type 0} {far : FarEnd} (old new : Flow A far) (after : Shown) (meets : MeetsServers ByDriver old new after) → Bound new after
 kept_in old new after meets = steps_bound meets.runs.steps old new meets.runs.passes meets.before after meets.fits meets.meets
     (begins_bound old meets.before meets.begins)
 
-pub bytes_serve : {A : Type 0} (old new : Flow A) (after : Shown)
+pub bytes_serve : {A : Type 0} {far : FarEnd} (old new : Flow A far) (after : Shown)
     → MeetsServers ByDriver old new after → IsServedFrom after.history (view_in new.course)
 bytes_serve old new after meets =
     let kept = (kept_in old new after meets).here in
@@ -391,7 +395,8 @@ bytes_serve old new after meets =
           (served_so kept.was.start kept.was.items kept.met kept.was.served);
     }
 
-to_driver : {A : Type 0} (old new : Flow A) (after : Shown) → MeetsServers ByStream old new after → MeetsServers ByDriver old new after
+to_driver : {A : Type 0} {far : FarEnd} (old new : Flow A far) (after : Shown)
+    → MeetsServers ByStream old new after → MeetsServers ByDriver old new after
 to_driver old new after meets = record {
   begins = meets.begins;
   runs = meets.runs;
@@ -401,11 +406,11 @@ to_driver old new after meets = record {
   history = meets.history;
 }
 
-pub streams_serve : {A : Type 0} (old new : Flow A) (after : Shown)
+pub streams_serve : {A : Type 0} {far : FarEnd} (old new : Flow A far) (after : Shown)
     → MeetsServers ByStream old new after → IsServedFrom after.history (view_in new.course)
 streams_serve old new after meets = bytes_serve old new after (to_driver old new after meets)
 
-pub streams_cohere : {A : Type 0} (old new : Flow A) (after : Shown)
+pub streams_cohere : {A : Type 0} {far : FarEnd} (old new : Flow A far) (after : Shown)
     → MeetsServers ByStream old new after → IsCoherentWith after.history (view_in new.course)
 streams_cohere old new after meets =
     let kept = (kept_in old new after (to_driver old new after meets)).here in

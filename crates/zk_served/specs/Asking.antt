@@ -1,6 +1,7 @@
 -- That what a driver's client is asked is about paths, with values of their types: so it is for values of Rust.
 use Rattle.std.specs.Prelude.{⊤, ℕ, Bool, true, false, List, [], ◌∷◌, Option, Some, None}
 use Rattle.std.specs.List.{AllByRecursion, FoldsTo}
+use Rattle.zk_link.specs.FarEnds.{FarEnd}
 use Rattle.zk_turns.specs.Turns.{Input, Turn}
 use Rattle.zk_turns.specs.Turns as turns
 use Rattle.zk_turns.specs.Ranges.{AsksOf, IsTyped, IsPathCall}
@@ -31,7 +32,8 @@ abbrev pub MovesFit : {A : Type 0} → (moves : List Move) → (old new : Trail 
 MovesFit [] old new does = ⊤
 MovesFit (move ∷ moves) old new does = MoveFits old move does.0 does.1 × MovesFit moves does.0 new does.2
 
-abbrev pub DeedFits : {A : Type 0} → (old : Flow A) → (deed : Deed A) → (new : Flow A) → Carries old deed new → Type 0
+abbrev pub DeedFits : {A : Type 0} {far : FarEnd} → (old : Flow A far) → (deed : Deed A) → (new : Flow A far)
+    → Carries old deed new → Type 0
 DeedFits old (Made (Noted now input)) new carries =
     MovesFit carries.0.2.comes.moves (agents.trail_of old.course.agent [])
     (agents.trail_of new.course.agent carries.0.2.actions) carries.0.2.comes.does
@@ -40,7 +42,8 @@ DeedFits old (Asked now input) new carries =
     (agents.trail_of new.course.agent carries.0.actions) carries.0.comes.does
 DeedFits old deed new carries = ⊤
 
-abbrev pub StepsFit : {A : Type 0} → (steps : List (Option (Deed A))) → (old new : Flow A) → FoldsTo Passes old steps new → Type 0
+abbrev pub StepsFit : {A : Type 0} {far : FarEnd} → (steps : List (Option (Deed A))) → (old new : Flow A far)
+    → FoldsTo Passes old steps new → Type 0
 StepsFit [] old new passes = ⊤
 StepsFit (Some deed ∷ steps) old new passes = DeedFits old deed passes.0 passes.1 × StepsFit steps passes.0 new passes.2
 StepsFit (None ∷ steps) old new passes = StepsFit steps passes.0 new passes.2

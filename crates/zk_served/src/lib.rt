@@ -6,21 +6,22 @@ ghost use Rattle.zk_served.specs.Benches.{BenchAdvances, BenchConnects, BenchEnd
 ghost use Rattle.zk_served.specs.ServedDrivers.{BytesServe, StreamsCohere, StreamsServe};
 
 use std::alloc::Allocator;
+use zk_link::Stream;
 
 /// Over streams that know their bytes: where what each took was what a server of the model had, and what it gave was what this server had
 /// sent, the client within was served from the history (`IsServedFrom`). So all that is said of such a client holds.
-pub fn streams_serve<A: Allocator>()
-    ensures { StreamsServe A }
+pub fn streams_serve<A: Allocator, S: Stream>()
+    ensures { StreamsServe A S.far }
 {}
 
 /// And each of its good answers is the history's at the last seen zxid.
-pub fn streams_cohere<A: Allocator>()
-    ensures { StreamsCohere A }
+pub fn streams_cohere<A: Allocator, S: Stream>()
+    ensures { StreamsCohere A S.far }
 {}
 
 /// The same by what the driver wrote and read, over any streams.
-pub fn bytes_serve<A: Allocator>()
-    ensures { BytesServe A }
+pub fn bytes_serve<A: Allocator, S: Stream>()
+    ensures { BytesServe A S.far }
 {}
 
 /// What befalls a connection is what servers in memory do, by the clauses of `zk_bench::Bench`: it begins, bytes come to the connected

@@ -1,6 +1,7 @@
 -- What contracts of private functions say: nobody has to believe it.
 use Rattle.std.specs.Prelude.{◌≢◌, ⊤, List, ◌∷◌}
 use Rattle.std.specs.Prelude.{map, reverse}
+use Rattle.zk_link.specs.FarEnds.{FarEnd}
 use Rattle.zk_driver.specs.Flowing.{Flow}
 use Rattle.shell_ask.specs.declared.spots.Spot.{Spot as Place}
 use Rattle.shell_ask.specs.declared.walk.Ending.{Ending as Reached}
@@ -18,11 +19,11 @@ spot_view place = record { depth = place.depth; path = place.path; name = place.
 abbrev pub waiting_view : {A : Type 0} → List (Place A) → List Spot
 waiting_view places = reverse (map spot_view places)
 
-abbrev pub stage_of : {A : Type 0} → Flow A → Walk A → Stage A
+abbrev pub stage_of : {A : Type 0} {far : FarEnd} → Flow A far → Walk A → Stage A far
 stage_of flow walk = record { flow = flow; waiting = waiting_view walk.waiting.items; printed = walk.printed.items }
 
 -- another node is the next one
-abbrev pub with_next : {A : Type 0} → Spot → Stage A → Stage A
+abbrev pub with_next : {A : Type 0} {far : FarEnd} → Spot → Stage A far → Stage A far
 with_next spot stage = record stage { waiting = spot ∷ stage.waiting }
 
 abbrev pub ending_view : {A : Type 0} → Reached A → Ending

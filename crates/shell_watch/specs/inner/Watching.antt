@@ -7,7 +7,7 @@ use Rattle.zk_turns.specs.View.{View}
 use Rattle.zk_agent.specs.Telling.{Told}
 use Rattle.zk_driver.specs.declared.engine.Engine.{Engine}
 use Rattle.zk_driver.specs.Driving.{course_of}
-use Rattle.zk_link.specs.Streams.{known_of}
+use Rattle.zk_link.specs.FarEnds.{reached_of, FarEnd}
 use Rattle.zk_driver.specs.Noting.{is_come}
 use Rattle.zk_driver.specs.declared.turn.Turn.{Turn}
 use Rattle.shell_watch.specs.Lines.{turn_line}
@@ -19,11 +19,11 @@ use Rattle.shell_watch.specs.declared.trees.Trees.{Trees}
 use Rattle.shell_watch.specs.Watching.{ShowsAll, Stand, Turns, Prints, EndsBy}
 use Rattle.zk_driver.specs.declared.turn.Turn.TheVariants as turn
 
-abbrev pub stand_of : {A S : Type 0} → (remaining contents : S → Option (List ℕ)) → Engine A S → List (Member A (String A))
-    → (is_accepted : Bool) → Style → Trees A → Stand A
-stand_of remaining contents engine watched is_accepted style trees = record {
+abbrev pub stand_of : {A S : Type 0} → (remaining contents : S → Option (List ℕ)) → (far : FarEnd) → (state : S → far.State)
+    → Engine A S → List (Member A (String A)) → (is_accepted : Bool) → Style → Trees A → Stand A far
+stand_of remaining contents far state engine watched is_accepted style trees = record {
   course = course_of engine None;
-  known = known_of remaining contents engine.channel.stream;
+  known = reached_of remaining contents far state engine.channel.stream;
   watched = watched;
   is_accepted = is_accepted;
   style = style;
@@ -43,20 +43,21 @@ pub record ShowsThen {A : Type 0} (style : Style) (ms : ℕ) (view : View) (wait
   pub added : after ≡ before ++ shown
 
 -- One turn, by whose moment this one may have come.
-pub record Heard {A : Type 0} (until : ℕ) (is_over : Bool) (old : Stand A) (text : List ℕ) (new : Stand A) : Type 0 where
+pub record Heard {A : Type 0} {far : FarEnd} (until : ℕ) (is_over : Bool) (old : Stand A far) (text : List ℕ)
+    (new : Stand A far) : Type 0 where
   pub turn : Turn A
   pub turns : Turns turn old text new
   pub over : is_over ≡ is_come turn
   pub comes : is_over ≡ true → (until ≤ new.course.agent.latest) × (new.course.told ≡ [])
 
 -- They do, and it is written.
-abbrev pub Writes : {A : Type 0} → (old new : Stand A) → (before after : Option (List ℕ)) → Type 0
+abbrev pub Writes : {A : Type 0} {far : FarEnd} → (old new : Stand A far) → (before after : Option (List ℕ)) → Type 0
 Writes old new before after = (text : List ℕ) × Prints old text new × Appends before after text
 
 -- some do, to where nobody sees
-abbrev pub WritesOn : {A : Type 0} → (old : Stand A) → (before after : Option (List ℕ)) → Type 0
-WritesOn {A} old before after = (last : Stand A) × Writes old last before after
+abbrev pub WritesOn : {A : Type 0} {far : FarEnd} → (old : Stand A far) → (before after : Option (List ℕ)) → Type 0
+WritesOn {A} {far} old before after = (last : Stand A far) × Writes old last before after
 
 -- The session is ended so, and that is written.
-abbrev pub WritesEnd : {A : Type 0} → (old new : Stand A) → (before after : Option (List ℕ)) → Type 0
+abbrev pub WritesEnd : {A : Type 0} {far : FarEnd} → (old new : Stand A far) → (before after : Option (List ℕ)) → Type 0
 WritesEnd old new before after = (text : List ℕ) × (prints : Prints old text new) × EndsBy old prints.moves × Appends before after text

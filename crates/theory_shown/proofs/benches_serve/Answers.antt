@@ -13,19 +13,19 @@ pub returns-clause-meets_bytes : goal.returns-clause-meets_bytes
 returns-clause-meets_bytes g c = benches_meet ByDriver
 
 pub returns-clause-served : goal.returns-clause-served
-returns-clause-served g c = benches_serve g.row.A.Denot
+returns-clause-served g c = benches_serve g.row.A.Denot g.S.Stream.far
 
 pub returns-clause-served_bytes : goal.returns-clause-served_bytes
-returns-clause-served_bytes g c = benches_serve_bytes g.row.A.Denot
+returns-clause-served_bytes g c = benches_serve_bytes g.row.A.Denot g.S.Stream.far
 
 pub returns-clause-coheres : goal.returns-clause-coheres
-returns-clause-coheres g c = benches_cohere g.row.A.Denot
+returns-clause-coheres g c = benches_cohere g.row.A.Denot g.S.Stream.far
 
 pub returns-clause-coheres_bytes : goal.returns-clause-coheres_bytes
-returns-clause-coheres_bytes g c = benches_cohere_bytes g.row.A.Denot
+returns-clause-coheres_bytes g c = benches_cohere_bytes g.row.A.Denot g.S.Stream.far
 
 pub returns-clause-receives : goal.returns-clause-receives
-returns-clause-receives g c = benches_receive g.row.A.Denot
+returns-clause-receives g c = benches_receive g.row.A.Denot g.S.Stream.far
 
 pub returns-clause-waits : goal.returns-clause-waits
-returns-clause-waits g c = benches_wait g.row.A.Denot
+returns-clause-waits g c = benches_wait g.row.A.Denot g.S.Stream.far

@@ -19,6 +19,6 @@ returns-clause-heard g c =
 
 pub returns-clause-runs : goal.returns-clause-runs
 returns-clause-runs g c =
-    let know = flow_of g.D.Stream.Read.remaining g.D.Stream.Write.contents in
+    let know = flow_of g.D.Stream.Read.remaining g.D.Stream.Write.contents g.D.Stream.Stream.far g.D.Stream.Stream.state in
     ok_asked_runs c.wait_for_answer.result (know c.args.driver.now.engine None) (know c.ask.new.self.engine None)
     (know c.wait_for_answer.new.driver.engine None) c.in_ok-ask.ensures.flows c.wait_for_answer.ensures.runs

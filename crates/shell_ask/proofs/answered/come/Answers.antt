@@ -13,6 +13,8 @@ pub returns-in-Ok-came : goal.returns-in-Ok-came
 returns-in-Ok-came g c =
     let remaining = g.D.Stream.Read.remaining in
     let contents = g.D.Stream.Write.contents in
+    let far = g.D.Stream.Stream.far in
+    let state = g.D.Stream.Stream.state in
     let until = c.saturating_add-until.result in
     let last = course_of c.answered-came.new.driver.engine None in
     record {
@@ -25,8 +27,8 @@ returns-in-Ok-came g c =
       untold = ap told_by c.in-Ok.ensures.waiting;
       heard = subst (λ (e : Engine g.row.A.Denot g.row.D-Stream.Denot). Heard (call_view c.args.call) until (course_of e None)
           (came_view c.in-Ok-came.came) last) c.now.ensures.engine c.in-Ok-came.ensures.heard;
-      before = (flow_of remaining contents c.in-Ok.driver.engine None).known;
-      after = (flow_of remaining contents c.answered-came.new.driver.engine None).known;
-      runs = subst (λ (e : Engine g.row.A.Denot g.row.D-Stream.Denot). Runs (flow_of remaining contents e None)
-          (flow_of remaining contents c.answered-came.new.driver.engine None)) c.now.ensures.engine c.in-Ok-came.ensures.runs;
+      before = (flow_of remaining contents far state c.in-Ok.driver.engine None).known;
+      after = (flow_of remaining contents far state c.answered-came.new.driver.engine None).known;
+      runs = subst (λ (e : Engine g.row.A.Denot g.row.D-Stream.Denot). Runs (flow_of remaining contents far state e None)
+          (flow_of remaining contents far state c.answered-came.new.driver.engine None)) c.now.ensures.engine c.in-Ok-came.ensures.runs;
     }

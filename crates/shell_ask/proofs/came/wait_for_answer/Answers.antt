@@ -41,7 +41,8 @@ returns-in-None-clause-hears g c =
 
 pub loop-init : goal.loop-init
 loop-init g c =
-    let flow = flow_of g.D.Stream.Read.remaining g.D.Stream.Write.contents c.args.driver.now.engine None in
+    let flow = flow_of g.D.Stream.Read.remaining g.D.Stream.Write.contents g.D.Stream.Stream.far g.D.Stream.Stream.state
+    c.args.driver.now.engine None in
     record { hears = λ new coming hears. hears; runs = runs_same flow flow refl }
 
 pub loop-preserved : goal.loop-preserved
@@ -50,25 +51,29 @@ loop-preserved g c = record {
       c.loop.invariant.hears new coming
       (later c.args.ticket c.args.until
       (course_of c.loop.driver.engine None) c.next.new.self.engine c.in_ok-its.field-0 new coming c.in_ok-its.ensures.goes hears);
-  runs = next_run g.D.Stream.Read.remaining g.D.Stream.Write.contents c.args.driver.now.engine c.loop.driver.engine
+  runs = next_run g.D.Stream.Read.remaining g.D.Stream.Write.contents g.D.Stream.Stream.far g.D.Stream.Stream.state
+      c.args.driver.now.engine c.loop.driver.engine
       c.next.new.self.engine c.in_ok-its.field-0
       c.loop.invariant.runs c.in_ok-its.ensures.flows;
 }
 
 pub returns-in-Some-Answer-clause-runs : goal.returns-in-Some-Answer-clause-runs
 returns-in-Some-Answer-clause-runs g c =
-    next_run g.D.Stream.Read.remaining g.D.Stream.Write.contents c.args.driver.now.engine c.loop.driver.engine
+    next_run g.D.Stream.Read.remaining g.D.Stream.Write.contents g.D.Stream.Stream.far g.D.Stream.Stream.state
+    c.args.driver.now.engine c.loop.driver.engine
     c.next.new.self.engine c.in_ok-its.field-0
     c.loop.invariant.runs c.in_ok-its.ensures.flows
 
 pub returns-in-Some-TimedOut-clause-runs : goal.returns-in-Some-TimedOut-clause-runs
 returns-in-Some-TimedOut-clause-runs g c =
-    next_run g.D.Stream.Read.remaining g.D.Stream.Write.contents c.args.driver.now.engine c.loop.driver.engine
+    next_run g.D.Stream.Read.remaining g.D.Stream.Write.contents g.D.Stream.Stream.far g.D.Stream.Stream.state
+    c.args.driver.now.engine c.loop.driver.engine
     c.next.new.self.engine c.in_ok-its.field-0
     c.loop.invariant.runs c.in_ok-its.ensures.flows
 
 pub returns-in-None-clause-runs : goal.returns-in-None-clause-runs
 returns-in-None-clause-runs g c =
-    next_run g.D.Stream.Read.remaining g.D.Stream.Write.contents c.args.driver.now.engine c.loop.driver.engine
+    next_run g.D.Stream.Read.remaining g.D.Stream.Write.contents g.D.Stream.Stream.far g.D.Stream.Stream.state
+    c.args.driver.now.engine c.loop.driver.engine
     c.next.new.self.engine c.in_ok-its.field-0
     c.loop.invariant.runs c.in_ok-its.ensures.flows

@@ -10,6 +10,7 @@ abbrev pub invariant-loop : goal.invariant-loop
 invariant-loop g l = record {
   hears : (new : Course g.row.A.Denot) (coming : Coming) → Hears l.ticket l.until new (course_of l.driver.engine None) coming
       → Hears l.ticket l.until new (course_of l.fn.driver.engine None) coming;
-  runs : Runs (flow_of g.D.Stream.Read.remaining g.D.Stream.Write.contents l.fn.driver.engine None)
-      (flow_of g.D.Stream.Read.remaining g.D.Stream.Write.contents l.driver.engine None);
+  runs : Runs
+      (flow_of g.D.Stream.Read.remaining g.D.Stream.Write.contents g.D.Stream.Stream.far g.D.Stream.Stream.state l.fn.driver.engine None)
+      (flow_of g.D.Stream.Read.remaining g.D.Stream.Write.contents g.D.Stream.Stream.far g.D.Stream.Stream.state l.driver.engine None);
 }

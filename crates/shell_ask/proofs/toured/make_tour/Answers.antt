@@ -13,7 +13,8 @@ pub returns-in-Ok-tour-clause-tours : goal.returns-in-Ok-tour-clause-tours
 returns-in-Ok-tour-clause-tours g c =
     let scope = scope_of c.args.plan.now in
     let tour = c.in-Ok-tour.tour in
-    let know = λ (e : Engine g.row.A.Denot g.row.D-Stream.Denot). flow_of g.D.Stream.Read.remaining g.D.Stream.Write.contents e None in
+    let know = λ (e : Engine g.row.A.Denot g.row.D-Stream.Denot).
+    flow_of g.D.Stream.Read.remaining g.D.Stream.Write.contents g.D.Stream.Stream.far g.D.Stream.Stream.state e None in
     let start = know c.in-Ok.driver.engine in
     let until = c.saturating_add-until.result in
     let first : WalksFrom start until scope (ending_view tour.ending) tour.printed.items

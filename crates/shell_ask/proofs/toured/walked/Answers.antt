@@ -19,7 +19,8 @@ returns g c =
       most = refl;
       until_is = refl;
       last = found.0;
-      reaches = from_there bounds (flow_of g.D.Stream.Read.remaining g.D.Stream.Write.contents c.args.driver.now.engine None)
+      reaches = from_there bounds (flow_of g.D.Stream.Read.remaining g.D.Stream.Write.contents g.D.Stream.Stream.far g.D.Stream.Stream.state
+          c.args.driver.now.engine None)
           (waiting_view walk.waiting.items)
           (root_of (scope_of plan) ∷ []) walk.printed.items []
           found.0 c.in_ok-walk.ensures.0 c.in_ok-walk.ensures.1 found.1;

@@ -10,7 +10,8 @@ use Rattle.shell_watch.proofs.planned.watch.Goals as goal
 
 pub returns-clause-over : goal.returns-clause-over
 returns-clause-over g c = λ is.
-    let first = stand_of g.D.Stream.Read.remaining g.D.Stream.Write.contents c.in-Ok-begin.driver.engine c.new.result.items false
+    let first = stand_of g.D.Stream.Read.remaining g.D.Stream.Write.contents g.D.Stream.Stream.far g.D.Stream.Stream.state
+    c.in-Ok-begin.driver.engine c.new.result.items false
     c.args.plan.style (record { roots = c.args.plan.trees; most = c.args.plan.most; is_bounded = false; ticket = 1 }) in
     let begun : IsBegun c.args.plan.style c.args.plan.trees.items c.args.plan.most first = record {
       timeout = unsigned_abs (to_z w32 (of_z w32 c.max.result));
@@ -32,7 +33,8 @@ returns-clause-over g c = λ is.
 
 pub returns-clause-never : goal.returns-clause-never
 returns-clause-never g c = λ is.
-    let first = stand_of g.D.Stream.Read.remaining g.D.Stream.Write.contents c.in-Ok-begin.driver.engine c.new.result.items false
+    let first = stand_of g.D.Stream.Read.remaining g.D.Stream.Write.contents g.D.Stream.Stream.far g.D.Stream.Stream.state
+    c.in-Ok-begin.driver.engine c.new.result.items false
     c.args.plan.style (record { roots = c.args.plan.trees; most = c.args.plan.most; is_bounded = false; ticket = 1 }) in
     let begun : IsBegun c.args.plan.style c.args.plan.trees.items c.args.plan.most first = record {
       timeout = unsigned_abs (to_z w32 (of_z w32 c.max.result));
@@ -54,7 +56,8 @@ returns-clause-never g c = λ is.
 
 pub returns-clause-printed : goal.returns-clause-printed
 returns-clause-printed g c = λ is.
-    let first = stand_of g.D.Stream.Read.remaining g.D.Stream.Write.contents c.in-Ok-begin.driver.engine c.new.result.items false
+    let first = stand_of g.D.Stream.Read.remaining g.D.Stream.Write.contents g.D.Stream.Stream.far g.D.Stream.Stream.state
+    c.in-Ok-begin.driver.engine c.new.result.items false
     c.args.plan.style (record { roots = c.args.plan.trees; most = c.args.plan.most; is_bounded = false; ticket = 1 }) in
     let begun : IsBegun c.args.plan.style c.args.plan.trees.items c.args.plan.most first = record {
       timeout = unsigned_abs (to_z w32 (of_z w32 c.max.result));

@@ -3,4 +3,4 @@ use Rattle.zk_driver.proofs.Flowed.{come_whole}
 use Rattle.zk_driver.proofs.laws.bytes_come_whole.Goals as goal
 
 pub returns : goal.returns
-returns g c = come_whole g.row.A.Denot
+returns g c = come_whole g.row.A.Denot g.S.Stream.far

@@ -10,11 +10,14 @@ loop-ticket-init g c = begins
 
 pub returns-in-Some : goal.returns-in-Some
 returns-in-Some g c =
-    let here = stage_of (flow_of g.D.Stream.Read.remaining g.D.Stream.Write.contents c.loop-ticket.driver.engine None) c.loop-ticket.self in
+    let here = stage_of (flow_of g.D.Stream.Read.remaining g.D.Stream.Write.contents g.D.Stream.Stream.far g.D.Stream.Stream.state
+    c.loop-ticket.driver.engine None) c.loop-ticket.self in
     let ends = rw c.in-Some.is at c.in_ok-ending.ensures.some in (here, c.loop-ticket.invariant, ends.0, ends.1)
 
 pub loop-ticket-preserved : goal.loop-ticket-preserved
 loop-ticket-preserved g c =
-    let here = stage_of (flow_of g.D.Stream.Read.remaining g.D.Stream.Write.contents c.loop-ticket.driver.engine None) c.loop-ticket.self in
-    let next = stage_of (flow_of g.D.Stream.Read.remaining g.D.Stream.Write.contents c.step.new.driver.engine None) c.step.new.self in
+    let here = stage_of (flow_of g.D.Stream.Read.remaining g.D.Stream.Write.contents g.D.Stream.Stream.far g.D.Stream.Stream.state
+    c.loop-ticket.driver.engine None) c.loop-ticket.self in
+    let next = stage_of (flow_of g.D.Stream.Read.remaining g.D.Stream.Write.contents g.D.Stream.Stream.far g.D.Stream.Stream.state
+    c.step.new.driver.engine None) c.step.new.self in
     let step = rw c.in_default.is at c.in_ok-ending.ensures.none in steps here next c.loop-ticket.invariant step

@@ -8,5 +8,7 @@ use Rattle.shell_ask.proofs.walk.Walk.finish.Given as goal
 -- it has come here from its beginning
 abbrev pub invariant-loop-ticket : goal.invariant-loop-ticket
 invariant-loop-ticket g l =
-    Reaches l.bounds (stage_of (flow_of g.D.Stream.Read.remaining g.D.Stream.Write.contents l.fn.driver.engine None) l.fn.self)
-    (stage_of (flow_of g.D.Stream.Read.remaining g.D.Stream.Write.contents l.driver.engine None) l.self)
+    Reaches l.bounds (stage_of (flow_of g.D.Stream.Read.remaining g.D.Stream.Write.contents g.D.Stream.Stream.far g.D.Stream.Stream.state
+    l.fn.driver.engine None) l.fn.self)
+    (stage_of (flow_of g.D.Stream.Read.remaining g.D.Stream.Write.contents g.D.Stream.Stream.far g.D.Stream.Stream.state
+    l.driver.engine None) l.self)

@@ -13,10 +13,12 @@ use Rattle.shell_ask.proofs.walk.Walk.list.Goals as goal
 pub returns-then-is_done-clause-some : goal.returns-then-is_done-clause-some
 returns-then-is_done-clause-some g c =
     let bounds = c.args.bounds in
-    let old = stage_of (flow_of g.D.Stream.Read.remaining g.D.Stream.Write.contents c.args.driver.now.engine None) c.args.self.now in
+    let old = stage_of (flow_of g.D.Stream.Read.remaining g.D.Stream.Write.contents g.D.Stream.Stream.far g.D.Stream.Stream.state
+    c.args.driver.now.engine None) c.args.self.now in
     let spot = spot_view c.args.spot in
     let coming = came_view c.in_ok-came.came in
-    let last = flow_of g.D.Stream.Read.remaining g.D.Stream.Write.contents c.listed.new.driver.engine None in
+    let last = flow_of g.D.Stream.Read.remaining g.D.Stream.Write.contents g.D.Stream.Stream.far g.D.Stream.Stream.state
+    c.listed.new.driver.engine None in
     let heard =
     heard_of bounds old spot coming last c.requires.room c.requires.listed c.in_ok-came.ensures.heard c.in_ok-came.ensures.runs in
     let done = c.is_done.ensures.done c.if-is_done.true in
@@ -27,10 +29,12 @@ returns-then-is_done-clause-some g c =
 pub returns-then-is_done-clause-none : goal.returns-then-is_done-clause-none
 returns-then-is_done-clause-none g c =
     let bounds = c.args.bounds in
-    let old = stage_of (flow_of g.D.Stream.Read.remaining g.D.Stream.Write.contents c.args.driver.now.engine None) c.args.self.now in
+    let old = stage_of (flow_of g.D.Stream.Read.remaining g.D.Stream.Write.contents g.D.Stream.Stream.far g.D.Stream.Stream.state
+    c.args.driver.now.engine None) c.args.self.now in
     let spot = spot_view c.args.spot in
     let coming = came_view c.in_ok-came.came in
-    let last = flow_of g.D.Stream.Read.remaining g.D.Stream.Write.contents c.listed.new.driver.engine None in
+    let last = flow_of g.D.Stream.Read.remaining g.D.Stream.Write.contents g.D.Stream.Stream.far g.D.Stream.Stream.state
+    c.listed.new.driver.engine None in
     let heard =
     heard_of bounds old spot coming last c.requires.room c.requires.listed c.in_ok-came.ensures.heard c.in_ok-came.ensures.runs in
     let done = c.is_done.ensures.done c.if-is_done.true in
@@ -40,20 +44,24 @@ returns-then-is_done-clause-none g c =
 
 pub returns-then-is_gone-clause-none : goal.returns-then-is_gone-clause-none
 returns-then-is_gone-clause-none g c =
-    let old = stage_of (flow_of g.D.Stream.Read.remaining g.D.Stream.Write.contents c.args.driver.now.engine None) c.args.self.now in
+    let old = stage_of (flow_of g.D.Stream.Read.remaining g.D.Stream.Write.contents g.D.Stream.Stream.far g.D.Stream.Stream.state
+    c.args.driver.now.engine None) c.args.self.now in
     let spot = spot_view c.args.spot in
     let coming = came_view c.in_ok-came.came in
-    let last = flow_of g.D.Stream.Read.remaining g.D.Stream.Write.contents c.listed.new.driver.engine None in
+    let last = flow_of g.D.Stream.Read.remaining g.D.Stream.Write.contents g.D.Stream.Stream.far g.D.Stream.Stream.state
+    c.listed.new.driver.engine None in
     leaves_out spot old.waiting coming last
     (heard_of c.args.bounds old spot coming last c.requires.room c.requires.listed c.in_ok-came.ensures.heard c.in_ok-came.ensures.runs)
     (c.is_gone.ensures.gone c.if-is_gone.true) (refl, refl, refl)
 
 pub returns-clause-some : goal.returns-clause-some
 returns-clause-some g c =
-    let old = stage_of (flow_of g.D.Stream.Read.remaining g.D.Stream.Write.contents c.args.driver.now.engine None) c.args.self.now in
+    let old = stage_of (flow_of g.D.Stream.Read.remaining g.D.Stream.Write.contents g.D.Stream.Stream.far g.D.Stream.Stream.state
+    c.args.driver.now.engine None) c.args.self.now in
     let spot = spot_view c.args.spot in
     let coming = came_view c.in_ok-came.came in
-    let last = flow_of g.D.Stream.Read.remaining g.D.Stream.Write.contents c.listed.new.driver.engine None in (
+    let last = flow_of g.D.Stream.Read.remaining g.D.Stream.Write.contents g.D.Stream.Stream.far g.D.Stream.Stream.state
+    c.listed.new.driver.engine None in (
       stopped c.args.bounds old spot coming last
           (heard_of c.args.bounds old spot coming last c.requires.room c.requires.listed c.in_ok-came.ensures.heard
           c.in_ok-came.ensures.runs)

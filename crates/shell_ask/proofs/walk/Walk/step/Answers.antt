@@ -10,7 +10,8 @@ use Rattle.shell_ask.proofs.walk.Walk.step.Goals as goal
 pub returns-then-is_listed-clause-some : goal.returns-then-is_listed-clause-some
 returns-then-is_listed-clause-some g c =
     let next = ap waiting_view c.in-Some.ensures.items ∙ waiting_pop c.pop.new.self.items c.in-Some.spot in
-    ends_at c.args.bounds (flow_of g.D.Stream.Read.remaining g.D.Stream.Write.contents c.args.driver.now.engine None)
+    ends_at c.args.bounds (flow_of g.D.Stream.Read.remaining g.D.Stream.Write.contents g.D.Stream.Stream.far g.D.Stream.Stream.state
+    c.args.driver.now.engine None)
     (waiting_view c.args.self.now.waiting.items)
     (spot_view c.in-Some.spot ∷ waiting_view c.pop.new.self.items)
     c.args.self.now.printed.items c.list.new.self.printed.items c.list.result next c.list.ensures.some
@@ -18,11 +19,13 @@ returns-then-is_listed-clause-some g c =
 pub returns-then-is_listed-clause-none : goal.returns-then-is_listed-clause-none
 returns-then-is_listed-clause-none g c =
     let next = ap waiting_view c.in-Some.ensures.items ∙ waiting_pop c.pop.new.self.items c.in-Some.spot in
-    steps_from c.args.bounds (flow_of g.D.Stream.Read.remaining g.D.Stream.Write.contents c.args.driver.now.engine None)
+    steps_from c.args.bounds (flow_of g.D.Stream.Read.remaining g.D.Stream.Write.contents g.D.Stream.Stream.far g.D.Stream.Stream.state
+    c.args.driver.now.engine None)
     (waiting_view c.args.self.now.waiting.items)
     (spot_view c.in-Some.spot ∷ waiting_view c.pop.new.self.items)
     c.args.self.now.printed.items
-    (stage_of (flow_of g.D.Stream.Read.remaining g.D.Stream.Write.contents c.list.new.driver.engine None) c.list.new.self) c.list.result
+    (stage_of (flow_of g.D.Stream.Read.remaining g.D.Stream.Write.contents g.D.Stream.Stream.far g.D.Stream.Stream.state
+    c.list.new.driver.engine None) c.list.new.self) c.list.result
     next c.list.ensures.none
 
 pub returns-in-Ok-clause-none : goal.returns-in-Ok-clause-none

@@ -14,12 +14,15 @@ returns g c =
     let old = c.args.self.now in
     let remaining = g.D.Stream.Read.remaining in
     let contents = g.D.Stream.Write.contents in
+    let far = g.D.Stream.Stream.far in
+    let state = g.D.Stream.Stream.state in
     let until = c.saturating_add-until.result in
     let asked = c.ask.new.self.engine in
     let hands = subst (λ (e : Engine g.row.A.Denot g.row.D-Stream.Denot).
     Hands (happens.Call 0 call.Close (Some until)) (course_of e None) (course_of asked None)) c.now.ensures.engine
     c.in_ok-ask.ensures.hands in
     let runs = subst (λ (e : Engine g.row.A.Denot g.row.D-Stream.Denot).
-    Runs (flow_of remaining contents e None) (flow_of remaining contents asked None)) c.now.ensures.engine
-    (calls_run (flow_of remaining contents c.now.new.self.engine None) (flow_of remaining contents asked None) c.in_ok-ask.ensures.flows) in
+    Runs (flow_of remaining contents far state e None) (flow_of remaining contents far state asked None)) c.now.ensures.engine
+    (calls_run (flow_of remaining contents far state c.now.new.self.engine None)
+    (flow_of remaining contents far state asked None) c.in_ok-ask.ensures.flows) in
     (hands, runs, refl, refl, refl, ap (λ l. record (growth_of old.trees) { roots = l }) c.new.ensures.items)

@@ -7,7 +7,8 @@ use Rattle.shell_watch.proofs.watcher.Watcher.await_close.Goals as goal
 pub loop-init : goal.loop-init
 loop-init g c =
     let first = c.args.self.now in
-    writes_none (stand_of g.D.Stream.Read.remaining g.D.Stream.Write.contents first.driver.engine first.watched.items first.is_accepted
+    writes_none (stand_of g.D.Stream.Read.remaining g.D.Stream.Write.contents g.D.Stream.Stream.far g.D.Stream.Stream.state
+    first.driver.engine first.watched.items first.is_accepted
     first.style first.trees) (g.O.Write.contents c.args.out.now)
 
 pub loop-preserved : goal.loop-preserved
@@ -16,9 +17,12 @@ loop-preserved g c =
     let first = c.args.self.now in
     let here = c.loop.self in
     let new = c.round.new.self in
-    writes_after (stand_of g.D.Stream.Read.remaining g.D.Stream.Write.contents first.driver.engine first.watched.items first.is_accepted
-    first.style first.trees) (stand_of g.D.Stream.Read.remaining g.D.Stream.Write.contents here.driver.engine here.watched.items
-    here.is_accepted here.style here.trees) (stand_of g.D.Stream.Read.remaining g.D.Stream.Write.contents new.driver.engine
+    writes_after (stand_of g.D.Stream.Read.remaining g.D.Stream.Write.contents g.D.Stream.Stream.far g.D.Stream.Stream.state
+    first.driver.engine first.watched.items first.is_accepted
+    first.style first.trees) (stand_of g.D.Stream.Read.remaining g.D.Stream.Write.contents g.D.Stream.Stream.far g.D.Stream.Stream.state
+    here.driver.engine here.watched.items
+    here.is_accepted here.style here.trees)
+    (stand_of g.D.Stream.Read.remaining g.D.Stream.Write.contents g.D.Stream.Stream.far g.D.Stream.Stream.state new.driver.engine
     new.watched.items new.is_accepted new.style new.trees)
     (contents c.args.out.now) (contents c.loop.out) (contents c.round.new.out) c.loop.invariant c.in-Ok-false.ensures.ok
 
@@ -28,9 +32,12 @@ returns-in-Ok-true-clause-ok g c =
     let first = c.args.self.now in
     let here = c.loop.self in
     let new = c.round.new.self in
-    writes_after (stand_of g.D.Stream.Read.remaining g.D.Stream.Write.contents first.driver.engine first.watched.items first.is_accepted
-    first.style first.trees) (stand_of g.D.Stream.Read.remaining g.D.Stream.Write.contents here.driver.engine here.watched.items
-    here.is_accepted here.style here.trees) (stand_of g.D.Stream.Read.remaining g.D.Stream.Write.contents new.driver.engine
+    writes_after (stand_of g.D.Stream.Read.remaining g.D.Stream.Write.contents g.D.Stream.Stream.far g.D.Stream.Stream.state
+    first.driver.engine first.watched.items first.is_accepted
+    first.style first.trees) (stand_of g.D.Stream.Read.remaining g.D.Stream.Write.contents g.D.Stream.Stream.far g.D.Stream.Stream.state
+    here.driver.engine here.watched.items
+    here.is_accepted here.style here.trees)
+    (stand_of g.D.Stream.Read.remaining g.D.Stream.Write.contents g.D.Stream.Stream.far g.D.Stream.Stream.state new.driver.engine
     new.watched.items new.is_accepted new.style new.trees)
     (contents c.args.out.now) (contents c.loop.out) (contents c.round.new.out) c.loop.invariant c.in-Ok-true.ensures.ok
 
@@ -39,7 +46,9 @@ returns-in-Err-clause-err g c = λ well.
     let contents = g.O.Write.contents in
     let first = c.args.self.now in
     let here = c.loop.self in
-    writes_on (stand_of g.D.Stream.Read.remaining g.D.Stream.Write.contents first.driver.engine first.watched.items first.is_accepted
-    first.style first.trees) (stand_of g.D.Stream.Read.remaining g.D.Stream.Write.contents here.driver.engine here.watched.items
+    writes_on (stand_of g.D.Stream.Read.remaining g.D.Stream.Write.contents g.D.Stream.Stream.far g.D.Stream.Stream.state
+    first.driver.engine first.watched.items first.is_accepted
+    first.style first.trees) (stand_of g.D.Stream.Read.remaining g.D.Stream.Write.contents g.D.Stream.Stream.far g.D.Stream.Stream.state
+    here.driver.engine here.watched.items
     here.is_accepted here.style here.trees)
     (contents c.args.out.now) (contents c.loop.out) (contents c.round.new.out) (ap contents (c.in-Err.ensures.err well)) c.loop.invariant

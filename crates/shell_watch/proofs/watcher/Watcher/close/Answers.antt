@@ -6,13 +6,15 @@ use Rattle.shell_watch.proofs.watcher.Watcher.close.Goals as goal
 pub returns-then-not-is_connected-clause-ok : goal.returns-then-not-is_connected-clause-ok
 returns-then-not-is_connected-clause-ok g c =
     let first = c.args.self.now in
-    ends_none (stand_of g.D.Stream.Read.remaining g.D.Stream.Write.contents first.driver.engine first.watched.items first.is_accepted
+    ends_none (stand_of g.D.Stream.Read.remaining g.D.Stream.Write.contents g.D.Stream.Stream.far g.D.Stream.Stream.state
+    first.driver.engine first.watched.items first.is_accepted
     first.style first.trees) (g.O.Write.contents c.args.out.now) (c.is_connected.ensures.no c.if-not-is_connected.true)
 
 pub returns-in_err-until-clause-err : goal.returns-in_err-until-clause-err
 returns-in_err-until-clause-err g c =
     let first = c.args.self.now in
-    let here = (stand_of g.D.Stream.Read.remaining g.D.Stream.Write.contents first.driver.engine first.watched.items first.is_accepted
+    let here = (stand_of g.D.Stream.Read.remaining g.D.Stream.Write.contents g.D.Stream.Stream.far g.D.Stream.Stream.state
+    first.driver.engine first.watched.items first.is_accepted
     first.style first.trees) in
     let a = g.O.Write.contents c.args.out.now in
     err_none _ c.from_residual.result here a
@@ -22,10 +24,13 @@ returns-clause-ok g c =
     let first = c.args.self.now in
     let asked = c.ask_close.new.self in
     let last = c.await_close.new.self in
-    ok_ends c.await_close.result c.in_ok-until.until (stand_of g.D.Stream.Read.remaining g.D.Stream.Write.contents first.driver.engine
-    first.watched.items first.is_accepted first.style first.trees) (stand_of g.D.Stream.Read.remaining g.D.Stream.Write.contents
+    ok_ends c.await_close.result c.in_ok-until.until
+    (stand_of g.D.Stream.Read.remaining g.D.Stream.Write.contents g.D.Stream.Stream.far g.D.Stream.Stream.state first.driver.engine
+    first.watched.items first.is_accepted first.style first.trees)
+    (stand_of g.D.Stream.Read.remaining g.D.Stream.Write.contents g.D.Stream.Stream.far g.D.Stream.Stream.state
     asked.driver.engine asked.watched.items asked.is_accepted asked.style asked.trees) (stand_of g.D.Stream.Read.remaining
-    g.D.Stream.Write.contents last.driver.engine last.watched.items last.is_accepted last.style last.trees)
+    g.D.Stream.Write.contents g.D.Stream.Stream.far g.D.Stream.Stream.state last.driver.engine last.watched.items
+    last.is_accepted last.style last.trees)
     (g.O.Write.contents c.args.out.now) (g.O.Write.contents c.await_close.new.out)
     (c.is_connected.ensures.yes c.if-not-is_connected.false) c.in_ok-until.ensures c.await_close.ensures.ok
 
@@ -33,7 +38,9 @@ pub returns-clause-err : goal.returns-clause-err
 returns-clause-err g c =
     let first = c.args.self.now in
     let asked = c.ask_close.new.self in
-    err_asked _ c.await_close.result c.in_ok-until.until (stand_of g.D.Stream.Read.remaining g.D.Stream.Write.contents first.driver.engine
-    first.watched.items first.is_accepted first.style first.trees) (stand_of g.D.Stream.Read.remaining g.D.Stream.Write.contents
+    err_asked _ c.await_close.result c.in_ok-until.until
+    (stand_of g.D.Stream.Read.remaining g.D.Stream.Write.contents g.D.Stream.Stream.far g.D.Stream.Stream.state first.driver.engine
+    first.watched.items first.is_accepted first.style first.trees)
+    (stand_of g.D.Stream.Read.remaining g.D.Stream.Write.contents g.D.Stream.Stream.far g.D.Stream.Stream.state
     asked.driver.engine asked.watched.items asked.is_accepted asked.style asked.trees)
     (g.O.Write.contents c.args.out.now) (g.O.Write.contents c.await_close.new.out) c.in_ok-until.ensures c.await_close.ensures.err

@@ -16,7 +16,8 @@ returns g c =
     let olds = old.watched.items in
     let one = c.in-Ok-watched_of.one in
     let more : c.push.new.self.items ≡ olds ++ one ∷ [] = search rules in
-    ok_follows g.D.Stream.Read.remaining g.D.Stream.Write.contents c.follow.result c.args.is_found
+    ok_follows g.D.Stream.Read.remaining g.D.Stream.Write.contents g.D.Stream.Stream.far g.D.Stream.Stream.state
+    c.follow.result c.args.is_found
     (aim_of c.args.subject.now) first last olds c.push.new.self.items one old.is_accepted old.style old.trees c.in-Some.next
     c.in-Ok-watched_of.ensures.aim c.in-Ok-watched_of.ensures.words c.in-Ok-watched_of.ensures.ticket c.in-Ok-watched_of.ensures.found
     more c.in-Some.ensures.1

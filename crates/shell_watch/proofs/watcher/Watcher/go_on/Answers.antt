@@ -13,13 +13,18 @@ returns-in-Ok-clause-ok g c =
     let over = c.run.new.self in
     let last = c.close.new.self in
     let told = subst (λ (e : Engine g.row.A.Denot g.row.D-Stream.Denot). Writes
-    (stand_of g.D.Stream.Read.remaining g.D.Stream.Write.contents e first.watched.items first.is_accepted first.style first.trees)
-    (stand_of g.D.Stream.Read.remaining g.D.Stream.Write.contents over.driver.engine over.watched.items over.is_accepted over.style
+    (stand_of g.D.Stream.Read.remaining g.D.Stream.Write.contents g.D.Stream.Stream.far g.D.Stream.Stream.state e first.watched.items
+    first.is_accepted first.style first.trees)
+    (stand_of g.D.Stream.Read.remaining g.D.Stream.Write.contents g.D.Stream.Stream.far g.D.Stream.Stream.state over.driver.engine
+    over.watched.items over.is_accepted over.style
     over.trees) (contents c.args.out.now) (contents c.run.new.out)) c.now-self.ensures.engine c.in-Ok.ensures.ok in
-    ok_over c.close.result c.args.for_ms c.now-self.result (stand_of g.D.Stream.Read.remaining g.D.Stream.Write.contents first.driver.engine
-    first.watched.items first.is_accepted first.style first.trees) (stand_of g.D.Stream.Read.remaining g.D.Stream.Write.contents
+    ok_over c.close.result c.args.for_ms c.now-self.result
+    (stand_of g.D.Stream.Read.remaining g.D.Stream.Write.contents g.D.Stream.Stream.far g.D.Stream.Stream.state first.driver.engine
+    first.watched.items first.is_accepted first.style first.trees)
+    (stand_of g.D.Stream.Read.remaining g.D.Stream.Write.contents g.D.Stream.Stream.far g.D.Stream.Stream.state
     over.driver.engine over.watched.items over.is_accepted over.style over.trees) (stand_of g.D.Stream.Read.remaining
-    g.D.Stream.Write.contents last.driver.engine last.watched.items last.is_accepted last.style last.trees)
+    g.D.Stream.Write.contents g.D.Stream.Stream.far g.D.Stream.Stream.state last.driver.engine last.watched.items
+    last.is_accepted last.style last.trees)
     (contents c.args.out.now) (contents c.run.new.out) (contents c.close.new.out) told
     (rw c.end_of-end.ensures at c.in-Ok.ensures.come) c.close.ensures.ok
 
@@ -29,11 +34,15 @@ returns-in-Ok-clause-err g c =
     let first = c.args.self.now in
     let over = c.run.new.self in
     let told = subst (λ (e : Engine g.row.A.Denot g.row.D-Stream.Denot). Writes
-    (stand_of g.D.Stream.Read.remaining g.D.Stream.Write.contents e first.watched.items first.is_accepted first.style first.trees)
-    (stand_of g.D.Stream.Read.remaining g.D.Stream.Write.contents over.driver.engine over.watched.items over.is_accepted over.style
+    (stand_of g.D.Stream.Read.remaining g.D.Stream.Write.contents g.D.Stream.Stream.far g.D.Stream.Stream.state e first.watched.items
+    first.is_accepted first.style first.trees)
+    (stand_of g.D.Stream.Read.remaining g.D.Stream.Write.contents g.D.Stream.Stream.far g.D.Stream.Stream.state over.driver.engine
+    over.watched.items over.is_accepted over.style
     over.trees) (contents c.args.out.now) (contents c.run.new.out)) c.now-self.ensures.engine c.in-Ok.ensures.ok in
-    err_after _ c.close.result (stand_of g.D.Stream.Read.remaining g.D.Stream.Write.contents first.driver.engine first.watched.items
-    first.is_accepted first.style first.trees) (stand_of g.D.Stream.Read.remaining g.D.Stream.Write.contents over.driver.engine
+    err_after _ c.close.result (stand_of g.D.Stream.Read.remaining g.D.Stream.Write.contents g.D.Stream.Stream.far g.D.Stream.Stream.state
+    first.driver.engine first.watched.items
+    first.is_accepted first.style first.trees)
+    (stand_of g.D.Stream.Read.remaining g.D.Stream.Write.contents g.D.Stream.Stream.far g.D.Stream.Stream.state over.driver.engine
     over.watched.items over.is_accepted over.style over.trees) (contents c.args.out.now) (contents c.run.new.out)
     (contents c.close.new.out) told c.close.ensures.err
 
@@ -42,5 +51,6 @@ returns-in-Err-clause-err g c = λ well.
     let contents = g.O.Write.contents in
     let first = c.args.self.now in
     subst (λ (e : Engine g.row.A.Denot g.row.D-Stream.Denot). WritesOn
-    (stand_of g.D.Stream.Read.remaining g.D.Stream.Write.contents e first.watched.items first.is_accepted first.style first.trees)
+    (stand_of g.D.Stream.Read.remaining g.D.Stream.Write.contents g.D.Stream.Stream.far g.D.Stream.Stream.state e first.watched.items
+    first.is_accepted first.style first.trees)
     (contents c.args.out.now) (contents c.run.new.out)) c.now-self.ensures.engine (c.in-Err.ensures.err well)

@@ -13,10 +13,13 @@ returns-clause-ok g c =
     let new = c.tend.new.self in
     let adds : Appends (g.O.Write.contents c.args.out.now) (g.O.Write.contents c.write.new.out)
     (string_bytes c.in_ok-is_over.text ++ string_bytes c.in_ok-more.more) = search rules in
-    rounds c.args.until c.in_ok-is_over.is_over (stand_of g.D.Stream.Read.remaining g.D.Stream.Write.contents old.driver.engine
+    rounds c.args.until c.in_ok-is_over.is_over
+    (stand_of g.D.Stream.Read.remaining g.D.Stream.Write.contents g.D.Stream.Stream.far g.D.Stream.Stream.state old.driver.engine
     old.watched.items old.is_accepted old.style old.trees)
-    (stand_of g.D.Stream.Read.remaining g.D.Stream.Write.contents between.driver.engine between.watched.items between.is_accepted
-    between.style between.trees) (stand_of g.D.Stream.Read.remaining g.D.Stream.Write.contents new.driver.engine new.watched.items
+    (stand_of g.D.Stream.Read.remaining g.D.Stream.Write.contents g.D.Stream.Stream.far g.D.Stream.Stream.state between.driver.engine
+    between.watched.items between.is_accepted
+    between.style between.trees) (stand_of g.D.Stream.Read.remaining g.D.Stream.Write.contents g.D.Stream.Stream.far g.D.Stream.Stream.state
+    new.driver.engine new.watched.items
     new.is_accepted new.style new.trees)
     (string_bytes c.in_ok-is_over.text) (string_bytes c.in_ok-more.more) (g.O.Write.contents c.args.out.now)
     (g.O.Write.contents c.write.new.out)
@@ -27,9 +30,12 @@ returns-clause-come g c =
     let old = c.args.self.now in
     let between = c.run_turn.new.self in
     let new = c.tend.new.self in
-    come c.args.until c.in_ok-is_over.is_over (stand_of g.D.Stream.Read.remaining g.D.Stream.Write.contents old.driver.engine
+    come c.args.until c.in_ok-is_over.is_over
+    (stand_of g.D.Stream.Read.remaining g.D.Stream.Write.contents g.D.Stream.Stream.far g.D.Stream.Stream.state old.driver.engine
     old.watched.items old.is_accepted old.style old.trees)
-    (stand_of g.D.Stream.Read.remaining g.D.Stream.Write.contents between.driver.engine between.watched.items between.is_accepted
-    between.style between.trees) (stand_of g.D.Stream.Read.remaining g.D.Stream.Write.contents new.driver.engine new.watched.items
+    (stand_of g.D.Stream.Read.remaining g.D.Stream.Write.contents g.D.Stream.Stream.far g.D.Stream.Stream.state between.driver.engine
+    between.watched.items between.is_accepted
+    between.style between.trees) (stand_of g.D.Stream.Read.remaining g.D.Stream.Write.contents g.D.Stream.Stream.far g.D.Stream.Stream.state
+    new.driver.engine new.watched.items
     new.is_accepted new.style new.trees)
     (string_bytes c.in_ok-is_over.text) (string_bytes c.in_ok-more.more) c.in_ok-is_over.ensures.ok c.in_ok-more.ensures.ok

@@ -26,13 +26,18 @@ returns-clause-ok g c =
     rw c.elapsed-ms.ensures.style at c.in_ok-text.ensures.tells in
     let trees = c.args.self.now.trees in
     let grown : noted.trees ≡ trees = c.note.ensures.trees ∙ c.printed_turn.ensures.trees ∙ c.elapsed-ms.ensures.trees in
-    subst (λ (t : Trees g.row.A.Denot). Heard c.args.until c.is_come.result (stand_of g.D.Stream.Read.remaining g.D.Stream.Write.contents
+    subst (λ (t : Trees g.row.A.Denot). Heard c.args.until c.is_come.result
+    (stand_of g.D.Stream.Read.remaining g.D.Stream.Write.contents g.D.Stream.Stream.far g.D.Stream.Stream.state
     first c.args.self.now.watched.items c.args.self.now.is_accepted style trees) text (stand_of g.D.Stream.Read.remaining
-    g.D.Stream.Write.contents noted.driver.engine noted.watched.items noted.is_accepted noted.style t)) (sym grown)
-    (subst (λ (s : Style). Heard c.args.until c.is_come.result (stand_of g.D.Stream.Read.remaining g.D.Stream.Write.contents first
+    g.D.Stream.Write.contents g.D.Stream.Stream.far g.D.Stream.Stream.state noted.driver.engine noted.watched.items noted.is_accepted
+    noted.style t)) (sym grown)
+    (subst (λ (s : Style). Heard c.args.until c.is_come.result
+    (stand_of g.D.Stream.Read.remaining g.D.Stream.Write.contents g.D.Stream.Stream.far g.D.Stream.Stream.state first
     c.args.self.now.watched.items c.args.self.now.is_accepted style trees) text (stand_of g.D.Stream.Read.remaining
-    g.D.Stream.Write.contents noted.driver.engine noted.watched.items noted.is_accepted s trees)) (sym same)
-    (heard_so g.D.Stream.Read.remaining g.D.Stream.Write.contents c.args.until c.is_come.result turn first between noted.driver.engine
+    g.D.Stream.Write.contents g.D.Stream.Stream.far g.D.Stream.Stream.state noted.driver.engine noted.watched.items
+    noted.is_accepted s trees)) (sym same)
+    (heard_so g.D.Stream.Read.remaining g.D.Stream.Write.contents g.D.Stream.Stream.far g.D.Stream.Stream.state c.args.until
+    c.is_come.result turn first between noted.driver.engine
     c.args.self.now.watched.items noted.watched.items c.args.self.now.is_accepted noted.is_accepted style trees text
     (c.note.ensures.engine ∙ c.printed_turn.ensures.engine ∙ c.elapsed-ms.ensures.engine) c.in_ok-turn.ensures.goes
     c.in_ok-turn.ensures.flows

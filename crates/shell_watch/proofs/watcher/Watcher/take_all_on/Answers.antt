@@ -15,10 +15,13 @@ loop-subject-preserved g c =
     let new = c.take_on.new.self in
     mapped_next (λ at aim after. TakesOn aim at after) aim_of c.args.wanted.now.subjects.items
     c.loop-subject.subject-index c.subject-item.result
-    (stand_of g.D.Stream.Read.remaining g.D.Stream.Write.contents first.driver.engine first.watched.items first.is_accepted first.style
-    first.trees) (stand_of g.D.Stream.Read.remaining g.D.Stream.Write.contents here.driver.engine here.watched.items
+    (stand_of g.D.Stream.Read.remaining g.D.Stream.Write.contents g.D.Stream.Stream.far g.D.Stream.Stream.state first.driver.engine
+    first.watched.items first.is_accepted first.style
+    first.trees) (stand_of g.D.Stream.Read.remaining g.D.Stream.Write.contents g.D.Stream.Stream.far g.D.Stream.Stream.state
+    here.driver.engine here.watched.items
     here.is_accepted here.style here.trees)
-    (stand_of g.D.Stream.Read.remaining g.D.Stream.Write.contents new.driver.engine new.watched.items new.is_accepted new.style new.trees)
+    (stand_of g.D.Stream.Read.remaining g.D.Stream.Write.contents g.D.Stream.Stream.far g.D.Stream.Stream.state new.driver.engine
+    new.watched.items new.is_accepted new.style new.trees)
     (rw c.as_slice-subject-items.ensures.value at c.loop-subject-test.true)
     (rw c.as_slice-subject-items.ensures.value at c.subject-item.is) c.loop-subject.invariant c.in_ok-take_on.ensures
 
@@ -30,12 +33,15 @@ returns g c =
     let past : length subjects ≤ c.loop-subject.subject-index =
     omega (arith, rw c.as_slice-subject-items.ensures.value at c.loop-subject-test.false) in
     record {
-      last = stand_of g.D.Stream.Read.remaining g.D.Stream.Write.contents here.driver.engine here.watched.items
+      last = stand_of g.D.Stream.Read.remaining g.D.Stream.Write.contents g.D.Stream.Stream.far g.D.Stream.Stream.state
+          here.driver.engine here.watched.items
           here.is_accepted here.style here.trees;
       takes = subst (λ (l : List (NodeSide g.row.A.Denot)). FoldsTo (λ at aim after. TakesOn aim at after)
-          (stand_of g.D.Stream.Read.remaining g.D.Stream.Write.contents first.driver.engine first.watched.items first.is_accepted
+          (stand_of g.D.Stream.Read.remaining g.D.Stream.Write.contents g.D.Stream.Stream.far g.D.Stream.Stream.state first.driver.engine
+          first.watched.items first.is_accepted
           first.style first.trees) (aims_of l)
-          (stand_of g.D.Stream.Read.remaining g.D.Stream.Write.contents here.driver.engine here.watched.items here.is_accepted here.style
+          (stand_of g.D.Stream.Read.remaining g.D.Stream.Write.contents g.D.Stream.Stream.far g.D.Stream.Stream.state here.driver.engine
+          here.watched.items here.is_accepted here.style
           here.trees)) (take_all c.loop-subject.subject-index subjects past) c.loop-subject.invariant;
       ends = refl;
     }

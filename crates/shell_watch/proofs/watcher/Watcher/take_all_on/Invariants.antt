@@ -8,7 +8,9 @@ use Rattle.shell_watch.proofs.watcher.Watcher.take_all_on.Given as goal
 -- those so far are taken on
 abbrev pub invariant-loop-subject : goal.invariant-loop-subject
 invariant-loop-subject g l = FoldsTo (λ at aim after. TakesOn aim at after)
-    (stand_of g.D.Stream.Read.remaining g.D.Stream.Write.contents l.fn.self.driver.engine l.fn.self.watched.items l.fn.self.is_accepted
+    (stand_of g.D.Stream.Read.remaining g.D.Stream.Write.contents g.D.Stream.Stream.far g.D.Stream.Stream.state l.fn.self.driver.engine
+    l.fn.self.watched.items l.fn.self.is_accepted
     l.fn.self.style l.fn.self.trees)
-    (aims_of (take l.subject-index l.wanted.subjects.items)) (stand_of g.D.Stream.Read.remaining g.D.Stream.Write.contents
+    (aims_of (take l.subject-index l.wanted.subjects.items))
+    (stand_of g.D.Stream.Read.remaining g.D.Stream.Write.contents g.D.Stream.Stream.far g.D.Stream.Stream.state
     l.self.driver.engine l.self.watched.items l.self.is_accepted l.self.style l.self.trees)

@@ -16,7 +16,8 @@ returns-then-is_settled g c =
     c.is_settled.ensures ∙ ap (λ v. is_settled v aim c.as_slice.result.now) c.client-client.ensures
     ∙ ap (λ ws. is_settled view aim ws) c.as_slice.ensures.value in
     settled (is_settled view aim old.watched.items) aim
-    (stand_of g.D.Stream.Read.remaining g.D.Stream.Write.contents old.driver.engine old.watched.items old.is_accepted old.style old.trees)
+    (stand_of g.D.Stream.Read.remaining g.D.Stream.Write.contents g.D.Stream.Stream.far g.D.Stream.Stream.state old.driver.engine
+    old.watched.items old.is_accepted old.style old.trees)
     (sym is ∙ c.if-is_settled.true)
 
 pub returns : goal.returns
@@ -29,7 +30,9 @@ returns g c =
     c.is_settled.ensures ∙ ap (λ v. is_settled v aim c.as_slice.result.now) c.client-client.ensures
     ∙ ap (λ ws. is_settled view aim ws) c.as_slice.ensures.value in
     ok_taken c.follow.result (is_settled view aim old.watched.items) aim
-    (stand_of g.D.Stream.Read.remaining g.D.Stream.Write.contents old.driver.engine old.watched.items old.is_accepted old.style old.trees)
-    (stand_of g.D.Stream.Read.remaining g.D.Stream.Write.contents new.driver.engine new.watched.items
+    (stand_of g.D.Stream.Read.remaining g.D.Stream.Write.contents g.D.Stream.Stream.far g.D.Stream.Stream.state old.driver.engine
+    old.watched.items old.is_accepted old.style old.trees)
+    (stand_of g.D.Stream.Read.remaining g.D.Stream.Write.contents g.D.Stream.Stream.far g.D.Stream.Stream.state
+    new.driver.engine new.watched.items
     new.is_accepted new.style new.trees)
     (sym is ∙ c.if-is_settled.false) c.follow.ensures

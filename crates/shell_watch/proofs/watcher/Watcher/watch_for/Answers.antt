@@ -13,10 +13,13 @@ returns-in-Ok-clause-over g c = λ is.
     let last = c.go_on.new.self in
     let told = c.in-Ok.ensures.ok in (
       told.0,
-      ends_from (aims_of c.args.subjects.now) c.args.for_ms (stand_of g.D.Stream.Read.remaining g.D.Stream.Write.contents
+      ends_from (aims_of c.args.subjects.now) c.args.for_ms
+          (stand_of g.D.Stream.Read.remaining g.D.Stream.Write.contents g.D.Stream.Stream.far g.D.Stream.Stream.state
           first.driver.engine first.watched.items first.is_accepted first.style first.trees) (stand_of g.D.Stream.Read.remaining
-          g.D.Stream.Write.contents ready.driver.engine ready.watched.items ready.is_accepted ready.style ready.trees)
-          (stand_of g.D.Stream.Read.remaining g.D.Stream.Write.contents last.driver.engine last.watched.items last.is_accepted
+          g.D.Stream.Write.contents g.D.Stream.Stream.far g.D.Stream.Stream.state ready.driver.engine ready.watched.items ready.is_accepted
+          ready.style ready.trees)
+          (stand_of g.D.Stream.Read.remaining g.D.Stream.Write.contents g.D.Stream.Stream.far g.D.Stream.Stream.state last.driver.engine
+          last.watched.items last.is_accepted
           last.style last.trees) told.0 true c.in_default.ensures told.1 (c.end-in-Ok.ensures.over is),
       told.2,
     )
@@ -28,10 +31,13 @@ returns-in-Ok-clause-never g c = λ is.
     let last = c.go_on.new.self in
     let told = c.in-Ok.ensures.ok in (
       told.0,
-      ends_from (aims_of c.args.subjects.now) c.args.for_ms (stand_of g.D.Stream.Read.remaining g.D.Stream.Write.contents
+      ends_from (aims_of c.args.subjects.now) c.args.for_ms
+          (stand_of g.D.Stream.Read.remaining g.D.Stream.Write.contents g.D.Stream.Stream.far g.D.Stream.Stream.state
           first.driver.engine first.watched.items first.is_accepted first.style first.trees) (stand_of g.D.Stream.Read.remaining
-          g.D.Stream.Write.contents ready.driver.engine ready.watched.items ready.is_accepted ready.style ready.trees)
-          (stand_of g.D.Stream.Read.remaining g.D.Stream.Write.contents last.driver.engine last.watched.items last.is_accepted
+          g.D.Stream.Write.contents g.D.Stream.Stream.far g.D.Stream.Stream.state ready.driver.engine ready.watched.items ready.is_accepted
+          ready.style ready.trees)
+          (stand_of g.D.Stream.Read.remaining g.D.Stream.Write.contents g.D.Stream.Stream.far g.D.Stream.Stream.state last.driver.engine
+          last.watched.items last.is_accepted
           last.style last.trees) told.0 false c.in_default.ensures told.1 (c.end-in-Ok.ensures.never is),
       told.2,
     )
@@ -43,10 +49,13 @@ returns-in-Ok-clause-printed g c = λ is.
     let last = c.go_on.new.self in
     let told = c.in-Ok.ensures.ok in (
       told.0,
-      inr (over_prints (aims_of c.args.subjects.now) c.args.for_ms (stand_of g.D.Stream.Read.remaining g.D.Stream.Write.contents
+      inr (over_prints (aims_of c.args.subjects.now) c.args.for_ms
+          (stand_of g.D.Stream.Read.remaining g.D.Stream.Write.contents g.D.Stream.Stream.far g.D.Stream.Stream.state
           first.driver.engine first.watched.items first.is_accepted first.style first.trees) (stand_of g.D.Stream.Read.remaining
-          g.D.Stream.Write.contents ready.driver.engine ready.watched.items ready.is_accepted ready.style ready.trees)
-          (stand_of g.D.Stream.Read.remaining g.D.Stream.Write.contents last.driver.engine last.watched.items last.is_accepted
+          g.D.Stream.Write.contents g.D.Stream.Stream.far g.D.Stream.Stream.state ready.driver.engine ready.watched.items ready.is_accepted
+          ready.style ready.trees)
+          (stand_of g.D.Stream.Read.remaining g.D.Stream.Write.contents g.D.Stream.Stream.far g.D.Stream.Stream.state last.driver.engine
+          last.watched.items last.is_accepted
           last.style last.trees) told.0 c.in_default.ensures told.1),
       told.2,
     )
@@ -55,7 +64,9 @@ pub returns-in-Err-go_on-clause-printed : goal.returns-in-Err-go_on-clause-print
 returns-in-Err-go_on-clause-printed g c = λ is.
     let first = c.args.self.now in
     let ready = c.follow_all.new.self in
-    prints_from (aims_of c.args.subjects.now) (stand_of g.D.Stream.Read.remaining g.D.Stream.Write.contents first.driver.engine
-    first.watched.items first.is_accepted first.style first.trees) (stand_of g.D.Stream.Read.remaining g.D.Stream.Write.contents
+    prints_from (aims_of c.args.subjects.now)
+    (stand_of g.D.Stream.Read.remaining g.D.Stream.Write.contents g.D.Stream.Stream.far g.D.Stream.Stream.state first.driver.engine
+    first.watched.items first.is_accepted first.style first.trees)
+    (stand_of g.D.Stream.Read.remaining g.D.Stream.Write.contents g.D.Stream.Stream.far g.D.Stream.Stream.state
     ready.driver.engine ready.watched.items ready.is_accepted ready.style ready.trees) _ _ c.in_default.ensures
     (c.in-Err-go_on.ensures.err (c.give_up.ensures.stream is))

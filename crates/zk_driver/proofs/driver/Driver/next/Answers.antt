@@ -14,7 +14,7 @@ use Rattle.zk_driver.proofs.driver.Driver.next.Goals as goal
 pub loop-init : goal.loop-init
 loop-init g c =
     let here = course_of c.args.self.now.engine None in
-    let flow = flow_of g.D.Stream.Read.remaining g.D.Stream.Write.contents c.args.self.now.engine None in
+    let flow = flow_of g.D.Stream.Read.remaining g.D.Stream.Write.contents g.D.Stream.Stream.far g.D.Stream.Stream.state c.args.self.now.engine None in
     record {
       goes = same here here refl;
       flows = flow_same flow flow refl;
@@ -31,12 +31,14 @@ loop-preserved g c =
     subst (λ (r : Option (Action g.row.A.Denot)). course_of c.pop.new.self r ≡ so_far) c.in_default.is c.pop.ensures.same in
     let remaining = g.D.Stream.Read.remaining in
     let contents = g.D.Stream.Write.contents in
-    let first = flow_of remaining contents c.args.self.now.engine None in
-    let until = flow_of remaining contents c.loop.self.engine None in
-    let popped = flow_of remaining contents c.pop.new.self None in
+    let far = g.D.Stream.Stream.far in
+    let state = g.D.Stream.Stream.state in
+    let first = flow_of remaining contents far state c.args.self.now.engine None in
+    let until = flow_of remaining contents far state c.loop.self.engine None in
+    let popped = flow_of remaining contents far state c.pop.new.self None in
     let still : popped ≡ until = subst
-    (λ (r : Option (Action g.row.A.Denot)). flow_of remaining contents c.pop.new.self r ≡ until) c.in_default.is c.pop.ensures.flow in
-    let gone = flow_of remaining contents c.round.new.self.engine None in
+    (λ (r : Option (Action g.row.A.Denot)). flow_of remaining contents far state c.pop.new.self r ≡ until) c.in_default.is c.pop.ensures.flow in
+    let gone = flow_of remaining contents far state c.round.new.self.engine None in
     let flows = flow_after first until gone c.loop.invariant.flows
     (flow_after until popped gone (flow_same until popped (sym still)) c.in_ok-round.ensures.flows) in
     record {
@@ -91,24 +93,28 @@ pub returns-then-branch-clause-flows : goal.returns-then-branch-clause-flows
 returns-then-branch-clause-flows g c =
     let remaining = g.D.Stream.Read.remaining in
     let contents = g.D.Stream.Write.contents in
-    let first = flow_of remaining contents c.args.self.now.engine None in
-    let until = flow_of remaining contents c.loop.self.engine None in
-    let popped = flow_of remaining contents c.pop.new.self None in
+    let far = g.D.Stream.Stream.far in
+    let state = g.D.Stream.Stream.state in
+    let first = flow_of remaining contents far state c.args.self.now.engine None in
+    let until = flow_of remaining contents far state c.loop.self.engine None in
+    let popped = flow_of remaining contents far state c.pop.new.self None in
     let still : popped ≡ until = subst
-    (λ (r : Option (Action g.row.A.Denot)). flow_of remaining contents c.pop.new.self r ≡ until) c.in_default.is c.pop.ensures.flow in
-    let gone = flow_of remaining contents c.round.new.self.engine None in
+    (λ (r : Option (Action g.row.A.Denot)). flow_of remaining contents far state c.pop.new.self r ≡ until) c.in_default.is c.pop.ensures.flow in
+    let gone = flow_of remaining contents far state c.round.new.self.engine None in
     let flows = flow_after first until gone c.loop.invariant.flows
     (flow_after until popped gone (flow_same until popped (sym still)) c.in_ok-round.ensures.flows) in
-    let new = flow_of remaining contents c.pop-then-branch.new.self c.pop-then-branch.result in
+    let new = flow_of remaining contents far state c.pop-then-branch.new.self c.pop-then-branch.result in
     flow_after first gone new flows (flow_same gone new (sym c.pop-then-branch.ensures.flow))
 
 pub returns-clause-flows : goal.returns-clause-flows
 returns-clause-flows g c =
     let remaining = g.D.Stream.Read.remaining in
     let contents = g.D.Stream.Write.contents in
-    let first = flow_of remaining contents c.args.self.now.engine None in
-    let until = flow_of remaining contents c.loop.self.engine None in
-    let settled = flow_of remaining contents c.settle.new.self None in
-    let new = flow_of remaining contents c.pop-2.new.self c.pop-2.result in
+    let far = g.D.Stream.Stream.far in
+    let state = g.D.Stream.Stream.state in
+    let first = flow_of remaining contents far state c.args.self.now.engine None in
+    let until = flow_of remaining contents far state c.loop.self.engine None in
+    let settled = flow_of remaining contents far state c.settle.new.self None in
+    let new = flow_of remaining contents far state c.pop-2.new.self c.pop-2.result in
     flow_after first settled new (flow_after first until settled c.loop.invariant.flows c.in_ok-settle.ensures.flows)
     (flow_same settled new (sym c.pop-2.ensures.flow))

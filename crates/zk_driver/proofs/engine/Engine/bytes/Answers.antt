@@ -4,7 +4,7 @@ use Rattle.std.proofs.Common.{None, refl}
 use Rattle.zk_agent.specs.Telling.{told_by}
 use Rattle.zk_agent.specs.declared.input.AgentInput.TheVariants as happens
 use Rattle.zk_driver.specs.Driving.{channel_view, course_of}
-use Rattle.zk_link.specs.Streams.{known_of}
+use Rattle.zk_link.specs.FarEnds.{reached_of}
 use Rattle.zk_driver.specs.Flowing.{flow_of}
 use Rattle.zk_driver.proofs.Carrying.{extends_on}
 use Rattle.zk_driver.proofs.Flowed.{flow_noted, ok_flow_after}
@@ -46,17 +46,17 @@ returns-clause-notes g c =
 
 pub returns-then-told-now-clause-flows : goal.returns-then-told-now-clause-flows
 returns-then-told-now-clause-flows g c =
-    let old = record (flow_of g.S.Read.remaining g.S.Write.contents c.args.self.now None) { held = c.args.bytes.items } in
-    let new = (flow_of g.S.Read.remaining g.S.Write.contents c.hand.new.self None) in
+    let old = record (flow_of g.S.Read.remaining g.S.Write.contents g.S.Stream.far g.S.Stream.state c.args.self.now None) { held = c.args.bytes.items } in
+    let new = (flow_of g.S.Read.remaining g.S.Write.contents g.S.Stream.far g.S.Stream.state c.hand.new.self None) in
     flow_noted (happens.Bytes c.args.bytes) old new (channel_view c.args.self.now.channel)
-    (known_of g.S.Read.remaining g.S.Write.contents c.args.self.now.channel.stream)
+    (reached_of g.S.Read.remaining g.S.Write.contents g.S.Stream.far g.S.Stream.state c.args.self.now.channel.stream)
     (c.requires.none, c.requires.open, refl) refl (λ between lasts. lasts) c.in_ok-told.ensures.flows
 
 pub returns-clause-flows : goal.returns-clause-flows
 returns-clause-flows g c =
-    let old = record (flow_of g.S.Read.remaining g.S.Write.contents c.args.self.now None) { held = c.args.bytes.items } in
-    let new = (flow_of g.S.Read.remaining g.S.Write.contents c.hand.new.self None) in
-    ok_flow_after c.catch_up.result old new (flow_of g.S.Read.remaining g.S.Write.contents c.catch_up.new.self None)
+    let old = record (flow_of g.S.Read.remaining g.S.Write.contents g.S.Stream.far g.S.Stream.state c.args.self.now None) { held = c.args.bytes.items } in
+    let new = (flow_of g.S.Read.remaining g.S.Write.contents g.S.Stream.far g.S.Stream.state c.hand.new.self None) in
+    ok_flow_after c.catch_up.result old new (flow_of g.S.Read.remaining g.S.Write.contents g.S.Stream.far g.S.Stream.state c.catch_up.new.self None)
     (flow_noted (happens.Bytes c.args.bytes) old new (channel_view c.args.self.now.channel)
-    (known_of g.S.Read.remaining g.S.Write.contents c.args.self.now.channel.stream)
+    (reached_of g.S.Read.remaining g.S.Write.contents g.S.Stream.far g.S.Stream.state c.args.self.now.channel.stream)
     (c.requires.none, c.requires.open, refl) refl (λ between lasts. lasts) c.in_ok-told.ensures.flows) c.catch_up.ensures.flows

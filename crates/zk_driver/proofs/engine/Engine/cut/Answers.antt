@@ -22,7 +22,7 @@ returns-clause-notes g c =
 
 pub returns-clause-flows : goal.returns-clause-flows
 returns-clause-flows g c =
-    let flow = flow_of g.S.Read.remaining g.S.Write.contents in
+    let flow = flow_of g.S.Read.remaining g.S.Write.contents g.S.Stream.far g.S.Stream.state in
     ok_flow_after c.catch_up.result (flow c.args.self.now None) (flow c.end.new.self None)
     (flow c.catch_up.new.self None) c.in_ok-told.ensures.flows c.catch_up.ensures.flows
 

@@ -2,7 +2,7 @@
 use Rattle.std.proofs.Common.{None, ap, refl}
 use Rattle.zk_agent.specs.declared.input.AgentInput.TheVariants as happens
 use Rattle.zk_driver.specs.Driving.{ChannelView, channel_view, course_of}
-use Rattle.zk_link.specs.Streams.{known_of}
+use Rattle.zk_link.specs.FarEnds.{reached_of}
 use Rattle.zk_driver.specs.Flowing.{flow_of}
 use Rattle.zk_driver.proofs.Flowed.{ok_flow_noted, ok_stays_shut}
 use Rattle.zk_driver.proofs.Going.{first, noted}
@@ -18,9 +18,9 @@ returns-clause-notes g c = first c.hand.result happens.Cut (course_of c.args.sel
 
 pub returns-clause-flows : goal.returns-clause-flows
 returns-clause-flows g c =
-    ok_flow_noted c.hand.result happens.Cut (flow_of g.S.Read.remaining g.S.Write.contents c.args.self.now None)
-    (flow_of g.S.Read.remaining g.S.Write.contents c.hand.new.self None) (channel_view c.close.new.self)
-    (known_of g.S.Read.remaining g.S.Write.contents c.close.new.self.stream) (c.requires.none, c.requires.open, c.close.ensures.view) refl
+    ok_flow_noted c.hand.result happens.Cut (flow_of g.S.Read.remaining g.S.Write.contents g.S.Stream.far g.S.Stream.state c.args.self.now None)
+    (flow_of g.S.Read.remaining g.S.Write.contents g.S.Stream.far g.S.Stream.state c.hand.new.self None) (channel_view c.close.new.self)
+    (reached_of g.S.Read.remaining g.S.Write.contents g.S.Stream.far g.S.Stream.state c.close.new.self.stream) (c.requires.none, c.requires.open, c.close.ensures.view) refl
     (λ between lasts. tt) c.hand.ensures.flows
 
 pub returns-clause-shut : goal.returns-clause-shut

@@ -1,10 +1,10 @@
 -- What `step`, `carry_all` and `flush` ensure, in one record: the agent takes the input, its actions are carried, and then bytes are
--- written. The writing reads nothing: `exchanges_none`.
+-- written. The writing reads nothing: `reaches_none`.
 use Rattle.std.proofs.Common.{[], ap, refl}
 use Rattle.zk_agent.specs.Telling.{told_by}
 use Rattle.zk_driver.specs.Driving.{channel_view}
-use Rattle.zk_link.specs.Streams.{known_of}
-use Rattle.zk_link.proofs.Streaming.{exchanges_none}
+use Rattle.zk_link.specs.FarEnds.{reached_of}
+use Rattle.zk_link.proofs.Reaching.{reaches_none}
 use Rattle.zk_driver.proofs.engine.Engine.hand.Goals as goal
 
 pub returns-clause-hands : goal.returns-clause-hands
@@ -36,7 +36,7 @@ pub returns-clause-flows : goal.returns-clause-flows
 unfolding returns-clause-hands
 returns-clause-flows g c =
     let hands = returns-clause-hands g c in
-    let know = known_of g.S.Read.remaining g.S.Write.contents in
+    let know = reached_of g.S.Read.remaining g.S.Write.contents g.S.Stream.far g.S.Stream.state in
     record {
       now = c.args.now;
       between = record { course = hands.between; known = know c.carry_all.new.channel.stream; held = [] };
@@ -45,9 +45,9 @@ returns-clause-flows g c =
       held = refl;
       writes = (
         hands.writes,
-        exchanges_none c.carry_all.new.channel.unsent.items c.flush.new.self.unsent.items (know c.carry_all.new.channel.stream)
+        reaches_none c.carry_all.new.channel.unsent.items c.flush.new.self.unsent.items (know c.carry_all.new.channel.stream)
             (know c.flush.new.self.stream)
-            c.flush.ensures.sends c.flush.ensures.gives,
+            c.flush.ensures.sends c.flush.ensures.gives c.flush.ensures.trades,
         refl,
       );
     }

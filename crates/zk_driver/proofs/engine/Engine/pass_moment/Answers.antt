@@ -2,7 +2,7 @@
 use Rattle.std.proofs.Common.{None, refl}
 use Rattle.zk_agent.specs.declared.input.AgentInput.TheVariants as happens
 use Rattle.zk_driver.specs.Driving.{channel_view, course_of}
-use Rattle.zk_link.specs.Streams.{known_of}
+use Rattle.zk_link.specs.FarEnds.{reached_of}
 use Rattle.zk_driver.specs.Flowing.{flow_of}
 use Rattle.zk_driver.proofs.Flowed.{ok_flow_noted}
 use Rattle.zk_driver.proofs.Going.{first, noted}
@@ -18,7 +18,7 @@ returns-clause-notes g c = first c.hand.result happens.Moment (course_of c.args.
 
 pub returns-clause-flows : goal.returns-clause-flows
 returns-clause-flows g c =
-    ok_flow_noted c.hand.result happens.Moment (flow_of g.S.Read.remaining g.S.Write.contents c.args.self.now None)
-    (flow_of g.S.Read.remaining g.S.Write.contents c.hand.new.self None) (channel_view c.args.self.now.channel)
-    (known_of g.S.Read.remaining g.S.Write.contents c.args.self.now.channel.stream) (c.requires.none, refl) refl
+    ok_flow_noted c.hand.result happens.Moment (flow_of g.S.Read.remaining g.S.Write.contents g.S.Stream.far g.S.Stream.state c.args.self.now None)
+    (flow_of g.S.Read.remaining g.S.Write.contents g.S.Stream.far g.S.Stream.state c.hand.new.self None) (channel_view c.args.self.now.channel)
+    (reached_of g.S.Read.remaining g.S.Write.contents g.S.Stream.far g.S.Stream.state c.args.self.now.channel.stream) (c.requires.none, refl) refl
     (λ between lasts. lasts) c.hand.ensures.flows

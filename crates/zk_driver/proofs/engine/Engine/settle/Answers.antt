@@ -23,7 +23,7 @@ returns-in_ok-end-in-None-clause-goes g c =
 
 pub returns-in_ok-end-in-None-clause-flows : goal.returns-in_ok-end-in-None-clause-flows
 returns-in_ok-end-in-None-clause-flows g c =
-    let flow = flow_of g.S.Read.remaining g.S.Write.contents in
+    let flow = flow_of g.S.Read.remaining g.S.Write.contents g.S.Stream.far g.S.Stream.state in
     ok_flow_after c.settle_closed.result (flow c.args.self.now None) (flow c.end.new.self None)
     (flow c.settle_closed.new.self None) c.in_ok-end-in-None.ensures.flows c.settle_closed.ensures.flows
 

@@ -1,0 +1,442 @@
+-- Over streams at whose far end a bench is, the bench does beside each run what its clauses say: step after step, what the stream says of
+-- its far end is what the bench does. Its history stays, so each connection is one to a bench with the same history.
+use Rattle.std.proofs.Common.{◌≡◌, ◌++◌, ◌∙◌, ℕ, Bool, true, false, List, [], ◌∷◌, Option, Some, None, inl, inr, ap, append-nil}
+use Rattle.std.proofs.Common.{append_assoc, arith, refl, sym, subst}
+use Rattle.std.specs.Prelude.{length}
+use Rattle.std.specs.List.{flat_map, FoldsTo}
+use Rattle.zk_link.specs.FarEnds.{Begun, Goes, Reached, Trades}
+use Rattle.zk_nodes.specs.Path.{Text}
+use Rattle.zk_nodes.specs.History.{IsHistory}
+use Rattle.zk_nodes.specs.declared.side.Side.{Side}
+use Rattle.zk_history.specs.HistoryView.{history_of, HistoryView}
+use Rattle.theory_serving.proofs.Later.{taken_none}
+use Rattle.zk_bench.specs.declared.phase.Phase.{Phase}
+use Rattle.zk_bench.specs.declared.phase.Phase.TheVariants.{Apart, Ended, Opening}
+use Rattle.zk_bench.specs.Served.{ended, is_open, started, Served}
+use Rattle.zk_bench.specs.Served as bench
+use Rattle.zk_bench.specs.Stepping.{IsReady}
+use Rattle.zk_agent.specs.declared.input.AgentInput.{AgentInput}
+use Rattle.zk_agent.specs.declared.input.AgentInput.TheVariants as happens
+use Rattle.zk_driver.specs.Driving.{ChannelView, Looked, Noted, Written}
+use Rattle.zk_driver.specs.Noting.{is_come}
+use Rattle.zk_driver.specs.Flowing.{Asked, AreWithin, Carries, Deed, Flow, Made, Passes, Runs}
+use Rattle.zk_driver.proofs.Flowed.{goes_on, open_before}
+use Rattle.zk_served.specs.Acts.{given_in, taken_in, Act, Gives, Serves, Takes}
+use Rattle.zk_served.specs.BenchActs.{bench_end, BenchBegins, BenchDoes, BenchGoes, LineBegins, LineDoes}
+use Rattle.zk_served.specs.Worlds.{ByDriver}
+use Rattle.zk_served.proofs.Turned.{goes_nowhere}
+use Rattle.shell_watch.specs.declared.plan.Style.{Style}
+use Rattle.shell_watch.specs.Watching.{flow_in, Closes, Does, EndsFrom, FollowsAll, IsBegun, Move, PrintsFrom, Stand, Takes as Prints}
+use Rattle.shell_watch.proofs.Running.{follows_run, tended_run}
+use Rattle.theory_shown.specs.Agreeing.{IsTimed, RunBenches}
+use Rattle.theory_shown.specs.Benched.{BefallsBench, MeanwhileBench, MeetsBench}
+use Rattle.theory_shown.specs.Linked.{LinkedEndAgrees, LinkedWatchAgrees, RunsFit}
+use Rattle.theory_shown.specs.Watched.{AllCohere, MoveMeets, MovesMeet}
+use Rattle.theory_shown.proofs.Agreeing.{watch_agrees, watch_end_agrees}
+use Rattle.theory_shown.proofs.Waiting.{connected_ready}
+use Rattle.theory_shown.proofs.Watched.{ends_cohere, prints_cohere}
+
+-- ---- acts
+
+acts_on : (acts more : List Act) (old between new : Served) → FoldsTo BenchDoes old acts between → FoldsTo BenchDoes between more new
+    → FoldsTo BenchDoes old (acts ++ more) new
+acts_on [] more old between new same rest = subst (λ (s : Served). FoldsTo BenchDoes s more new) (sym same) rest
+acts_on (act ∷ acts) more old between new does rest = (does.0, does.1, acts_on acts more does.0 between new does.2 rest)
+
+taken_on : (acts more : List Act) → taken_in (acts ++ more) ≡ taken_in acts ++ taken_in more
+taken_on [] more = refl
+taken_on (Takes bytes ∷ acts) more =
+    ap (λ l. bytes ++ l) (taken_on acts more) ∙ sym (append_assoc bytes (taken_in acts) (taken_in more))
+taken_on (Gives bytes ∷ acts) more = taken_on acts more
+taken_on (Serves ∷ acts) more = taken_on acts more
+
+given_on : (acts more : List Act) → given_in (acts ++ more) ≡ given_in acts ++ given_in more
+given_on [] more = refl
+given_on (Takes bytes ∷ acts) more = given_on acts more
+given_on (Gives bytes ∷ acts) more =
+    ap (λ l. bytes ++ l) (given_on acts more) ∙ sym (append_assoc bytes (given_in acts) (given_in more))
+given_on (Serves ∷ acts) more = given_on acts more
+
+-- ---- where a line is, a bench is
+
+-- The bench is the one at the far end; where the line is over, it has ended the connection.
+IsAt : Option Served → Served → Type 0
+IsAt (Some now) served = served ≡ now
+IsAt None served = served.connection.phase ≡ Ended
+
+-- what a bench does from where it is
+record GoesAt (took gave : List ℕ) (end : Option Served) (before : Served) : Type 0 where
+  after : Served
+  at : IsAt end after
+  goes : BenchGoes before took gave after
+
+goes_first : (before : Served) → BenchGoes before [] [] before
+goes_first before = record { acts = []; does = refl; taken = refl; given = refl; history = refl }
+
+goes_after : (took gave more other : List ℕ) (old between new : Served)
+    → BenchGoes old took gave between → BenchGoes between more other new → BenchGoes old (took ++ more) (gave ++ other) new
+goes_after took gave more other old between new first rest = record {
+  acts = first.acts ++ rest.acts;
+  does = acts_on first.acts rest.acts old between new first.does rest.does;
+  taken = taken_on first.acts rest.acts ∙ ap (λ l. l ++ taken_in rest.acts) first.taken ∙ ap (λ l. took ++ l) rest.taken;
+  given = given_on first.acts rest.acts ∙ ap (λ l. l ++ given_in rest.acts) first.given ∙ ap (λ l. gave ++ l) rest.given;
+  history = rest.history ∙ first.history;
+}
+
+-- it ends the connection
+goes_over : (old : Served) → BenchGoes old [] [] (ended old)
+goes_over old = record {
+  acts = Serves ∷ [];
+  does = (ended old, inr (inr (inl refl)), refl);
+  taken = refl;
+  given = refl;
+  history = refl;
+}
+
+-- what comes then is lost
+goes_lost : (took gave : List ℕ) (old : Served) → old.connection.phase ≡ Ended → gave ≡ [] → BenchGoes old took gave old
+goes_lost took gave old over none = record {
+  acts = Takes took ∷ [];
+  does = (old, (λ up. let e : true ≡ false = sym up ∙ ap is_open over in cc, λ down. refl), refl);
+  taken = append-nil took;
+  given = sym none;
+  history = refl;
+}
+
+line_goes : (took gave : List ℕ) (old new : Option Served) (before : Served) → IsAt old before → LineDoes old took gave new
+    → GoesAt took gave new before
+unfolding IsAt
+line_goes took gave (Some old) (Some new) before at does =
+    record { after = new; at = refl; goes = subst (λ (s : Served). BenchGoes s took gave new) (sym at) does }
+line_goes took gave (Some old) None before at does = record {
+  after = ended does.0;
+  at = refl;
+  goes = subst (λ l. BenchGoes before l gave (ended does.0)) (append-nil took)
+      (subst (λ l. BenchGoes before (took ++ []) l (ended does.0)) (append-nil gave)
+      (goes_after took gave [] [] before does.0 (ended does.0)
+      (subst (λ (s : Served). BenchGoes s took gave does.0) (sym at) does.1) (goes_over does.0)));
+}
+line_goes took gave None None before at does = record { after = before; at = at; goes = goes_lost took gave before at does }
+line_goes took gave None (Some new) before at does = absurd does
+
+abbrev took_by : List ℕ × List ℕ → List ℕ
+took_by step = step.0
+
+abbrev gave_by : List ℕ × List ℕ → List ℕ
+gave_by step = step.1
+
+lines_go : (steps : List (List ℕ × List ℕ)) (old new : Option Served) (before : Served) → IsAt old before
+    → FoldsTo (λ from step to. LineDoes from step.0 step.1 to) old steps new
+    → GoesAt (flat_map took_by steps) (flat_map gave_by steps) new before
+lines_go [] old new before at same =
+    record { after = before; at = subst (λ (s : Option Served). IsAt s before) same at; goes = goes_first before }
+lines_go (step ∷ steps) old new before at does =
+    let one = line_goes step.0 step.1 old does.0 before at does.1 in
+    let rest = lines_go steps does.0 new one.after one.at does.2 in
+    record {
+      after = rest.after;
+      at = rest.at;
+      goes = goes_after step.0 step.1 (flat_map took_by steps) (flat_map gave_by steps) before one.after rest.after one.goes rest.goes;
+    }
+
+far_goes : (past : HistoryView) (took gave : List ℕ) (old new : Option Served) (before : Served) → IsAt old before
+    → Goes (bench_end past) took gave old new → GoesAt took gave new before
+far_goes past took gave old new before at goes =
+    let all = lines_go goes.steps old new before at goes.does in
+    record {
+      after = all.after;
+      at = all.at;
+      goes = subst (λ l. BenchGoes before l gave all.after) goes.took
+          (subst (λ l. BenchGoes before (flat_map took_by goes.steps) l all.after) goes.gave all.goes);
+    }
+
+-- ---- where a connection is, a bench is
+
+IsThere : Option (Option Served) → Served → Type 0
+IsThere (Some state) served = IsAt state served
+IsThere None served = ⊥
+
+-- what a bench does from where it is, with what is unsent
+record TradesAt (unsent rest piece : List ℕ) (end : Option (Option Served)) (before : Served) : Type 0 where
+  after : Served
+  there : IsThere end after
+  acts : List Act
+  does : FoldsTo BenchDoes before acts after
+  wrote : unsent ≡ taken_in acts ++ rest
+  read : given_in acts ≡ piece
+  history : after.history ≡ before.history
+
+trades_at : (past : HistoryView) (unsent rest piece : List ℕ) (old new : Option (Option Served)) (before : Served) → IsThere old before
+    → Trades (bench_end past) unsent rest piece old new → TradesAt unsent rest piece new before
+unfolding IsThere
+trades_at past unsent rest piece (Some old) (Some new) before there trades =
+    let all = far_goes past trades.0 piece old new before there trades.2 in
+    record {
+      after = all.after;
+      there = all.at;
+      acts = all.goes.acts;
+      does = all.goes.does;
+      wrote = trades.1 ∙ ap (λ l. l ++ rest) (sym all.goes.taken);
+      read = all.goes.given;
+      history = all.goes.history;
+    }
+trades_at past unsent rest piece (Some old) None before there trades = absurd trades.2
+trades_at past unsent rest piece None new before there trades = absurd there
+
+record StartsAt (past : HistoryView) (end : Option (Option Served)) : Type 0 where
+  after : Served
+  there : IsThere end after
+  begins : BenchBegins past after
+
+starts_at : (past : HistoryView) (end : Option (Option Served)) → Begun (bench_end past) end → StartsAt past end
+unfolding IsThere IsAt
+starts_at past None begun = absurd begun
+starts_at past (Some None) begun = absurd begun
+starts_at past (Some (Some served)) begun = record { after = served; there = refl; begins = begun }
+
+-- ---- a bench is ready
+
+started_ready : (past : HistoryView) → IsReady (started past)
+started_ready past = record {
+  taken = taken_none (history_of past) (started past).taken (refl, refl, refl, refl, refl, refl, refl, refl, tt);
+  there = omega arith;
+  unwatched = λ opening. absurd (apart_is opening);
+}
+  where
+    apart_is : Apart ≡ Opening → ⊥
+    apart_is e = cc
+
+-- ---- one deed
+
+module _ {A : Type 0} (past : HistoryView) where
+  abbrev Linked : Type 0
+  Linked = Flow A (bench_end past)
+
+  -- a bench beside a driver
+  record Beside (flow : Linked) (served : Served) : Type 0 where
+    history : served.history ≡ past
+    there : flow.course.channel.is_open ≡ true → IsThere flow.known.end served
+
+  record Befallen (old : Linked) (deed : Deed A) (new : Linked) (before : Served) : Type 0 where
+    after : Served
+    befalls : BefallsBench ByDriver old deed new before after
+    beside : Beside new after
+
+  record Stretches (there : Bool) (old new : Linked) (before : Served) : Type 0 where
+    after : Served
+    meets : MeanwhileBench ByDriver there old new before after
+    beside : Beside new after
+
+  -- bytes are written and read
+  stretches : (there : Bool) (piece : List ℕ) (old new : Linked) (before : Served) → old.course.channel.is_open ≡ there
+      → new.course.channel.is_open ≡ old.course.channel.is_open → new.held ≡ old.held ++ piece
+      → Trades (bench_end past) old.course.channel.unsent new.course.channel.unsent piece old.known.end new.known.end
+      → Beside old before → Stretches there old new before
+  stretches true piece old new before is same held trades beside =
+      let all = trades_at past old.course.channel.unsent new.course.channel.unsent piece old.known.end new.known.end before
+      (beside.there is) trades in
+      record {
+        after = all.after;
+        meets = (
+          all.acts,
+          all.does,
+          record { wrote = all.wrote; read = held ∙ ap (λ l. old.held ++ l) (sym all.read) },
+        );
+        beside = record { history = all.history ∙ beside.history; there = λ up. all.there };
+      }
+  stretches false piece old new before is same held trades beside = record {
+    after = before;
+    meets = goes_nowhere (history_of before.history);
+    beside = record { history = beside.history; there = λ up. let e : true ≡ false = sym up ∙ same ∙ is in cc };
+  }
+
+  -- a connection begins, if it is there when the agent has taken that
+  begins_so : (now : ℕ) (old new : Linked) (before : Served) (there : Bool) → new.course.channel.is_open ≡ there
+      → Carries old (Made (Noted now happens.Opened)) new → Beside old before
+      → Befallen old (Made (Noted now happens.Opened)) new before
+  begins_so now old new before true is carries beside =
+      let starts = starts_at past new.known.end (carries.1 is) in
+      record {
+        after = starts.after;
+        befalls = (
+          starts.begins.before,
+          starts.begins.history ∙ sym beside.history,
+          starts.begins.server,
+          starts.begins.was_ready,
+          starts.begins.ready,
+          starts.begins.connects,
+        );
+        beside = record {
+          history = ap (λ (s : Served). s.history) starts.begins.connects ∙ starts.begins.history;
+          there = λ up. starts.there;
+        };
+      }
+  begins_so now old new before false is carries beside = record {
+    after = bench.connected (started past) 0;
+    befalls = (
+      started past,
+      sym beside.history,
+      0,
+      started_ready past,
+      connected_ready (started past) (started_ready past),
+      refl,
+    );
+    beside = record { history = refl; there = λ up. let e : true ≡ false = sym up ∙ is in cc };
+  }
+
+  -- the connection is as it was, or is over
+  stays : (deed : Deed A) (old new : Linked) (before : Served) → Carries old deed new → AreWithin (deed ∷ [])
+      → (new.course.channel.is_open ≡ true → new.known ≡ old.known) → Beside old before → Beside new before
+  stays deed old new before carries within same beside = record {
+    history = beside.history;
+    there = λ up. subst (λ (k : Reached (bench_end past)). IsThere k.end before) (sym (same up))
+        (beside.there (open_before deed old new carries within up));
+  }
+
+  quiet : (now : ℕ) (input : AgentInput A) (old new : Linked) (before : Served) → Carries old (Made (Noted now input)) new
+      → AreWithin (Made (Noted now input) ∷ []) → Beside old before → Beside new before
+  quiet now input old new before carries within beside =
+      stays (Made (Noted now input)) old new before carries within (λ up. (goes_on now input old new carries within up).0) beside
+
+  noted : (now : ℕ) (input : AgentInput A) (old new : Linked) (before : Served)
+      → Carries old (Made (Noted now input)) new → Beside old before → Befallen old (Made (Noted now input)) new before
+  noted now happens.Opened old new before carries beside =
+      begins_so now old new before new.course.channel.is_open refl carries beside
+  noted now happens.Failed old new before carries beside =
+      record { after = before; befalls = refl; beside = quiet now happens.Failed old new before carries tt beside }
+  noted now happens.Cut old new before carries beside =
+      record { after = before; befalls = refl; beside = quiet now happens.Cut old new before carries tt beside }
+  noted now (happens.Bytes bytes) old new before carries beside =
+      record { after = before; befalls = refl; beside = quiet now (happens.Bytes bytes) old new before carries tt beside }
+  noted now happens.Moment old new before carries beside =
+      record { after = before; befalls = refl; beside = quiet now happens.Moment old new before carries tt beside }
+  noted now (happens.Addresses count) old new before carries beside = absurd carries.0.1
+  noted now (happens.Call ticket call until) old new before carries beside = absurd carries.0.1
+  noted now (happens.Follow ticket side path) old new before carries beside = absurd carries.0.1
+  noted now (happens.Unfollow ticket) old new before carries beside = absurd carries.0.1
+
+  befallen : (deed : Deed A) (old new : Linked) (before : Served) → Carries old deed new → Beside old before → Befallen old deed new before
+  befallen (Made Written) old new before carries beside =
+      let one = stretches old.course.channel.is_open [] old new before refl carries.0.0.is_open
+      (carries.2 ∙ sym (append-nil old.held)) carries.1.trades beside in
+      record { after = one.after; befalls = one.meets; beside = one.beside }
+  befallen (Made (Looked look)) old new before carries beside =
+      let one = stretches old.course.channel.is_open new.held old new before refl carries.0.0.is_open
+      (ap (λ held. held ++ new.held) (sym carries.2)) carries.1.trades beside in
+      record { after = one.after; befalls = one.meets; beside = one.beside }
+  befallen (Made (Noted now input)) old new before carries beside = noted now input old new before carries beside
+  befallen (Asked now input) old new before carries beside =
+      record { after = before; befalls = refl; beside = stays (Asked now input) old new before carries tt carries.2 beside }
+
+  -- ---- a run
+
+  record Met (steps : List (Option (Deed A))) (old new : Linked) (passes : FoldsTo Passes old steps new) (before : Served) : Type 0 where
+    after : Served
+    meets : MeetsBench ByDriver steps old new passes before after
+    beside : Beside new after
+
+  met : (steps : List (Option (Deed A))) (old new : Linked) (passes : FoldsTo Passes old steps new) (before : Served) → Beside old before
+      → Met steps old new passes before
+  met [] old new same before beside =
+      record { after = before; meets = refl; beside = subst (λ (f : Linked). Beside f before) same beside }
+  met (Some deed ∷ steps) old new passes before beside =
+      let one = befallen deed old passes.0 before passes.1 beside in
+      let rest = met steps passes.0 new passes.2 one.after one.beside in
+      record { after = rest.after; meets = (one.after, one.befalls, rest.meets); beside = rest.beside }
+  met (None ∷ steps) old new passes before beside =
+      let told = subst (λ (f : Linked). Beside f before) (sym passes.1) (record { history = beside.history; there = beside.there }) in
+      let rest = met steps passes.0 new passes.2 before told in
+      record { after = rest.after; meets = rest.meets; beside = rest.beside }
+
+  record Ran (old new : Linked) (before : Served) : Type 0 where
+    after : Served
+    benches : RunBenches ByDriver old new before after
+    beside : Beside new after
+
+  ran : RunsFit A past → (old new : Linked) (before : Served) → Runs old new → Beside old before → Ran old new before
+  ran fit old new before runs beside =
+      let all = met runs.steps old new runs.passes before beside in
+      record {
+        after = all.after;
+        benches = record { runs = runs; fits = fit old new runs; meets = all.meets };
+        beside = all.beside;
+      }
+
+  -- ---- a watch
+
+  abbrev Watched : Type 0
+  Watched = Stand A (bench_end past)
+
+  record Moved (moves : List (Move A)) (old new : Watched) (does : FoldsTo Does old moves new) (before : Served) : Type 0 where
+    after : Served
+    meets : MovesMeet (RunBenches ByDriver) moves old new does before after
+    beside : Beside (flow_in new) after
+
+  moved : RunsFit A past → (moves : List (Move A)) (old new : Watched) (does : FoldsTo Does old moves new) (before : Served)
+      → Beside (flow_in old) before → Moved moves old new does before
+  moved fit [] old new same before beside =
+      record { after = before; meets = refl; beside = subst (λ (s : Watched). Beside (flow_in s) before) same beside }
+  moved fit (Prints turn text ∷ moves) old new does before beside =
+      let rounds = does.1 in
+      let turned = ran fit (flow_in old) (flow_in rounds.between) before rounds.turns.runs beside in
+      let tended = ran fit (flow_in rounds.between) (flow_in does.0) turned.after
+      (tended_run (is_come turn) rounds.between rounds.more does.0 rounds.tends) turned.beside in
+      let rest = moved fit moves does.0 new does.2 tended.after tended.beside in
+      record {
+        after = rest.after;
+        meets = (tended.after, (turned.after, turned.benches, tended.benches), rest.meets);
+        beside = rest.beside;
+      }
+  moved fit (Closes until ∷ moves) old new does before beside =
+      let one = ran fit (flow_in old) (flow_in does.0) before does.1.1 beside in
+      let rest = moved fit moves does.0 new does.2 one.after one.beside in
+      record { after = rest.after; meets = (one.after, one.benches, rest.meets); beside = rest.beside }
+
+  -- it begins with no connection
+  beside_first : (style : Style) (roots : List Text) (most : ℕ) (first : Watched) → IsBegun style roots most first
+      → Beside (flow_in first) (started past)
+  beside_first style roots most first begun = record {
+    history = refl;
+    there = λ up. let e : true ≡ false = sym up ∙ ap (λ (c : ChannelView). c.is_open) begun.channel in cc;
+  }
+
+  followed : RunsFit A past → (style : Style) (roots : List Text) (most : ℕ) (aims : List (Side × Text)) (first ready : Watched)
+      → IsBegun style roots most first → FollowsAll aims first ready → Ran (flow_in first) (flow_in ready) (started past)
+  followed fit style roots most aims first ready begun follows =
+      ran fit (flow_in first) (flow_in ready) (started past) (follows_run A (bench_end past) aims first ready follows)
+      (beside_first style roots most first begun)
+
+pub linked_watch_agrees : (A : Type 0) (past : HistoryView) → IsHistory (history_of past) → LinkedWatchAgrees A past
+linked_watch_agrees A past is style roots most aims first text begun from timed fit =
+    let follows = followed past fit style roots most aims first from.ready begun from.follows in
+    let prints = moved past fit from.prints.moves from.ready from.last from.prints.does follows.after follows.beside in
+    let same = prints.beside.history in
+    subst (λ (h : HistoryView). AllCohere (history_of h) from.prints.moves from.ready from.last from.prints.does) same
+    (watch_agrees A (bench_end past) ByDriver prints.after (prints_cohere A (bench_end past))
+    (subst (λ (h : HistoryView). IsHistory (history_of h)) (sym same) is) style roots most aims first text begun from timed (record {
+      before = started past;
+      ready = follows.after;
+      follows = follows.benches;
+      prints = prints.meets;
+    }))
+
+pub linked_end_agrees : (A : Type 0) (past : HistoryView) → IsHistory (history_of past) → LinkedEndAgrees A past
+linked_end_agrees A past is style roots most aims for_ms first text is_accepted begun from timed fit =
+    let follows = followed past fit style roots most aims first from.ready begun from.follows in
+    let prints = moved past fit from.over.prints.moves from.ready from.over.over from.over.prints.does follows.after follows.beside in
+    let closes = moved past fit from.over.closes.moves from.over.over from.last from.over.closes.does prints.after prints.beside in
+    let same = closes.beside.history in
+    subst (λ (h : HistoryView).
+    AllCohere (history_of h) from.over.prints.moves from.ready from.over.over from.over.prints.does
+    × AllCohere (history_of h) from.over.closes.moves from.over.over from.last from.over.closes.does) same
+    (watch_end_agrees A (bench_end past) ByDriver closes.after (ends_cohere A (bench_end past))
+    (subst (λ (h : HistoryView). IsHistory (history_of h)) (sym same) is) style roots most aims for_ms first text
+    is_accepted begun from timed
+    (record {
+      before = started past;
+      ready = follows.after;
+      over = prints.after;
+      follows = follows.benches;
+      prints = prints.meets;
+      closes = closes.meets;
+    }))
