@@ -18,7 +18,6 @@ use Rattle.zk_agent.specs.declared.input.AgentInput.TheVariants as happens
 use Rattle.zk_driver.specs.Driving.{Looked, Noted, Written}
 use Rattle.zk_driver.specs.Flowing.{Deed, Flow, Made, Passes, Runs}
 use Rattle.zk_served.specs.Acts.{given_in, taken_in, Act, Gives, Serves, Takes}
-use Rattle.zk_served.specs.Asking.{StepsFit}
 use Rattle.zk_served.specs.ServedDrivers.{Begins}
 use Rattle.zk_served.specs.Worlds.{ByDriver, Meets}
 
@@ -85,7 +84,6 @@ module _ {A : Type 0} (By : List ℕ → List ℕ → Flow A → Flow A → Type
 pub record DrivesBench {A : Type 0} (By : List ℕ → List ℕ → Flow A → Flow A → Type 0) (old new : Flow A) (after : Served) : Type 0 where
   pub begins : Begins old
   pub runs : Runs old new
-  pub fits : StepsFit runs.steps old new runs.passes
   pub before : Served
   pub meets : MeetsBench By runs.steps old new runs.passes before after
   pub history : IsHistory (history_of after.history)
