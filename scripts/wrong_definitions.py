@@ -11,8 +11,8 @@ what refused it. There are three lists, in the folder wrong_definitions:
              the code with STATEMENTS.md and STATEMENTS.lock, and by scripts/definitions, which compares it with docs/DEFINITIONS.md
 
 An edit is four lines: what it turns, the file below crates/, the old text and the new one, where \\n is the end of a line. Each
-definition of sections 1 to 6, 10 to 15 and 18 of docs/DEFINITIONS.md is to have an edit that is narrower or weaker, or a reason in
-EXCEPTIONS: --check says which has none. An edit that nothing refuses is a hole. So is one that stands no longer, or whose file cannot be
+definition of sections 1 to 6, 10 to 15 and 18 of docs/DEFINITIONS.md that the client or theory_local names is to have an edit that is
+narrower or weaker, or a reason in EXCEPTIONS: --check says which has none. An edit that nothing refuses is a hole. So is one that stands no longer, or whose file cannot be
 read with it.
 The last line is `N seen, M unseen`, and the exit status is 1 where an edit is unseen or a definition has none.
 
@@ -54,6 +54,7 @@ SECTIONS = [*range(1, 7), *range(10, 16)]
 DATA = "it names data: a field or a case fewer cannot be read where they are made"
 TABLE = "it is a table of the protocol, by which the code writes and reads: tests have its values"
 OUTSIDES = "it says what a run's outside tells of its turns, and nothing of servers: crates/zk_client/wrong_bodies turns it"
+KEPT = "it is of what a client keeps true of itself, by which its own proofs go on: with one that says less they do not"
 STEPS = "it is of the client step by step, which `one_turn` proves to be what the look-backs give: with another one that is false"
 # definitions of these sections that have no such edit
 EXCEPTIONS = {
@@ -65,7 +66,8 @@ EXCEPTIONS = {
     **dict.fromkeys("connect_request connect_response_front create_request create_response delete_request read_request".split(), TABLE),
     **dict.fromkeys("get_children2_response get_data_response reply_header set_data_request set_watches watcher_event".split(), TABLE),
     **dict.fromkeys("operation_number body_layout request_layout".split(), TABLE),
-    **dict.fromkeys("Told HandsOut IsGiven tells_turn inputs_then TellsAll NoneIsLeft".split(), OUTSIDES),
+    **dict.fromkeys("Told HandsOut IsGiven tells_turn inputs_then TellsAll NoneIsLeft asked_count".split(), OUTSIDES),
+    "IsUnfinished": KEPT,
     **dict.fromkeys("merged merged_known merged_full registered fired with_path next_xid IsAsked".split(), STEPS),
 }
 
@@ -93,7 +95,8 @@ def copy_repository(copy, libraries):
 
 def listed_definitions():
     """The definitions of these sections, each with its crate and file: of the files that the page lists, the names that scripts/definitions
-    has; and those of zk_conclusions that STATEMENTS.md has. Types and constants of the code are left to tests."""
+    has for the client, and all names of the crates of laws; and those of zk_conclusions that STATEMENTS.md has. Types and constants of the code
+    are left to tests."""
     page = (TOP / "docs/DEFINITIONS.md").read_text(encoding="utf-8")
     files = [file for section, row in re.findall(r"^\| (\d+) \| (.*?) \|", page, re.M) if int(section) in SECTIONS for file in re.findall(r"`(\S+?)`", row)]
     run = subprocess.run([TOP / "scripts/definitions"], capture_output=True, text=True, check=True)
@@ -101,7 +104,9 @@ def listed_definitions():
     pinned = (TOP / "STATEMENTS.md").read_text(encoding="utf-8")
     concluded = re.findall(r"^## (zk_conclusions/specs/\S+)\n\n```\n(.*?)^```", pinned, re.M | re.S)
     found = {(file, name) for file, text in concluded for name in re.findall(r"^(?:abbrev|unfoldable)? ?pub (?:record )?(\S+)", text, re.M)}
-    return found | {(file, name.lstrip("+")) for file in files if file.endswith(".antt") for name in names[file].split()}
+    of_laws = tuple(f"{crate}/" for crate in (TURNS, LAWS, LOCAL))
+    listed = [(file, name) for file in files if file.endswith(".antt") for name in names.get(file, "").split()]
+    return found | {(file, name.lstrip("+")) for file, name in listed if name[0] != "+" or file.startswith(of_laws)}
 
 
 def touched_files():

@@ -1,4 +1,4 @@
--- The example meets the premises.
+-- The example meets the premises: each move may be made where it stands, and what it leads to is computed.
 use Rattle.std.proofs.Common.{◌≡◌, List, [], ◌∷◌, refl, ap, sym, inl, arith, Option, Some, None, ℕ, ◌≤◌, length, take, drop}
 use Rattle.std.specs.Str.{is_utf8, chars}
 use lib.Utf8.{encode}
@@ -12,8 +12,8 @@ use Rattle.zk_laws.proofs.Steps.{World, Joins, By_server}
 use Rattle.zk_watches.specs.Lists.{Lists}
 use Rattle.zk_laws.proofs.Log.{AreParts, Opened, last, good, Full, Suits}
 use Rattle.zk_laws.proofs.Run.{Move, Opens, Goes, moved, start, run, IsSchedule}
-use Rattle.theory_runs.specs.Example.{root_alone, two_changes, at_a, read_a, fields_at_five, just_a, just_b, until_restored, until_told, a_changed}
-use Rattle.theory_runs.specs.Example.{two_nodes, at_b, read_b, until_first_part}
+use Rattle.theory_runs.specs.Example.{root_alone, two_changes, at_a, read_a, fields_at_five, just_a, just_b, until_restored, until_told}
+use Rattle.theory_runs.specs.Example.{a_changed, two_nodes, at_b, read_b, until_first_part}
 
 pub is_history : IsHistory two_changes
 is_history = record {

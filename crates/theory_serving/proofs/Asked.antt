@@ -11,7 +11,8 @@ one_asked P Q part Cut a = tt
 one_asked P Q part (Bytes bytes) a = tt
 one_asked P Q part (Now moment) a = tt
 
-all_asked : (P Q : Asked_call → Type 0) → ((call : Asked_call) → P call → Q call) → (items : List Item) → AllAskOf P items → AllAskOf Q items
+all_asked : (P Q : Asked_call → Type 0) → ((call : Asked_call) → P call → Q call) → (items : List Item)
+    → AllAskOf P items → AllAskOf Q items
 all_asked P Q part [] a = tt
 all_asked P Q part (Turned turn ∷ items) a = (one_asked P Q part turn.input a.0, all_asked P Q part items a.1)
 all_asked P Q part (Forgets ∷ items) a = all_asked P Q part items a

@@ -1,6 +1,7 @@
 -- The calls about the long paths may be asked, and are answered one after the other: by induction on their numbers, where what is to be
 -- known of each is tested for all at once.
-use Rattle.std.proofs.Common.{◌≡◌, ℕ, pos, negsuc, ◌+◌, ◌<◌, Bool, true, ◌&&◌, not, nat_lt, List, [], ◌∷◌, ◌++◌, map, drop, Option, Some, None}
+use Rattle.std.proofs.Common.{◌≡◌, ℕ, pos, negsuc, ◌+◌, ◌<◌, Bool, true, ◌&&◌, not, nat_lt, List, [], ◌∷◌, ◌++◌, map, drop, Option, Some}
+use Rattle.std.proofs.Common.{None}
 use Rattle.std.proofs.Common.{refl, sym, ap, ◌∙◌, subst, arith, is_some}
 use Rattle.std.proofs.lemmas.Int.{ints}
 use Rattle.std.proofs.lemmas.Bool.{and_parts}
@@ -25,7 +26,8 @@ use Rattle.zk_turns.specs.Taken.{past_of}
 use Rattle.zk_laws.specs.Server.{Fits, Gives, tree_held}
 use Rattle.zk_laws.specs.ServerSteps.{Answers, Serving, IsNext, messages_by}
 use Rattle.zk_laws.specs.Messages.{Ask}
-use Rattle.zk_laws.specs.Served.{Sent, Entry, Serves, MayServe, ArePayloads, first_xid, items_in, wire_of, is_going, requests, unread, IsServing}
+use Rattle.zk_laws.specs.Served.{Sent, Entry, Serves, MayServe, ArePayloads, first_xid, items_in, wire_of, is_going, requests, unread}
+use Rattle.zk_laws.specs.Served.{IsServing}
 use Rattle.zk_laws.proofs.Basics.{text_eq-true}
 use Rattle.theory_runs.specs.Meeting_example.{new_client}
 use Rattle.theory_serving.specs.Whole_example.{three_changes, long_path, ask_long, absent_payload, asking, denying, numbers}
@@ -121,7 +123,8 @@ denied_one n ns earlier e going stage place next =
             (absent_fits (tree_held three_changes 1 (path_of (long_path n))) known.1),
       );
       told =
-          subst (λ place. ArePayloads (first_xid (unread new_client (past_of new_client (items_in earlier)) (wire_of three_changes earlier)))
+          subst
+          (λ place. ArePayloads (first_xid (unread new_client (past_of new_client (items_in earlier)) (wire_of three_changes earlier)))
           (messages_by three_changes step place) (absent_payload n ∷ [])) (sym place)
           (subst (λ sent. ArePayloads (first_xid sent) (messages_by three_changes step 1) (absent_payload n ∷ [])) (sym next)
           (omega arith, ([], headed, tt), tt));

@@ -37,7 +37,8 @@ use Rattle.theory_runs.proofs.Meeting_shown.{half_read_then, stands_then}
 use Rattle.theory_serving.proofs.Asked.{all_typed}
 use Rattle.theory_serving.proofs.Denied.{asking_said, asking_serving, asked_still, denied_still}
 use Rattle.theory_serving.specs.Whole_example.{third_change, three_changes, first_part, second_part, write_a, restored_payload}
-use Rattle.theory_serving.specs.Whole_example.{pong_payload, stat_bytes, written_payload, numbers, asking, denying, until_read, until_watched, until_lost, until_back, until_told}
+use Rattle.theory_serving.specs.Whole_example.{pong_payload, stat_bytes, written_payload, numbers, asking, denying, until_read}
+use Rattle.theory_serving.specs.Whole_example.{until_watched, until_lost, until_back, until_told}
 use Rattle.theory_serving.specs.Whole_example.{until_ponged, until_written, expired_payload, until_expired}
 
 -- what the payloads spell

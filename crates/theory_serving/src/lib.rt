@@ -220,7 +220,8 @@ pub fn sessions()
     ensures told { (view after : View) (moment : ℕ) (outputs : List Output) (old new : Shown) → WasServed view old
         → Rule view (record { input = Now moment; outputs = outputs }) after → Hears outputs old new → WasServed after new }
     ensures asked { (view after : View) (ticket : ℕ) (call : Call) (outputs : List Output) (old new : Shown)
-        → WasServed view old → Rule view (record { input = Calling ticket call; outputs = outputs }) after → Hears outputs old new → WasServed after new }
+        → WasServed view old → Rule view (record { input = Calling ticket call; outputs = outputs }) after
+        → Hears outputs old new → WasServed after new }
     ensures forgets { (view after : View) (shown : Shown) → WasServed view shown → ((start : Start) (items : List Client_item)
         → Stands start items view → Stands start (Forgets ∷ items) after) → WasServed after shown }
     ensures there { (view : View) (shown : Shown) → WasServed view shown → is_up view ≡ true → shown.phase ≢ Apart }
