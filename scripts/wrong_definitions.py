@@ -53,6 +53,7 @@ SECTIONS = [*range(1, 7), *range(10, 16)]
 
 DATA = "it names data: a field or a case fewer cannot be read where they are made"
 TABLE = "it is a table of the protocol, by which the code writes and reads: tests have its values"
+CODE = "code decides it, and ensures that it does so by the definition: with another one that code is not proved"
 OUTSIDES = "it says what a run's outside tells of its turns, and nothing of servers: crates/zk_client/wrong_bodies turns it"
 KEPT = "it is of what a client keeps true of itself, by which its own proofs go on: with one that says less they do not"
 STEPS = "it is of the client step by step, which `one_turn` proves to be what the look-backs give: with another one that is false"
@@ -68,6 +69,7 @@ EXCEPTIONS = {
     **dict.fromkeys("operation_number body_layout request_layout".split(), TABLE),
     **dict.fromkeys("Told HandsOut IsGiven tells_turn inputs_then TellsAll NoneIsLeft asked_count".split(), OUTSIDES),
     "IsUnfinished": KEPT,
+    **dict.fromkeys("is_empty is_refused is_dots fault_of_names fault_of".split(), CODE),
     **dict.fromkeys("merged merged_known merged_full registered fired with_path next_xid IsAsked".split(), STEPS),
 }
 
