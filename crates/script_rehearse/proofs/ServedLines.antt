@@ -198,9 +198,9 @@ module _ (old new : Scene) (s : IsServed old) where
   -- a call is asked
   call_served : (asked : Asked) (text : List ℕ) → Calls asked old new text → IsServed new
   call_served asked text c =
-      plays_served (Call asked.ticket asked.call) (record old { called = _ }) text c.0 s.above s.ready
-      (λ hears. asked_session old.view shown s.served asked.ticket asked.call c.0.outputs new.view
-      (shown_of (heard_all c.0.outputs old.bench)) c.0.typed c.1 c.0.rule hears)
+      plays_served (Call asked.ticket asked.call) (record old { called = _ }) text c s.above s.ready
+      (λ hears. asked_session old.view shown s.served asked.ticket asked.call c.outputs new.view
+      (shown_of (heard_all c.outputs old.bench)) c.rule hears)
 
   -- the view alone is another, with which the client was served as well
   view_served : new ≡ record old { view = new.view } → WasServed new.view shown → IsServed new

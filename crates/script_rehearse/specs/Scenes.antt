@@ -9,7 +9,7 @@ use Rattle.zk_nodes.specs.Names.{Names as Texts}
 use Rattle.zk_conversation.specs.Calls as call
 use Rattle.zk_laws.specs.Messages.{Request}
 use Rattle.theory_serving.specs.Wires.{IsFor, StandsFirst}
-use Rattle.zk_turns.specs.Ranges.{IsResumable, IsTyped, IsPathCall, AsksOf}
+use Rattle.zk_turns.specs.Ranges.{IsResumable}
 use Rattle.zk_turns.specs.Turns.{Input, Opened, Bytes, Cut, Now, Call, Output, Start, new_start}
 use Rattle.zk_turns.specs.View.{View, view_at}
 use Rattle.zk_turns.specs.Rule.{Rule}
@@ -41,12 +41,10 @@ first_scene timeout history =
 abbrev pub with_bench : Scene → Served → Scene
 with_bench scene bench = record scene { bench = bench }
 
--- The client takes an input by the rule, the servers hear what it says, and the text is what it says. What is asked has values of
--- their types.
+-- The client takes an input by the rule, the servers hear what it says, and the text is what it says.
 pub record Plays (input : Input) (old new : Scene) (text : List ℕ) : Type 0 where
   pub outputs : List Output
   pub rule : Rule old.view (record { input = input; outputs = outputs }) new.view
-  pub typed : AsksOf IsTyped input
   pub told : TellsAll outputs text
   pub rest : new ≡ record old { view = new.view; bench = heard_all outputs old.bench }
 
@@ -99,10 +97,10 @@ abbrev pub with_path : Option Text → Texts → Texts
 with_path None called = called
 with_path (Some path) called = set.insert called path
 
--- The client is asked, and the text that the call names, if it names one, is a path, and is one of those that calls named.
+-- The client is asked, and the text that the call names, if it names one, is one of those that calls named.
 abbrev pub Calls : Asked → Scene → Scene → List ℕ → Type 0
 Calls asked old new text = Plays (Call asked.ticket asked.call)
-    (record old { called = with_path (named_path asked.call) old.called }) new text × IsPathCall asked.call
+    (record old { called = with_path (named_path asked.call) old.called }) new text
 
 -- what a client begins with that takes up the session of another
 abbrev pub taken_up : ℤ → View → Start

@@ -4,7 +4,6 @@ ghost use Rattle.std.specs.Prelude.{◌≡◌, OnOk};
 ghost use Rattle.std.specs.Option.{option_copied};
 ghost use Rattle.zk_conversation.specs.Views.{call_view};
 ghost use Rattle.zk_nodes.specs.Names.{names_of};
-ghost use Rattle.zk_turns.specs.Ranges.{IsPathCall};
 ghost use Rattle.script_rehearse.specs.Scenes.{named_path, with_path};
 
 use std::alloc::{AllocError, Allocator};
@@ -14,7 +13,6 @@ use zk_conversation::Call;
 /// The path that a call names.
 fn named_path<A: Allocator>(call: &Call<A>) -> Option<&str>
     ensures named { option_copied result ≡ named_path (call_view call.now) }
-    ensures path { IsPathCall (call_view call.now) }
 {
     match call {
         Call::Exists { path, .. } => Some(path.as_str()),
@@ -34,7 +32,6 @@ pub(crate) fn add_path<A: Allocator + Copy>(
     called: &mut BTreeSet<String<A>, A>,
 ) -> Result<(), AllocError>
     ensures added { OnOk result (names_of called.new ≡ with_path (named_path (call_view call.now)) (names_of called.old)) }
-    ensures path { IsPathCall (call_view call.now) }
 {
     if let Some(path) = named_path(call) {
         called.insert(String::from_str(alloc, path)?)?;

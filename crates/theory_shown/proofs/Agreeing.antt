@@ -54,7 +54,6 @@ module _ {A : Type 0} {far : FarEnd} (By : List ℕ → List ℕ → Flow A far 
       → RunBenches By old new before after → RunMeets By old new (shown_of before) (shown_of after)
   run_servers old new before after run = record {
     runs = run.runs;
-    fits = run.fits;
     meets = benches_meet By run.runs.steps old new run.runs.passes before after run.meets;
   }
 
@@ -104,10 +103,8 @@ module _ (By : (took gave unsent still piece : List ℕ) → (old new : Known) �
       → BefallsBench By old deed new carries before after → Befalls By old deed new carries (shown_of before) (shown_of after)
   befalls_servers live.Reads old new carries before after meets =
       meanwhile_servers old.is_open old.unsent new.unsent new.held old.known new.known before after meets
-  befalls_servers (live.Hears turn) old new carries before after meets = (
-    meanwhile_servers new.is_open (old.unsent ++ frames turn.outputs) new.unsent [] old.known new.known before after meets.0,
-    meets.1,
-  )
+  befalls_servers (live.Hears turn) old new carries before after meets =
+      meanwhile_servers new.is_open (old.unsent ++ frames turn.outputs) new.unsent [] old.known new.known before after meets
   befalls_servers (live.Begins turn) old new carries before after meets =
       let begun = bench_connects before meets.0 meets.1 meets.2 in (
         begun.0,

@@ -110,7 +110,6 @@ module _ {A : Type 0} {far : FarEnd} (By : List ℕ → List ℕ → Flow A far 
   as_servers old new after drives = record {
     begins = drives.begins;
     runs = drives.runs;
-    fits = drives.fits;
     before = shown_of drives.before;
     meets = benches_meet drives.runs.steps old new drives.runs.passes drives.before after drives.meets;
     history = drives.history;

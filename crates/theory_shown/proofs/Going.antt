@@ -75,14 +75,13 @@ module _ {A : Type 0} {far : FarEnd} (By : List ℕ → List ℕ → Flow A far 
 pub run_bound : {A : Type 0} {far : FarEnd} (old new : Flow A far) (before after : Shown)
     → RunMeets ByDriver old new before after → Bound old before → Bound new after
 run_bound old new before after run bound =
-    steps_bound run.runs.steps old new run.runs.passes before after run.fits run.meets bound
+    steps_bound run.runs.steps old new run.runs.passes before after run.meets bound
 
 -- by what streams know it is also by what was written and read
 pub run_driver : {A : Type 0} {far : FarEnd} (old new : Flow A far) (before after : Shown)
     → RunMeets ByStream old new before after → RunMeets ByDriver old new before after
 run_driver old new before after run = record {
   runs = run.runs;
-  fits = run.fits;
   meets = meets_driver run.runs.steps old new run.runs.passes before after run.meets;
 }
 

@@ -30,7 +30,7 @@ use Rattle.shell_watch.specs.Watching.{flow_in, Closes, Does, EndsFrom, FollowsA
 use Rattle.shell_watch.proofs.Running.{follows_run, tended_run}
 use Rattle.theory_shown.specs.Agreeing.{IsTimed, RunBenches}
 use Rattle.theory_shown.specs.Benched.{BefallsBench, MeanwhileBench, MeetsBench}
-use Rattle.theory_shown.specs.Linked.{LinkedEndAgrees, LinkedWatchAgrees, RunsFit}
+use Rattle.theory_shown.specs.Linked.{LinkedEndAgrees, LinkedWatchAgrees}
 use Rattle.theory_shown.specs.Watched.{AllCohere, MoveMeets, MovesMeet}
 use Rattle.theory_shown.proofs.Agreeing.{watch_agrees, watch_end_agrees}
 use Rattle.theory_shown.proofs.Waiting.{connected_ready}
@@ -353,12 +353,12 @@ module _ {A : Type 0} (past : HistoryView) where
     benches : RunBenches ByDriver old new before after
     beside : Beside new after
 
-  ran : RunsFit A past → (old new : Linked) (before : Served) → Runs old new → Beside old before → Ran old new before
-  ran fit old new before runs beside =
+  ran : (old new : Linked) (before : Served) → Runs old new → Beside old before → Ran old new before
+  ran old new before runs beside =
       let all = met runs.steps old new runs.passes before beside in
       record {
         after = all.after;
-        benches = record { runs = runs; fits = fit old new runs; meets = all.meets };
+        benches = record { runs = runs; meets = all.meets };
         beside = all.beside;
       }
 
@@ -372,24 +372,24 @@ module _ {A : Type 0} (past : HistoryView) where
     meets : MovesMeet (RunBenches ByDriver) moves old new does before after
     beside : Beside (flow_in new) after
 
-  moved : RunsFit A past → (moves : List (Move A)) (old new : Watched) (does : FoldsTo Does old moves new) (before : Served)
+  moved : (moves : List (Move A)) (old new : Watched) (does : FoldsTo Does old moves new) (before : Served)
       → Beside (flow_in old) before → Moved moves old new does before
-  moved fit [] old new same before beside =
+  moved [] old new same before beside =
       record { after = before; meets = refl; beside = subst (λ (s : Watched). Beside (flow_in s) before) same beside }
-  moved fit (Prints turn text ∷ moves) old new does before beside =
+  moved (Prints turn text ∷ moves) old new does before beside =
       let rounds = does.1 in
-      let turned = ran fit (flow_in old) (flow_in rounds.between) before rounds.turns.runs beside in
-      let tended = ran fit (flow_in rounds.between) (flow_in does.0) turned.after
+      let turned = ran (flow_in old) (flow_in rounds.between) before rounds.turns.runs beside in
+      let tended = ran (flow_in rounds.between) (flow_in does.0) turned.after
       (tended_run (is_come turn) rounds.between rounds.more does.0 rounds.tends) turned.beside in
-      let rest = moved fit moves does.0 new does.2 tended.after tended.beside in
+      let rest = moved moves does.0 new does.2 tended.after tended.beside in
       record {
         after = rest.after;
         meets = (tended.after, (turned.after, turned.benches, tended.benches), rest.meets);
         beside = rest.beside;
       }
-  moved fit (Closes until ∷ moves) old new does before beside =
-      let one = ran fit (flow_in old) (flow_in does.0) before does.1.1 beside in
-      let rest = moved fit moves does.0 new does.2 one.after one.beside in
+  moved (Closes until ∷ moves) old new does before beside =
+      let one = ran (flow_in old) (flow_in does.0) before does.1.1 beside in
+      let rest = moved moves does.0 new does.2 one.after one.beside in
       record { after = rest.after; meets = (one.after, one.benches, rest.meets); beside = rest.beside }
 
   -- it begins with no connection
@@ -400,16 +400,16 @@ module _ {A : Type 0} (past : HistoryView) where
     there = λ up. let e : true ≡ false = sym up ∙ ap (λ (c : ChannelView). c.is_open) begun.channel in cc;
   }
 
-  followed : RunsFit A past → (style : Style) (roots : List Text) (most : ℕ) (aims : List (Side × Text)) (first ready : Watched)
+  followed : (style : Style) (roots : List Text) (most : ℕ) (aims : List (Side × Text)) (first ready : Watched)
       → IsBegun style roots most first → FollowsAll aims first ready → Ran (flow_in first) (flow_in ready) (started past)
-  followed fit style roots most aims first ready begun follows =
-      ran fit (flow_in first) (flow_in ready) (started past) (follows_run A (bench_end past) aims first ready follows)
+  followed style roots most aims first ready begun follows =
+      ran (flow_in first) (flow_in ready) (started past) (follows_run A (bench_end past) aims first ready follows)
       (beside_first style roots most first begun)
 
 pub linked_watch_agrees : (A : Type 0) (past : HistoryView) → IsHistory (history_of past) → LinkedWatchAgrees A past
-linked_watch_agrees A past is style roots most aims first text begun from timed fit =
-    let follows = followed past fit style roots most aims first from.ready begun from.follows in
-    let prints = moved past fit from.prints.moves from.ready from.last from.prints.does follows.after follows.beside in
+linked_watch_agrees A past is style roots most aims first text begun from timed =
+    let follows = followed past style roots most aims first from.ready begun from.follows in
+    let prints = moved past from.prints.moves from.ready from.last from.prints.does follows.after follows.beside in
     let same = prints.beside.history in
     subst (λ (h : HistoryView). AllCohere (history_of h) from.prints.moves from.ready from.last from.prints.does) same
     (watch_agrees A (bench_end past) ByDriver prints.after (prints_cohere A (bench_end past))
@@ -421,10 +421,10 @@ linked_watch_agrees A past is style roots most aims first text begun from timed 
     }))
 
 pub linked_end_agrees : (A : Type 0) (past : HistoryView) → IsHistory (history_of past) → LinkedEndAgrees A past
-linked_end_agrees A past is style roots most aims for_ms first text is_accepted begun from timed fit =
-    let follows = followed past fit style roots most aims first from.ready begun from.follows in
-    let prints = moved past fit from.over.prints.moves from.ready from.over.over from.over.prints.does follows.after follows.beside in
-    let closes = moved past fit from.over.closes.moves from.over.over from.last from.over.closes.does prints.after prints.beside in
+linked_end_agrees A past is style roots most aims for_ms first text is_accepted begun from timed =
+    let follows = followed past style roots most aims first from.ready begun from.follows in
+    let prints = moved past from.over.prints.moves from.ready from.over.over from.over.prints.does follows.after follows.beside in
+    let closes = moved past from.over.closes.moves from.over.over from.last from.over.closes.does prints.after prints.beside in
     let same = closes.beside.history in
     subst (λ (h : HistoryView).
     AllCohere (history_of h) from.over.prints.moves from.ready from.over.over from.over.prints.does

@@ -18,7 +18,6 @@ use Rattle.theory_serving.proofs.Views.{first_session, forget_session}
 use Rattle.zk_bench.proofs.Processed.{goes_further}
 use Rattle.zk_link.specs.Streams.{Exchanges, Known}
 use Rattle.zk_served.specs.Acts.{given_in, taken_in}
-use Rattle.zk_served.specs.Asking.{IsFitInput}
 use Rattle.zk_served.proofs.Acted.{acts_keep, apart_kept}
 use Rattle.zk_served.proofs.Heard.{input_keeps, IsHanded}
 use Rattle.zk_served.proofs.Served.{known_gave, known_took}
@@ -129,11 +128,11 @@ module _ (old new : Flow) (before after : Shown) (bound : Bound old before) wher
 
   hears_bound : (turn : Turn) → HearsSo old turn new → IsMidway turn.input
       → Meanwhile ByClient new.is_open (old.unsent ++ frames turn.outputs) new.unsent [] old.known new.known before after
-      → IsFitInput turn.input → Bound new after
-  hears_bound turn hears midway meets fit = record {
+      → Bound new after
+  hears_bound turn hears midway meets = record {
     here = said_bound turn.outputs old.is_open old.unsent old.known before
         (input_keeps old.view new.view old.is_open old.unsent old.held [] before turn.input turn.outputs bound.here hears.0
-        (within turn.input midway) fit (handed turn.input hears.2))
+        (within turn.input midway) (handed turn.input hears.2))
         hears.1 hears.3 meets;
     tied = λ up.
         let stays =
@@ -227,7 +226,7 @@ deed_bound : (deed : Deed) (old new : Flow) (carries : Carries old deed new) (be
     → Befalls ByClient old deed new carries before after → Bound old before → Bound new after
 deed_bound Reads old new carries before after meets bound = reads_bound old new before after bound carries meets
 deed_bound (Hears turn) old new carries before after meets bound =
-    hears_bound old new before after bound turn carries.0 carries.1 meets.0 meets.1
+    hears_bound old new before after bound turn carries.0 carries.1 meets
 deed_bound (Begins turn) old new carries before after meets bound = begins_bound old new before after bound turn carries meets
 deed_bound (Ends turn) old new carries before after meets bound = ends_bound old new before after bound turn carries meets
 deed_bound Fails old new carries before after meets bound = same_bound old new before after bound carries.0 meets
@@ -243,7 +242,7 @@ deed_on : (deed : Deed) (old new : Flow) (carries : Carries old deed new) (befor
 deed_on Reads old new carries before after meets =
     meanwhile_on old.is_open old.unsent new.unsent new.held old.known new.known before after meets
 deed_on (Hears turn) old new carries before after meets =
-    meanwhile_on new.is_open (old.unsent ++ frames turn.outputs) new.unsent [] old.known new.known before after meets.0
+    meanwhile_on new.is_open (old.unsent ++ frames turn.outputs) new.unsent [] old.known new.known before after meets
 deed_on (Begins turn) old new carries before after meets =
     meanwhile_on new.is_open (frames turn.outputs) new.unsent [] carries.0.0.known new.known (connected meets.0 before) after meets.2
 deed_on (Ends turn) old new carries before after meets = meets
@@ -324,10 +323,8 @@ befalls_client : (deed : Deed) (old new : Flow) (carries : Carries old deed new)
     → Befalls ByKnown old deed new carries before after → Befalls ByClient old deed new carries before after
 befalls_client Reads old new carries before after meets =
     meanwhile_client old.is_open old.unsent new.unsent new.held old.known new.known before after (λ there. carries.0) meets
-befalls_client (Hears turn) old new carries before after meets = (
-  meanwhile_client new.is_open (old.unsent ++ frames turn.outputs) new.unsent [] old.known new.known before after carries.0.4 meets.0,
-  meets.1,
-)
+befalls_client (Hears turn) old new carries before after meets =
+    meanwhile_client new.is_open (old.unsent ++ frames turn.outputs) new.unsent [] old.known new.known before after carries.0.4 meets
 befalls_client (Begins turn) old new carries before after meets = (
   meets.0,
   meets.1,

@@ -215,8 +215,8 @@ live_waits (live.Reads ∷ deeds) old new carries quiet before ready =
 live_waits (live.Hears turn ∷ deeds) old new carries quiet before ready =
     let one = live_stretch carries.0.is_open (old.unsent ++ frames turn.outputs) carries.0.unsent [] old.known carries.0.known before
     carries.1.0.4 refl ready in
-    let rest = live_waits deeds carries.0 new carries.2 quiet.1 one.after one.ready in
-    record { after = rest.after; meets = (one.after, (one.meets, quiet.0), rest.meets); history = rest.history ∙ one.history }
+    let rest = live_waits deeds carries.0 new carries.2 quiet one.after one.ready in
+    record { after = rest.after; meets = (one.after, one.meets, rest.meets); history = rest.history ∙ one.history }
 live_waits (live.Begins turn ∷ deeds) old new carries quiet before ready =
     let then_ready = connected_ready before ready in
     let between = carries.1.0.0 in

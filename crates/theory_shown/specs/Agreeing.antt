@@ -12,7 +12,6 @@ use Rattle.zk_bench.specs.Stepping.{IsReady}
 use Rattle.zk_link.specs.Streams.{Known}
 use Rattle.zk_driver.specs.Flowing.{Flow, Runs}
 use Rattle.zk_served.specs.Acts.{given_in, taken_in, Act}
-use Rattle.zk_served.specs.Asking.{IsFitInput, StepsFit}
 use Rattle.script_words.specs.declared.script.ScriptEnd.{ScriptEnd}
 use Rattle.script_live.specs.Flowing as live
 use Rattle.script_live.specs.Frames.{frames}
@@ -33,7 +32,6 @@ pub record RunBenches {A : Type 0} {far : FarEnd} (By : List ℕ → List ℕ �
     (old new : Flow A far) (before after : Served)
     : Type 0 where
   pub runs : Runs old new
-  pub fits : StepsFit runs.steps old new runs.passes
   pub meets : MeetsBench By runs.steps old new runs.passes before after
 
 -- So does a watch, from its beginning on: up to where each subject is followed, and up to where it has printed this.
@@ -91,26 +89,23 @@ module _ (By : (took gave unsent still piece : List ℕ) → (old new : Known) �
       (acts : List Act) × FoldsTo BenchDoes before acts after × By (taken_in acts) (given_in acts) unsent still piece old new
   MeanwhileBench false unsent still piece old new before after = GoesOn (history_of before.history) (history_of after.history)
 
-  -- A connection that begins is one to a server of the bench (`is`, `ready` of `Bench::connect`). What the client is asked is about paths,
-  -- with values of their types.
+  -- A connection that begins is one to a server of the bench (`is`, `ready` of `Bench::connect`).
   abbrev pub BefallsBench : (old : live.Flow) → (deed : live.Deed) → (new : live.Flow) → live.Carries old deed new
       → (before after : Served) → Type 0
   BefallsBench old live.Reads new carries before after =
       MeanwhileBench old.is_open old.unsent new.unsent new.held old.known new.known before after
   BefallsBench old (live.Hears turn) new carries before after =
       MeanwhileBench new.is_open (old.unsent ++ frames turn.outputs) new.unsent [] old.known new.known before after
-      × IsFitInput turn.input
   BefallsBench old (live.Begins turn) new carries before after =
       (server : ℕ) × IsReady before × IsReady (bench.connected before server)
       × MeanwhileBench new.is_open (frames turn.outputs) new.unsent [] carries.0.0.known new.known (bench.connected before server) after
   BefallsBench old (live.Ends turn) new carries before after = GoesOn (history_of before.history) (history_of after.history)
   BefallsBench old deed new carries before after = after ≡ before
 
--- By these deeds nothing comes: no read brings a byte. What the client is asked is about paths, with values of their types.
+-- By these deeds nothing comes: no read brings a byte.
 abbrev pub NothingIsRead : (deeds : List live.Deed) → (old new : live.Flow) → FoldsTo live.Carries old deeds new → Type 0
 NothingIsRead [] old new carries = ⊤
 NothingIsRead (live.Reads ∷ deeds) old new carries = (carries.0.held ≡ []) × NothingIsRead deeds carries.0 new carries.2
-NothingIsRead (live.Hears turn ∷ deeds) old new carries = IsFitInput turn.input × NothingIsRead deeds carries.0 new carries.2
 NothingIsRead (deed ∷ deeds) old new carries = NothingIsRead deeds carries.0 new carries.2
 
 -- Whatever a client does where nothing comes: each ready bench can go on beside it.

@@ -16,7 +16,6 @@ use Rattle.zk_driver.specs.Driving.{Looked, Noted, Written}
 use Rattle.zk_driver.specs.Flowing.{Deed, Flow, Made, Passes, Runs}
 use Rattle.zk_served.specs.Acts.{given_in, taken_in, Act}
 use Rattle.zk_served.specs.BenchActs.{BenchDoes}
-use Rattle.zk_served.specs.Asking.{StepsFit}
 use Rattle.zk_served.specs.ServedDrivers.{Begins}
 use Rattle.zk_served.specs.Worlds.{ByDriver, Meets}
 
@@ -52,7 +51,6 @@ pub record DrivesBench {A : Type 0} {far : FarEnd} (By : List ℕ → List ℕ �
     (after : Served) : Type 0 where
   pub begins : Begins old
   pub runs : Runs old new
-  pub fits : StepsFit runs.steps old new runs.passes
   pub before : Served
   pub meets : MeetsBench By runs.steps old new runs.passes before after
   pub history : IsHistory (history_of after.history)

@@ -3,17 +3,11 @@ use Rattle.std.specs.Prelude.{ℕ, Bool, List, Option}
 use Rattle.zk_nodes.specs.Path.{Text}
 use Rattle.zk_nodes.specs.declared.side.Side.{Side}
 use Rattle.zk_history.specs.HistoryView.{history_of, HistoryView}
-use Rattle.zk_driver.specs.Flowing.{Flow, Runs}
-use Rattle.zk_served.specs.Asking.{StepsFit}
 use Rattle.zk_served.specs.BenchActs.{bench_end}
 use Rattle.shell_watch.specs.declared.plan.Style.{Style}
 use Rattle.shell_watch.specs.Watching.{EndsFrom, IsBegun, PrintsFrom, Stand}
 use Rattle.theory_shown.specs.Agreeing.{IsTimed}
 use Rattle.theory_shown.specs.Watched.{AllCohere}
-
--- What the client is asked in any run is about paths, with values of their types.
-abbrev pub RunsFit : Type 0 → HistoryView → Type 0
-RunsFit A past = (old new : Flow A (bench_end past)) (runs : Runs old new) → StepsFit runs.steps old new runs.passes
 
 -- Each good answer of the client of which a watch prints a line is the answer of this history at the last seen zxid that this line has,
 -- wherever pieces and cuts fall: by what a watch has printed (`IsPrinted` of its contract), over streams at whose far end a bench with this
@@ -21,7 +15,7 @@ RunsFit A past = (old new : Flow A (bench_end past)) (runs : Runs old new) → S
 abbrev pub LinkedWatchAgrees : Type 0 → HistoryView → Type 0
 LinkedWatchAgrees A past =
     (style : Style) (roots : List Text) (most : ℕ) (aims : List (Side × Text)) (first : Stand A (bench_end past)) (text : List ℕ)
-    (begun : IsBegun style roots most first) (from : PrintsFrom aims first text) → IsTimed begun.timeout first → RunsFit A past
+    (begun : IsBegun style roots most first) (from : PrintsFrom aims first text) → IsTimed begun.timeout first
     → AllCohere (history_of past) from.prints.moves from.ready from.last from.prints.does
 
 -- And of one whose time is over (`IsWatched`): what it has printed then, and what it prints at the end.
@@ -29,6 +23,6 @@ abbrev pub LinkedEndAgrees : Type 0 → HistoryView → Type 0
 LinkedEndAgrees A past =
     (style : Style) (roots : List Text) (most : ℕ) (aims : List (Side × Text)) (for_ms : Option ℕ) (first : Stand A (bench_end past))
     (text : List ℕ) (is_accepted : Bool) (begun : IsBegun style roots most first) (from : EndsFrom aims for_ms first text is_accepted)
-    → IsTimed begun.timeout first → RunsFit A past
+    → IsTimed begun.timeout first
     → AllCohere (history_of past) from.over.prints.moves from.ready from.over.over from.over.prints.does
     × AllCohere (history_of past) from.over.closes.moves from.over.over from.last from.over.closes.does

@@ -10,7 +10,6 @@ use Rattle.theory_serving.specs.GoingOn.{GoesOn}
 use Rattle.theory_serving.specs.Shown.{connected, Shown}
 use Rattle.zk_link.specs.Streams.{Known}
 use Rattle.zk_served.specs.Acts.{given_in, taken_in, Act, Happens}
-use Rattle.zk_served.specs.Asking.{IsFitInput}
 use Rattle.script_live.specs.Flowing.{Begins, Carries, Deed, Ends, Flow, Hears, Reads}
 use Rattle.script_live.specs.Frames.{frames}
 use Rattle.script_live.specs.Printed.{Prints}
@@ -50,12 +49,11 @@ module _ (By : (took gave unsent still piece : List ℕ) → (old new : Known) �
       (acts : List Act) × FoldsTo Happens before acts after × By (taken_in acts) (given_in acts) unsent still piece old new
   Meanwhile false unsent still piece old new before after = GoesOn before.history after.history
 
-  -- A connection that begins is one to a server, which holds a beginning of the history. What the client is asked is about paths, with
-  -- values of their types.
+  -- A connection that begins is one to a server, which holds a beginning of the history.
   abbrev pub Befalls : (old : Flow) → (deed : Deed) → (new : Flow) → Carries old deed new → (before after : Shown) → Type 0
   Befalls old Reads new carries before after = Meanwhile old.is_open old.unsent new.unsent new.held old.known new.known before after
   Befalls old (Hears turn) new carries before after =
-      Meanwhile new.is_open (old.unsent ++ frames turn.outputs) new.unsent [] old.known new.known before after × IsFitInput turn.input
+      Meanwhile new.is_open (old.unsent ++ frames turn.outputs) new.unsent [] old.known new.known before after
   Befalls old (Begins turn) new carries before after =
       (place : ℕ) × (place ≤ length before.history.transactions)
       × Meanwhile new.is_open (frames turn.outputs) new.unsent [] carries.0.0.known new.known (connected place before) after

@@ -8,7 +8,6 @@ use Rattle.zk_nodes.specs.declared.side.Side.{Side}
 use Rattle.zk_laws.specs.Headline.{IsCoherentWith}
 use Rattle.theory_serving.specs.Shown.{Shown}
 use Rattle.zk_driver.specs.Flowing.{Flow, Runs}
-use Rattle.zk_served.specs.Asking.{StepsFit}
 use Rattle.zk_served.specs.ServedDrivers.{Begins}
 use Rattle.zk_served.specs.Worlds.{Meets}
 use Rattle.shell_watch.specs.Watching.{flow_in, view_in, Closes, Does, EndsFrom, Move, PrintsFrom, Stand, Takes}
@@ -36,7 +35,6 @@ module _ {A World : Type 0} {far : FarEnd} (Beside : (old new : Flow A far) → 
 pub record RunMeets {A : Type 0} {far : FarEnd} (By : List ℕ → List ℕ → Flow A far → Flow A far → Type 0) (old new : Flow A far)
     (before after : Shown) : Type 0 where
   pub runs : Runs old new
-  pub fits : StepsFit runs.steps old new runs.passes
   pub meets : Meets By runs.steps old new runs.passes before after
 
 -- From its beginning on, up to where each subject is followed.

@@ -29,7 +29,6 @@ use Rattle.zk_agent.specs.Telling.{Told, Says, HangsUp, closed_told, ended_told,
 use Rattle.zk_driver.specs.Driving.{carried, ChannelView}
 use Rattle.theory_serving.specs.Shown.{connected, sent_in, EndsNothing, Shown}
 use Rattle.theory_serving.specs.Wires.{is_up}
-use Rattle.zk_served.specs.Asking.{HearsFit, IsFitInput}
 use Rattle.zk_served.proofs.Turned.{bytes_kept, call_kept, cut_down, cut_kept, down_silent, ends_more, let_go, now_kept, opened_ends}
 use Rattle.zk_served.proofs.Turned.{opened_kept, sent_more, stays_down, stays_up, IsSilent, IsWithin, Kept, StaysUp}
 use Rattle.zk_served.proofs.Unlost.{any_both, none_over, turn_unlost, IsMuteInput}
@@ -228,13 +227,13 @@ one_turn_keeps view after is_there unsent held then_held shown input outputs k r
 
 reads_keep : {A : Type 0} (subjects : List (Subject A)) (turns : List Turn) (view after : View) (is_there : Bool) (unsent held : List ℕ)
     (shown : Shown) → AreReads subjects turns
-    → AllByRecursion (λ (turn : Turn). IsFitInput turn.input) turns → FoldsTo Rule view turns after → Kept view is_there unsent held shown
+    → FoldsTo Rule view turns after → Kept view is_there unsent held shown
     → TurnsKeep view after is_there unsent held shown (outputs_in turns)
-reads_keep subjects [] view after is_there unsent held shown reads fits same k =
+reads_keep subjects [] view after is_there unsent held shown reads same k =
     subst (λ v. TurnsKeep view v is_there unsent held shown []) same (no_turn view is_there unsent held shown k)
-reads_keep subjects (turn ∷ turns) view after is_there unsent held shown reads fits chain k =
+reads_keep subjects (turn ∷ turns) view after is_there unsent held shown reads chain k =
     turns_on view chain.0 after is_there unsent held held shown turn.outputs (outputs_in turns) one
-    (reads_keep subjects turns chain.0 after is_there (unsent ++ sent_in turn.outputs) held shown reads.1 fits.1 chain.2 one.kept)
+    (reads_keep subjects turns chain.0 after is_there (unsent ++ sent_in turn.outputs) held shown reads.1 chain.2 one.kept)
   where
     ticket : ℕ
     ticket = (slice_index_or subjects reads.0.0 reads.0.1).ticket
@@ -245,12 +244,9 @@ reads_keep subjects (turn ∷ turns) view after is_there unsent held shown reads
     rule : Rule view (as_call turn ticket call) chain.0
     rule = subst (λ input. Rule view (record { input = input; outputs = turn.outputs }) chain.0) reads.0.4.1 chain.1
 
-    fit : IsFitInput (Calling ticket call)
-    fit = subst IsFitInput reads.0.4.1 fits.0
-
     one : TurnsKeep view chain.0 is_there unsent held shown turn.outputs
     one = one_turn_keeps view chain.0 is_there unsent held held shown (Calling ticket call) turn.outputs k rule tt
-        (call_kept view chain.0 is_there unsent held shown k ticket call turn.outputs fit.0 fit.1 rule)
+        (call_kept view chain.0 is_there unsent held shown k ticket call turn.outputs rule)
 
 reads_unlost : {A : Type 0} (subjects : List (Subject A)) (turns : List Turn) (view after : View)
     → AreReads subjects turns → FoldsTo Rule view turns after
@@ -271,25 +267,24 @@ IsHanded input held then_held = then_held ≡ held
 pub input_keeps : (view after : View) (is_there : Bool) (unsent held then_held : List ℕ) (shown : Shown)
     (input : Input) (outputs : List Output)
     → Kept view is_there unsent held shown
-    → Rule view (record { input = input; outputs = outputs }) after → IsWithin input → IsFitInput input → IsHanded input held then_held
+    → Rule view (record { input = input; outputs = outputs }) after → IsWithin input → IsHanded input held then_held
     → Kept after is_there (unsent ++ sent_in outputs) then_held shown
-input_keeps view after is_there unsent held then_held shown Opening outputs k rule within fit is = absurd within
-input_keeps view after is_there unsent held then_held shown (Bytes bytes) outputs k rule within fit is =
+input_keeps view after is_there unsent held then_held shown Opening outputs k rule within is = absurd within
+input_keeps view after is_there unsent held then_held shown (Bytes bytes) outputs k rule within is =
     subst (λ h. Kept after is_there (unsent ++ sent_in outputs) h shown) (sym is.1)
     (bytes_kept view after is_there unsent held shown k outputs
     (subst (λ b. Rule view (record { input = Bytes b; outputs = outputs }) after) is.0 rule))
-input_keeps view after is_there unsent held then_held shown Cut outputs k rule within fit is =
+input_keeps view after is_there unsent held then_held shown Cut outputs k rule within is =
     cut_kept view after is_there unsent held shown k outputs (unsent ++ sent_in outputs) then_held rule
-input_keeps view after is_there unsent held then_held shown (Now moment) outputs k rule within fit is =
+input_keeps view after is_there unsent held then_held shown (Now moment) outputs k rule within is =
     subst (λ h. Kept after is_there (unsent ++ sent_in outputs) h shown) (sym is)
     (now_kept view after is_there unsent held shown k moment outputs rule)
-input_keeps view after is_there unsent held then_held shown (Calling ticket call) outputs k rule within fit is =
+input_keeps view after is_there unsent held then_held shown (Calling ticket call) outputs k rule within is =
     subst (λ h. Kept after is_there (unsent ++ sent_in outputs) h shown) (sym is)
-    (call_kept view after is_there unsent held shown k ticket call outputs fit.0 fit.1 rule)
+    (call_kept view after is_there unsent held shown k ticket call outputs rule)
 
 module _ {A : Type 0} (channel : ChannelView) (now : ℕ) (input : Input) (old new : Trail A) (hears : HearsSo now input old new)
-    (held then_held : List ℕ) (shown : Shown) (fits : HearsFit now input old new hears)
-    (k : At channel held shown old) where
+    (held then_held : List ℕ) (shown : Shown) (k : At channel held shown old) where
   abbrev first : List Output
   first = hears.takes.steps.first
 
@@ -317,7 +312,7 @@ module _ {A : Type 0} (channel : ChannelView) (now : ℕ) (input : Input) (old n
       (turns_on old.view taken_second new.view (left_by channel old).is_open (left_by channel old).unsent then_held then_held shown
       (first ++ second) (outputs_in hears.takes.steps.calls) two
       (reads_keep old.subjects hears.takes.steps.calls taken_second new.view (left_by channel
-      old).is_open ((left_by channel old).unsent ++ sent_in (first ++ second)) then_held shown hears.takes.steps.reads fits.1
+      old).is_open ((left_by channel old).unsent ++ sent_in (first ++ second)) then_held shown hears.takes.steps.reads
       hears.takes.steps.chain.2.2 two.kept))
     where
       input_turn : TurnsKeep told_first taken_second
@@ -325,7 +320,7 @@ module _ {A : Type 0} (channel : ChannelView) (now : ℕ) (input : Input) (old n
       input_turn = one_turn_keeps told_first taken_second (left_by channel old).is_open ((left_by channel old).unsent ++ sent_in first) held
           then_held shown input second now_turn.kept hears.takes.steps.chain.2.1 within
           (input_keeps told_first taken_second (left_by channel old).is_open ((left_by channel old).unsent ++ sent_in first) held then_held
-          shown input second now_turn.kept hears.takes.steps.chain.2.1 within fits.0 is)
+          shown input second now_turn.kept hears.takes.steps.chain.2.1 within is)
 
       two : TurnsKeep old.view taken_second (left_by channel old).is_open (left_by channel old).unsent then_held shown (first ++ second)
       two = turns_on old.view told_first taken_second
@@ -370,8 +365,8 @@ module _ {A : Type 0} (channel : ChannelView) (now : ℕ) (input : Input) (old n
 
 -- after the end of a connection a client has none
 pub hears_cut : {A : Type 0} (channel : ChannelView) (now : ℕ) (old new : Trail A) (hears : HearsSo now Cut old new) (held : List ℕ)
-    (shown : Shown) → HearsFit now Cut old new hears → At channel held shown old → is_up new.view ≡ false
-hears_cut channel now old new hears held shown fits k =
+    (shown : Shown) → At channel held shown old → is_up new.view ≡ false
+hears_cut channel now old new hears held shown k =
     (reads.downs (by (is_up taken) refl)).0
   where
     taken : View
@@ -379,7 +374,7 @@ hears_cut channel now old new hears held shown fits k =
 
     told : TurnsKeep old.view hears.takes.steps.chain.0
         (left_by channel old).is_open (left_by channel old).unsent held shown hears.takes.steps.first
-    told = now_turn channel now Cut old new hears held held shown fits k
+    told = now_turn channel now Cut old new hears held held shown k
 
     cut : Kept taken (left_by channel old).is_open [] held shown
     cut = cut_kept hears.takes.steps.chain.0 taken
@@ -388,7 +383,7 @@ hears_cut channel now old new hears held shown fits k =
 
     reads : TurnsKeep taken new.view (left_by channel old).is_open [] held shown (outputs_in hears.takes.steps.calls)
     reads = reads_keep old.subjects hears.takes.steps.calls taken new.view
-        (left_by channel old).is_open [] held shown hears.takes.steps.reads fits.1 hears.takes.steps.chain.2.2 cut
+        (left_by channel old).is_open [] held shown hears.takes.steps.reads hears.takes.steps.chain.2.2 cut
 
     by : (b : Bool) → is_up taken ≡ b → b ≡ false
     by true up = absurd
@@ -410,14 +405,13 @@ hears_unlost now input old new hears mute =
 
 -- of a client that had none, on a connection on which nothing is to be written, to a server at a place
 module _ {A : Type 0} (channel : ChannelView) (now : ℕ) (old new : Trail A) (hears : HearsSo now Opening old new) (shown before : Shown)
-    (place : ℕ) (fits : HearsFit now Opening old new hears)
-    (k : At channel [] shown old) (down : is_up old.view ≡ false) where
+    (place : ℕ) (k : At channel [] shown old) (down : is_up old.view ≡ false) where
   abbrev opened_view : View
   opened_view = hears.takes.steps.chain.2.0
 
   moment_turn : TurnsKeep old.view hears.takes.steps.chain.0
       (left_by channel old).is_open (left_by channel old).unsent [] shown hears.takes.steps.first
-  moment_turn = now_turn channel now Opening old new hears [] [] shown fits k
+  moment_turn = now_turn channel now Opening old new hears [] [] shown k
 
   abbrev later : List Output
   later = outputs_in hears.takes.steps.calls
@@ -431,7 +425,7 @@ module _ {A : Type 0} (channel : ChannelView) (now : ℕ) (old new : Trail A) (h
 
     read : TurnsKeep opened_view new.view true (sent_in hears.takes.steps.second) [] shown later
     read = reads_keep old.subjects hears.takes.steps.calls opened_view new.view true
-        (sent_in hears.takes.steps.second) [] shown hears.takes.steps.reads fits.1 hears.takes.steps.chain.2.2 began
+        (sent_in hears.takes.steps.second) [] shown hears.takes.steps.reads hears.takes.steps.chain.2.2 began
 
     all_sent : (unsent : List ℕ) → unsent ≡ [] → sent_in hears.takes.steps.second ++ sent_in later ≡ unsent ++ sent_in hears.takes.given
     all_sent unsent none =

@@ -8,13 +8,13 @@ use Rattle.std.specs.Int.{w64}
 use Rattle.std.proofs.lemmas.Int.{ints}
 use Rattle.std.proofs.lemmas.List.Sums.{fold-append}
 use Rattle.zk_session.specs.SessionView.{Saved}
-use Rattle.zk_turns.specs.Turns.{new_start, Send, Start, Input}
+use Rattle.zk_turns.specs.Turns.{new_start, Send, Start, Input, IsAskable}
 use Rattle.zk_turns.specs.Turns as turns
 use Rattle.zk_turns.specs.Past.{last_of}
 use Rattle.zk_turns.specs.Taken.{past_of}
 use Rattle.zk_turns.specs.View.{View, view_at}
 use Rattle.zk_turns.specs.Rule.{Stands}
-use Rattle.zk_turns.specs.Ranges.{IsResumable, IsTyped}
+use Rattle.zk_turns.specs.Ranges.{IsResumable}
 use Rattle.zk_turns.proofs.Ranged.{items_ranged, last_fits}
 use Rattle.zk_laws.proofs.Found.{last_counted}
 use Rattle.zk_laws.specs.Messages.{from_zero}
@@ -34,7 +34,6 @@ use Rattle.zk_driver.specs.Driving.{carried, ChannelView}
 use Rattle.theory_serving.specs.Shown.{connected, Shown}
 use Rattle.theory_serving.specs.Wires.{is_up, WasServed}
 use Rattle.theory_serving.proofs.Views.{first_session}
-use Rattle.zk_served.specs.Asking.{HearsFit, LeavesFit, MoveFits, MovesFit}
 use Rattle.zk_served.proofs.Turned.{let_go, IsWithin, Kept}
 use Rattle.zk_served.proofs.Unlost.{IsMuteInput}
 use Rattle.zk_served.proofs.Heard.{ap_at, closings_keep, endings_keep, hears_at, hears_cut, hears_down, hears_empty, hears_open}
@@ -55,7 +54,8 @@ renewed_resumable timeout view met was later = record {
   session = later.0.session;
   password = later.0.password;
   last = subst (FitsSigned w64) (sym same)
-      (last_fits IsTyped was.start (past_of was.start was.items) was.resumable.last (items_ranged IsTyped was.start was.items was.typed));
+      (last_fits IsAskable was.start (past_of was.start was.items) was.resumable.last
+      (items_ranged IsAskable was.start was.items was.stands.asked));
   counts = subst (λ z. pos 0 ≤ℤ z) (sym same)
       (not_below (last_of was.start (past_of was.start was.items)) (last_counted was.start (past_of was.start was.items) was.resumable));
 }
@@ -126,15 +126,15 @@ module _ {A : Type 0} (channel : ChannelView) (held : List ℕ) (shown : Shown) 
   due_here (Some GiveUp) old new view told k = hung_here old new view told k
 
   leaves_here : (is_lost : Bool) (now : ℕ) (old new : Trail A) (leaves : LeavesWhere is_lost now old new)
-      → LeavesFit is_lost now old new leaves → Here old → Here new
-  leaves_here true now old new leaves fits k = hears_at channel now turns.Cut old new leaves held held shown fits k tt refl
-  leaves_here false now old new same fits k = subst Here (sym same) k
+      → Here old → Here new
+  leaves_here true now old new leaves k = hears_at channel now turns.Cut old new leaves held held shown k tt refl
+  leaves_here false now old new same k = subst Here (sym same) k
 
   hears_here : (now : ℕ) (input : Input) (old new : Trail A) (does : Does old (Hears now input) new)
-      → MoveFits old (Hears now input) new does → IsWithin input → IsMuteInput input → Here old → Here new
-  hears_here now input old new does fits within mute k =
-      leaves_here does.hears.heard.is_lost now does.between new does.leaves fits.1
-      (hears_at channel now input old does.between does.hears held held shown fits.0 k within (nothing_handed input held mute))
+      → IsWithin input → IsMuteInput input → Here old → Here new
+  hears_here now input old new does within mute k =
+      leaves_here does.hears.heard.is_lost now does.between new does.leaves
+      (hears_at channel now input old does.between does.hears held held shown k within (nothing_handed input held mute))
 
   renews_here : (old new : Trail A) → Does old Renews new → IsLater old.timeout → Here old → Here new
   renews_here old new does later k = record {
@@ -147,45 +147,45 @@ module _ {A : Type 0} (channel : ChannelView) (held : List ℕ) (shown : Shown) 
     gone = λ up there. let e : false ≡ true = sym (ap is_up does.view) ∙ up in cc;
   }
 
-  tires_here : (now : ℕ) (old new : Trail A) (does : Does old (Tires now) new) → MoveFits old (Tires now) new does → Here old → Here new
-  tires_here now old new does fits k =
+  tires_here : (now : ℕ) (old new : Trail A) (does : Does old (Tires now) new) → Here old → Here new
+  tires_here now old new does k =
       same_here does.after new (ap (λ (t : Trail A). t.view) does.last) (ap (left_by channel) does.last)
-      (hears_at channel now turns.Cut does.between does.after does.hears held held shown fits
+      (hears_at channel now turns.Cut does.between does.after does.hears held held shown
       (hung_here old does.between (ap (λ (t : Trail A). t.view) does.hangs) (ap (λ (t : Trail A). t.told) does.hangs) k) tt refl)
 
   pub move_here : (move : Move) (old new : Trail A) (does : Does old move new)
-      → MoveFits old move new does → IsPlain move → IsLater old.timeout → Here old → Here new
-  move_here (Hears now turns.Opened) old new does fits plain later k = absurd plain
-  move_here (Hears now (turns.Bytes bytes)) old new does fits plain later k = absurd plain
-  move_here (Hears now turns.Cut) old new does fits plain later k = hears_here now turns.Cut old new does fits tt tt k
-  move_here (Hears now (turns.Now moment)) old new does fits plain later k = hears_here now (turns.Now moment) old new does fits tt tt k
-  move_here (Hears now (turns.Call ticket asked)) old new does fits plain later k =
-      hears_here now (turns.Call ticket asked) old new does fits tt tt k
-  move_here (Hands now ticket asked) old new does fits plain later k =
-      hears_at channel now (turns.Call ticket asked) old new does held held shown fits k tt refl
-  move_here Renews old new does fits plain later k = renews_here old new does later k
-  move_here (Follows ticket side path) old new does fits plain later k =
+      → IsPlain move → IsLater old.timeout → Here old → Here new
+  move_here (Hears now turns.Opened) old new does plain later k = absurd plain
+  move_here (Hears now (turns.Bytes bytes)) old new does plain later k = absurd plain
+  move_here (Hears now turns.Cut) old new does plain later k = hears_here now turns.Cut old new does tt tt k
+  move_here (Hears now (turns.Now moment)) old new does plain later k = hears_here now (turns.Now moment) old new does tt tt k
+  move_here (Hears now (turns.Call ticket asked)) old new does plain later k =
+      hears_here now (turns.Call ticket asked) old new does tt tt k
+  move_here (Hands now ticket asked) old new does plain later k =
+      hears_at channel now (turns.Call ticket asked) old new does held held shown k tt refl
+  move_here Renews old new does plain later k = renews_here old new does later k
+  move_here (Follows ticket side path) old new does plain later k =
       same_here old new (ap (λ (t : Trail A). t.view) does) (ap (left_by channel) does) k
-  move_here (Unfollows ticket) old new does fits plain later k =
+  move_here (Unfollows ticket) old new does plain later k =
       same_here old new (ap (λ (t : Trail A). t.view) does) (ap (left_by channel) does) k
-  move_here (Asks ticket asked until) old new does fits plain later k =
+  move_here (Asks ticket asked until) old new does plain later k =
       same_here old new (ap (λ (t : Trail A). t.view) does.last) (ap (left_by channel) does.last) k
-  move_here (GivesUp now) old new does fits plain later k =
+  move_here (GivesUp now) old new does plain later k =
       same_here old new (ap (λ (t : Trail A). t.view) does)
       (told_more old new (endings (ending.Late now) old.line) (ap (λ (t : Trail A). t.told) does)
       ∙ endings_keep (left_by channel old) (ending.Late now) old.line) k
-  move_here (Tires now) old new does fits plain later k = tires_here now old new does fits k
-  move_here (Opened now) old new does fits plain later k =
+  move_here (Tires now) old new does plain later k = tires_here now old new does k
+  move_here (Opened now) old new does plain later k =
       same_here old new (ap (λ (t : Trail A). t.view) does.1) (ap (left_by channel) does.1) k
-  move_here (Ended now) old new does fits plain later k =
+  move_here (Ended now) old new does plain later k =
       same_here old new (ap (λ (t : Trail A). t.view) does.1) (ap (left_by channel) does.1) k
-  move_here HungUp old new does fits plain later k =
+  move_here HungUp old new does plain later k =
       hung_here old new (ap (λ (t : Trail A). t.view) does) (ap (λ (t : Trail A). t.told) does) k
-  move_here (Addressed count) old new does fits plain later k =
+  move_here (Addressed count) old new does plain later k =
       same_here old new (ap (λ (t : Trail A). t.view) does.1) (ap (left_by channel) does.1) k
-  move_here (Decides now due) old new does fits plain later k =
+  move_here (Decides now due) old new does plain later k =
       due_here due old new (ap (λ (t : Trail A). t.view) does.last) (ap (λ (t : Trail A). t.told) does.last) k
-  move_here Closes old new does fits plain later k =
+  move_here Closes old new does plain later k =
       same_here old new (ap (λ (t : Trail A). t.view) does.last)
       (told_more old new (closings old.line) (ap (λ (t : Trail A). t.told) does.last) ∙ closings_keep (left_by channel old) old.line) k
 
@@ -220,29 +220,29 @@ module _ {A : Type 0} (channel : ChannelView) (held : List ℕ) (shown : Shown) 
   due_idle (Some GiveUp) old new view told idle = hung_idle old new view told idle
 
   hears_idle : (now : ℕ) (input : Input) (old new : Trail A) (hears : HearsSo now input old new)
-      → HearsFit now input old new hears → IsWithin input → (then_held : List ℕ) → IsHanded input held then_held
+      → IsWithin input → (then_held : List ℕ) → IsHanded input held then_held
       → Here old → Idle old → Idle new
-  hears_idle now input old new hears fits within then_held is k idle =
-      let down = hears_down channel now input old new hears held then_held shown fits k within is idle.0 in
-      (down.0, hears_empty channel now input old new hears held then_held shown fits k down.1 idle.1)
+  hears_idle now input old new hears within then_held is k idle =
+      let down = hears_down channel now input old new hears held then_held shown k within is idle.0 in
+      (down.0, hears_empty channel now input old new hears held then_held shown k down.1 idle.1)
 
   leaves_idle : (is_lost : Bool) (now : ℕ) (old new : Trail A) (leaves : LeavesWhere is_lost now old new)
-      → LeavesFit is_lost now old new leaves → Here old → Idle old → Idle new
-  leaves_idle true now old new leaves fits k idle = hears_idle now turns.Cut old new leaves fits tt held refl k idle
-  leaves_idle false now old new same fits k idle = subst Idle (sym same) idle
+      → Here old → Idle old → Idle new
+  leaves_idle true now old new leaves k idle = hears_idle now turns.Cut old new leaves tt held refl k idle
+  leaves_idle false now old new same k idle = subst Idle (sym same) idle
 
   hears_on_idle : (now : ℕ) (input : Input) (old new : Trail A) (does : Does old (Hears now input) new)
-      → MoveFits old (Hears now input) new does → IsWithin input → IsMuteInput input → Here old → Idle old → Idle new
-  hears_on_idle now input old new does fits within mute k idle =
-      leaves_idle does.hears.heard.is_lost now does.between new does.leaves fits.1
-      (hears_at channel now input old does.between does.hears held held shown fits.0 k within (nothing_handed input held mute))
-      (hears_idle now input old does.between does.hears fits.0 within held (nothing_handed input held mute) k idle)
+      → IsWithin input → IsMuteInput input → Here old → Idle old → Idle new
+  hears_on_idle now input old new does within mute k idle =
+      leaves_idle does.hears.heard.is_lost now does.between new does.leaves
+      (hears_at channel now input old does.between does.hears held held shown k within (nothing_handed input held mute))
+      (hears_idle now input old does.between does.hears within held (nothing_handed input held mute) k idle)
 
   tires_idle : (now : ℕ) (old new : Trail A) (does : Does old (Tires now) new)
-      → MoveFits old (Tires now) new does → Here old → Idle old → Idle new
-  tires_idle now old new does fits k idle =
+      → Here old → Idle old → Idle new
+  tires_idle now old new does k idle =
       same_idle does.after new (ap (λ (t : Trail A). t.view) does.last) (ap (left_by channel) does.last)
-      (hears_idle now turns.Cut does.between does.after does.hears fits tt held refl
+      (hears_idle now turns.Cut does.between does.after does.hears tt held refl
       (hung_here old does.between (ap (λ (t : Trail A). t.view) does.hangs) (ap (λ (t : Trail A). t.told) does.hangs) k)
       (hung_idle old does.between (ap (λ (t : Trail A). t.view) does.hangs) (ap (λ (t : Trail A). t.told) does.hangs) idle))
 
@@ -257,39 +257,39 @@ module _ {A : Type 0} (channel : ChannelView) (held : List ℕ) (shown : Shown) 
   )
 
   pub move_idle : (move : Move) (old new : Trail A) (does : Does old move new)
-      → MoveFits old move new does → IsPlain move → Here old → Idle old → Idle new
-  move_idle (Hears now turns.Opened) old new does fits plain k idle = absurd plain
-  move_idle (Hears now (turns.Bytes bytes)) old new does fits plain k idle = absurd plain
-  move_idle (Hears now turns.Cut) old new does fits plain k idle = hears_on_idle now turns.Cut old new does fits tt tt k idle
-  move_idle (Hears now (turns.Now moment)) old new does fits plain k idle =
-      hears_on_idle now (turns.Now moment) old new does fits tt tt k idle
-  move_idle (Hears now (turns.Call ticket asked)) old new does fits plain k idle =
-      hears_on_idle now (turns.Call ticket asked) old new does fits tt tt k idle
-  move_idle (Hands now ticket asked) old new does fits plain k idle =
-      hears_idle now (turns.Call ticket asked) old new does fits tt held refl k idle
-  move_idle Renews old new does fits plain k idle = begun_idle old new does idle
-  move_idle (Follows ticket side path) old new does fits plain k idle =
+      → IsPlain move → Here old → Idle old → Idle new
+  move_idle (Hears now turns.Opened) old new does plain k idle = absurd plain
+  move_idle (Hears now (turns.Bytes bytes)) old new does plain k idle = absurd plain
+  move_idle (Hears now turns.Cut) old new does plain k idle = hears_on_idle now turns.Cut old new does tt tt k idle
+  move_idle (Hears now (turns.Now moment)) old new does plain k idle =
+      hears_on_idle now (turns.Now moment) old new does tt tt k idle
+  move_idle (Hears now (turns.Call ticket asked)) old new does plain k idle =
+      hears_on_idle now (turns.Call ticket asked) old new does tt tt k idle
+  move_idle (Hands now ticket asked) old new does plain k idle =
+      hears_idle now (turns.Call ticket asked) old new does tt held refl k idle
+  move_idle Renews old new does plain k idle = begun_idle old new does idle
+  move_idle (Follows ticket side path) old new does plain k idle =
       same_idle old new (ap (λ (t : Trail A). t.view) does) (ap (left_by channel) does) idle
-  move_idle (Unfollows ticket) old new does fits plain k idle =
+  move_idle (Unfollows ticket) old new does plain k idle =
       same_idle old new (ap (λ (t : Trail A). t.view) does) (ap (left_by channel) does) idle
-  move_idle (Asks ticket asked until) old new does fits plain k idle =
+  move_idle (Asks ticket asked until) old new does plain k idle =
       same_idle old new (ap (λ (t : Trail A). t.view) does.last) (ap (left_by channel) does.last) idle
-  move_idle (GivesUp now) old new does fits plain k idle =
+  move_idle (GivesUp now) old new does plain k idle =
       same_idle old new (ap (λ (t : Trail A). t.view) does)
       (told_more old new (endings (ending.Late now) old.line) (ap (λ (t : Trail A). t.told) does)
       ∙ endings_keep (left_by channel old) (ending.Late now) old.line) idle
-  move_idle (Tires now) old new does fits plain k idle = tires_idle now old new does fits k idle
-  move_idle (Opened now) old new does fits plain k idle =
+  move_idle (Tires now) old new does plain k idle = tires_idle now old new does k idle
+  move_idle (Opened now) old new does plain k idle =
       same_idle old new (ap (λ (t : Trail A). t.view) does.1) (ap (left_by channel) does.1) idle
-  move_idle (Ended now) old new does fits plain k idle =
+  move_idle (Ended now) old new does plain k idle =
       same_idle old new (ap (λ (t : Trail A). t.view) does.1) (ap (left_by channel) does.1) idle
-  move_idle HungUp old new does fits plain k idle =
+  move_idle HungUp old new does plain k idle =
       hung_idle old new (ap (λ (t : Trail A). t.view) does) (ap (λ (t : Trail A). t.told) does) idle
-  move_idle (Addressed count) old new does fits plain k idle =
+  move_idle (Addressed count) old new does plain k idle =
       same_idle old new (ap (λ (t : Trail A). t.view) does.1) (ap (left_by channel) does.1) idle
-  move_idle (Decides now due) old new does fits plain k idle =
+  move_idle (Decides now due) old new does plain k idle =
       due_idle due old new (ap (λ (t : Trail A). t.view) does.last) (ap (λ (t : Trail A). t.told) does.last) idle
-  move_idle Closes old new does fits plain k idle =
+  move_idle Closes old new does plain k idle =
       same_idle old new (ap (λ (t : Trail A). t.view) does.last)
       (told_more old new (closings old.line) (ap (λ (t : Trail A). t.told) does.last) ∙ closings_keep (left_by channel old) old.line) idle
 
@@ -306,20 +306,20 @@ module _ {A : Type 0} (channel : ChannelView) (held : List ℕ) (shown : Shown) 
 
   -- by what a server said of the session
   leaves_tied : (is_lost : Bool) (now : ℕ) (old new : Trail A) (leaves : LeavesWhere is_lost now old new)
-      → LeavesFit is_lost now old new leaves → Here old → (is_lost ≡ false → Tied old) → Tied new
-  leaves_tied true now old new leaves fits k tied = down_tied new (hears_cut channel now old new leaves held shown fits k)
-  leaves_tied false now old new same fits k tied = subst Tied (sym same) (tied refl)
+      → Here old → (is_lost ≡ false → Tied old) → Tied new
+  leaves_tied true now old new leaves k tied = down_tied new (hears_cut channel now old new leaves held shown k)
+  leaves_tied false now old new same k tied = subst Tied (sym same) (tied refl)
 
   unlost : (now : ℕ) (input : Input) (old new : Trail A) (hears : HearsSo now input old new)
       → hears.heard.is_lost ≡ false → list_any is_lost hears.takes.given ≡ false
   unlost now input old new hears is = sym (ap_at hears.heard (heard_in hears.takes.given) (λ h. h.is_lost) hears.takes.heard) ∙ is
 
   hears_tied : (now : ℕ) (input : Input) (old new : Trail A) (does : Does old (Hears now input) new)
-      → MoveFits old (Hears now input) new does → IsWithin input → IsMuteInput input → Here old → Tied old → Tied new
-  hears_tied now input old new does fits within mute k tied =
-      leaves_tied does.hears.heard.is_lost now does.between new does.leaves fits.1
-      (hears_at channel now input old does.between does.hears held held shown fits.0 k within (nothing_handed input held mute))
-      (λ is. hears_open channel now input old does.between does.hears held held shown fits.0 k within (nothing_handed input held mute)
+      → IsWithin input → IsMuteInput input → Here old → Tied old → Tied new
+  hears_tied now input old new does within mute k tied =
+      leaves_tied does.hears.heard.is_lost now does.between new does.leaves
+      (hears_at channel now input old does.between does.hears held held shown k within (nothing_handed input held mute))
+      (λ is. hears_open channel now input old does.between does.hears held held shown k within (nothing_handed input held mute)
       (unlost now input old does.between does.hears is) tied)
 
   due_tied : (due : Option DialDue) (timeout now : ℕ) (old new : Trail A)
@@ -331,38 +331,38 @@ module _ {A : Type 0} (channel : ChannelView) (held : List ℕ) (shown : Shown) 
       let e : false ≡ true = sym (ap is_open dials.dialling) ∙ tied (sym (ap is_up view) ∙ up) in cc
 
   pub move_tied : (move : Move) (old new : Trail A) (does : Does old move new)
-      → MoveFits old move new does → IsFree move → Here old → Tied old → Tied new
-  move_tied (Hears now turns.Opened) old new does fits free k tied = absurd free
-  move_tied (Hears now (turns.Bytes bytes)) old new does fits free k tied = absurd free
-  move_tied (Hears now turns.Cut) old new does fits free k tied = hears_tied now turns.Cut old new does fits tt tt k tied
-  move_tied (Hears now (turns.Now moment)) old new does fits free k tied = hears_tied now (turns.Now moment) old new does fits tt tt k tied
-  move_tied (Hears now (turns.Call ticket asked)) old new does fits free k tied =
-      hears_tied now (turns.Call ticket asked) old new does fits tt tt k tied
-  move_tied (Hands now ticket asked) old new does fits free k tied =
-      hears_open channel now (turns.Call ticket asked) old new does held held shown fits k tt refl
+      → IsFree move → Here old → Tied old → Tied new
+  move_tied (Hears now turns.Opened) old new does free k tied = absurd free
+  move_tied (Hears now (turns.Bytes bytes)) old new does free k tied = absurd free
+  move_tied (Hears now turns.Cut) old new does free k tied = hears_tied now turns.Cut old new does tt tt k tied
+  move_tied (Hears now (turns.Now moment)) old new does free k tied = hears_tied now (turns.Now moment) old new does tt tt k tied
+  move_tied (Hears now (turns.Call ticket asked)) old new does free k tied =
+      hears_tied now (turns.Call ticket asked) old new does tt tt k tied
+  move_tied (Hands now ticket asked) old new does free k tied =
+      hears_open channel now (turns.Call ticket asked) old new does held held shown k tt refl
       (hears_unlost now (turns.Call ticket asked) old new does tt) tied
-  move_tied Renews old new does fits free k tied = down_tied new (ap is_up does.view)
-  move_tied (Follows ticket side path) old new does fits free k tied =
+  move_tied Renews old new does free k tied = down_tied new (ap is_up does.view)
+  move_tied (Follows ticket side path) old new does free k tied =
       same_tied old new (ap (λ (t : Trail A). t.view) does) (ap (λ (t : Trail A). t.dialler.phase) does) tied
-  move_tied (Unfollows ticket) old new does fits free k tied =
+  move_tied (Unfollows ticket) old new does free k tied =
       same_tied old new (ap (λ (t : Trail A). t.view) does) (ap (λ (t : Trail A). t.dialler.phase) does) tied
-  move_tied (Asks ticket asked until) old new does fits free k tied =
+  move_tied (Asks ticket asked until) old new does free k tied =
       same_tied old new (ap (λ (t : Trail A). t.view) does.last) (ap (λ (t : Trail A). t.dialler.phase) does.last) tied
-  move_tied (GivesUp now) old new does fits free k tied =
+  move_tied (GivesUp now) old new does free k tied =
       same_tied old new (ap (λ (t : Trail A). t.view) does) (ap (λ (t : Trail A). t.dialler.phase) does) tied
-  move_tied (Tires now) old new does fits free k tied =
+  move_tied (Tires now) old new does free k tied =
       down_tied new (ap (λ (t : Trail A). is_up t.view) does.last
-      ∙ hears_cut channel now does.between does.after does.hears held shown fits
+      ∙ hears_cut channel now does.between does.after does.hears held shown
       (hung_here old does.between (ap (λ (t : Trail A). t.view) does.hangs) (ap (λ (t : Trail A). t.told) does.hangs) k))
-  move_tied (Opened now) old new does fits free k tied =
+  move_tied (Opened now) old new does free k tied =
       λ up. ours_is_open old.view.saved.session.timeout now old.dialler new.dialler true does.0 refl
-  move_tied (Ended now) old new does fits free k tied = absurd free
-  move_tied HungUp old new does fits free k tied =
+  move_tied (Ended now) old new does free k tied = absurd free
+  move_tied HungUp old new does free k tied =
       same_tied old new (ap (λ (t : Trail A). t.view) does) (ap (λ (t : Trail A). t.dialler.phase) does) tied
-  move_tied (Addressed count) old new does fits free k tied = same_tied old new (ap (λ (t : Trail A). t.view) does.1) does.0.phase tied
-  move_tied (Decides now due) old new does fits free k tied =
+  move_tied (Addressed count) old new does free k tied = same_tied old new (ap (λ (t : Trail A). t.view) does.1) does.0.phase tied
+  move_tied (Decides now due) old new does free k tied =
       due_tied due old.view.saved.session.timeout now old new does.dials (ap (λ (t : Trail A). t.view) does.last) tied
-  move_tied Closes old new does fits free k tied =
+  move_tied Closes old new does free k tied =
       same_tied old new (ap (λ (t : Trail A). t.view) does.last) (ap (λ (t : Trail A). t.dialler.phase) does.last) tied
 
 -- ---- the timeout of later sessions stays
@@ -395,7 +395,6 @@ pub record Given {A : Type 0} (given : List Move) (old new : Trail A) : Type 0 w
   pub moves : List Move
   pub does : FoldsTo Does old moves new
   pub comes : filter is_given moves ≡ given
-  pub fits : MovesFit moves old new does
 
 -- up to the first of these, that one, and the others
 record Split {A : Type 0} (first : Move) (more : List Move) (old new : Trail A) : Type 0 where
@@ -403,7 +402,6 @@ record Split {A : Type 0} (first : Move) (more : List Move) (old new : Trail A) 
   own : Given [] old before
   after : Trail A
   does : Does before first after
-  fits : MoveFits before first after does
   rest : Given more after new
 
 abbrev head_or : Move → List Move → Move
@@ -421,24 +419,22 @@ rest_of : (first given : Move) (more rest : List Move) → first ∷ more ≡ gi
 rest_of first given more rest e = ap tail_of e
 
 split : {A : Type 0} (moves : List Move) (first : Move) (more : List Move) (old new : Trail A) (does : FoldsTo Does old moves new)
-    → filter is_given moves ≡ first ∷ more → MovesFit moves old new does → Split first more old new
-split [] first more old new does comes fits = let e : [] ≡ first ∷ more = comes in cc
-split {A} (move ∷ moves) first more old new does comes fits =
-    by (is_given move) refl comes (λ e. split moves first more does.0 new does.2 e fits.1)
+    → filter is_given moves ≡ first ∷ more → Split first more old new
+split [] first more old new does comes = let e : [] ≡ first ∷ more = comes in cc
+split {A} (move ∷ moves) first more old new does comes =
+    by (is_given move) refl comes (λ e. split moves first more does.0 new does.2 e)
   where
     by : (b : Bool) → is_given move ≡ b → cond b (move ∷ filter is_given moves) (filter is_given moves) ≡ first ∷ more
         → (filter is_given moves ≡ first ∷ more → Split first more does.0 new) → Split first more old new
     by true is e rest =
-        let moved : (d : Does old first does.0) × MoveFits old first does.0 d =
-        subst (λ m. (d : Does old m does.0) × MoveFits old m does.0 d)
-        (first_of move first (filter is_given moves) more e) (does.1, fits.0) in
+        let moved : Does old first does.0 =
+        subst (λ m. Does old m does.0) (first_of move first (filter is_given moves) more e) does.1 in
         record {
           before = old;
-          own = record { moves = []; does = refl; comes = refl; fits = tt };
+          own = record { moves = []; does = refl; comes = refl };
           after = does.0;
-          does = moved.0;
-          fits = moved.1;
-          rest = record { moves = moves; does = does.2; comes = rest_of move first (filter is_given moves) more e; fits = fits.1 };
+          does = moved;
+          rest = record { moves = moves; does = does.2; comes = rest_of move first (filter is_given moves) more e };
         }
     by false is e rest =
         let s = rest e in
@@ -448,16 +444,14 @@ split {A} (move ∷ moves) first more old new does comes fits =
             moves = move ∷ s.own.moves;
             does = (does.0, does.1, s.own.does);
             comes = ap (λ b. cond b (move ∷ filter is_given s.own.moves) (filter is_given s.own.moves)) is ∙ s.own.comes;
-            fits = (fits.0, s.own.fits);
           };
           after = s.after;
           does = s.does;
-          fits = s.fits;
           rest = s.rest;
         }
 
 first_given : {A : Type 0} (first : Move) (more : List Move) (old new : Trail A) → Given (first ∷ more) old new → Split first more old new
-first_given first more old new given = split given.moves first more old new given.does given.comes given.fits
+first_given first more old new given = split given.moves first more old new given.does given.comes
 
 own_free : (move : Move) → is_given move ≡ false → IsFree move
 own_free (Hears now input) own = let e : true ≡ false = own in cc
@@ -465,20 +459,20 @@ own_free (Ended now) own = let e : true ≡ false = own in cc
 own_free _ own = tt
 
 module _ {A : Type 0} (P : Trail A → Type 0)
-    (step : (move : Move) (old new : Trail A) (does : Does old move new) → MoveFits old move new does → IsFree move → P old → P new) where
+    (step : (move : Move) (old new : Trail A) (does : Does old move new) → IsFree move → P old → P new) where
   own_through : (moves : List Move) (old new : Trail A) (does : FoldsTo Does old moves new)
-      → filter is_given moves ≡ [] → MovesFit moves old new does → P old → P new
-  own_through [] old new same comes fits p = subst P same p
-  own_through (move ∷ moves) old new does comes fits p =
-      by (is_given move) refl comes (λ e between. own_through moves does.0 new does.2 e fits.1 between)
+      → filter is_given moves ≡ [] → P old → P new
+  own_through [] old new same comes p = subst P same p
+  own_through (move ∷ moves) old new does comes p =
+      by (is_given move) refl comes (λ e between. own_through moves does.0 new does.2 e between)
     where
       by : (b : Bool) → is_given move ≡ b → cond b (move ∷ filter is_given moves) (filter is_given moves) ≡ []
           → (filter is_given moves ≡ [] → P does.0 → P new) → P new
       by true is e rest = let f : move ∷ filter is_given moves ≡ [] = e in cc
-      by false is e rest = rest e (step move old does.0 does.1 fits.0 (own_free move is) p)
+      by false is e rest = rest e (step move old does.0 does.1 (own_free move is) p)
 
   pub own_all : (old new : Trail A) → Given [] old new → P old → P new
-  own_all old new given p = own_through given.moves old new given.does given.comes given.fits p
+  own_all old new given p = own_through given.moves old new given.does given.comes p
 
 -- ---- what is kept through them
 
@@ -502,24 +496,24 @@ module _ {A : Type 0} (channel : ChannelView) (held : List ℕ) (shown : Shown) 
   later_on move old new does later = subst IsLater (sym (stays_by move old new does)) later
 
   loose_step : (move : Move) (old new : Trail A) (does : Does old move new)
-      → MoveFits old move new does → IsPlain move → Loose channel held shown old → Loose channel held shown new
-  loose_step move old new does fits plain p =
-      record { here = move_here channel held shown move old new does fits plain p.later p.here; later = later_on move old new does p.later }
+      → IsPlain move → Loose channel held shown old → Loose channel held shown new
+  loose_step move old new does plain p =
+      record { here = move_here channel held shown move old new does plain p.later p.here; later = later_on move old new does p.later }
 
   ready_step : (move : Move) (old new : Trail A) (does : Does old move new)
-      → MoveFits old move new does → IsFree move → Ready channel held shown old → Ready channel held shown new
-  ready_step move old new does fits free p = record {
-    here = move_here channel held shown move old new does fits (free_plain move free) p.later p.here;
-    tied = move_tied channel held shown move old new does fits free p.here p.tied;
+      → IsFree move → Ready channel held shown old → Ready channel held shown new
+  ready_step move old new does free p = record {
+    here = move_here channel held shown move old new does (free_plain move free) p.later p.here;
+    tied = move_tied channel held shown move old new does free p.here p.tied;
     later = later_on move old new does p.later;
   }
 
   apart_step : (move : Move) (old new : Trail A) (does : Does old move new)
-      → MoveFits old move new does → IsPlain move → Apart channel held shown old → Apart channel held shown new
-  apart_step move old new does fits plain p =
-      let idle = move_idle channel held shown move old new does fits plain p.here (p.down, p.empty) in
+      → IsPlain move → Apart channel held shown old → Apart channel held shown new
+  apart_step move old new does plain p =
+      let idle = move_idle channel held shown move old new does plain p.here (p.down, p.empty) in
       record {
-        here = move_here channel held shown move old new does fits plain p.later p.here;
+        here = move_here channel held shown move old new does plain p.later p.here;
         down = idle.0;
         empty = idle.1;
         later = later_on move old new does p.later;
@@ -527,14 +521,14 @@ module _ {A : Type 0} (channel : ChannelView) (held : List ℕ) (shown : Shown) 
 
   own_loose : (old new : Trail A) → Given [] old new → Loose channel held shown old → Loose channel held shown new
   own_loose =
-      own_all (Loose channel held shown) (λ move old new does fits free p. loose_step move old new does fits (free_plain move free) p)
+      own_all (Loose channel held shown) (λ move old new does free p. loose_step move old new does (free_plain move free) p)
 
   own_ready : (old new : Trail A) → Given [] old new → Ready channel held shown old → Ready channel held shown new
   own_ready = own_all (Ready channel held shown) ready_step
 
   own_apart : (old new : Trail A) → Given [] old new → Apart channel held shown old → Apart channel held shown new
   own_apart =
-      own_all (Apart channel held shown) (λ move old new does fits free p. apart_step move old new does fits (free_plain move free) p)
+      own_all (Apart channel held shown) (λ move old new does free p. apart_step move old new does (free_plain move free) p)
 
   -- moves after which no connection is over
   pub all_ready : (given : List Move) (old new : Trail A)
@@ -542,7 +536,7 @@ module _ {A : Type 0} (channel : ChannelView) (held : List ℕ) (shown : Shown) 
   all_ready [] old new free moves p = own_ready old new moves p
   all_ready (first ∷ more) old new free moves p =
       let s = first_given first more old new moves in
-      all_ready more s.after new free.1 s.rest (ready_step first s.before s.after s.does s.fits free.0 (own_ready old s.before s.own p))
+      all_ready more s.after new free.1 s.rest (ready_step first s.before s.after s.does free.0 (own_ready old s.before s.own p))
 
   -- and those of a client that has none
   pub all_apart : (given : List Move) (old new : Trail A)
@@ -551,21 +545,21 @@ module _ {A : Type 0} (channel : ChannelView) (held : List ℕ) (shown : Shown) 
   all_apart (first ∷ more) old new free moves p =
       let s = first_given first more old new moves in
       all_apart more s.after new free.1 s.rest
-      (apart_step first s.before s.after s.does s.fits (free_plain first free.0) (own_apart old s.before s.own p))
+      (apart_step first s.before s.after s.does (free_plain first free.0) (own_apart old s.before s.own p))
 
   -- all that is held is handed over
   bytes_ready : (now : ℕ) (old new : Trail A) (does : Does old (Hears now (turns.Bytes held)) new)
-      → MoveFits old (Hears now (turns.Bytes held)) new does → Ready channel held shown old → Ready channel [] shown new
-  bytes_ready now old new does fits p = record {
-    here = leaves_here channel [] shown does.hears.heard.is_lost now does.between new does.leaves fits.1 between;
-    tied = leaves_tied channel [] shown does.hears.heard.is_lost now does.between new does.leaves fits.1 between
-        (λ is. hears_open channel now (turns.Bytes held) old does.between does.hears held [] shown fits.0 p.here tt (refl, refl)
+      → Ready channel held shown old → Ready channel [] shown new
+  bytes_ready now old new does p = record {
+    here = leaves_here channel [] shown does.hears.heard.is_lost now does.between new does.leaves between;
+    tied = leaves_tied channel [] shown does.hears.heard.is_lost now does.between new does.leaves between
+        (λ is. hears_open channel now (turns.Bytes held) old does.between does.hears held [] shown p.here tt (refl, refl)
         (unlost channel [] shown now (turns.Bytes held) old does.between does.hears is) p.tied);
     later = later_on (Hears now (turns.Bytes held)) old new does p.later;
   }
     where
       between : At channel [] shown does.between
-      between = hears_at channel now (turns.Bytes held) old does.between does.hears held [] shown fits.0 p.here tt (refl, refl)
+      between = hears_at channel now (turns.Bytes held) old does.between does.hears held [] shown p.here tt (refl, refl)
 
 -- ---- by what is noted
 
@@ -585,7 +579,7 @@ module _ {A : Type 0} (channel : ChannelView) (shown : Shown) where
   bytes_noted now held old new given p =
       let s = first_given (Hears now (turns.Bytes held)) [] old new given in
       own_ready channel [] shown s.after new s.rest
-      (bytes_ready channel held shown now s.before s.after s.does s.fits (own_ready channel held shown old s.before s.own p))
+      (bytes_ready channel held shown now s.before s.after s.does (own_ready channel held shown old s.before s.own p))
 
   -- a connection is over, or could not be made: it is closed here
   module _ (shut : channel.is_open ≡ false) where
@@ -593,13 +587,13 @@ module _ {A : Type 0} (channel : ChannelView) (shown : Shown) where
     empty_shut trail there = let e : true ≡ false = sym there ∙ closed_on channel trail.told shut in cc
 
     cut_apart : (now : ℕ) (old new : Trail A) (does : Does old (Hears now turns.Cut) new)
-        → MoveFits old (Hears now turns.Cut) new does → Loose channel [] shown old → Apart channel [] shown new
-    cut_apart now old new does fits p =
-        let between = hears_at channel now turns.Cut old does.between does.hears [] [] shown fits.0 p.here tt refl in
-        let down = hears_cut channel now old does.between does.hears [] shown fits.0 p.here in
+        → Loose channel [] shown old → Apart channel [] shown new
+    cut_apart now old new does p =
+        let between = hears_at channel now turns.Cut old does.between does.hears [] [] shown p.here tt refl in
+        let down = hears_cut channel now old does.between does.hears [] shown p.here in
         record {
-          here = leaves_here channel [] shown does.hears.heard.is_lost now does.between new does.leaves fits.1 between;
-          down = (leaves_idle channel [] shown does.hears.heard.is_lost now does.between new does.leaves fits.1 between
+          here = leaves_here channel [] shown does.hears.heard.is_lost now does.between new does.leaves between;
+          down = (leaves_idle channel [] shown does.hears.heard.is_lost now does.between new does.leaves between
               (down, empty_shut does.between)).0;
           empty = empty_shut new;
           later = subst IsLater (sym (stays_by (Hears now turns.Cut) old new does)) p.later;
@@ -611,27 +605,27 @@ module _ {A : Type 0} (channel : ChannelView) (shown : Shown) where
         let s = first_given (Ended now) (Hears now turns.Cut ∷ []) old new given in
         let t = first_given (Hears now turns.Cut) [] s.after new s.rest in
         own_apart channel [] shown t.after new t.rest
-        (cut_apart now t.before t.after t.does t.fits
+        (cut_apart now t.before t.after t.does
         (own_loose channel [] shown s.after t.before t.own
-        (loose_step channel [] shown (Ended now) s.before s.after s.does s.fits tt (own_loose channel [] shown old s.before s.own p))))
+        (loose_step channel [] shown (Ended now) s.before s.after s.does tt (own_loose channel [] shown old s.before s.own p))))
 
     pub late_noted : (now : ℕ) (old new : Trail A)
         → Given (HungUp ∷ Ended now ∷ Hears now turns.Cut ∷ []) old new → Loose channel [] shown old → Apart channel [] shown new
     late_noted now old new given p =
         let s = first_given HungUp (Ended now ∷ Hears now turns.Cut ∷ []) old new given in
         over_noted now s.after new s.rest
-        (loose_step channel [] shown HungUp s.before s.after s.does s.fits tt (own_loose channel [] shown old s.before s.own p))
+        (loose_step channel [] shown HungUp s.before s.after s.does tt (own_loose channel [] shown old s.before s.own p))
 
   -- one begins, to a server at a place
   module _ (place : ℕ) (before : Shown) (is : shown ≡ connected place before) (low : place ≤ length before.history.transactions) where
     opened_ready : (now : ℕ) (old new : Trail A) (does : Does old (Hears now turns.Opened) new)
-        → MoveFits old (Hears now turns.Opened) new does → Apart channel [] shown old → Ready channel [] shown new
-    opened_ready now old new does fits p =
-        let between = opened_at channel now old does.between does.hears shown before place fits.0 p.here p.down is low p.empty in
+        → Apart channel [] shown old → Ready channel [] shown new
+    opened_ready now old new does p =
+        let between = opened_at channel now old does.between does.hears shown before place p.here p.down is low p.empty in
         record {
-          here = leaves_here channel [] shown does.hears.heard.is_lost now does.between new does.leaves fits.1 between;
-          tied = leaves_tied channel [] shown does.hears.heard.is_lost now does.between new does.leaves fits.1 between
-              (λ kept. opened_open channel now old does.between does.hears shown before place fits.0 p.here p.down is low
+          here = leaves_here channel [] shown does.hears.heard.is_lost now does.between new does.leaves between;
+          tied = leaves_tied channel [] shown does.hears.heard.is_lost now does.between new does.leaves between
+              (λ kept. opened_open channel now old does.between does.hears shown before place p.here p.down is low
               (unlost channel [] shown now turns.Opened old does.between does.hears kept));
           later = subst IsLater (sym (stays_by (Hears now turns.Opened) old new does)) p.later;
         }
@@ -642,6 +636,6 @@ module _ {A : Type 0} (channel : ChannelView) (shown : Shown) where
         let s = first_given (Opened now) (Hears now turns.Opened ∷ []) old new given in
         let t = first_given (Hears now turns.Opened) [] s.after new s.rest in
         own_ready channel [] shown t.after new t.rest
-        (opened_ready now t.before t.after t.does t.fits
+        (opened_ready now t.before t.after t.does
         (own_apart channel [] shown s.after t.before t.own
-        (apart_step channel [] shown (Opened now) s.before s.after s.does s.fits tt (own_apart channel [] shown old s.before s.own p))))
+        (apart_step channel [] shown (Opened now) s.before s.after s.does tt (own_apart channel [] shown old s.before s.own p))))

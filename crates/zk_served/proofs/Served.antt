@@ -28,7 +28,6 @@ use Rattle.zk_agent.specs.Agents.{bytes_at, given_of, opened_at, trail_of, Ended
 use Rattle.zk_driver.specs.Driving.{closed, opened, ChannelView, Course, Looked, Noted, Takes, Written}
 use Rattle.zk_link.specs.FarEnds.{FarEnd, Reaches}
 use Rattle.zk_driver.specs.Flowing.{Asked, Carries, Deed, Flow, Made, Passes}
-use Rattle.zk_served.specs.Asking.{DeedFits, StepsFit, MovesFit}
 use Rattle.zk_served.specs.Acts.{given_in, taken_in}
 use Rattle.zk_served.specs.Worlds.{Befalls, ByDriver, ByStream, Meanwhile, Meets}
 use Rattle.zk_served.specs.ServedDrivers.{Begins, MeetsServers}
@@ -90,7 +89,6 @@ module _ {A : Type 0} {far : FarEnd} (old new : Flow A far) (before after : Show
 
 module _ {A : Type 0} {far : FarEnd} (old new : Flow A far) (now : ℕ) (input : AgentInput A) (between : ChannelView)
     (takes : Takes now input (record old.course { channel = between }) new.course)
-    (fits : MovesFit takes.comes.moves (trail_of old.course.agent []) (trail_of new.course.agent takes.actions) takes.comes.does)
     (none : new.held ≡ []) where
   abbrev first : Trail A
   first = trail_of old.course.agent []
@@ -102,7 +100,7 @@ module _ {A : Type 0} {far : FarEnd} (old new : Flow A far) (now : ℕ) (input :
   moment = max old.course.agent.latest now
 
   came : (given : List Move) → given_of old.course.agent.dialler.phase moment input ≡ given → Given given first last
-  came given is = record { moves = takes.comes.moves; does = takes.comes.does; comes = takes.comes.comes ∙ is; fits = fits }
+  came given is = record { moves = takes.comes.moves; does = takes.comes.does; comes = takes.comes.comes ∙ is }
 
   done : (shown : Shown) → Ready between [] shown last → Bound new shown
   done shown ready = record {
@@ -225,62 +223,62 @@ module _ {A : Type 0} {far : FarEnd} (old new : Flow A far) (now : ℕ) (input :
 -- ---- one deed
 
 noted_bound : {A : Type 0} {far : FarEnd} (now : ℕ) (input : AgentInput A) (old new : Flow A far) (before after : Shown)
-    (carries : Carries old (Made (Noted now input)) new) → DeedFits old (Made (Noted now input)) new carries
+    (carries : Carries old (Made (Noted now input)) new)
     → Befalls ByDriver old (Made (Noted now input)) new before after → Bound old before → Bound new after
-noted_bound now happens.Opened old new before after carries fits meets bound =
+noted_bound now happens.Opened old new before after carries meets bound =
     subst (Bound new) (sym meets.2)
-    (opened_bound old new now happens.Opened carries.0.0 carries.0.2 fits carries.3 before bound meets.0 meets.1 refl
+    (opened_bound old new now happens.Opened carries.0.0 carries.0.2 carries.3 before bound meets.0 meets.1 refl
     carries.0.1.1 (sym carries.2))
-noted_bound now happens.Failed old new before after carries fits meets bound =
+noted_bound now happens.Failed old new before after carries meets bound =
     subst (Bound new) (sym meets)
-    (over_bound old new now happens.Failed carries.0.0 carries.0.2 fits carries.3 before bound refl (sym carries.2))
-noted_bound now happens.Cut old new before after carries fits meets bound =
+    (over_bound old new now happens.Failed carries.0.0 carries.0.2 carries.3 before bound refl (sym carries.2))
+noted_bound now happens.Cut old new before after carries meets bound =
     subst (Bound new) (sym meets)
-    (over_bound old new now happens.Cut carries.0.0 carries.0.2 fits carries.3 before bound refl (sym carries.2))
-noted_bound now (happens.Bytes bytes) old new before after carries fits meets bound =
+    (over_bound old new now happens.Cut carries.0.0 carries.0.2 carries.3 before bound refl (sym carries.2))
+noted_bound now (happens.Bytes bytes) old new before after carries meets bound =
     subst (Bound new) (sym meets)
     (bytes_bound old new now
-    (happens.Bytes bytes) carries.0.0 carries.0.2 fits carries.3 before bound bytes.items refl carries.0.1.2 carries.0.1.1 carries.2)
-noted_bound now happens.Moment old new before after carries fits meets bound =
+    (happens.Bytes bytes) carries.0.0 carries.0.2 carries.3 before bound bytes.items refl carries.0.1.2 carries.0.1.1 carries.2)
+noted_bound now happens.Moment old new before after carries meets bound =
     let given : List Move = Hears (max old.course.agent.latest now) (turns.Now (max old.course.agent.latest now)) ∷ [] in
-    subst (Bound new) (sym meets) (plain_bound old new now happens.Moment carries.0.0 carries.0.2 fits carries.3 before bound given refl
+    subst (Bound new) (sym meets) (plain_bound old new now happens.Moment carries.0.0 carries.0.2 carries.3 before bound given refl
     (tt, tt) carries.0.1.1 (sym carries.2))
-noted_bound now (happens.Addresses count) old new before after carries fits meets bound = absurd carries.0.1
-noted_bound now (happens.Call ticket call until) old new before after carries fits meets bound = absurd carries.0.1
-noted_bound now (happens.Follow ticket side path) old new before after carries fits meets bound = absurd carries.0.1
-noted_bound now (happens.Unfollow ticket) old new before after carries fits meets bound = absurd carries.0.1
+noted_bound now (happens.Addresses count) old new before after carries meets bound = absurd carries.0.1
+noted_bound now (happens.Call ticket call until) old new before after carries meets bound = absurd carries.0.1
+noted_bound now (happens.Follow ticket side path) old new before after carries meets bound = absurd carries.0.1
+noted_bound now (happens.Unfollow ticket) old new before after carries meets bound = absurd carries.0.1
 
 asked_bound : {A : Type 0} {far : FarEnd} (now : ℕ) (input : AgentInput A) (old new : Flow A far) (before : Shown)
-    (carries : Carries old (Asked now input) new) → DeedFits old (Asked now input) new carries → Bound old before → Bound new before
-asked_bound now happens.Opened old new before carries fits bound = absurd carries.1
-asked_bound now happens.Failed old new before carries fits bound = absurd carries.1
-asked_bound now happens.Cut old new before carries fits bound = absurd carries.1
-asked_bound now (happens.Bytes bytes) old new before carries fits bound = absurd carries.1
-asked_bound now happens.Moment old new before carries fits bound = absurd carries.1
-asked_bound now (happens.Addresses count) old new before carries fits bound =
-    plain_bound old new now (happens.Addresses count) old.course.channel carries.0 fits carries.4 before bound _ refl
+    (carries : Carries old (Asked now input) new) → Bound old before → Bound new before
+asked_bound now happens.Opened old new before carries bound = absurd carries.1
+asked_bound now happens.Failed old new before carries bound = absurd carries.1
+asked_bound now happens.Cut old new before carries bound = absurd carries.1
+asked_bound now (happens.Bytes bytes) old new before carries bound = absurd carries.1
+asked_bound now happens.Moment old new before carries bound = absurd carries.1
+asked_bound now (happens.Addresses count) old new before carries bound =
+    plain_bound old new now (happens.Addresses count) old.course.channel carries.0 carries.4 before bound _ refl
     (tt, (tt, tt)) refl carries.3
-asked_bound now (happens.Call ticket call until) old new before carries fits bound =
-    plain_bound old new now (happens.Call ticket call until) old.course.channel carries.0 fits carries.4 before bound _ refl
+asked_bound now (happens.Call ticket call until) old new before carries bound =
+    plain_bound old new now (happens.Call ticket call until) old.course.channel carries.0 carries.4 before bound _ refl
     (tt, (tt, tt)) refl carries.3
-asked_bound now (happens.Follow ticket side path) old new before carries fits bound =
-    plain_bound old new now (happens.Follow ticket side path) old.course.channel carries.0 fits carries.4 before bound _ refl
+asked_bound now (happens.Follow ticket side path) old new before carries bound =
+    plain_bound old new now (happens.Follow ticket side path) old.course.channel carries.0 carries.4 before bound _ refl
     (tt, (tt, tt)) refl carries.3
-asked_bound now (happens.Unfollow ticket) old new before carries fits bound =
-    plain_bound old new now (happens.Unfollow ticket) old.course.channel carries.0 fits carries.4 before bound _ refl
+asked_bound now (happens.Unfollow ticket) old new before carries bound =
+    plain_bound old new now (happens.Unfollow ticket) old.course.channel carries.0 carries.4 before bound _ refl
     (tt, (tt, tt)) refl carries.3
 
 deed_bound : {A : Type 0} {far : FarEnd} (deed : Deed A) (old new : Flow A far) (before after : Shown) (carries : Carries old deed new)
-    → DeedFits old deed new carries → Befalls ByDriver old deed new before after → Bound old before
+    → Befalls ByDriver old deed new before after → Bound old before
     → Bound new after
-deed_bound (Made Written) old new before after carries fits meets bound =
+deed_bound (Made Written) old new before after carries meets bound =
     stretch old new before after carries.0.1 carries.0.0.is_open old.course.channel.is_open refl meets bound
-deed_bound (Made (Looked look)) old new before after carries fits meets bound =
+deed_bound (Made (Looked look)) old new before after carries meets bound =
     stretch old new before after carries.0.1 carries.0.0.is_open old.course.channel.is_open refl meets bound
-deed_bound (Made (Noted now input)) old new before after carries fits meets bound =
-    noted_bound now input old new before after carries fits meets bound
-deed_bound (Asked now input) old new before after carries fits meets bound =
-    subst (Bound new) (sym meets) (asked_bound now input old new before carries fits bound)
+deed_bound (Made (Noted now input)) old new before after carries meets bound =
+    noted_bound now input old new before after carries meets bound
+deed_bound (Asked now input) old new before after carries meets bound =
+    subst (Bound new) (sym meets) (asked_bound now input old new before carries bound)
 
 -- what the program takes of what it is told changes nothing of that
 told_bound : {A : Type 0} {far : FarEnd} (old new : Flow A far) (shown : Shown)
@@ -291,14 +289,14 @@ told_bound old new shown same bound =
 
 pub steps_bound : {A : Type 0} {far : FarEnd} (steps : List (Option (Deed A))) (old new : Flow A far)
     (passes : FoldsTo Passes old steps new)
-    (before after : Shown) → StepsFit steps old new passes → Meets ByDriver steps old new passes before after
+    (before after : Shown) → Meets ByDriver steps old new passes before after
     → Bound old before → Bound new after
-steps_bound [] old new same before after fits meets bound = subst (Bound new) (sym meets) (subst (λ f. Bound f before) same bound)
-steps_bound (Some deed ∷ steps) old new passes before after fits meets bound =
-    steps_bound steps passes.0 new passes.2 meets.0 after fits.1 meets.2
-    (deed_bound deed old passes.0 before meets.0 passes.1 fits.0 meets.1 bound)
-steps_bound (None ∷ steps) old new passes before after fits meets bound =
-    steps_bound steps passes.0 new passes.2 before after fits meets (told_bound old passes.0 before passes.1 bound)
+steps_bound [] old new same before after meets bound = subst (Bound new) (sym meets) (subst (λ f. Bound f before) same bound)
+steps_bound (Some deed ∷ steps) old new passes before after meets bound =
+    steps_bound steps passes.0 new passes.2 meets.0 after meets.2
+    (deed_bound deed old passes.0 before meets.0 passes.1 meets.1 bound)
+steps_bound (None ∷ steps) old new passes before after meets bound =
+    steps_bound steps passes.0 new passes.2 before after meets (told_bound old passes.0 before passes.1 bound)
 
 pub begins_bound : {A : Type 0} {far : FarEnd} (flow : Flow A far) (before : Shown) → Begins flow → Bound flow before
 begins_bound flow before begins = record {
@@ -379,7 +377,7 @@ meets_driver (None ∷ steps) old new passes before after meets = meets_driver s
 -- ---- in the end
 
 kept_in : {A : Type 0} {far : FarEnd} (old new : Flow A far) (after : Shown) (meets : MeetsServers ByDriver old new after) → Bound new after
-kept_in old new after meets = steps_bound meets.runs.steps old new meets.runs.passes meets.before after meets.fits meets.meets
+kept_in old new after meets = steps_bound meets.runs.steps old new meets.runs.passes meets.before after meets.meets
     (begins_bound old meets.before meets.begins)
 
 pub bytes_serve : {A : Type 0} {far : FarEnd} (old new : Flow A far) (after : Shown)
@@ -400,7 +398,6 @@ to_driver : {A : Type 0} {far : FarEnd} (old new : Flow A far) (after : Shown)
 to_driver old new after meets = record {
   begins = meets.begins;
   runs = meets.runs;
-  fits = meets.fits;
   before = meets.before;
   meets = meets_driver meets.runs.steps old new meets.runs.passes meets.before after meets.meets;
   history = meets.history;

@@ -15,7 +15,6 @@ use Rattle.zk_turns.specs.View.{View, Standing}
 use Rattle.zk_turns.specs.Past.{Past, is_open, Happening, Ticked, Denied}
 use Rattle.zk_turns.specs.Taken.{caused, happenings, if_open, past_of, past_after, refusal, comes, due}
 use Rattle.zk_turns.specs.Rule.{next, says_all, after_all, says_signals, Rule, Stands}
-use Rattle.zk_turns.specs.Ranges.{IsTyped, IsPathCall}
 use Rattle.zk_turns.proofs.Stepped.{one_turn}
 use Rattle.zk_turns.proofs.Words.{calls}
 use Rattle.zk_laws.specs.Served.{is_going}
@@ -187,11 +186,11 @@ module _ (view after : View) (is_there : Bool) (unsent held : List ℕ) (shown :
       (told_session view k.met k.was moment outputs after (heard_by outputs k.met) rule (hears_by outputs k.met))
 
   pub call_kept : (ticket : ℕ) (call : Call) (outputs : List Output)
-      → IsTyped call → IsPathCall call → Rule view (record { input = Calling ticket call; outputs = outputs }) after
+      → Rule view (record { input = Calling ticket call; outputs = outputs }) after
       → Kept after is_there (unsent ++ sent_in outputs) held shown
-  call_kept ticket call outputs typed path rule =
+  call_kept ticket call outputs rule =
       goes_kept (Calling ticket call) outputs rule tt
-      (asked_session view k.met k.was ticket call outputs after (heard_by outputs k.met) typed path rule (hears_by outputs k.met))
+      (asked_session view k.met k.was ticket call outputs after (heard_by outputs k.met) rule (hears_by outputs k.met))
 
   pub cut_kept : (outputs : List Output) (then_unsent then_held : List ℕ)
       → Rule view (record { input = Cut; outputs = outputs }) after → Kept after is_there then_unsent then_held shown

@@ -2,6 +2,5 @@
 pub mod Acts
 pub mod BenchActs
 pub mod Worlds
-pub mod Asking
 pub mod ServedDrivers
 pub mod Benches

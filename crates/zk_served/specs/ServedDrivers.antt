@@ -10,7 +10,6 @@ use Rattle.zk_laws.specs.Headline.{IsCoherentWith}
 use Rattle.theory_serving.specs.Shown.{Shown}
 use Rattle.zk_conclusions.specs.Seen.{IsServedFrom}
 use Rattle.zk_driver.specs.Flowing.{Flow, Runs}
-use Rattle.zk_served.specs.Asking.{StepsFit}
 use Rattle.zk_served.specs.Worlds.{ByDriver, ByStream, Meets}
 
 -- A driver begins: no connection is there, and its client has gone through nothing. The session to begin with is in range, and so are the
@@ -29,7 +28,6 @@ pub record MeetsServers {A : Type 0} {far : FarEnd} (By : List ℕ → List ℕ 
     (after : Shown) : Type 0 where
   pub begins : Begins old
   pub runs : Runs old new
-  pub fits : StepsFit runs.steps old new runs.passes
   pub before : Shown
   pub meets : Meets By runs.steps old new runs.passes before after
   pub history : IsHistory after.history
