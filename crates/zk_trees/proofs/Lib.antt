@@ -1,3 +1,4 @@
 -- Lemmas on loops over trees: steps of a fold, one subject, ticket or root after another.
 mod Going
+pub mod Indexing
 pub mod Growing
