@@ -1,6 +1,6 @@
 /* A session by hand that follows a tree within a bound: its root and two nodes below are taken on as the names come, a notice makes another look
- * worth while, a node that has gone is let go, the bound is told, and in the end all of it is let go. What comes of it is what zookeeper.jute and
- * the header say. */
+ * worth while, a node that has gone is let go and another one taken on, in the end all of it is let go, and of a tree of fewer nodes the bound is
+ * told. What comes of it is what zookeeper.jute and the header say. */
 #include "dirwolleu.h"
 #include "expect.h"
 #include "frames.h"
@@ -105,6 +105,14 @@ static void answer_no_names(dw_session *session, uint64_t now_ms, int32_t xid, i
     hand_in(session, now_ms, &came);
 }
 
+static void answer_no_node(dw_session *session, uint64_t now_ms, int32_t xid, int64_t zxid)
+{
+    struct bytes came;
+    came.length = 0;
+    add_header(&came, xid, zxid, CODE_NO_NODE);
+    hand_in(session, now_ms, &came);
+}
+
 static void notice(dw_session *session, uint64_t now_ms, enum dw_event event, const char *path)
 {
     struct bytes came;
@@ -165,29 +173,84 @@ static void change(dw_session *session)
     expect_no_more(session);
 }
 
-/* All that was followed is let go, in the order in which it was taken on. */
+/* A node has gone, which the reads of both sides find, and then that it is absent. It is let go once that is known, and not taken on again
+ * while the names still have it. */
+static void lose(dw_session *session)
+{
+    int32_t data, names, absent_data, absent_names;
+    notice(session, 53, DW_EVENT_DELETED, "/t/b");
+    expect_next(session, DW_KIND_REPORT);
+    expect_next(session, DW_KIND_REPORT);
+    data = expect_sent(session);
+    names = expect_sent(session);
+    expect_no_more(session);
+    answer_no_node(session, 54, data, 8);
+    absent_data = expect_sent(session);
+    expect_no_more(session);
+    answer_no_node(session, 55, names, 8);
+    absent_names = expect_sent(session);
+    expect_no_more(session);
+    answer_no_node(session, 56, absent_data, 8);
+    expect_shown(session, FIRST + 2);
+    expect_shown(session, FIRST + 4);
+    expect_let_go(session, FIRST + 2);
+    expect_let_go(session, FIRST + 4);
+    expect_no_more(session);
+    answer_no_node(session, 57, absent_names, 8);
+    expect_no_more(session);
+}
+
+/* The names lead to another node instead. */
+static void replace(dw_session *session)
+{
+    struct bytes came;
+    int32_t names, data;
+    notice(session, 58, DW_EVENT_CHILDREN_CHANGED, "/t");
+    expect_next(session, DW_KIND_REPORT);
+    names = expect_sent(session);
+    expect_no_more(session);
+    came.length = 0;
+    add_names(&came, names, 9, "a", "c", &STAT);
+    hand_in(session, 59, &came);
+    expect_shown(session, FIRST);
+    data = expect_sent(session);
+    names = expect_sent(session);
+    expect_taken_on(session, FIRST + 5, DW_SIDE_DATA, "/t/c");
+    expect_taken_on(session, FIRST + 6, DW_SIDE_CHILDREN, "/t/c");
+    expect_no_more(session);
+    answer_data(session, 60, data, 9);
+    expect_shown(session, FIRST + 5);
+    expect_no_more(session);
+    answer_no_names(session, 61, names, 9);
+    expect_shown(session, FIRST + 6);
+    expect_whole(session);
+    expect_no_more(session);
+}
+
+/* All that is followed still is let go, in the order in which it was taken on. */
 static void uproot(dw_session *session)
 {
-    EXPECT_NUMBER(DW_OK, dw_session_unfollow_tree(session, 60, TREE));
+    static const uint64_t after[] = {0, 1, 3, 5, 6};
+    EXPECT_NUMBER(DW_OK, dw_session_unfollow_tree(session, 70, TREE));
     expect_let_go(session, TREE);
-    for (uint64_t i = 0; i < 5; i++) {
-        expect_let_go(session, FIRST + i);
+    for (size_t i = 0; i < sizeof after / sizeof after[0]; i++) {
+        expect_let_go(session, FIRST + after[i]);
     }
     expect_no_more(session);
-    EXPECT_NUMBER(DW_OK, dw_session_unfollow_tree(session, 61, TREE));
+    EXPECT_NUMBER(DW_OK, dw_session_unfollow_tree(session, 71, TREE));
     expect_no_more(session);
 }
 
 /* A tree of fewer nodes than there are: that is told, and no node is taken on. The tickets go on. */
 static void follow_less(dw_session *session)
 {
-    EXPECT_NUMBER(DW_OK, dw_session_follow_tree(session, 70, TREE, "/t", 2, MOST - 1));
-    expect_shown(session, TREE);
-    expect_shown(session, FIRST + 5);
-    expect_taken_on(session, TREE, DW_SIDE_DATA, "/t");
-    expect_taken_on(session, FIRST + 5, DW_SIDE_CHILDREN, "/t");
+    EXPECT_NUMBER(DW_OK, dw_session_follow_tree(session, 80, TREE + 1, "/t", 2, MOST - 1));
+    expect_shown(session, TREE + 1);
+    expect_shown(session, FIRST + 7);
+    EXPECT_NUMBER(TREE + 1, expect_next(session, DW_KIND_TAKEN_ON).tree);
+    EXPECT_NUMBER(TREE + 1, expect_next(session, DW_KIND_TAKEN_ON).tree);
     dw_output told = expect_next(session, DW_KIND_BOUNDED);
-    EXPECT_NUMBER(TREE, told.ticket);
+    EXPECT_NUMBER(TREE + 1, told.ticket);
     EXPECT(told.is_bounded);
     expect_no_more(session);
 }
@@ -195,8 +258,6 @@ static void follow_less(dw_session *session)
 int main(void)
 {
     static dw_session session;
-    EXPECT_NUMBER(DW_CLOSED, dw_session_follow_tree(&session, 1, TREE, "/t", 2, MOST));
-    EXPECT_NUMBER(DW_CLOSED, dw_session_unfollow_tree(&session, 1, TREE));
     EXPECT_NUMBER(DW_OK, dw_session_open(&session, ASKED_MS, ADDRESSES, 1));
     EXPECT_NUMBER(DW_OK, dw_session_moment(&session, 0));
     expect_next(&session, DW_KIND_DIAL);
@@ -209,6 +270,8 @@ int main(void)
     connect_session(&session);
     grow(&session);
     change(&session);
+    lose(&session);
+    replace(&session);
     uproot(&session);
     follow_less(&session);
     dw_session_free(&session);

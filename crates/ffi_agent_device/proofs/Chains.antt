@@ -20,7 +20,8 @@ use Rattle.ffi_agent_device.specs.declared.tree.Tree.{Tree}
 -- ---- a chain of steps
 
 -- One step of the agent, and what becomes of trees after it.
-abbrev pub Advances : (now : ℕ) → AgentInput Global → (was : ℕ) → (olds : List Tree) → (at : ℕ) → (news : List Tree) → (old new : Voice) → Type 0
+abbrev pub Advances : (now : ℕ) → AgentInput Global → (was : ℕ) → (olds : List Tree) → (at : ℕ) → (news : List Tree)
+    → (old new : Voice) → Type 0
 Advances now given was olds at news old new = (between : Voice) × StepsOn now given old between × TendsSo now was olds at news between new
 
 pub ok_advances : {X E : Type 0} (result : Result X E) (now : ℕ) (given : AgentInput Global) (was : ℕ) (olds : List Tree) (at : ℕ)

@@ -1,6 +1,7 @@
 -- What each step of an agent keeps, and each subject that comes or goes, a whole step of a device keeps: by induction over what it does.
 -- That each subject is followed is kept too, since one that was taken on is read before the step ends.
-use Rattle.std.proofs.Common.{◌≡◌, ◌≢◌, ◌≤◌, ◌+◌, ◌∷◌, ℕ, Bool, true, false, List, [], Option, Some, None, map, refl, sym, subst, ap, arith, ◌∙◌}
+use Rattle.std.proofs.Common.{◌≡◌, ◌≢◌, ◌≤◌, ◌+◌, ◌∷◌, ℕ, Bool, true, false, List, [], Option, Some, None, map, refl, sym, subst, ap, arith}
+use Rattle.std.proofs.Common.{◌∙◌}
 use Rattle.std.specs.Prelude.{◌&&◌, ◌==◌, not, All}
 use Rattle.std.specs.List.{filter, FoldsTo}
 use Rattle.std.specs.declared.alloc.Global.{Global}
@@ -79,7 +80,8 @@ module _ (P : Voice → Type 0) (kept : IsKept P) where
 
   -- ---- what is let go
 
-  lets_keep : (tickets : List ℕ) (old new : Bed) → FoldsTo (λ at ticket after. LetsGo ticket at after) old tickets new → P old.voice → P new.voice
+  lets_keep : (tickets : List ℕ) (old new : Bed)
+      → FoldsTo (λ at ticket after. LetsGo ticket at after) old tickets new → P old.voice → P new.voice
   lets_keep [] old new same is = same_keeps old new (sym same) is
   lets_keep (ticket ∷ tickets) old new lets is =
       lets_keep tickets lets.0 new lets.2 (goes_keep ticket (news.LetGo old.ticket ticket) old.voice lets.0.voice lets.1.shifts is)
@@ -153,13 +155,15 @@ module _ (P : Agent Global → Type 0)
 -- ---- each subject is followed
 
 -- where one goes, the others are followed on
-pub go_followed : (ticket : ℕ) (before after : Agent Global) → AgentMoved (Unfollows ticket) before after → AreFollowed before → AreFollowed after
+pub go_followed : (ticket : ℕ) (before after : Agent Global)
+    → AgentMoved (Unfollows ticket) before after → AreFollowed before → AreFollowed after
 go_followed ticket before after moved all =
     let was = view_of before.asker.follower.client in
     let stay = All-filter (λ (s : Subject Global). not (s.ticket == ticket)) (IsFollowed before.latest was)
     before.asker.follower.subjects.items all in
     subst (λ (l : ℕ). All (IsFollowed l (view_of after.asker.follower.client)) after.asker.follower.subjects.items) (sym moved.latest)
-    (subst (λ (v : View). All (IsFollowed before.latest v) after.asker.follower.subjects.items) (sym (ap (λ (t : Trail Global). t.view) moved.does))
+    (subst (λ (v : View). All (IsFollowed before.latest v) after.asker.follower.subjects.items)
+    (sym (ap (λ (t : Trail Global). t.view) moved.does))
     (subst (All (IsFollowed before.latest was)) (sym (ap (λ (t : Trail Global). t.subjects) moved.does)) stay))
 
 -- unless one was taken on
@@ -181,7 +185,8 @@ behind_kept was = record {
       );
 }
 
-pub each_followed : (now : ℕ) (olds news : List Tree) (old new : Voice) → TendsAll now olds news old new → AreFollowed old.agent → AreFollowed new.agent
+pub each_followed : (now : ℕ) (olds news : List Tree) (old new : Voice)
+    → TendsAll now olds news old new → AreFollowed old.agent → AreFollowed new.agent
 each_followed now olds news old new tends all =
     by (old.next == tends.last.next) refl tends.reads
   where

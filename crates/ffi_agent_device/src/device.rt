@@ -178,7 +178,9 @@ impl AgentDevice {
         let is_bytes = is_bytes(&input);
         let mut said = self.agent.step(now, input)?;
         revise(&mut self.revision, is_bytes, said.as_slice());
-        self.said.append(&mut said)?;
+        if self.said.append(&mut said).is_err() {
+            return Err(FollowerStop::Memory);
+        }
         Ok(())
     }
 
@@ -192,7 +194,9 @@ impl AgentDevice {
         ensures moves { OnOk result (MovesOn (agents.Follows ticket side path) (voice_of self.old) (voice_of self.new)) }
         ensures trees { self.new.trees ≡ self.old.trees }
     {
-        self.agent.add_subject(ticket, side, path)?;
+        if self.agent.add_subject(ticket, side, path).is_err() {
+            return Err(FollowerStop::Memory);
+        }
         Ok(())
     }
 

@@ -113,7 +113,7 @@ impl AgentDevice {
         copy_into(&text[from.min(text.len())..], room)
     }
 
-    /// The words of why a connection is given up, where that was told last. An error says that memory ran out.
+    /// The words of why a connection is given up, where that is the action that was told last. An error says that memory ran out.
     pub fn words(&self, alloc: Global) -> Result<String<Global>, AllocError>
         ensures { IfOk result (λ words. string_bytes words ≡ told_words self.now.said.items self.now.read) }
     {

@@ -2,8 +2,8 @@
 //!
 //! [`wanted_of`] tells what is wanted of trees: what good names lead to from the root on, and lacks an answer, within a bound.
 //! [`is_settled`] tells what of it is not to be taken on: what is a member already, and a node of which it is kept and good that there is
-//! none. [`tickets_gone`] and [`drop_gone`] are about members that were found below a root, and whose node has gone. An [`Index`] of members
-//! tells whether one follows a side of a node in a time that does not rise with their number.
+//! none. [`tickets_gone`] and [`drop_gone`] are about members that were found below a root, and whose node has gone. An [`Index`] tells the
+//! same of its members in a time that does not rise with their number.
 #![tactic(auto)]
 
 mod index;

@@ -138,7 +138,11 @@ impl MachineHandle {
         done_at(call.path, code)
     }
 
-    /// Follows a tree of at most this many nodes.
+    pub(crate) fn unfollow(&mut self, now: Moment, ticket: u64) -> Result<(), Fault> {
+        // SAFETY: as `Handle` says.
+        done(unsafe { dw_session_unfollow(self.raw(), now.as_millis(), ticket) })
+    }
+
     pub(crate) fn follow_tree(&mut self, call: Call<'_>, most: usize) -> Result<(), Fault> {
         let (raw, now) = (self.raw(), call.now.as_millis());
         let (path, path_length) = (call.path.as_ptr(), call.path.len());
@@ -151,11 +155,6 @@ impl MachineHandle {
     pub(crate) fn unfollow_tree(&mut self, now: Moment, ticket: u64) -> Result<(), Fault> {
         // SAFETY: as `Handle` says.
         done(unsafe { dw_session_unfollow_tree(self.raw(), now.as_millis(), ticket) })
-    }
-
-    pub(crate) fn unfollow(&mut self, now: Moment, ticket: u64) -> Result<(), Fault> {
-        // SAFETY: as `Handle` says.
-        done(unsafe { dw_session_unfollow(self.raw(), now.as_millis(), ticket) })
     }
 
     /// When the server was heard last, where it was.

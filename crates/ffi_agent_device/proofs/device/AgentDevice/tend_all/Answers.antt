@@ -18,7 +18,8 @@ returns-clause-tends c =
     let last = voice_of c.tend_each.new.self in
     let new = c.read_new.new.self in
     let size : c.args.trees.len ≡ length news = omega (arith, c.tend_each.auto.trees, c.as_mut_slice.ensures.len) in
-    let each = subst (λ (ts : List Tree). TendsEach olds ts old last) (sym (whole_written c.args.trees.len news (drop (length news) olds) size))
+    let each =
+    subst (λ (ts : List Tree). TendsEach olds ts old last) (sym (whole_written c.args.trees.len news (drop (length news) olds) size))
     (rw c.as_mut_slice.ensures.value at c.in_ok-tend_each.ensures) in
     subst (λ (t : Trees). OnOk c.read_new.result (TendsAll c.args.now olds t.all.items old (voice_of new))) (sym c.read_new.ensures.trees)
     (ok_all c.read_new.result c.args.now olds _ old last (voice_of new) each c.read_new.ensures.reads)
