@@ -157,7 +157,7 @@ static void grow(dw_session *session)
     expect_no_more(session);
 }
 
-/* It is told once that nothing is lacking, and again where a node has changed. */
+/* It is told once that nothing is lacking, and again where a node has changed. After a report of a path its other side is shown again. */
 static void change(dw_session *session)
 {
     int32_t read;
@@ -166,6 +166,7 @@ static void change(dw_session *session)
     notice(session, 51, DW_EVENT_DATA_CHANGED, "/t/a");
     expect_next(session, DW_KIND_REPORT);
     read = expect_sent(session);
+    expect_shown(session, FIRST + 3);
     expect_no_more(session);
     answer_data(session, 52, read, 7);
     expect_shown(session, FIRST + 1);
@@ -208,6 +209,7 @@ static void replace(dw_session *session)
     notice(session, 58, DW_EVENT_CHILDREN_CHANGED, "/t");
     expect_next(session, DW_KIND_REPORT);
     names = expect_sent(session);
+    expect_shown(session, TREE);
     expect_no_more(session);
     came.length = 0;
     add_names(&came, names, 9, "a", "c", &STAT);
