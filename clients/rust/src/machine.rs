@@ -193,6 +193,32 @@ impl Machine {
         self.step(|handle| handle.follow(Call { now, ticket, path }, side))
     }
 
+    /// Follows all nodes at and below a path, of which no more are taken on where there are more than `most`. The data of its root have the
+    /// ticket, and all else has tickets from 2^63 on, which are used for nothing else. What becomes of it is told by [`Action::TakenOn`] and
+    /// those after it. Where there is no root, that is [shown](Action::Shown), and its making is waited for.
+    ///
+    /// # Errors
+    ///
+    /// As [`follow`](Machine::follow).
+    pub fn follow_tree(
+        &mut self,
+        now: Moment,
+        ticket: u64,
+        path: &str,
+        most: usize,
+    ) -> Result<Actions<'_>, Fault> {
+        self.step(|handle| handle.follow_tree(Call { now, ticket, path }, most))
+    }
+
+    /// The tree of this ticket is followed no more, and so is each node that was taken on for it.
+    ///
+    /// # Errors
+    ///
+    /// [`Fault::Halted`] and [`Fault::UnknownNumber`].
+    pub fn unfollow_tree(&mut self, now: Moment, ticket: u64) -> Result<Actions<'_>, Fault> {
+        self.step(|handle| handle.unfollow_tree(now, ticket))
+    }
+
     /// The subject of this ticket is followed no more.
     ///
     /// # Errors
