@@ -1,4 +1,4 @@
--- What a new device begins with, by a view that is another's too.
+-- What a new device begins with, by a view that is another's too: rewriting, case by case of what was made.
 use mathlib.Core.Path.{sym, subst}
 use Rattle.std.specs.Prelude.{◌≡◌, ◌<ℤ◌, ℤ, pos, Result, Ok, Err, IfOk, IfErr, MatchResult}
 use Rattle.zk_turns.specs.View.{View}

@@ -1,4 +1,5 @@
--- A refusal that is none of a step leaves the device as it was.
+-- A refusal that is none of a step leaves the device as it was: case by case of the refusals, each with its number, which is not that of a
+-- halt.
 use mathlib.Core.Path.{refl}
 use Rattle.std.specs.Prelude.{ℕ, ℤ, negsuc}
 use Rattle.ffi_device.specs.declared.refusal.DeviceRefusal.{DeviceRefusal}

@@ -1,4 +1,4 @@
--- What is told, by the actions that tell it.
+-- What is told, by the actions that tell it: a test of the one is a test of the other, by induction on the actions.
 use Rattle.std.proofs.Common.{◌≡◌, Bool, ◌||◌, List, [], ◌∷◌, refl, ap}
 use Rattle.std.specs.List.{list_any}
 use Rattle.zk_agent.specs.declared.action.Action.{Action}

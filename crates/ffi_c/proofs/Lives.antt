@@ -1,4 +1,5 @@
--- The whole life of a handle, use by use.
+-- The whole life of a handle, use by use: each leaves a client that stands where its uses have led, so by induction on the uses what holds
+-- of every client holds of it.
 use Rattle.std.proofs.Common.{◌≡◌, ℕ, zero, suc, ℤ, pos, negsuc, List, [], ◌∷◌, Option, Some, None, inl, inr, refl, sym, ap, subst, ◌∙◌}
 use Rattle.std.specs.Prelude.{Result, Ok, Err, IfSome, unsigned_abs}
 use Rattle.zk_turns.specs.Turns.{Input, Now, Item, Turn, Turned, Halts, Output, Start, new_start}

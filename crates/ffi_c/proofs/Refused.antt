@@ -1,4 +1,4 @@
--- What is refused is told by its number.
+-- What is refused is told by its number: case by case, and nothing is written then.
 use Rattle.std.proofs.Common.{◌≡◌, ℕ, List, ℤ, refl, subst, sym, w32, to_z, of_z}
 use Rattle.ffi_device.specs.Codes.{refusal_code}
 use Rattle.ffi_device.specs.declared.refusal.DeviceRefusal.{DeviceRefusal}

@@ -1,4 +1,5 @@
--- The same number, use by use.
+-- The same number, use by use: each use leaves what is good as it was, or raises the number, so where the number is the same nothing good
+-- has changed.
 use Rattle.std.proofs.Common.{◌≡◌, ◌≤◌, ◌<◌, ◌-◌, ◌^◌, ℕ, zero, suc, ℤ, pos, negsuc, List, [], ◌∷◌, ◌++◌, Option, Some, None, refl, sym, ap}
 use Rattle.std.proofs.Common.{subst, ◌∙◌, arith}
 use Rattle.zk_turns.specs.Turns.{Input, Now, Item, Turn, Turned, Start}

@@ -1,4 +1,4 @@
--- The whole life of a session's handle, use by use.
+-- The whole life of a session's handle, use by use: each leaves a session that is sound, by what its agent's calls ensure.
 use Rattle.std.proofs.Common.{◌≡◌, ◌++◌, ℕ, zero, suc, ℤ, pos, negsuc, List, [], ◌∷◌, Option, Some, None, refl, sym, ap, subst, ◌∙◌}
 use Rattle.std.proofs.Common.{true≢false}
 use Rattle.std.proofs.lemmas.List.Elements.{All-nil}

@@ -1,4 +1,4 @@
--- The texts of an ordered set are its names in byte order.
+-- The texts of an ordered set are its names in byte order: keys that rise are all different, so they list the set.
 use Rattle.std.proofs.Common.{◌≡◌, Bor, ℕ, List, [], ◌∷◌, map, Option, Some, None, option_map, slice_get, String, string_bytes, refl, subst}
 use Rattle.std.proofs.Common.{sym, ap, ◌∙◌}
 use Rattle.std.proofs.lemmas.List.{length-map}

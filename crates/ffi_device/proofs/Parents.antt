@@ -1,4 +1,4 @@
--- Parents that are written one after the other.
+-- Parents that are written one after the other: what is written so far with any spelling of those left spells all.
 use Rattle.std.proofs.Common.{◌≡◌, ◌++◌, ◌∙◌, ◌+◌, ◌<◌, ℕ, suc, List, [], ◌∷◌, drop, get_or, length, ap, append-nil, append_assoc, arith}
 use Rattle.std.proofs.Common.{refl, subst, sym}
 use Rattle.std.proofs.Math.Seq.{drop-cons}

@@ -1,4 +1,4 @@
--- Texts that are read one after the other, and whether each of them is a path.
+-- Texts that are read one after the other, and whether each of them is a path: what was read so far and the bytes left are all bytes.
 use Rattle.std.proofs.Common.{◌≡◌, ◌≢◌, ◌++◌, ◌∙◌, Bool, true, false, ℕ, List, [], ◌∷◌, IsSome, ap, append_assoc, inl, inr, refl, sym}
 use Rattle.std.proofs.Common.{true≢false}
 use Rattle.std.proofs.lemmas.List.{flat_map_more}

@@ -1,4 +1,4 @@
--- What is refused leaves the device as it was.
+-- What is refused leaves the device as it was: case by case of the refusals, each with its number, which is not that of a halt.
 use mathlib.Core.Path.{refl}
 use Rattle.std.proofs.Common.{inl, inr, subst, sym}
 use Rattle.std.specs.Prelude.{◌≡◌, ◌∷◌, List, ℕ, ℤ, negsuc, Result, Ok, Err, IfErr, IsErrAnd}

@@ -1,4 +1,5 @@
--- Texts that are spelled one after the other are told apart.
+-- Texts that are spelled one after the other are told apart: each begins with its length, so what is left after one is shorter and told in
+-- one way.
 use Rattle.std.proofs.Common.{◌≡◌, ◌≢◌, ◌++◌, ◌∙◌, ℕ, List, [], ◌∷◌, Some, ◌+◌, ◌<◌, append_assoc, ap, arith, length, length-append, sym}
 use Rattle.std.specs.List.{AllByRecursion, flat_map}
 use Rattle.zk_jute.specs.Layout.{ustring}

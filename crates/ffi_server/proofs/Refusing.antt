@@ -1,4 +1,4 @@
--- Why something is not done.
+-- Why something is not done: a node whose Stat tells children has some, and where memory ran out the connection is given up.
 use Rattle.std.proofs.Common.{◌≡◌, ◌<◌, ℕ, zero, suc, pos, Option, Some, None, refl, sym, subst, arith}
 use Rattle.std.specs.Prelude.{Ok, Err, option_map}
 use Rattle.std.specs.Result.{IsErrAnd}

@@ -1,4 +1,5 @@
--- What goes through a client's connection: deeds one after the other; and that bytes come and go whole.
+-- What goes through a client's connection: deeds one after the other; and that bytes come and go whole, since each deed keeps what was
+-- handed over, what is held and what is unsent in order.
 use Rattle.std.proofs.Common.{◌≡◌, ◌++◌, ◌∙◌, ℕ, Bool, true, false, List, [], ◌∷◌, ap, append-nil, append_assoc, refl, sym, subst, Option}
 use Rattle.std.proofs.Common.{Some, None, Vec}
 use Rattle.std.specs.Prelude.{Result, Ok, Err, OnOk, IfOk, IsOk, IfSome, if◌then◌else◌}

@@ -1,4 +1,4 @@
--- What is given of what a client says.
+-- What is given of what a client says: the outputs that a caller is given, picked one by one.
 use Rattle.std.proofs.Common.{◌≡◌, Bool, true, false, List, [], ◌∷◌, ◌++◌, refl, ap, ◌∙◌}
 use Rattle.std.specs.Prelude.{Result, Ok, Err, ◌||◌, is_ok, OnOk, OnErr, if◌then◌else◌}
 use Rattle.std.specs.List.{filter, list_any}

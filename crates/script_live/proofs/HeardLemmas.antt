@@ -1,4 +1,5 @@
--- What a connection brings, one piece after another.
+-- What a connection brings, one piece after another: pieces join, as what comes after begins where the one before has led; and where memory
+-- runs out, at which of them.
 use Rattle.std.proofs.Common.{◌≡◌, inl, inr, ℕ, Bool, false, List, [], ◌∷◌, ◌++◌, refl, subst, ap, ◌∙◌}
 use Rattle.std.specs.List.{filter, FoldsTo}
 use Rattle.zk_turns.specs.Turns.{Input, Opened, Bytes, Cut, Cuts, Output, Send, Answer, Report, Enters, Drop}

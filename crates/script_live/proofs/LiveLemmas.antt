@@ -1,4 +1,4 @@
--- What a line of a live script makes of a session, and how a script ends.
+-- What a line of a live script makes of a session, and how a script ends: by what the words of the line say, case by case.
 use Rattle.std.proofs.Common.{◌≡◌, inl, inr, ℕ, Bool, true, false, List, [], refl, sym}
 use Rattle.std.specs.Prelude.{Some, None, Ok}
 use Rattle.zk_nodes.specs.Path.{Text}

@@ -1,4 +1,4 @@
--- What a whole script prints is what a list of deeds prints.
+-- What a whole script prints is what a list of deeds prints: line by line, each line's deeds after those of the lines before.
 use Rattle.std.proofs.Common.{◌≡◌, ◌++◌, ◌∙◌, ℕ, List, [], ◌∷◌, Option, Some, None, ap, append-nil, sym, false}
 use Rattle.std.specs.List.{FoldsTo}
 use Rattle.zk_nodes.specs.Path.{Text}

@@ -1,4 +1,4 @@
--- What is printed of deeds, one after the other.
+-- What is printed of deeds, one after the other: lists of deeds join, and their texts with them.
 use Rattle.std.proofs.Common.{◌≡◌, ◌++◌, ◌∙◌, ℕ, Bool, true, false, List, [], ◌∷◌, ap, append-nil, append_assoc, refl, sym, subst}
 use Rattle.std.specs.Prelude.{Result, Ok, Err, IfOk, OnOk, codes}
 use Rattle.std.specs.List.{filter}

@@ -1,4 +1,5 @@
--- The good answers of a client that servers of the laws have served agree with the history.
+-- The good answers of a client that servers of the laws have served agree with the history: path by path, what is good fits the tree at the
+-- last seen zxid, so no line says that it differs.
 use Rattle.std.proofs.Common.{◌≡◌, ℕ, ℤ, pos, negsuc, true, ◌&&◌, List, [], ◌∷◌, ◌++◌, refl, sym, ap, ap₂, subst, ◌∙◌}
 use Rattle.std.proofs.lemmas.Slice.Eq.{bytes_eq-Decides}
 use Rattle.std.specs.Prelude.{Option, Some, None, Ok}

@@ -1,4 +1,4 @@
--- Why a line is not done, and what it does else.
+-- Why a line is not done, and what it does else: by what its words say, for lines of the history and for those of the client.
 use Rattle.std.proofs.Common.{◌≡◌, false, IfErr, IfOk}
 use Rattle.std.proofs.lemmas.Bool.{true≢false}
 use Rattle.std.specs.Prelude.{String, string_bytes, Option, Some, None, Result, Ok, Err}

@@ -1,4 +1,5 @@
--- Names that are kept, and those that a history tells; and what is printed of a path.
+-- Names that are kept, and those that a history tells: they are the same where none of either lacks in the other; and what is printed of a
+-- path, its data before its names.
 use Rattle.std.proofs.Common.{◌≡◌, ◌≢◌, ℕ, Bool, true, false, ◌||◌, cond, not, List, [], ◌∷◌, ◌++◌, Bor, OnOk, refl, sym, ap, subst, ◌∙◌}
 use Rattle.std.proofs.Common.{append_assoc}
 use Rattle.std.proofs.lemmas.Bool.{true≢false}

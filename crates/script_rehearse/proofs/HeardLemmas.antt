@@ -1,4 +1,4 @@
--- One more output is heard.
+-- One more output is heard after those before it.
 use Rattle.std.proofs.Common.{◌≡◌, List, [], ◌∷◌, ◌++◌, refl}
 use Rattle.zk_turns.specs.Turns.{Output}
 use Rattle.zk_bench.specs.Served.{Served}

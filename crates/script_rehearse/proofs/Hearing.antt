@@ -1,4 +1,4 @@
--- What the servers hear of a client, in the words of the laws, and that they stay ready.
+-- What the servers hear of a client, in the words of the laws, and that they stay ready: output by output.
 use Rattle.std.proofs.Common.{◌≡◌, ℕ, Bool, true, false, List, [], ◌∷◌, refl, subst, if◌then◌else◌}
 use Rattle.zk_session.specs.declared.states.State.TheVariants.{Idle, Connecting, Connected, Expired, Closed}
 use Rattle.zk_turns.specs.Turns.{Output, Send, Answer, Report, Enters, Drop}

@@ -1,4 +1,4 @@
--- From a position of a rehearsal to the next.
+-- From a position of a rehearsal to the next, and why a line is not done there: by what the line's own lemma says of both.
 use Rattle.std.proofs.Common.{◌≡◌, IfErr, IfOk, refl, subst}
 use Rattle.std.specs.Prelude.{String, string_bytes, Result, Ok, Err}
 use Rattle.zk_nodes.specs.Path.{Text}

@@ -1,4 +1,5 @@
--- A client stands where all that its lines made happen has led, and prints what the definitions give for that.
+-- A client stands where all that its lines made happen has led, and prints what the definitions give for that: line by line, each one turn
+-- more or a look-up, which changes nothing.
 use Rattle.std.proofs.Common.{◌≡◌, ℕ, List, [], ◌∷◌, IfOk, is_some, refl, sym, ap, subst, ◌∙◌}
 use Rattle.std.specs.Prelude.{Option, Some, None, Result, Ok, Err, String, string_bytes}
 use Rattle.zk_nodes.specs.Path.{Text}

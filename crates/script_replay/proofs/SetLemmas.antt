@@ -1,4 +1,4 @@
--- Which names a set of texts has.
+-- Which names a set of texts has: a test of the texts is one of the names.
 use Rattle.std.proofs.Common.{◌≡◌, ℕ, Bool, ◌||◌, List, [], ◌∷◌, map, refl, sym, ap₂, ◌∙◌}
 use Rattle.std.specs.Prelude.{string_bytes, bytes_eq}
 use Rattle.std.specs.Cmp.Lexicographic.{slice_cmp}

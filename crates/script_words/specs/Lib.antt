@@ -1,4 +1,4 @@
--- The words and lines of scripts and of what the commands print, as functions of the values that they stand for, and how a
+-- The words and lines of scripts and of what the commands print, as functions of the values that they mean, and how a
 -- whole script goes.
 pub mod Words
 pub mod Lines

@@ -1,4 +1,4 @@
--- What is heard of a driver, one thing after the other.
+-- What is heard of a driver, one thing after the other: it is the answer, the limit, or another thing after which the asking goes on.
 use Rattle.std.proofs.Common.{◌≡◌, ℕ, Bool, Option, Some, None, is_some, refl, subst}
 use Rattle.zk_client.specs.Views.{outcome_view}
 use Rattle.zk_client.specs.declared.output.Outcome.{Outcome}

@@ -1,4 +1,5 @@
--- A walk through a tree: the nodes that wait, and how it ends.
+-- A walk through a tree: the nodes that wait, and how it ends. The next node is the last of those kept, and its children are put after all
+-- others, the last first, so the walk goes down before it goes on.
 use Rattle.std.proofs.Common.{◌≡◌, ◌≢◌, ◌<◌, ◌⊎◌, ◌++◌, ◌∙◌, List, [], ◌∷◌, map, reverse, inl, inr, Contains, IfNone, IfOk, IfSome, Option}
 use Rattle.std.proofs.Common.{None, Some, Result, length, true, false, append_assoc, refl, sym, ap, subst}
 use Rattle.std.proofs.lemmas.List.{map-append, reverse-append, reverse-reverse}

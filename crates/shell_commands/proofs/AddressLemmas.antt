@@ -1,4 +1,4 @@
--- Whether each word is admitted, and what is told where the words ask for nothing.
+-- Whether each word is admitted, and what is told where the words ask for nothing: by induction on the words, up to the first stranger.
 use Rattle.std.proofs.Common.{◌≡◌, ◌≢◌, ◌∙◌, Bool, true, false, List, [], ◌∷◌, Option, Some, None, ap, refl, sym, subst, map, unwrap_or}
 use Rattle.std.specs.Prelude.{not, find, ◌&&◌, cond, Result, Ok, Err, IfErr, IsErrAnd}
 use Rattle.std.specs.Borrow.{Bor}

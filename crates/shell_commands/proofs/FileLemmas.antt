@@ -1,4 +1,4 @@
--- The first bytes of a file, and all of them.
+-- The first bytes of a file, and all of them: fewer than were asked for are all.
 use Rattle.std.proofs.Common.{◌≡◌, ◌≤◌, ◌<◌, ◌∙◌, ℕ, List, length, take, ap, arith, Option, Some, None, min}
 use Rattle.std.specs.Prelude.{IfSome, option_map}
 use Rattle.std.proofs.lemmas.List.{length-take, take_all}

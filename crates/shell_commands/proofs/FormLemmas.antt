@@ -1,4 +1,4 @@
--- What a form is with one more subcommand.
+-- What a form is with one more subcommand: it stands after the others.
 use Rattle.std.proofs.Common.{◌≡◌, ◌∙◌, ap, true}
 use Rattle.clap.specs.Words.{AddsSubcommand, App, app_of, with_subcommand}
 use Rattle.clap.specs.declared.builder.command.Command.{Command}

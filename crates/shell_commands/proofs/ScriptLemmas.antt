@@ -1,4 +1,4 @@
--- What a command comes to that reads and writes nothing.
+-- What a command comes to that reads and writes nothing: nothing is added to what was written, and any script is its input.
 use Rattle.std.proofs.Common.{ℕ, List, [], refl, sym}
 use Rattle.std.specs.Prelude.{Option, Some, None}
 use Rattle.std.specs.Io.KnownBytes.{Appends}

@@ -1,4 +1,4 @@
--- The words of verbs.
+-- The words of verbs: verb by verb, each is the word of no other command, so it tells its verb.
 use Rattle.std.proofs.Common.{◌≡◌, ◌∙◌, Bool, true, false, refl, sym, ap, codes, Option, Some, None, unwrap_or}
 use Rattle.std.specs.Prelude.{bytes_eq, if◌then◌else◌}
 use Rattle.clap.specs.Words.{Text}

@@ -1,4 +1,5 @@
--- How a session is ended, and that each client of which something is printed was led.
+-- How a session is ended, and that each client of which something is printed was led: move by move, as each turn leads the client from
+-- where it stood.
 use Rattle.std.proofs.Common.{Bool, true, false, ◌∙◌, ◌≡◌, ◌≢◌, ◌++◌, ℕ, List, [], ◌∷◌, Option, Some, inl, inr, refl, sym, subst}
 use Rattle.std.specs.Prelude.{Result, Ok, Err, OnOk, IfErr, ◌⊎◌}
 use Rattle.std.specs.Io.KnownBytes.{Appends}

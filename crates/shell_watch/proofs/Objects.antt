@@ -1,4 +1,4 @@
--- An object of JSON, piece by piece.
+-- An object of JSON, piece by piece: each piece adds its bytes to the text and its tokens to the tokens, where none before it has failed.
 use Rattle.std.proofs.Common.{◌≡◌, ◌≢◌, ◌++◌, ◌∙◌, ◌∷◌, [], ℕ, Bool, true, false, List, Option, None, Some, codes, refl, ap, append_assoc}
 use Rattle.std.specs.Prelude.{pos, Result, Ok, Err, OnOk}
 use Rattle.json.specs.Print.{print}

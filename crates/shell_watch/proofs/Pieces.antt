@@ -1,4 +1,4 @@
--- A text made of pieces.
+-- A text made of pieces is one text after another, whichever are put together first.
 use Rattle.std.proofs.Common.{◌≡◌, ◌++◌, ◌∙◌, ℕ, List, [], ap, append_assoc}
 use Rattle.std.specs.Prelude.{Result, Ok, Err, OnOk, is_ok, if◌then◌else◌}
 

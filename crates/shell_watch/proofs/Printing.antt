@@ -1,4 +1,4 @@
--- What is printed, one move after another.
+-- What is printed, one move after another: lists of moves join, and their texts with them; where a move fails, what was written stays.
 use Rattle.std.proofs.Common.{◌≡◌, ◌≤◌, ◌<◌, ◌+◌, ◌++◌, ◌∙◌, ℕ, Bool, true, false, List, [], ◌∷◌, length, get_or, take, Option, refl, sym}
 use Rattle.std.proofs.Common.{ap, subst, append_assoc, append-nil}
 use Rattle.std.proofs.lemmas.List.{map-append, take_more}

@@ -1,4 +1,4 @@
--- What a watch does is, byte by byte, a run of its driver.
+-- What a watch does is, byte by byte, a run of its driver: move by move, each a call of the driver or none.
 use Rattle.std.proofs.Common.{◌≡◌, ◌∙◌, Bool, true, false, List, [], ◌∷◌, ap, refl, sym}
 use Rattle.std.specs.Prelude.{ℕ}
 use Rattle.std.specs.List.{filter, FoldsTo}

@@ -1,4 +1,4 @@
--- Subjects are shown, one after the other.
+-- Subjects are shown, one after the other: those before a place were shown, and those from it on are as they were.
 use Rattle.std.proofs.Common.{suc, ◌≡◌, ◌≤◌, ◌<◌, ◌+◌, ◌++◌, ◌∙◌, ℕ, List, [], ◌∷◌, length, get_or, drop, take, set, refl, sym, ap, subst}
 use Rattle.std.proofs.Common.{arith, append_assoc, append-nil, length-take}
 use Rattle.std.proofs.lemmas.List.{drop_more, get_or_at, set_at, take_more, take_all, drop_all}

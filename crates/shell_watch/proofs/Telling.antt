@@ -1,4 +1,4 @@
--- What is printed of one turn.
+-- What is printed of one turn: by whether something waits to be told. Where it does nothing is shown, and else each subject is.
 use Rattle.std.proofs.Common.{◌≡◌, ◌≢◌, ◌++◌, ◌∙◌, ℕ, List, [], ◌∷◌, length, take, refl, sym, ap, append-nil}
 use Rattle.std.proofs.Math.Seq.{take-append_seam}
 use Rattle.std.specs.Prelude.{Result, Ok, Err, OnOk}

@@ -1,4 +1,5 @@
--- What is told and answered about other paths changes nothing of what is ahead of a path.
+-- What is told and answered about other paths changes nothing of what is ahead of a path: message by message, since only what tells of the
+-- path ends what is good there.
 use Rattle.std.proofs.Common.{ℕ, pos, ◌≡◌, Bool, true, false, ◌&&◌, ◌||◌, max, List, [], ◌∷◌, ◌++◌, refl, ap, sym, ◌∙◌, subst, inl, inr}
 use Rattle.std.proofs.Common.{◌⊎◌, arith, Option, Some, None, is_some, cond, map, suc, nat_lt, append-nil}
 use Rattle.std.proofs.lemmas.Bool.Decides.{nat_tests}

@@ -1,4 +1,4 @@
--- The laws of servers that keep to the model, as those at all paths.
+-- The laws of servers that keep to the model, as those at all paths: such servers keep to it at the set of all paths.
 use Rattle.std.proofs.Common.{◌≡◌, Bool, true, List, [], map, refl, sym, subst}
 use Rattle.zk_nodes.specs.Path.{Text}
 use Rattle.zk_nodes.specs.History.{History, IsHistory}

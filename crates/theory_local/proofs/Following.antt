@@ -1,4 +1,5 @@
--- Servers that keep to the model keep to it at each set of paths; what is free elsewhere.
+-- Servers that keep to the model keep to it at each set of paths, entry by entry; and what is free elsewhere: more may be told, and nothing
+-- need be.
 use Rattle.std.proofs.Common.{true, inl, inr, ◌≡◌, ℕ, List, [], ◌∷◌, ◌++◌, map, refl, sym, ap, subst, ◌∙◌}
 use Rattle.zk_nodes.specs.Path.{Text}
 use Rattle.zk_nodes.specs.declared.side.Side.TheVariants.{Data, Child}

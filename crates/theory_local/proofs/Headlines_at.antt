@@ -1,4 +1,5 @@
--- The laws of a client whose servers keep to the model at some paths.
+-- The laws of a client whose servers keep to the model at some paths: the invariant between the two holds after each schedule, and gives
+-- each law at those paths.
 use Rattle.std.proofs.Common.{◌≤◌, drop, suc, zero, pos, ◌≡◌, ℕ, ℤ, Bool, true, false, cond, List, [], ◌∷◌, ◌++◌, map, length, refl, sym}
 use Rattle.std.proofs.Common.{ap, subst, ◌∙◌, arith, inl, inr, ◌⊎◌, Some}
 use Rattle.std.proofs.lemmas.List.{length-append}

@@ -1,4 +1,5 @@
--- The invariant of a client whose servers keep to the model at some paths, and the steps that keep it.
+-- The invariant of a client whose servers keep to the model at some paths, and the steps that keep it: that of the laws, asked at those
+-- paths alone.
 use Rattle.std.proofs.Common.{ℕ, ◌≡◌, ◌<◌, ◌≤◌, max, Bool, true, false, ◌&&◌, List, [], ◌∷◌, ◌++◌, refl, ap, sym, ◌∙◌, subst, inl, inr, ◌⊎◌}
 use Rattle.std.proofs.Common.{ℤ, arith, Option, Some, None, is_some, cond, map, length, suc, nat_lt, append-nil}
 use Rattle.std.proofs.lemmas.Bool.Decides.{nat_tests}

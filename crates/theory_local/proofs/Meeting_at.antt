@@ -1,4 +1,5 @@
--- Each item of a client keeps what is between it and its servers.
+-- Each item of a client keeps what is between it and its servers: a turn goes byte by byte or signal by signal, and each of these is a
+-- happening that keeps it.
 use Rattle.zk_turns.specs.Turns.{Framed, WatchesRefused, IsAsked, Start, Outcome, Silent, Input, Bytes, Cut, Now, Call, Turned, Turn, Comes}
 use Rattle.zk_turns.specs.Turns.{signals_of, signals, Opened as Opening, IsAskable}
 use Rattle.zk_frames.specs.declared.fault.FrameFault.{FrameFault}

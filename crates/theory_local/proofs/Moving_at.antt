@@ -1,4 +1,5 @@
--- Each move of a server that keeps to the model at some paths keeps what is between it and the client; and so does each schedule.
+-- Each move of a server that keeps to the model at some paths keeps what is between it and the client, since its letters are put in flight;
+-- and so does each schedule, entry by entry.
 use Rattle.std.proofs.Common.{◌≡◌, ℕ, ◌+◌, ◌≤◌, ℤ, pos, Bool, true, false, cond, List, [], ◌∷◌, ◌++◌, map, drop, length, refl, sym, ap}
 use Rattle.std.proofs.Common.{subst, ◌∙◌, arith, append_assoc, inl, inr}
 use Rattle.std.specs.Prelude.{◌≢◌}

@@ -1,4 +1,5 @@
--- Each happening of a client keeps what is between it and its servers.
+-- Each happening of a client keeps what is between it and its servers: happening by happening, by what is first in flight and what waits
+-- first.
 use Rattle.std.proofs.Common.{◌≡◌, ℕ, ◌≤◌, ◌<◌, ℤ, pos, negsuc, Bool, true, false, ◌&&◌, List, [], ◌∷◌, ◌++◌, map, drop, length, refl, sym}
 use Rattle.std.proofs.Common.{ap, subst, ◌∙◌, arith, append_assoc}
 use Rattle.std.proofs.lemmas.List.{length-append, append-nil, map-append}

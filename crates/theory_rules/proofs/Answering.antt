@@ -1,4 +1,4 @@
--- A server that answers the call that stands next.
+-- A server that answers the call that stands next: for each call and each answer to it, that the model's server may give it.
 use Rattle.std.proofs.Common.{ℕ, ℤ, pos, negsuc, ◌≡◌, ◌≤◌, ◌<◌, List, [], ◌∷◌, ◌++◌, refl, sym, subst, Option, Some, None}
 use Rattle.std.specs.Prelude.{Bool, is_some, ◌≢◌}
 use Rattle.std.specs.FinSet as set

@@ -1,4 +1,4 @@
--- What may happen to a client in a schedule.
+-- What may happen to a client in a schedule: for each of its turns, the entry that may stand there.
 use Rattle.std.proofs.Common.{ℕ, ◌≡◌, ◌≤◌, false, List, [], ◌∷◌, ◌++◌, drop, length, refl, ap, ◌∙◌}
 use Rattle.std.proofs.Math.Seq.{drop-append_seam}
 use Rattle.zk_nodes.specs.History.{History}

@@ -1,4 +1,4 @@
--- What the reply to a close ends.
+-- What the reply to a close ends: the client is Closed then, and stays so, since all that may still happen to it is quiet.
 use Rattle.std.proofs.Common.{◌≡◌, ℕ, ℤ, pos, Bool, true, false, cond, ◌||◌, List, [], ◌∷◌, ◌++◌, Option, Some, None, Ok, refl, sym, ap}
 use Rattle.std.proofs.Common.{subst, ◌∙◌, inl, inr}
 use Rattle.std.specs.Prelude.{negsuc}

@@ -1,4 +1,4 @@
--- What a server holds at its place.
+-- What a server holds at its place: the zxid and the tree of the last transaction that it has taken.
 use Rattle.std.proofs.Common.{ℕ, ◌≡◌, List, [], ◌∷◌, ◌++◌, length, take, refl, ap, ◌∙◌}
 use Rattle.zk_nodes.specs.History.{Tree, Transaction, History, apply_all, after, newest}
 use Rattle.zk_laws.specs.Server.{held, tree_held, zxid_held}

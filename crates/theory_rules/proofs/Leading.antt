@@ -1,4 +1,5 @@
--- Where a step leads, and what stands next after it.
+-- Where a step leads, and what stands next after it: step by step, computed from the definition of the step, the server's end and what is
+-- on its way.
 use Rattle.std.proofs.Common.{◌^◌, ℕ, zero, suc, ◌≡◌, ◌≤◌, ◌<◌, ◌+◌, Bool, true, false, ◌||◌, List, [], ◌∷◌, ◌++◌, drop, length, map}
 use Rattle.std.proofs.Common.{flat_map, refl, ap, subst, inl, inr, arith}
 use Rattle.std.specs.Prelude.{◌≢◌, not}

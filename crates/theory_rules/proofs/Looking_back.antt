@@ -1,4 +1,4 @@
--- Stale answers, by a look back.
+-- Stale answers, by a look back: by induction on the past, an answer is stale where it was good at first and something has ended it since.
 use Rattle.std.proofs.Common.{◌≡◌, ◌≢◌, ◌⊎◌, List, [], ◌∷◌, ◌++◌, Option, Some, None, inl, inr, refl, sym, ap, ◌∙◌}
 use Rattle.std.specs.Prelude.{◌↔◌}
 use Rattle.std.specs.List.{AllByRecursion}

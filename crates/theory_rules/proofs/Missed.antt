@@ -1,4 +1,5 @@
--- A stale answer was reported once: by the notice that ended it, and by none that came after.
+-- A stale answer was reported once: by the notice that ended it, and by none that came after, since an answer that is stale already is not
+-- watched.
 use Rattle.std.proofs.Common.{◌≡◌, ◌⊎◌, ◌&&◌, cond, Bool, true, false, List, [], ◌∷◌, ◌++◌, append_assoc, Option, Some, None, inl, inr}
 use Rattle.std.proofs.Common.{refl, sym, ap, subst, ◌∙◌, ℕ, ℤ}
 use Rattle.std.specs.Prelude.{◌↔◌, bytes_eq, is_some}

@@ -1,4 +1,4 @@
--- The xids of the calls.
+-- The xids of the calls: a call alone moves the next xid, by one, and a new connection begins again at 1.
 use Rattle.std.proofs.Common.{◌≡◌, ◌≤◌, ◌<◌, ◌+◌, ◌%◌, ℕ, suc, cond, [], refl, sym, ap, ◌∙◌, arith}
 use Rattle.zk_turns.specs.Turns.{Calls, signals_of}
 use Rattle.zk_turns.specs.Past.{Asked, calls_sent}

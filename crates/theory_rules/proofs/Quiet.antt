@@ -1,4 +1,5 @@
--- Where all that was asked is processed, and all that was sent is received, all is quiet.
+-- Where all that was asked is processed, and all that was sent is received, all is quiet: no request is left, and no frame, as none is
+-- empty.
 use Rattle.std.proofs.Common.{ℕ, zero, suc, ◌≡◌, ◌+◌, Bool, true, false, List, [], ◌∷◌, map, drop, length, refl, sym, ap, subst, ◌∙◌, arith}
 use Rattle.std.specs.Prelude.{◌&&◌, not}
 use Rattle.std.proofs.lemmas.List.{length-append}

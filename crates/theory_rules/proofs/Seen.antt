@@ -1,4 +1,4 @@
--- No reply is ahead of what is seen after its turn.
+-- No reply is ahead of what is seen after its turn: each message leaves the last seen zxid or raises it, to no less than its own.
 use Rattle.std.proofs.Common.{◌≡◌, ℕ, ℤ, pos, length, Bool, true, false, cond, List, [], ◌∷◌, ◌++◌, map, Option, Some, None, refl, sym, ap}
 use Rattle.std.proofs.Common.{subst, ◌∙◌, inl, inr, ◌⊎◌, arith}
 use Rattle.std.specs.Prelude.{◌≤ℤ◌, nat_le, nat_lt}

@@ -1,4 +1,5 @@
--- Payloads that spell the messages of a server, and the orders in which notices may be sent.
+-- Payloads that spell the messages of a server, by the fields of their headers; and the orders in which notices may be sent, as counts that
+-- are the same in any order.
 use Rattle.std.proofs.Common.{ℕ, zero, suc, ℤ, negsuc, ◌≡◌, ◌<◌, ◌+◌, List, [], ◌∷◌, ◌++◌, map, refl, sym, arith, Some}
 use Rattle.std.specs.List.{AllByRecursion}
 use Rattle.std.specs.Prelude.{pos}

@@ -1,4 +1,4 @@
--- A server that takes a transaction, or processes the request that stands next.
+-- A server that takes a transaction, or processes the request that stands next: for each of these steps, that its entry may stand there.
 use Rattle.std.proofs.Common.{ℕ, ℤ, pos, true, false, ◌≡◌, ◌≤◌, ◌<◌, ◌^◌, List, [], ◌∷◌, ◌++◌, map, length, refl, sym, subst, ◌∙◌}
 use Rattle.std.specs.Prelude.{int_lt, ◌≢◌, Bool}
 use Rattle.std.specs.List.{AllByRecursion}

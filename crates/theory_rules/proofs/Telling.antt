@@ -1,4 +1,5 @@
--- What changes and parts of watches tell, and which watches stay.
+-- What changes and parts of watches tell, and which watches stay: change by change and path by path, the notices are those of the rule in
+-- words of its own, and what is not told stays.
 use Rattle.std.proofs.Common.{ℕ, ◌≡◌, ◌≤◌, ◌<◌, Bool, true, false, ◌&&◌, ◌||◌, List, [], ◌∷◌, ◌++◌, map, flat_map, refl, ap, sym, ◌∙◌}
 use Rattle.std.proofs.Common.{subst, inl, inr, ◌⊎◌, arith, Option, Some, None, is_some, append_assoc}
 use Rattle.std.specs.Prelude.{not, nat_lt, if◌then◌else◌}

@@ -20,13 +20,12 @@ use Rattle.zk_cache.specs.Kept.{Full, good}
 use Rattle.zk_turns.specs.View.{view_at}
 use Rattle.zk_turns.specs.Taken.{cut, past_of}
 use Rattle.zk_turns.specs.Rule.{Stands}
-use Rattle.zk_turns.specs.Turns.{IsAskable}
 use Rattle.zk_turns.specs.Ranges.{IsResumable, IsTyped, AllAskOf}
 use Rattle.zk_turns.proofs.Requested.{new_resumable}
 use Rattle.zk_turns.proofs.Stepped.{given_stands}
-use Rattle.theory_runs.specs.Example.{two_changes, at_a, read_a, fields_at_five, a_changed}
+use Rattle.theory_runs.specs.Example.{two_changes, at_a, fields_at_five, a_changed}
 use Rattle.zk_laws.specs.ServerSteps.{Serving, Ended}
-use Rattle.theory_runs.proofs.Shown.{all_sent}
+use Rattle.theory_runs.proofs.Shown.{all_sent, a_askable}
 
 not_ended : Serving ≡ Ended → ⊥
 not_ended e = cc
@@ -148,20 +147,15 @@ unfolding is_utf8 chars encode cut arriving connect_payload call_payload part_pa
     long_at boolean_at length_of length_at counted_at text_bytes_at elements_at flag_at response_at record_of
 last_then = refl
 
--- what is asked is about a path, with values of their types
-pub read_askable : IsAskable read_a
-unfolding is_utf8 chars encode
-read_askable = (refl, refl)
-
 -- and a client stands there
 pub stands_then : Stands new_client (items_in until_cut) (view_at new_client (past_of new_client (items_in until_cut)))
 stands_then =
     given_stands new_client (items_in until_cut) (refl, (refl, (refl, (refl, (refl, (refl, (refl, tt)))))))
-    (tt, (tt, (tt, (tt, (read_askable, (tt, (tt, tt)))))))
+    (tt, (tt, (tt, (tt, (a_askable, (tt, (tt, tt)))))))
 
 -- it began in range, and was asked with values of their types
 pub resumable_then : IsResumable new_client
 resumable_then = new_resumable 30000 (omega arith)
 
 pub typed_then : AllAskOf IsTyped (items_in until_cut)
-typed_then = (tt, (tt, (tt, (tt, (read_askable.0, (tt, (tt, tt)))))))
+typed_then = (tt, (tt, (tt, (tt, (a_askable.0, (tt, (tt, tt)))))))

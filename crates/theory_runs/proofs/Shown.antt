@@ -1,16 +1,19 @@
--- The example meets the premises.
+-- The example meets the premises: each move may be made where it stands, and what it leads to is computed.
 use Rattle.std.proofs.Common.{◌≡◌, List, [], ◌∷◌, refl, ap, sym, inl, arith, Option, Some, None, ℕ, ◌≤◌, length, take, drop}
+use Rattle.std.specs.Str.{is_utf8, chars}
+use lib.Utf8.{encode}
 use Rattle.zk_nodes.specs.declared.side.Side.TheVariants.{Data}
 use Rattle.zk_nodes.specs.Path.{NodePath, path_of}
 use Rattle.zk_nodes.specs.History.{History, Node, IsHistory, view, tree_at}
+use Rattle.zk_turns.specs.Turns.{IsAskable}
 use Rattle.zk_laws.specs.Server.{Notice, AreSent, zxid_held}
 use Rattle.zk_laws.specs.ServerSteps.{Admits}
 use Rattle.zk_laws.proofs.Steps.{World, Joins, By_server}
 use Rattle.zk_watches.specs.Lists.{Lists}
 use Rattle.zk_laws.proofs.Log.{AreParts, Opened, last, good, Full, Suits}
 use Rattle.zk_laws.proofs.Run.{Move, Opens, Goes, moved, start, run, IsSchedule}
-use Rattle.theory_runs.specs.Example.{root_alone, two_changes, at_a, fields_at_five, just_a, just_b, until_restored, until_told, a_changed}
-use Rattle.theory_runs.specs.Example.{two_nodes, at_b, until_first_part}
+use Rattle.theory_runs.specs.Example.{root_alone, two_changes, at_a, read_a, fields_at_five, just_a, just_b, until_restored, until_told, a_changed}
+use Rattle.theory_runs.specs.Example.{two_nodes, at_b, read_b, until_first_part}
 
 pub is_history : IsHistory two_changes
 is_history = record {
@@ -37,6 +40,15 @@ begins : (h : History) (place : ℕ) (parts : List Lists) (moves : List Move) (w
     → IsSchedule h (Opens place ∷ Goes (By_server (Admits (last w.log))) ∷ Goes (Joins parts) ∷ moves) w
 begins h place parts moves w low seen are more = (low, ((refl, refl, seen), ((refl, refl, are), more)))
 
+-- what is asked is about a path, with values of their types
+pub a_askable : IsAskable read_a
+unfolding is_utf8 chars encode
+a_askable = (refl, refl)
+
+b_askable : IsAskable read_b
+unfolding is_utf8 chars encode
+b_askable = (refl, refl)
+
 pub restored : IsSchedule two_changes until_restored (start 0)
 restored =
     let again : IsSchedule two_changes (drop 7 until_restored) (run two_changes (take 7 until_restored) (start 0)) =
@@ -45,7 +57,7 @@ restored =
     ((refl, refl, all_sent []), ((λ e. cc, omega arith, all_sent (a_changed ∷ [])), ((refl, inl refl), tt))) in
     begins two_changes 1 [] (drop 3 until_restored) (start 0) (omega arith) (omega arith)
     (record { data_watches = refl; exist_watches = refl; child_watches = refl })
-    ((refl, refl), ((refl, refl, (refl, refl)), ((refl, inl refl), (tt, again))))
+    ((refl, a_askable), ((refl, refl, (refl, refl)), ((refl, inl refl), (tt, again))))
 
 -- until the notice is taken the answer is good, and the last seen zxid is that of its reply
 pub kept_good : good Data at_a (run two_changes until_restored (start 0)).log ≡ Some (Full (Some (104 ∷ 105 ∷ [])) fields_at_five)
@@ -63,8 +75,8 @@ first_part =
     ((refl, refl, all_sent []), ((refl, inl refl), tt)) in
     begins two_nodes 1 [] (drop 3 until_first_part) (start 0) (omega arith) (omega arith)
     (record { data_watches = refl; exist_watches = refl; child_watches = refl }) (
-      (refl, refl),
-      ((refl, refl), ((refl, refl, (refl, refl)), ((refl, refl, (refl, refl)), ((refl, inl refl), ((refl, inl refl), (tt, again)))))),
+      (refl, a_askable),
+      ((refl, b_askable), ((refl, refl, (refl, refl)), ((refl, refl, (refl, refl)), ((refl, inl refl), ((refl, inl refl), (tt, again)))))),
     )
 
 pub b_good : good Data at_b (run two_nodes until_first_part (start 0)).log ≡ Some (Full (Some (104 ∷ 105 ∷ [])) fields_at_five)

@@ -1,4 +1,4 @@
--- A client that was served goes on to be.
+-- A client that was served goes on to be: for each turn and each move, the schedule so far with that entry more is one.
 use Rattle.std.proofs.Common.{ℕ, ℤ, ◌≡◌, ◌≢◌, ◌≤◌, ◌<◌, true, List, [], ◌∷◌, ◌++◌, map, length, refl, ap, sym, ◌∙◌, subst, inl, inr, ◌⊎◌}
 use Rattle.zk_nodes.specs.History.{IsHistory}
 use Rattle.zk_conversation.specs.Calls.{Call}

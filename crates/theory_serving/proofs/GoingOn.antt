@@ -1,4 +1,5 @@
--- A schedule stays one when the history goes on.
+-- A schedule stays one when the history goes on: what a server holds is a beginning of the history, and transactions that are added leave
+-- each beginning as it was.
 use Rattle.std.proofs.Common.{ℕ, zero, suc, ◌≡◌, ◌<◌, ◌≤◌, ◌+◌, true, List, [], ◌∷◌, ◌++◌, refl, ap, sym, ◌∙◌, subst, arith, map, take}
 use Rattle.std.proofs.Common.{drop, length, Option, Some, None}
 use Rattle.std.specs.Bool.{⊤}

@@ -1,4 +1,5 @@
--- What the servers hear of outputs, one after the other.
+-- What the servers hear of outputs, one after the other: by induction on the outputs, of which only frames and the end of a connection are
+-- heard.
 use Rattle.std.proofs.Common.{ℕ, ◌≡◌, true, false, List, [], ◌∷◌, ◌++◌, refl, ap, sym, ◌∙◌, append_assoc}
 use Rattle.std.proofs.lemmas.List.{append-nil}
 use Rattle.zk_turns.specs.Turns.{Output, Send, Answer, Report, Enters, Drop, ends_connection}

@@ -1,4 +1,4 @@
--- Each entry of a schedule keeps the relation to what is shown.
+-- Each entry of a schedule keeps the relation to what is shown: entry by entry, the client's items first and then the moves of the server.
 use Rattle.std.proofs.Common.{ℕ, zero, suc, ℤ, pos, ◌≡◌, ◌≤◌, ◌<◌, ◌+◌, true, List, [], ◌∷◌, ◌++◌, map, drop, length, refl, ap, sym, ◌∙◌}
 use Rattle.std.proofs.Common.{subst, arith}
 use Rattle.std.specs.List.{AllByRecursion}

@@ -1,4 +1,5 @@
--- The request that stands first is for the stage at which its server is.
+-- The request that stands first is for the stage at which its server is: only the first request of a connection is a ConnectRequest, and
+-- only it is processed before the session is accepted.
 use Rattle.std.proofs.Common.{ℕ, zero, suc, ℤ, ◌≡◌, ◌≢◌, Bool, true, false, List, [], ◌∷◌, ◌++◌, map, drop, length, refl, sym, subst, arith}
 use Rattle.std.specs.List.{AllByRecursion}
 use Rattle.std.specs.Bool.{⊤}

@@ -1,4 +1,5 @@
--- Steps, one list after another, and as entries of a schedule.
+-- Steps, one list after another, and as entries of a schedule: by induction on the steps, each of which may stand where the ones before it
+-- lead.
 use Rattle.std.proofs.Common.{ℕ, zero, suc, ℤ, ◌≡◌, ◌≤◌, ◌+◌, true, List, [], ◌∷◌, ◌++◌, map, drop, length, refl, ap, sym, ◌∙◌, subst}
 use Rattle.std.proofs.Common.{arith, append_assoc}
 use Rattle.std.proofs.lemmas.List.{append-nil}

@@ -1,4 +1,5 @@
--- What a turn makes a client send are the frames of the requests that it adds.
+-- What a turn makes a client send are the frames of the requests that it adds: happening by happening, as each one that sends adds what it
+-- sends.
 use Rattle.zk_watches.specs.Lists.{fires, Lists}
 use Rattle.zk_turns.specs.Turns.{Framed, Silent, Start, Outcome, Signal, Opens, Comes, Cuts, Ticks, Calls, Forget, Halt, Output, Send}
 use Rattle.zk_turns.specs.Turns.{Report, Enters}

@@ -1,4 +1,5 @@
--- A client with a view, and servers in memory.
+-- A client with a view, and servers in memory: for each turn and each move, what held of the two goes on to hold, by its entry of a
+-- schedule.
 use Rattle.std.proofs.Common.{ℕ, ℤ, length, ◌≡◌, ◌≢◌, ◌≤◌, ◌<◌, true, List, [], ◌∷◌, ◌++◌, ap, sym, ◌∙◌, ◌⊎◌}
 use Rattle.std.specs.Prelude.{◌&&◌, not}
 use Rattle.zk_nodes.specs.History.{IsHistory}

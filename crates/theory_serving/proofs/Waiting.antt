@@ -1,4 +1,5 @@
--- What stands first in the bytes that wait.
+-- What stands first in the bytes that wait is the frame of the first request that is not processed: the bytes that were sent are frames,
+-- and whole frames are cut off them.
 use Rattle.std.proofs.Common.{ℕ, zero, suc, ℤ, pos, ◌≡◌, ◌<◌, ◌≤◌, ◌^◌, Bool, true, false, List, [], ◌∷◌, ◌++◌, map, drop, take, length}
 use Rattle.std.proofs.Common.{Some, refl, ap, sym, ◌∙◌, subst, arith, append_assoc}
 use Rattle.std.specs.Prelude.{◌&&◌}

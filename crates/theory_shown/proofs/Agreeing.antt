@@ -1,4 +1,5 @@
--- What is printed over connections to a server in memory is what its history has.
+-- What is printed over connections to a server in memory is what its history has: such a server does what servers of the model do, so their
+-- laws hold.
 use Rattle.std.proofs.Common.{ℕ, Bool, true, false, List, [], ◌++◌, refl, sym, subst, ap}
 use Rattle.zk_nodes.specs.History.{IsHistory}
 use Rattle.zk_turns.specs.Turns.{new_start}

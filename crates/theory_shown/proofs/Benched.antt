@@ -1,4 +1,4 @@
--- What a bench does beside a driver is what servers of the model do.
+-- What a bench does beside a driver is what servers of the model do: act by act, and so stretch by stretch of a run.
 use Rattle.std.proofs.Common.{◌≡◌, ◌∙◌, ℕ, inl, inr, Bool, true, false, List, [], ◌∷◌, Some, None, ap, append-nil, refl, sym, subst}
 use Rattle.std.specs.Prelude.{take}
 use Rattle.std.specs.List.{FoldsTo}

@@ -1,4 +1,5 @@
--- What a client that a script drives prints is the history's.
+-- What a client that a script drives prints is the history's: deed by deed the client stays served, with what is under way counted, so each
+-- look-up shows what the history has.
 use Rattle.std.proofs.Common.{◌≡◌, ◌++◌, ◌∙◌, ℕ, Bool, true, false, List, [], ◌∷◌, ap, refl, sym}
 use Rattle.std.proofs.Common.{subst}
 use Rattle.std.specs.Prelude.{◌&&◌, ◌||◌, if◌then◌else◌, not}

@@ -1,4 +1,5 @@
--- What the lines of a script ask of its first session is in range.
+-- What the lines of a script ask of its first session is in range: word by word, as each number that is read is tested, and of digits that
+-- are few enough.
 use Rattle.std.proofs.Common.{◌≡◌, ◌≤◌, ◌<◌, ◌+◌, ◌-◌, ◌*◌, ◌^◌, ℕ, ℤ, pos, negsuc, Bool, true, false, List, [], ◌∷◌, Option, Some, None}
 use Rattle.std.proofs.Common.{length, refl, sym, subst, arith, w64}
 use Rattle.std.proofs.lemmas.Bool.Decides.{nat_tests}

@@ -1,4 +1,4 @@
--- Beside a run in which nothing comes a bench can go on.
+-- Beside a run in which nothing comes a bench can go on: stretch by stretch, it takes what is written and does nothing else.
 use Rattle.std.proofs.Common.{◌≡◌, ◌<◌, ◌++◌, ◌∙◌, ◌&&◌, ℕ, Bool, true, false, List, [], ◌∷◌, Option, Some, None, length, ap, append-nil}
 use Rattle.std.proofs.Common.{arith, refl, sym, subst}
 use Rattle.std.specs.FinSet as set

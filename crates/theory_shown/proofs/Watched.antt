@@ -1,4 +1,4 @@
--- What a watch prints is the history's.
+-- What a watch prints is the history's: move by move the watch's client stays served, so what it shows is what the history has.
 use Rattle.std.proofs.Common.{ℕ, List, [], ◌∷◌, ap, sym, subst}
 use Rattle.std.specs.List.{FoldsTo}
 use Rattle.zk_nodes.specs.History.{History, IsHistory}

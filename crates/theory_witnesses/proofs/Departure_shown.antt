@@ -28,7 +28,8 @@ use Rattle.zk_laws.specs.Server.{Fits}
 use Rattle.zk_laws.specs.Served.{Served}
 use Rattle.theory_runs.specs.Example.{two_changes, at_a, fields_at_five}
 use Rattle.theory_runs.specs.Meeting_example.{new_client, welcome_payload, reply_ends, until_accepted}
-use Rattle.theory_runs.proofs.Meeting_shown.{accepted_then, read_askable}
+use Rattle.theory_runs.proofs.Shown.{a_askable}
+use Rattle.theory_runs.proofs.Meeting_shown.{accepted_then}
 use Rattle.zk_laws.proofs.Headlines.{true_reads}
 use Rattle.theory_local.specs.LocalSteps.{IsOf, IsAbout}
 use Rattle.theory_local.specs.LocalServed.{items_at, IsServingAt}
@@ -226,7 +227,7 @@ config_askable = (refl, refl)
 pub refused_stands : Stands new_client (items_at until_refused) (view_at new_client (past_of new_client (items_at until_refused)))
 refused_stands =
     given_stands new_client (items_at until_refused) (refl, (refl, (refl, (refl, (refl, (refl, (refl, (refl, (refl, (refl, tt))))))))))
-    (tt, (tt, (tt, (tt, (tt, (read_askable, (tt, (config_askable, (tt, (tt, tt))))))))))
+    (tt, (tt, (tt, (tt, (tt, (a_askable, (tt, (config_askable, (tt, (tt, tt))))))))))
 
 -- the reply about the configuration was taken
 config_taken : Among (Takes_in (Answers_call 7 (question_of read_config) (pos 5) what_config_held))

@@ -1,4 +1,4 @@
--- Two wait in line, one after the other, and their names rise.
+-- Two wait in line, one after the other, and their names rise: transaction by transaction of the history, which is computed.
 use Rattle.std.proofs.Common.{◌≡◌, ◌≤◌, ℕ, pos, Bool, true, false, ◌&&◌, cond, [], ◌∷◌, refl, sym, ap, subst, arith, inl, inr, ◌⊎◌, Option}
 use Rattle.std.proofs.Common.{Some, None, is_some}
 use Rattle.std.specs.Prelude.{bytes_eq, nat_le}

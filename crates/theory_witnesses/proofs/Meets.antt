@@ -1,4 +1,4 @@
--- The client of the whole schedule was served at each of its places.
+-- The client of the whole schedule was served at each of its places, since a beginning of a schedule is one; what it keeps is computed.
 use Rattle.std.proofs.Common.{◌≡◌, pos, List, [], ◌∷◌, Some, refl}
 use Rattle.zk_cache.specs.Kept.{Full, good}
 use Rattle.zk_turns.specs.Turns.{IsAskable, AllAskOf}

@@ -1,4 +1,5 @@
--- Where a session ends: by a message alone, and the client says so.
+-- Where a session ends: by a message alone, and the client says so. Each happening that brings no message leaves the state one that is not
+-- final, and the reply to a close ends the connection.
 use Rattle.std.proofs.Common.{◌≡◌, ◌++◌, ◌⊎◌, inl, inr, ℕ, Bool, true, false, ◌||◌, List, [], ◌∷◌, Option, Some, None, refl, sym, ap, subst}
 use Rattle.std.proofs.Common.{◌∙◌}
 use Rattle.std.specs.Prelude.{max}

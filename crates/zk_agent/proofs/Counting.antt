@@ -1,4 +1,4 @@
--- Each call waits or is settled, and never both.
+-- Each call waits or is settled, and never both: each move keeps the sum of those that wait and those that are told, ticket by ticket.
 use Rattle.std.proofs.Common.{zero-add, ◌≡◌, ◌++◌, ◌+◌, ℕ, Bool, true, false, cond, ◌&&◌, not, List, [], ◌∷◌, Option, Some, None, map, refl}
 use Rattle.std.proofs.Common.{sym, ap, ◌∙◌, arith}
 use Rattle.std.specs.Prelude.{◌==◌}

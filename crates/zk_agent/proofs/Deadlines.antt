@@ -1,4 +1,4 @@
--- The first of several moments.
+-- The first of several moments is the first at which one of them has come: two at a time, and so of five.
 use Rattle.std.proofs.Common.{◌≡◌, ◌<◌, ◌^◌, ℕ, Bool, true, false, ◌||◌, Option, Some, None, refl, sym, ap, subst, ◌∙◌, arith}
 use Rattle.std.specs.Prelude.{nat_le, min, IfSome}
 use Rattle.std.proofs.lemmas.Bool.Decides.{nat_tests}

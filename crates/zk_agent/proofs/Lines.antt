@@ -1,4 +1,5 @@
--- What becomes of a line while a call is handed over.
+-- What becomes of a line while a call is handed over: what is heard settles calls and makes others wait again, and never makes one wait for
+-- its turn that did not.
 use Rattle.std.proofs.Common.{◌≡◌, ◌≤◌, ◌<◌, ◌+◌, ◌++◌, ◌⊎◌, inl, inr, ℕ, Bool, true, false, cond, not, List, [], ◌∷◌, Option, Some, None}
 use Rattle.std.proofs.Common.{refl, sym, ap, subst, ◌∙◌, arith}
 use Rattle.std.specs.Prelude.{◌||◌, All, get_or}

@@ -1,4 +1,4 @@
--- Moves, one after the other.
+-- Moves, one after the other: what each of them keeps, lists of them keep; and single moves, each from what the agent's parts say of it.
 use Rattle.std.proofs.Common.{◌≡◌, ◌≢◌, ◌++◌, ◌⊎◌, inl, inr, ℕ, ℤ, Bool, true, false, cond, ◌&&◌, List, [], ◌∷◌, Option, map, refl, sym, ap}
 use Rattle.std.proofs.Common.{subst, ◌∙◌}
 use Rattle.std.specs.Prelude.{Result, Ok, Err, OnOk, All, is_some}

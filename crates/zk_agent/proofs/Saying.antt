@@ -1,4 +1,4 @@
--- What outputs say, and what is told of them.
+-- What outputs say, and what is told of them: output by output, what is gone through so far and what is left are all.
 use Rattle.std.proofs.Common.{◌≡◌, ◌<◌, ◌+◌, ◌++◌, append_assoc, ℕ, Bool, List, [], ◌∷◌, length, get_or, map, take, fold, refl, sym, ap}
 use Rattle.std.proofs.Common.{◌∙◌}
 use Rattle.std.specs.Prelude.{Result, Ok, Err, OnOk, ◌||◌}

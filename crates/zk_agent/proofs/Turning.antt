@@ -1,4 +1,5 @@
--- Turns of a client: what they leave waiting for replies, and where no call can be handed over.
+-- Turns of a client: what they leave waiting for replies, and where no call can be handed over. A call that is sent waits, and one that is
+-- denied was so for a reason that stays.
 use Rattle.std.proofs.Common.{◌≡◌, ◌≢◌, ◌++◌, append_assoc, ◌⊎◌, inl, inr, ℕ, pos, Bool, true, false, cond, ◌||◌, List, [], ◌∷◌, Option}
 use Rattle.std.proofs.Common.{Some, None, refl, sym, ap, subst, ◌∙◌, eq-eqb, arith}
 use Rattle.std.specs.Prelude.{◌==◌, nat_le, nat_lt, length, max}

@@ -1,4 +1,5 @@
--- What answers a ConnectRequest.
+-- What answers a ConnectRequest is the message that the laws name: the session is accepted where its timeout is above 0, and else it has
+-- expired.
 use Rattle.std.proofs.Common.{ℕ, ℤ, pos, ◌≡◌, Bool, true, false, List, [], refl, sym, subst, None, Option}
 use Rattle.std.proofs.lemmas.List.{append-nil}
 use Rattle.std.specs.Prelude.{int_lt}

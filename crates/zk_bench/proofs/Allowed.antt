@@ -1,4 +1,4 @@
--- What is not refused is a change that the history takes.
+-- What is not refused is a change that the history takes: each test that passed is one of the conditions under which a change is legal.
 use Rattle.std.proofs.Common.{◌≡◌, ◌<◌, ◌≤◌, ◌+◌, ◌-◌, ◌%◌, ◌==◌, ◌&&◌, ◌^◌, fold, replicate, append_assoc, ℕ, zero, suc, ℤ, pos, Bool}
 use Rattle.std.proofs.Common.{true, false, cond, List, [], ◌∷◌, ◌++◌, length, take, Option, Some, None, refl, sym, ap, ◌∙◌, subst, arith}
 use Rattle.std.specs.Prelude.{bytes_eq, is_some, nat_lt, not}

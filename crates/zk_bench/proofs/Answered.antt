@@ -1,4 +1,4 @@
--- What is answered to a read, and the watches that it leaves.
+-- What is answered to a read, and the watches that it leaves: read by read, where the node is there and where it is not.
 use Rattle.std.proofs.Common.{ℕ, ℤ, pos, ◌≡◌, Bool, true, false, ◌&&◌, ◌||◌, List, [], ◌∷◌, ◌++◌, refl, ap, sym, ◌∙◌, subst, map, Option}
 use Rattle.std.proofs.Common.{Some, None, cond}
 use Rattle.std.proofs.lemmas.List.{append-nil}

@@ -1,4 +1,4 @@
--- Which request stands in a payload.
+-- Which request stands in a payload: a record is read in one way, so the request that was read is the one that was asked, kind by kind.
 use Rattle.std.proofs.Common.{ℕ, ℤ, pos, ◌≡◌, refl, sym, ap, subst, ◌∙◌, Bool, List, None, Some, Option, take, drop}
 use Rattle.std.specs.Prelude.{◌≤◌, option_map, unwrap_or}
 use Rattle.zk_jute.specs.Layout.{Value}

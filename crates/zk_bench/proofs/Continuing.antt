@@ -1,4 +1,5 @@
--- How a history goes on.
+-- How a history goes on: what is there stays, and transactions are added after it, so its zxids go on rising and there are fewer
+-- transactions than zxids.
 use Rattle.std.proofs.Common.{◌≡◌, ◌<◌, ◌+◌, ◌^◌, ℕ, zero, suc, ℤ, List, [], ◌∷◌, ◌++◌, Option, Some, refl, sym, ap, subst, ◌∙◌, arith}
 use Rattle.std.specs.Prelude.{unwrap_or, slice_get}
 use Rattle.std.proofs.lemmas.List.{append-nil}

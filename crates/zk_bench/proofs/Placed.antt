@@ -1,4 +1,4 @@
--- Where a server stands in a history.
+-- Where a server stands in a history: by induction on the transactions that it has taken, whose last one has its zxid, as zxids rise.
 use Rattle.std.proofs.Common.{◌≡◌, ◌<◌, ◌≤◌, ◌-◌, ◌^◌, ℕ, zero, suc, ℤ, pos, negsuc, List, [], ◌∷◌, Option, Some, None, refl, sym, ap}
 use Rattle.std.proofs.Common.{subst, ◌∙◌, arith, take, length}
 use Rattle.std.specs.Prelude.{unwrap_or, slice_get, FitsSigned}

@@ -1,4 +1,5 @@
--- Steps of a server that takes transactions and then processes a request.
+-- Steps of a server that takes transactions and then processes a request: the two lists of steps are joined, and what the bench did is the
+-- last step, one lemma for each way in which a request ends.
 use Rattle.std.proofs.Common.{ℕ, zero, suc, ℤ, pos, negsuc, ◌≡◌, ◌≢◌, ◌≤◌, ◌<◌, ◌+◌, refl, ap, sym, ◌∙◌, subst, arith, inl, List, [], ◌∷◌}
 use Rattle.std.proofs.Common.{◌++◌, length, drop, append_assoc, Bool, true, false, if◌then◌else◌}
 use mathlib.Core.Path.{fun_ext}

@@ -1,4 +1,4 @@
--- What is told and watched where watches are set anew.
+-- What is told and watched where watches are set anew: list by list and path by path of the part, each path is told about or watched again.
 use Rattle.std.proofs.Common.{ℕ, zero, suc, ℤ, pos, negsuc, ◌≡◌, ◌<◌, ◌≤◌, ◌+◌, Bool, true, false, not, ◌&&◌, ◌||◌, List, [], ◌∷◌, ◌++◌}
 use Rattle.std.proofs.Common.{refl, ap, sym, ◌∙◌, subst, arith, map, append_assoc, length, take, inl, inr, ◌⊎◌, Option, Some, None}
 use Rattle.std.proofs.lemmas.List.{append-nil}

@@ -1,4 +1,5 @@
--- How many bytes the names of a node's children take in an answer.
+-- How many bytes the names of a node's children take in an answer: names that are all different weigh no more than a list that has them
+-- all, so what fits that list fits.
 use Rattle.std.proofs.Common.{ℕ, ℤ, ◌≡◌, ◌+◌, ◌<◌, ◌≤◌, ◌^◌, refl, ap, sym, subst, ◌∙◌, arith, Bool, true, false, ◌||◌, cond, List, [], ◌∷◌}
 use Rattle.std.proofs.Common.{map, length, length-append, Option, None, Some}
 use Rattle.std.specs.Prelude.{String, string_bytes, sum_by}

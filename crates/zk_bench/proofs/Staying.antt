@@ -1,4 +1,4 @@
--- Why a connection stays: what is sent fits a frame.
+-- Why a connection stays: what is sent fits a frame, since each field of it is short, or is as long as what came in a frame.
 use Rattle.std.proofs.Common.{ℕ, ℤ, pos, ◌≡◌, ◌+◌, ◌≤◌, ap, ◌∙◌, arith, true, List, [], ◌++◌, length, length-append, Option, Some, None}
 use Rattle.std.specs.Prelude.{FitsSigned, Ok, Err, IsErrOf}
 use Rattle.std.specs.Prelude.{Result as Outcome}

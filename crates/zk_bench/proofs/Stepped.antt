@@ -1,4 +1,5 @@
--- Steps of a server that takes transactions.
+-- Steps of a server that takes transactions: one transaction after another, with the notices that each fires, up to the place where it
+-- stands then.
 use Rattle.std.proofs.Common.{ℕ, zero, suc, ℤ, pos, ◌≡◌, ◌≢◌, ◌<◌, ◌≤◌, ◌+◌, refl, ap, sym, ◌∙◌, subst, arith, List, [], ◌∷◌, ◌++◌, length}
 use Rattle.std.proofs.Common.{take, drop, ◌^◌, append_assoc, Bool, true, false, ◌&&◌, if◌then◌else◌}
 use mathlib.Core.Path.{fun_ext}

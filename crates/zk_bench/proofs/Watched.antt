@@ -1,4 +1,5 @@
--- What an event does to the watches of two sets of texts, and how what is told joins.
+-- What an event does to the watches of two sets of texts, and how what is told joins: one side at a time, then change by change, each
+-- telling after the one before.
 use Rattle.std.proofs.Common.{ℕ, zero, suc, ℤ, pos, negsuc, ◌≡◌, ◌<◌, ◌+◌, Bool, true, false, not, ◌&&◌, ◌||◌, if◌then◌else◌, List, [], ◌∷◌}
 use Rattle.std.proofs.Common.{◌++◌, refl, ap, sym, ◌∙◌, subst, arith, map, append_assoc, length, take, drop, Option, Some, None, inl, inr}
 use Rattle.std.proofs.Common.{◌⊎◌}

@@ -1,4 +1,5 @@
--- What writes make, and which are refused.
+-- What writes make, and which are refused: write by write, a refusal by its code, and the name of a sequential node by its number and
+-- digits.
 use Rattle.std.proofs.Common.{◌-◌, nat_lt, nat_le, ◌||◌, map, take, get_or, length, List, ◌<◌, ◌^◌, ◌≡◌, ◌+◌, ◌≤◌, ℕ, ℤ, zero, suc, pos}
 use Rattle.std.proofs.Common.{Bool, false, cond, [], ◌∷◌, ◌++◌, Option, Some, None, refl, sym, ap, ◌∙◌, subst, arith}
 use Rattle.std.specs.Prelude.{unwrap_or, bytes_eq, slice_get, count_by, min, replicate, Ok, Err, IfErr, OnOk}

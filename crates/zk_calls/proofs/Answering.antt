@@ -1,4 +1,4 @@
--- What becomes of one call, by its place.
+-- What becomes of one call, by its place: a call is found there by its ticket, so what is done to the line is done to that place.
 use Rattle.std.proofs.Common.{◌≡◌, ◌<◌, ◌+◌, ◌++◌, ℕ, Bool, true, false, cond, not, List, [], ◌∷◌, Some, None, length, get_or, set, map}
 use Rattle.std.proofs.Common.{take, sym, ap, ◌∙◌, arith}
 use Rattle.std.specs.List.{position, remove}

@@ -1,4 +1,5 @@
--- How many calls, the first of them, were handed over.
+-- How many calls, the first of them, were handed over: one that is added is behind them, and the next that is handed over is the first of
+-- the others.
 use Rattle.std.proofs.Common.{◌≡◌, ◌<◌, ◌≤◌, ◌+◌, ◌++◌, ◌≢◌, nat_lt, ℕ, Bool, true, false, List, [], ◌∷◌, length, get_or, set, refl, ap}
 use Rattle.std.proofs.Common.{◌∙◌, arith}
 use Rattle.std.proofs.Math.ListN.{length-set}

@@ -1,4 +1,4 @@
--- Lists in order: what adds to one, takes from one, and finds in one.
+-- Lists in order: what adds to one, takes from one, and finds in one. By induction on the list, where the first stands before all others.
 use Rattle.std.proofs.Common.{◌≡◌, ◌<◌, ◌++◌, ◌&&◌, nat_lt, ℕ, zero, suc, Bool, true, false, cond, not, List, [], ◌∷◌, Some, None, length}
 use Rattle.std.proofs.Common.{get_or, refl, sym, ap, ◌∙◌, arith}
 use Rattle.std.specs.List.{filter, list_all, position, position_or_len}

@@ -1,4 +1,4 @@
--- What stands in the place of the first that passes a test.
+-- What stands in the place of the first that passes a test: by induction on the list, its place is the number of those before it.
 use Rattle.std.proofs.Common.{◌≡◌, ◌<◌, ◌≤◌, ◌++◌, ℕ, zero, suc, Bool, true, false, cond, List, [], ◌∷◌, Option, Some, None, length, get_or}
 use Rattle.std.proofs.Common.{set, refl, ap, ◌∙◌, arith}
 use Rattle.std.specs.List.{position, position_or_len, remove}

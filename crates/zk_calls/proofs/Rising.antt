@@ -1,4 +1,4 @@
--- Calls whose tickets or limits rise.
+-- Calls whose tickets or limits rise: so a search by halves finds a ticket, and the first limit is the least.
 use Rattle.std.proofs.Common.{◌≡◌, ◌<◌, ◌≤◌, ◌&&◌, ◌==◌, nat_le, nat_lt, min, ℕ, Bool, true, false, cond, not, List, [], ◌∷◌, Option, Some}
 use Rattle.std.proofs.Common.{None, length, get_or, is_some, refl, sym, ap, ◌∙◌, fold, arith}
 use Rattle.std.specs.List.{filter, list_all, position}

@@ -1,4 +1,4 @@
--- What a reply leaves.
+-- What a reply leaves: field by field of what a client shows, by what its question and its result leave on either side.
 use Rattle.std.proofs.Common.{◌≡◌, ℕ, ℤ, Bool, true, false, List, [], ◌∷◌, Option, drop, refl, ap, sym, ◌∙◌}
 use Rattle.std.specs.Int.{int_max}
 use Rattle.zk_nodes.specs.Path.{Text}

@@ -1,4 +1,4 @@
--- What a call that is sent leaves.
+-- What a call that is sent leaves: one question more is pending, and a read with a watch takes one place more.
 use Rattle.std.proofs.Common.{◌≡◌, ℕ, ◌+◌, ◌≤◌, ◌<◌, Bool, List, [], ◌∷◌, ◌++◌, length, Option, Some, None, refl, ap, ◌∙◌, cond, filter}
 use Rattle.std.proofs.Common.{arith, length-append}
 use Rattle.std.proofs.lemmas.List.Elements.{filter-append}

@@ -1,4 +1,4 @@
--- Turns one after the other, in one call.
+-- Turns one after the other, in one call: a moment is told first, and then the input, so where neither halts the client stands after both.
 use Rattle.std.proofs.Common.{◌≡◌, ℕ, ◌*◌, ◌-◌, Bool, true, false, List, [], ◌∷◌, ◌++◌, refl, sym, ap, subst, ◌∙◌, max, inr}
 use Rattle.std.specs.Prelude.{nat_le, ◌&&◌, if◌then◌else◌, Result, Ok, Err, OnOk}
 use Rattle.zk_turns.specs.Turns.{Start, Item, Turned, Input, Now, Output, Silent, Ticks}

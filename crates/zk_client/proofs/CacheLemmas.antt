@@ -1,4 +1,5 @@
--- What is kept of each path, by what a cache keeps.
+-- What is kept of each path, by what a cache keeps: two caches are one that keep the same of each path, so each call on a cache is followed
+-- at one path.
 use Rattle.std.proofs.Common.{◌≡◌, Bool, true, false, ◌&&◌, Option, refl, ap, ◌∙◌}
 use Rattle.std.specs.Prelude.{bytes_eq, if◌then◌else◌}
 use Rattle.zk_nodes.specs.Path.{Text}

@@ -1,4 +1,5 @@
--- What a payload brings, and what it finds.
+-- What a payload brings, and what it finds: case by case of what arrived, which is the first message while Connecting, and a later one
+-- while Connected.
 use Rattle.std.proofs.Common.{◌≡◌, ℕ, ◌+◌, ◌≤◌, Bool, List, ◌∷◌, ◌++◌, length, drop, Result, Ok, Err, refl, ap, sym, subst, ◌∙◌, arith}
 use Rattle.std.proofs.Common.{length-append}
 use Rattle.zk_jute.specs.declared.fault.TakeError.{TakeError}

@@ -1,4 +1,5 @@
--- Copies of a list, one after the other.
+-- Copies of a list, one after the other: what is copied so far is the list's beginning, and what is kept back to front is turned round at
+-- the end.
 use Rattle.std.proofs.Common.{◌≡◌, ℕ, ◌+◌, ◌<◌, List, [], ◌∷◌, ◌++◌, length, map, take, reverse, refl, sym, ap, ◌∙◌}
 use Rattle.std.specs.Prelude.{slice_index_or}
 use Rattle.std.proofs.lemmas.List.{map-append, take_more, reverse-append, reverse-reverse}

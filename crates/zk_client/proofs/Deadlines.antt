@@ -1,4 +1,5 @@
--- When something is due, by a session's deadline.
+-- When something is due, by a session's deadline: the first moment at which the session's test says so is the first at which a tick makes a
+-- client do something.
 use Rattle.std.proofs.Common.{◌≡◌, ℕ, ◌^◌, ◌<◌, Bool, true, false, List, [], refl, sym, ◌∙◌}
 use Rattle.std.specs.Prelude.{Option, Some, None, IfSome}
 use Rattle.zk_session.specs.declared.states.Due.{Due}

@@ -1,4 +1,5 @@
--- The ends of a session and of a connection, in what a client shows.
+-- The ends of a session and of a connection, in what a client shows: nothing is left of a session that has expired, so each field is the
+-- empty one.
 use Rattle.std.proofs.lemmas.Int.{ints}
 use Rattle.std.proofs.Common.{◌≡◌, ℕ, zero, suc, ℤ, pos, negsuc, ◌≤ℤ◌, Bool, false, List, [], ◌∷◌, length, refl, ap, ◌∙◌, arith}
 use Rattle.std.specs.Prelude.{int_lt, unsigned_abs, if◌then◌else◌}

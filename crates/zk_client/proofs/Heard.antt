@@ -1,4 +1,5 @@
--- Bytes that are held, a frame at a time.
+-- Bytes that are held, a frame at a time: the client takes whole frames from what it holds, and the definitions take byte by byte, which
+-- comes to the same as soon as a frame is whole.
 use Rattle.std.proofs.Common.{◌≡◌, ℕ, ◌≤◌, ◌<◌, Bool, true, false, List, [], ◌∷◌, ◌++◌, map, length, refl, ap, sym, subst, ◌∙◌, arith}
 use Rattle.std.specs.Prelude.{Option, None, Err, MatchOption}
 use Rattle.zk_frames.specs.Frame.{frame, IsUnfinished, IsNegative, IsTooLong}

@@ -1,4 +1,4 @@
--- The parts of setWatches, one after the other.
+-- The parts of setWatches, one after the other: by their index, each of them asks one question more and sends one frame more.
 use Rattle.std.proofs.Common.{◌≡◌, ℕ, ℤ, zero, nat_lt, suc, ◌+◌, ◌≤◌, ◌<◌, Bool, false, List, [], ◌∷◌, ◌++◌, map, take, length, eqb, get_or}
 use Rattle.std.proofs.Common.{refl, ap, sym, subst, ◌∙◌, arith, add-one, All}
 use Rattle.std.proofs.Math.Dec.{eqb-suc-suc, eqb-zero-suc}

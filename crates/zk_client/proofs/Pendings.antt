@@ -1,4 +1,4 @@
--- What is pending, as it is taken.
+-- What is pending, as it is taken: by induction on it, since what a taking skips has no ticket, and is answered nothing.
 use Rattle.std.proofs.Common.{◌≡◌, ℕ, ℤ, suc, ◌<◌, ◌≤◌, List, [], ◌∷◌, ◌++◌, length, Option, Some, None, refl, ap, sym, ◌∙◌, arith}
 use Rattle.std.specs.Prelude.{is_some, if◌then◌else◌}
 use Rattle.std.specs.List.{flat_map}

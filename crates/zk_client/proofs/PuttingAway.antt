@@ -1,4 +1,5 @@
--- What is put away is read again, and what is read was spelled so.
+-- What is put away is read again, and what is read was spelled so: by the laws of the layouts that its bytes have, and digit by digit as
+-- text.
 use Rattle.std.proofs.Common.{◌≡◌, ℕ, zero, suc, ◌<◌, ◌≤◌, ℤ, pos, negsuc, ◌≤ℤ◌, Bool, true, false, List, [], ◌∷◌, ◌++◌, length, Some, None}
 use Rattle.std.proofs.Common.{Result, Ok, Err, refl, sym, ap, subst, ◌∙◌, arith}
 use Rattle.std.specs.Prelude.{IfOk, MatchResult, int_lt, nat_lt, if◌then◌else◌}

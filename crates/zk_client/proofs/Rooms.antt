@@ -1,4 +1,5 @@
--- The paths that are watched and those that are to be stay within the most.
+-- The paths that are watched and those that are to be stay within the most: a read that is to leave a watch counts from its asking, and its
+-- reply turns that place into the watch.
 use Rattle.std.proofs.Common.{◌≡◌, ℕ, suc, ◌+◌, ◌≤◌, Bool, true, false, List, [], ◌∷◌, ◌++◌, length, Option, Some, None, refl, ap, sym, ◌∙◌}
 use Rattle.std.proofs.Common.{cond, not, arith, length-append}
 use Rattle.std.specs.Prelude.{bytes_eq}

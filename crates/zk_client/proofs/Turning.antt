@@ -1,4 +1,4 @@
--- One signal, by its happenings.
+-- One signal, by its happenings: after each of them the client shows what the definitions give, and says what they make it say.
 use Rattle.std.proofs.Common.{◌≡◌, ℕ, ◌*◌, ◌-◌, Bool, true, false, List, [], ◌∷◌, ◌++◌, refl, ap, sym, subst, ◌∙◌, max, append_assoc, inl}
 use Rattle.std.proofs.Common.{inr, ◌⊎◌}
 use Rattle.std.specs.Prelude.{nat_le, if◌then◌else◌}

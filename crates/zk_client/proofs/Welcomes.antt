@@ -1,4 +1,4 @@
--- What an accepted response leaves.
+-- What an accepted response leaves: field by field, the session that it names, and the questions of the parts that are sent.
 use Rattle.std.proofs.lemmas.Int.{ints}
 use Rattle.std.proofs.Common.{◌≡◌, ℕ, zero, suc, ℤ, pos, negsuc, ◌<ℤ◌, ◌≤ℤ◌, ◌≤◌, Bool, true, List, [], ◌∷◌, ◌++◌, map, length, refl, ap}
 use Rattle.std.proofs.Common.{◌∙◌, arith}

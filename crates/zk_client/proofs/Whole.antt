@@ -1,4 +1,4 @@
--- A whole client: where it begins, and what a halt leaves.
+-- A whole client: where it begins, and what a halt leaves, put together from its parts.
 use Rattle.std.proofs.Common.{◌≡◌, ℕ, ◌≤◌, Bool, true, false, List, [], length, refl, ap, ◌∙◌, arith}
 use Rattle.zk_frames.specs.Held.{Held, reading}
 use Rattle.zk_session.specs.SessionView.{SessionView, Saved, start as kept_start}

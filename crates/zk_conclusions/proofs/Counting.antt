@@ -1,4 +1,4 @@
--- Where there is a walk of at most so many nodes, no refusal is true.
+-- Where there is a walk of at most so many nodes, no refusal is true: distinct paths that are all among others are no more than these.
 use Rattle.std.proofs.Common.{◌≡◌, ◌≤◌, ◌⊎◌, inl, inr, suc, List, [], ◌∷◌, refl, ap, sym, ◌∙◌, subst, length, arith}
 use Rattle.zk_turns.specs.Meaning.{Among}
 use Rattle.zk_nodes.specs.Path.{Text}

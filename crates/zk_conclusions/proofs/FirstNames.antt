@@ -1,4 +1,4 @@
--- None of some names stands before another, as a test and as a list says it.
+-- None of some names stands before another, as a test and as a list says it: name by name.
 use Rattle.std.proofs.Common.{◌≡◌, ◌↔◌, inl, inr, Bool, true, false, ◌&&◌, ◌||◌, not, List, [], ◌∷◌, map, String, string_bytes, refl, sym}
 use Rattle.std.proofs.Common.{ap, ◌∙◌, subst}
 use Rattle.std.specs.List.{list_any}

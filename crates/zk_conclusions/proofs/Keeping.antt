@@ -1,4 +1,5 @@
--- What is kept of one node, and its children.
+-- What is kept of one node, and its children: the texts of its set of names are the children's, each once, and a name that makes no path is
+-- found.
 use Rattle.std.proofs.Common.{ℕ, ◌≡◌, ◌≢◌, inl, inr, true, false, List, [], ◌∷◌, ◌++◌, map, Option, Some, None, refl, ap, sym, ◌∙◌, subst}
 use Rattle.std.proofs.Common.{append_assoc, string_bytes}
 use Rattle.std.proofs.lemmas.List.{map-append}

@@ -1,4 +1,4 @@
--- The last rival before a name, found name by name.
+-- The last rival before a name, found name by name: what was found so far is the last of the names gone through.
 use Rattle.std.proofs.Common.{ℕ, zero, suc, ◌≡◌, ◌<◌, ◌≤◌, ◌⊎◌, inl, inr, Bool, true, false, ◌&&◌, List, [], ◌∷◌, map, length, take, get_or}
 use Rattle.std.proofs.Common.{Option, Some, None, String, string_bytes, refl, sym, ap, subst, arith}
 use Rattle.std.proofs.lemmas.Bool.{and_parts}

@@ -1,4 +1,4 @@
--- What a getChildren is answered with lists each name that is there.
+-- What a getChildren is answered with lists each name that is there: such an answer is a true read of the tree at its zxid.
 use Rattle.zk_nodes.specs.Path.{path_of}
 use Rattle.zk_nodes.specs.History.{Tree, tree_at}
 use Rattle.zk_conversation.specs.Questions.{GetChildren}

@@ -1,4 +1,4 @@
--- What was looked up at one last seen zxid is of one tree.
+-- What was looked up at one last seen zxid is of one tree: each answer is that of the tree at its zxid, which is the same.
 use Rattle.std.proofs.Common.{ℤ, subst}
 use Rattle.zk_nodes.specs.History.{History, tree_at}
 use Rattle.zk_laws.specs.Messages.{from_zero}

@@ -1,4 +1,5 @@
--- A node stands with the czxid with which it was made.
+-- A node stands with the czxid with which it was made: by induction on the changes since, each of which makes nodes with its own newer zxid
+-- or leaves the czxid.
 use Rattle.std.specs.Option.{option_map}
 use Rattle.std.proofs.Common.{ℕ, ℤ, ◌≡◌, ◌<◌, ◌≤◌, Bool, true, false, List, [], ◌∷◌, refl, ap, ◌∙◌, subst, arith, Option, Some, None}
 use Rattle.zk_nodes.specs.Path.{NodePath, path_eq}

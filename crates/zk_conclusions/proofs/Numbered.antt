@@ -1,4 +1,4 @@
--- Names in the order of their numbers.
+-- Names in the order of their numbers: one comparison of number and name, which is total, so the order is.
 use Rattle.std.proofs.Common.{◌≡◌, ◌⊎◌, Bool, true, false, ◌||◌, refl, sym, ap, ◌∙◌, inl, inr}
 use Rattle.std.specs.Ordering.{is_lt, ordering_reverse, ordering_then}
 use Rattle.std.specs.Cmp.{IsTotalOrder, then_total, on_total}

@@ -1,4 +1,4 @@
--- Names in the order of bytes, and who is first of them.
+-- Names in the order of bytes: of two names, one is before the other or they are the same.
 use Rattle.std.proofs.Common.{◌≡◌, ◌⊎◌, true, false, refl, ap, ◌∙◌, inl, inr}
 use Rattle.std.specs.Ordering.{is_lt, ordering_reverse}
 use Rattle.std.specs.declared.cmp.Ordering.{Ordering}

@@ -1,4 +1,4 @@
--- Turns that say nothing of a change leave what is good as it was.
+-- Turns that say nothing of a change leave what is good as it was: happening by happening, as each that changes what is good says so.
 use Rattle.std.proofs.Common.{◌≡◌, ℕ, Bool, true, false, cond, ◌&&◌, ◌||◌, List, [], ◌∷◌, ◌++◌, map, Option, Some, None, refl, sym, ap, ◌∙◌}
 use Rattle.std.specs.Prelude.{bytes_eq}
 use Rattle.std.specs.List.{AllByRecursion, flat_map}

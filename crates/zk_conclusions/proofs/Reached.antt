@@ -1,4 +1,5 @@
--- What is kept whole below a root is what the tree has there.
+-- What is kept whole below a root is what the tree has there: each node kept whole is true, with its names, so by induction on the names
+-- below the root all that is there is reached.
 use Rattle.std.proofs.Common.{ℕ, ◌≡◌, if◌then◌else◌, not, Bool, true, false, List, [], ◌∷◌, ◌++◌, Option, Some, None, refl, ap, sym, ◌∙◌}
 use Rattle.std.proofs.Common.{subst}
 use Rattle.std.specs.Prelude.{is_some}

@@ -1,4 +1,5 @@
--- None of some names is before another, as a test and as a set says it.
+-- None of some names is before another, as a test and as a set says it: name by name, the test is whether a name has the prefix and is
+-- before.
 use Rattle.std.proofs.Common.{◌≡◌, ◌↔◌, Bool, true, false, ◌||◌, not, List, [], ◌∷◌, map, refl, sym, ap, ◌∙◌, subst, drop, length}
 use Rattle.std.proofs.lemmas.Bool.Decides.{Decides-eqb}
 use Rattle.std.specs.Prelude.{bytes_eq, nat_eq}

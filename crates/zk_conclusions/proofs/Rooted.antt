@@ -1,5 +1,6 @@
--- Each node of a history's tree has its parents. This is a law of histories alone: it is here, and not beside their definitions in
--- zk_nodes, as no other crate needs it.
+-- Each node of a history's tree has its parents: by induction on the changes, as a node is made only where its parent is, and deleted only
+-- where it has no children. This is a law of histories alone: it is here, and not beside their definitions in zk_nodes, as no other crate
+-- needs it.
 use Rattle.std.specs.Option.{option_map}
 use Rattle.std.proofs.Common.{ℕ, ℤ, ◌≡◌, Bool, true, false, List, [], ◌∷◌, refl, sym, ap, ◌∙◌, subst, Option, Some, None, nat_le, ◌≤◌}
 use Rattle.std.proofs.Common.{arith, if◌then◌else◌}

@@ -1,4 +1,4 @@
--- Where the same is good, the same is concluded.
+-- Where the same is good, the same is concluded: each conclusion looks only at what is good, part by part.
 use Rattle.std.proofs.Common.{◌≡◌, ℕ, Bool, ◌&&◌, not, List, [], ◌∷◌, Option, Some, None, refl, sym, ap, subst, ◌∙◌}
 use Rattle.zk_turns.specs.Meaning.{Among}
 use Rattle.zk_turns.specs.View.{Cache}

@@ -1,4 +1,5 @@
--- What a client shows of a holder, put together from what its parts say.
+-- What a client shows of a holder, put together from what its parts say: a token that is kept good, good names, and a name that is first of
+-- them.
 use Rattle.std.proofs.Common.{[], ◌≡◌, ◌↔◌, ℤ, Bool, true, false, ◌∷◌, Option, Some, None, refl, sym, ap, ◌∙◌, subst}
 use Rattle.zk_nodes.specs.Path.{Text, Name, NodePath, path_of, name_of}
 use Rattle.zk_nodes.specs.inner.Path.{is_below}

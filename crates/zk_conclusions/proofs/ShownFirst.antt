@@ -1,4 +1,5 @@
--- What a client shows of its standing, put together from what its parts say.
+-- What a client shows of its standing, put together from what its parts say: the listing's names, a token that is kept, and a name that is
+-- first of them.
 use Rattle.std.proofs.Common.{◌≡◌, ◌≤ℤ◌, ℤ, true, false, ◌∷◌, List, Option, Some, None, sym, ap, ◌∙◌, subst}
 use Rattle.zk_nodes.specs.Path.{Text, Name, path_of}
 use Rattle.zk_turns.specs.View.{View}

@@ -1,4 +1,5 @@
--- A walk through good names, and what is lacking on it.
+-- A walk through good names, and what is lacking on it: step by step as a walk through what is kept whole, and nothing is lacking exactly
+-- where it is one.
 use Rattle.std.proofs.Common.{ℕ, suc, ◌-◌, ◌≡◌, ◌↔◌, ◌<◌, ◌≤◌, inl, inr, Bool, true, false, not, cond, List, [], ◌∷◌, ◌++◌, map, length}
 use Rattle.std.proofs.Common.{Some, refl, ap, sym, ◌∙◌, subst, append_assoc}
 use Rattle.std.proofs.lemmas.List.{append-nil}

@@ -1,4 +1,5 @@
--- Who is shown to stand first does so in the history.
+-- Who is shown to stand first does so in the history: what is shown is true of the tree at the last seen zxid, and so is what follows of
+-- it.
 use Rattle.std.proofs.Common.{ℕ, ℤ, pos, negsuc, ◌≡◌, ◌≤◌, ◌≤ℤ◌, ◌∷◌, Some, sym, subst, true, arith}
 use Rattle.std.proofs.lemmas.Int.{ints}
 use Rattle.zk_nodes.specs.Path.{Text, Name, NodePath, path_of}

@@ -1,4 +1,5 @@
--- Who stands first stays first, and tokens rise.
+-- Who stands first stays first, and tokens rise: a node that is still there has the czxid with which it was made, and a later first one was
+-- made later.
 use Rattle.std.proofs.Common.{ℕ, ℤ, pos, ◌≡◌, ◌≤◌, ◌<◌, ◌≤ℤ◌, ◌⊎◌, inl, inr, Bool, true, false, ◌∷◌, Option, Some, None, refl, sym, ap}
 use Rattle.std.proofs.Common.{subst, arith, nat_le, ◌∙◌}
 use Rattle.std.specs.Prelude.{is_some}

@@ -1,4 +1,5 @@
--- The nodes that a session made under one tag.
+-- The nodes that a session made under one tag: of the names with the tag there is a least, found name by name, and each node that was lost
+-- is listed.
 use Rattle.std.proofs.Common.{ℕ, ◌≡◌, ◌≤◌, ◌⊎◌, inl, inr, Bool, true, false, List, [], ◌∷◌, refl, sym, subst, suc, length, take, arith}
 use Rattle.zk_turns.specs.Meaning.{Among}
 use Rattle.zk_nodes.specs.Path.{Name}

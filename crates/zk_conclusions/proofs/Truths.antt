@@ -1,4 +1,4 @@
--- What is good is the history's, where the client was served from it.
+-- What is good is the history's, where the client was served from it: by the law of coherence, path by path of what is shown.
 use Rattle.std.proofs.Common.{◌≡◌, ℕ, zero, suc, true, false, List, [], ◌∷◌, Option, Some, None, refl, ap, sym, ◌∙◌, subst, inl, inr}
 use Rattle.std.proofs.lemmas.Bool.{and_parts}
 use Rattle.std.specs.Prelude.{slice_get, is_some}

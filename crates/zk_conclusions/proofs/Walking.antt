@@ -1,4 +1,5 @@
--- A walk that goes on, from one path to the next.
+-- A walk that goes on, from one path to the next: at each step the children of the one at the place come after all others, so each path
+-- comes once, behind its parent.
 use Rattle.std.proofs.Common.{ℕ, zero, suc, ◌+◌, ◌-◌, ◌≡◌, ◌<◌, ◌≤◌, ◌⊎◌, inl, inr, true, List, [], ◌∷◌, ◌++◌, map, length, take, Option}
 use Rattle.std.proofs.Common.{Some, None, refl, ap, sym, ◌∙◌, subst, arith}
 use Rattle.std.proofs.lemmas.List.{length-append, length-map, append-nil}

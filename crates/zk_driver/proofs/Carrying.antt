@@ -1,4 +1,4 @@
--- What actions ask for, carried out one by one.
+-- What actions ask for, carried out one by one: what is done so far and what is left are all.
 use Rattle.std.proofs.Common.{◌≡◌, ◌++◌, append_assoc, append-nil, ℕ, Bool, true, false, List, [], ◌∷◌, Vec, refl, sym, ap, ◌∙◌}
 use Rattle.std.specs.Prelude.{Option, Result, Ok, Err, OnOk, OnErr, if◌then◌else◌, fold, is_some}
 use Rattle.zk_agent.specs.Telling.{Told, action_view, told_by}

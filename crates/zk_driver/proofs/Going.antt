@@ -1,4 +1,4 @@
--- Moves of a driver, one after the other.
+-- Moves of a driver, one after the other: what each of them keeps, lists of them keep.
 use Rattle.std.proofs.Common.{◌≡◌, ◌++◌, ◌∙◌, List, [], ◌∷◌, ap, append-nil, append_assoc, refl, sym, subst}
 use Rattle.std.specs.Prelude.{Result, Ok, Err, OnOk}
 use Rattle.std.specs.List.{flat_map, FoldsTo}

@@ -1,4 +1,5 @@
--- Calls of a driver, one after the other, and that the program takes of what it is told.
+-- Calls of a driver, one after the other, and that the program takes of what it is told: runs join, as what comes after begins where the
+-- one before has led.
 use Rattle.std.proofs.Common.{◌≡◌, ◌++◌, List, [], ◌∷◌, Option, Some, None, map, refl, sym, subst}
 use Rattle.std.specs.Prelude.{ℕ, Result, Ok, Err, OnOk}
 use Rattle.std.specs.List.{FoldsTo}

@@ -1,4 +1,5 @@
--- What comes of a read that is asked of a client that is connected.
+-- What comes of a read that is asked of a client that is connected: it is sent and waits, or it is refused for the one reason that can be,
+-- that as many calls wait as may.
 use Rattle.std.proofs.Common.{◌≡◌, ◌≢◌, ◌<◌, ◌^◌, ◌+◌, ◌⊎◌, inl, inr, ℕ, pos, Bool, true, false, cond, List, [], ◌∷◌, ◌++◌, Option, Some}
 use Rattle.std.proofs.Common.{None, refl, sym, ap, subst, ◌∙◌, arith, eq-eqb}
 use Rattle.std.proofs.lemmas.List.{append-nil, length-append}

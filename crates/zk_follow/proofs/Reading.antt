@@ -1,4 +1,4 @@
--- A read that is on its way is a call that waits.
+-- A read that is on its way is a call that waits: its question tells side and path, so it is found by them.
 use Rattle.std.proofs.Common.{◌≡◌, ℕ, ℤ, Bool, true, false, ◌&&◌, ◌||◌, List, [], ◌∷◌, refl, sym, ap, ◌∙◌, eq-eqb}
 use Rattle.std.specs.Prelude.{◌==◌, bytes_eq}
 use Rattle.std.specs.List.{list_any}

@@ -1,4 +1,5 @@
--- Each subject is changed in place, and what there is to tell of it is added.
+-- Each subject is changed in place, and what there is to tell of it is added: those before the place are done, and those after it are as
+-- they were.
 use Rattle.std.proofs.Common.{◌≡◌, ◌≤◌, ◌<◌, ◌+◌, ◌++◌, ℕ, Bool, List, [], ◌∷◌, length, get_or, drop, map, take, refl, sym, ap, ◌∙◌, arith}
 use Rattle.std.specs.Prelude.{◌||◌, All}
 use Rattle.std.specs.List.{flat_map, list_any}

@@ -1,4 +1,5 @@
--- A call that waits for its reply goes on waiting, until it is answered or the state is another one.
+-- A call that waits for its reply goes on waiting, until it is answered or the state is another one: happening by happening, as a reply
+-- takes only what waits first.
 use Rattle.std.proofs.Common.{◌≡◌, ℕ, ℤ, pos, negsuc, Bool, true, false, cond, ◌&&◌, List, [], ◌∷◌, ◌++◌, map, drop, Option, Some, None, Ok}
 use Rattle.std.proofs.Common.{Err, refl, sym, ap, subst, ◌∙◌, eq-eqb, append_assoc}
 use Rattle.std.specs.Prelude.{◌==◌, int_lt, max, Result as Reading}

@@ -1,4 +1,4 @@
--- Equal paths, and membership.
+-- Equal paths, and membership: the tests of texts and paths decide equality, by induction on them; and what is fired is sent.
 use Rattle.zk_turns.proofs.Lists.{same_text, bytes_eq-refl}
 use Rattle.std.proofs.Common.{ℕ, ◌≡◌, ◌==◌, ◌<◌, Bool, true, false, ◌&&◌, List, [], ◌∷◌, ◌++◌, refl, ap, sym, ◌∙◌, subst, inl, inr, ◌⊎◌}
 use Rattle.std.proofs.Common.{arith, eqb-true, fold, append_assoc, append-nil}

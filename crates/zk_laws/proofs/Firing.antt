@@ -1,4 +1,5 @@
--- A watch that is not fired sees no change.
+-- A watch that is not fired sees no change: by induction on the changes of a transaction, each of which either concerns the side of the
+-- path or leaves what is seen there.
 use Rattle.std.proofs.Common.{ℕ, ℤ, ◌≡◌, Bool, true, false, List, [], ◌∷◌, ◌++◌, refl, ap, sym, ◌∙◌, subst, inl, inr, ◌⊎◌, Option, Some}
 use Rattle.std.proofs.Common.{None, is_some, if◌then◌else◌}
 use mathlib.Core.Path.{fun_ext}

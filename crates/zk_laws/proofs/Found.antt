@@ -1,4 +1,5 @@
--- Each request is told by its frame, and is read again.
+-- Each request is told by its frame, and is read again: what was sent is of a length that a frame can tell, and fits its layout, so the
+-- laws of layouts read it.
 use Rattle.std.proofs.Common.{◌≡◌, ℕ, ℤ, pos, negsuc, ◌<◌, ◌^◌, ◌≤ℤ◌, Bool, true, false, List, [], ◌∷◌, ◌++◌, map, length, Some, Ok, refl}
 use Rattle.std.proofs.Common.{sym, ap, subst, ◌∙◌, arith, append-nil}
 use Rattle.std.specs.List.{AllByRecursion}

@@ -1,4 +1,5 @@
--- What is taken from a beginning of the frames is the beginning of the messages: one frame, one payload, one reading.
+-- What is taken from a beginning of the frames is the beginning of the messages: one frame, one payload, one reading. A frame's length
+-- tells where it ends, and its xid how it is read.
 use Rattle.zk_frames.specs.declared.fault.FrameFault.{FrameFault}
 use Rattle.zk_turns.specs.Spelled.{IsHeaded, HasRecord, HasResult}
 use Rattle.zk_laws.specs.Served.{code_of, IsPayload}

@@ -1,4 +1,4 @@
--- The laws of a client that is served.
+-- The laws of a client that is served: it is matched with a run, so what holds of the run holds of it.
 use Rattle.zk_laws.proofs.Outputs.{among_split, given_answers, given_drops}
 use Rattle.zk_laws.proofs.Matching.{AllAsked}
 use Rattle.zk_turns.specs.Rule.{Stands, IsOpen}

@@ -1,4 +1,5 @@
--- What is sent on a new connection lists each path that is good.
+-- What is sent on a new connection lists each path that is good: a path comes into a list by a reply about it, and stays there as long as
+-- it is of that kind.
 use Rattle.zk_watches.specs.Lists.{Lists}
 use Rattle.std.proofs.Common.{ℕ, ◌≡◌, ◌≤◌, Bool, true, false, ◌&&◌, ◌||◌, not, cond, List, [], ◌∷◌, ◌++◌, refl, sym, subst, inl, inr, ◌⊎◌}
 use Rattle.std.proofs.Common.{arith, Option, Some, None, if◌then◌else◌, flat_map, filter}

@@ -1,4 +1,5 @@
--- Each item of a client that is served is some moves of a run.
+-- Each item of a client that is served is some moves of a run: a turn goes byte by byte or signal by signal, and each of these is a
+-- happening that is a move.
 use Rattle.zk_turns.specs.Turns.{Framed, IsAsked, Start, Outcome, Silent, Input, Bytes, Cut, Now, Call, Turned, Turn, Comes, signals_of}
 use Rattle.zk_turns.specs.Turns.{signals, Opened as Opening, IsAskable}
 use Rattle.zk_frames.specs.declared.fault.FrameFault.{FrameFault}

@@ -1,4 +1,5 @@
--- The other laws of a run.
+-- The other laws of a run: the last seen zxid never falls, no message is behind, where all is quiet what is good agrees with the server,
+-- and each reply was given by a server somewhere. Each is kept by every move.
 use Rattle.std.proofs.Common.{ℕ, zero, suc, ◌≡◌, ◌≤◌, Bool, true, false, List, [], ◌∷◌, ◌++◌, refl, sym, subst, inl, inr, arith, Option}
 use Rattle.std.proofs.Common.{Some, None, if◌then◌else◌, map, take}
 use Rattle.std.specs.Bool.{⊤}

@@ -1,4 +1,5 @@
--- Each move of a server that meets bytes is a move of a run; and so is each schedule.
+-- Each move of a server that meets bytes is a move of a run, since its messages spell letters that are put in flight; and so is each
+-- schedule, entry by entry.
 use Rattle.zk_laws.proofs.More.{given_write}
 use Rattle.zk_laws.proofs.Matching.{AllAsked}
 use Rattle.zk_turns.specs.Turns.{IsAsked, Fault, Start, Turned, Forgets as Forgets_now, Halts as Halts_here}

@@ -1,4 +1,5 @@
--- The lists of a run are those of the client, in the same order.
+-- The lists of a run are those of the client, in the same order: by induction on the past, as both take the same path in at the same
+-- happening.
 use Rattle.std.proofs.Common.{◌≡◌, ℕ, Bool, ◌&&◌, List, [], ◌∷◌, ◌++◌, refl, sym, ap, ◌∙◌}
 use Rattle.std.specs.Prelude.{not, filter, reverse}
 use Rattle.std.proofs.lemmas.List.Elements.{filter_agree}

@@ -1,4 +1,4 @@
--- What is given has its cause in what happened.
+-- What is given has its cause in what happened: signal by signal, an output stands among those of one of the happenings.
 use Rattle.zk_conversation.specs.Calls.{Call}
 use Rattle.zk_nodes.specs.Path.{Text}
 use Rattle.std.proofs.Common.{◌≡◌, ℕ, Option, Some, None, ap, ℤ, Bool, true, false, cond, List, [], ◌∷◌, ◌++◌, map, refl, sym, subst, inl}
@@ -212,7 +212,7 @@ module _ (ticket : ℕ) (zxid : ℤ) (result : Result) where
   not_closing Close (inr a) = a
   not_closing _ a = a
 
-  -- isnt call is refused with a reply
+  -- no call is refused with a reply
   by_tests : (a b c d : Bool) → cond a (Some SessionClosed)
       (cond b (Some TooManyPending) (cond c (Some TooManyWatches) (cond d (Some TooLarge) None))) ≡ Some (Replied zxid result) → ⊥
   by_tests true b c d e = cc

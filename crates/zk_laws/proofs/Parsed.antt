@@ -1,4 +1,4 @@
--- A stream of frames is cut in one way.
+-- A stream of frames is cut in one way: the first length tells where the first frame ends, and then the rest is a stream again.
 use Rattle.std.proofs.Common.{◌≡◌, ℕ, ◌+◌, ◌^◌, ◌≤◌, ◌<◌, List, [], ◌∷◌, ◌++◌, drop, length, refl, sym, ap, subst, ◌∙◌, append-nil, arith}
 use Rattle.std.specs.Prelude.{map}
 use Rattle.std.specs.List.{flat_map}

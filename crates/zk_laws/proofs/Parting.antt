@@ -1,4 +1,5 @@
--- The parts of setWatches, joined, are the lists, and each path that is good stands in one.
+-- The parts of setWatches, joined, are the lists, and each path that is good stands in one: each part takes watches from the front, so no
+-- watch is lost.
 use Rattle.std.proofs.Common.{◌≡◌, ℕ, ◌+◌, Bool, true, false, cond, List, [], ◌∷◌, ◌++◌, map, Option, Some, None, refl, sym, ap, ◌∙◌}
 use Rattle.std.proofs.Common.{append_assoc}
 use Rattle.std.specs.Prelude.{is_some, nat_le}

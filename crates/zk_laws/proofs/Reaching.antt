@@ -1,4 +1,4 @@
--- The worlds that a run reaches.
+-- The worlds that a run reaches: the first one, and each one move after another; so the invariant holds there.
 use Rattle.std.proofs.Common.{◌≡◌, ℕ, List, [], ◌∷◌, ◌++◌, refl, sym, ap, subst, ◌∙◌}
 use Rattle.zk_nodes.specs.History.{History, IsHistory}
 use Rattle.zk_laws.proofs.Invariant.{IsKept}

@@ -1,4 +1,4 @@
--- What a read is answered, told by the node that is there.
+-- What a read is answered, told by the node that is there: an answer fits what is there, case by case of the answer.
 use Rattle.std.proofs.Common.{refl, subst, ◌≡◌}
 use Rattle.std.specs.FinSet as set
 use Rattle.std.specs.Prelude.{ℕ, Bool, List, Option, Some, None, pos, ◌↔◌}

@@ -1,4 +1,5 @@
--- No reply is below the saved zxid.
+-- No reply is below the saved zxid: a server admits no client that has seen more than it has, and every move keeps that of what is in
+-- flight.
 use Rattle.zk_conversation.specs.Questions.{question_of, Question}
 use Rattle.zk_conversation.specs.Calls.{Call}
 use Rattle.zk_nodes.specs.Path.{Text}

@@ -1,4 +1,4 @@
--- What is good, and the last seen zxid, are the same by the look back over a past and by the items of a run.
+-- What is good, and the last seen zxid, are the same by the look back over a past and by the items of a run: by induction on the past.
 use Rattle.std.specs.FinSet as set
 use Rattle.std.proofs.Common.{◌≡◌, ℕ, ◌≤◌, ◌<◌, ℤ, pos, negsuc, Bool, true, false, cond, ◌&&◌, List, [], ◌∷◌, Option, Some, None, refl, sym}
 use Rattle.std.proofs.Common.{ap, ◌∙◌, arith, ◌⊎◌, inl, inr}

@@ -1,4 +1,5 @@
--- The moves of a server keep what is ahead of the client right.
+-- The moves of a server keep what is ahead of the client right. Going on tells each watch that is set and covers the rest; an answer leaves
+-- what there is to see and sets the watch; setting again tells or covers each path listed.
 use Rattle.std.specs.FinSet as set
 use Rattle.zk_watches.specs.Lists.{Lists}
 use Rattle.zk_cache.specs.Kept.{same_fields}

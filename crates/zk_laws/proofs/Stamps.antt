@@ -1,4 +1,5 @@
--- A node whose stamp is old has not changed since.
+-- A node whose stamp is old has not changed since: by induction on the transactions, each of which writes its own newer zxid into what it
+-- changes.
 use Rattle.std.specs.Prelude.{slice_get}
 use Rattle.std.specs.Option.{option_map}
 use Rattle.std.proofs.Common.{ℕ, ℤ, ◌≡◌, ◌<◌, ◌≤◌, Bool, true, false, cond, List, [], ◌∷◌, ◌++◌, refl, ap, sym, ◌∙◌, subst, arith, Option}

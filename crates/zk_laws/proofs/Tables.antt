@@ -1,4 +1,4 @@
--- The server's table of watches and the client's are one.
+-- The server's table of watches and the client's are one: question by question.
 use Rattle.std.proofs.Common.{◌≡◌, true, refl}
 use Rattle.zk_nodes.specs.Path.{NodePath}
 use Rattle.zk_nodes.specs.declared.side.Side.TheVariants.{Data, Child}

@@ -1,4 +1,4 @@
--- Each happening of a client that is served is a move of a run.
+-- Each happening of a client that is served is a move of a run: happening by happening, by what is first in flight and what waits first.
 use Rattle.zk_laws.proofs.Flight.{awaited_less, awaited_more, owes_append, owes_one, unread_more}
 use Rattle.zk_conversation.specs.Calls.{Call, call_payload, ping_payload}
 use Rattle.zk_turns.specs.Past.{is_open, Asking, For_call, For_part, awaited, pending_for, Past, Began, Came, Dropped, Asked, Denied}

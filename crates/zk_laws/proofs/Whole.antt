@@ -1,4 +1,5 @@
--- Each move keeps the invariant, and so each schedule does.
+-- Each move keeps the invariant, and so each schedule does: step by step on a connection, before the client has the acceptance and while it
+-- talks, then by induction on the moves.
 use Rattle.zk_conversation.specs.Questions.{question_of}
 use Rattle.zk_conversation.specs.Calls.{Call}
 use Rattle.zk_nodes.specs.Path.{Text, NodePath, path_eq}

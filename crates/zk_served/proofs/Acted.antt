@@ -1,4 +1,4 @@
--- What befalls the servers keeps a client served, with what is under way in the driver.
+-- What befalls the servers keeps a client served, with what is under way in the driver: act by act, each an entry of the schedule or none.
 use Rattle.std.proofs.Common.{◌≡◌, ◌≢◌, ◌<◌, ◌≤◌, ◌+◌, ◌^◌, ◌++◌, ◌∙◌, ◌⊎◌, inl, inr, ℕ, ℤ, Bool, true, false, List, [], ◌∷◌, length, take}
 use Rattle.std.proofs.Common.{drop, ap, append-nil, append_assoc, refl, sym, subst, arith}
 use Rattle.std.specs.List.{FoldsTo}

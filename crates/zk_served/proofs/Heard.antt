@@ -1,4 +1,5 @@
--- What an agent makes of what its client takes: the connection gets what is sent, and goes where the agent lets it go.
+-- What an agent makes of what its client takes: the connection gets what is sent, and goes where the agent lets it go. Output by output,
+-- each with the action that it makes.
 use Rattle.std.proofs.Common.{◌≡◌, ◌≤◌, ◌++◌, ◌∙◌, ℕ, Bool, true, false, ◌&&◌, List, [], ◌∷◌, length, map, ap, append-nil, append_assoc}
 use Rattle.std.proofs.Common.{refl, sym, subst}
 use Rattle.std.specs.Prelude.{fold, slice_index_or}

@@ -1,4 +1,5 @@
--- What each move of an agent keeps, and all of them.
+-- What each move of an agent keeps, and all of them: a client that is served, with what is under way in the driver. Move by move, each a
+-- turn of the client or none.
 use Rattle.std.proofs.Common.{◌≡◌, ◌≤◌, ◌<◌, ◌++◌, ◌∙◌, ℕ, ℤ, Bool, true, false, cond, List, [], ◌∷◌, Option, Some, None, length, ap}
 use Rattle.std.proofs.Common.{append_assoc, refl, sym, subst, arith}
 use Rattle.std.specs.Prelude.{⊤, fold, filter, FitsSigned, pos, ◌≤ℤ◌, unsigned_abs}

@@ -1,4 +1,4 @@
--- Which tickets are those of what is gone, one subject after another.
+-- Which tickets are those of what is gone, one subject after another: the tickets so far and those of the subjects left are all.
 use Rattle.std.proofs.Common.{◌≡◌, ◌<◌, ◌+◌, ◌++◌, ◌∙◌, ℕ, Bool, true, false, List, [], ◌∷◌, length, get_or, drop, refl, sym, ap}
 use Rattle.std.proofs.Common.{append_assoc, arith}
 use Rattle.std.specs.Prelude.{cond}

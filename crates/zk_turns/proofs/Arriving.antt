@@ -1,4 +1,5 @@
--- What a payload is read as answers what waits first.
+-- What a payload is read as answers what waits first, and is the first message only where nothing is asked yet: case by case as the reading
+-- goes, header first.
 use Rattle.std.proofs.Common.{◌≡◌, ℕ, ℤ, List, [], ◌∷◌, length, Option, Some, None, Ok, Err, refl}
 use Rattle.std.specs.Prelude.{Result as Reading}
 use Rattle.std.specs.Ordering.{int_eq}

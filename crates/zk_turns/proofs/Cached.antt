@@ -1,4 +1,5 @@
--- The cache after each message.
+-- The cache after each message is what the definitions keep of each path. Two caches that keep the same of each path are one, so each path
+-- is looked at, by what the message says of it.
 use Rattle.std.proofs.Common.{◌≡◌, ℕ, ℤ, Bool, true, false, cond, ◌&&◌, List, [], ◌∷◌, Option, Some, None, refl, ap, ◌∙◌}
 use Rattle.std.specs.Prelude.{bytes_eq}
 use Rattle.std.specs.Ordering.{int_eq}

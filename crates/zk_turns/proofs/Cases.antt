@@ -1,4 +1,4 @@
--- What holds in each case holds of what the definitions choose.
+-- What holds in each case holds of what the definitions choose: one lemma for each way in which they choose.
 use Rattle.std.proofs.Common.{ℕ, negsuc, Bool, true, false, cond, ◌&&◌, List, [], ◌∷◌, Ok}
 use Rattle.std.specs.Prelude.{if◌then◌else◌, nat_le, ◌*◌, ◌-◌, Result as Reading}
 use Rattle.std.specs.Ordering.{int_eq}

@@ -1,4 +1,4 @@
--- Counts by a ticket as sums, and that they are what is counted.
+-- Counts by a ticket as sums, and that they are what is counted: by induction on the outputs, the items and what is pending.
 use Rattle.std.proofs.Common.{◌≡◌, ℕ, ◌+◌, Bool, true, false, cond, List, [], ◌∷◌, length, refl, ap, ◌∙◌, arith}
 use Rattle.std.specs.Prelude.{◌==◌, filter, if◌then◌else◌}
 use Rattle.zk_turns.specs.Turns.{Input, Call, Output, Answer, Item, Turned, Forgets, Halts}

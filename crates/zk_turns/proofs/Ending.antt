@@ -1,4 +1,5 @@
--- When a connection is given up.
+-- When a connection is given up: a drop is among what happens exactly where one of its causes is there. Both ways go case by case from the
+-- signal to the byte, the frame and the payload.
 use Rattle.std.proofs.Common.{◌≡◌, ◌≢◌, ◌≤◌, ◌<◌, ◌+◌, ◌^◌, ℕ, ℤ, pos, length, Bool, true, false, cond, eqb, ◌&&◌, List, [], ◌∷◌, ◌++◌}
 use Rattle.std.proofs.Common.{drop, Option, Some, None, Ok, Err, refl, sym, ap, subst, ◌∙◌, inl, inr, ◌⊎◌, arith}
 use Rattle.std.specs.Prelude.{nat_le, nat_lt, int_lt, max, ◌*◌, ◌-◌, Result as Reading}

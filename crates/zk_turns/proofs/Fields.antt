@@ -1,4 +1,5 @@
--- What is read of a payload is in the range of its fields, whatever its bytes are, and no longer than the payload.
+-- What is read of a payload is in the range of its fields, whatever its bytes are, and no longer than the payload: field by field, along
+-- the layouts of a header and a response.
 use Rattle.std.proofs.Common.{◌≡◌, ℕ, ℤ, pos, negsuc, suc, ◌-◌, ◌<◌, ◌≤◌, ◌^◌, Bool, true, false, cond, ltb, List, length, take, drop}
 use Rattle.std.proofs.Common.{Option, Some, None, Ok, Err, refl, subst, arith, length-drop, length-take, ltb-false, ltb-true}
 use Rattle.std.specs.Prelude.{FitsSigned}

@@ -1,4 +1,5 @@
--- How long the requests are, and that they fit their layouts.
+-- How long the requests are, and that they fit their layouts: a call by its kind, and a part by induction on the watches that are put into
+-- it.
 use Rattle.std.proofs.Common.{◌≡◌, ℕ, ℤ, pos, ◌+◌, ◌<◌, ◌≤◌, ◌^◌, Bool, true, false, cond, List, [], ◌∷◌, ◌++◌, map, length, Some, None}
 use Rattle.std.proofs.Common.{refl, sym, subst, arith, append-nil, leb-true}
 use Rattle.std.specs.Prelude.{FitsSigned, nat_le, codes, ⊤}

@@ -1,4 +1,4 @@
--- After each happening the view is what the look back gives.
+-- After each happening the view is what the look back gives: field by field, since two views with the same fields are one.
 use Rattle.zk_turns.specs.Past.{Asking, For_call, pending_for, Past, Happening, Began, Came, Took, Dropped, Lost, Asked, Denied, Pinged}
 use Rattle.zk_turns.specs.Past.{Ticked, Forgot, Halted, Accepted, Expiry, Replies, Watches_set, Notifies, Pong, Skipped, is_talking}
 use Rattle.zk_turns.specs.Past.{state_of, now_of, heard_of, sent_of, calls_sent, xid_of, questions, answered, lists_of}

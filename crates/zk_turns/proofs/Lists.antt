@@ -1,4 +1,5 @@
--- The lists: paths that come in go last, paths that are there keep their places, paths that leave close up.
+-- The lists: paths that come in go last, paths that are there keep their places, paths that leave close up. A list is the paths that pass a
+-- test, so each happening is a change of the test: at no path, at one, or at all.
 use Rattle.std.proofs.Common.{◌≡◌, Bool, true, false, not, cond, ◌&&◌, ◌||◌, List, [], ◌∷◌, ◌++◌, reverse, refl, sym, ap, ◌∙◌}
 use Rattle.std.specs.Prelude.{filter, bytes_eq}
 use Rattle.std.proofs.lemmas.List.{reverse-append, append-nil}

@@ -1,4 +1,4 @@
--- Marks, lists and reports, by what was good.
+-- Marks, lists and reports, by what was good: happening by happening, an answer is marked good exactly as long as nothing has ended it.
 use Rattle.zk_watches.specs.Lists.{side_has, has}
 use Rattle.std.proofs.Common.{◌≡◌, ℕ, true, false, cond, ◌&&◌, ◌||◌, List, [], ◌∷◌, ◌++◌, Option, Some, None, refl, ap, ◌∙◌}
 use Rattle.std.specs.Prelude.{bytes_eq, is_some, if◌then◌else◌}

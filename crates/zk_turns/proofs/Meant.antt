@@ -1,4 +1,5 @@
--- What is good, what has its data and what was seen last, in the words of watches.
+-- What is good, what has its data and what was seen last, in the words of watches: by induction on the past, where one happening more says
+-- something of a path, ends what was said, or leaves it.
 use Rattle.std.proofs.Common.{◌≡◌, ℕ, ℤ, Bool, true, false, cond, ◌&&◌, List, [], ◌∷◌, ◌++◌, Option, Some, None, refl, sym, ap, subst, ◌∙◌}
 use Rattle.std.proofs.Common.{inl, inr, ◌⊎◌, arith}
 use Rattle.std.specs.Prelude.{bytes_eq, is_some, ◌≤ℤ◌, int_lt}

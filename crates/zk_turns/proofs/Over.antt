@@ -1,4 +1,5 @@
--- After an expiry, a close or a halt nothing is kept. The last seen zxid never falls.
+-- After an expiry, a close or a halt nothing is kept, since all that happens then is quiet. The last seen zxid never falls: each happening
+-- leaves it or raises it.
 use Rattle.zk_conversation.specs.Calls.{Call}
 use Rattle.std.proofs.Common.{◌≡◌, ℕ, ℤ, Bool, true, false, cond, ◌||◌, List, [], ◌∷◌, ◌++◌, Option, Some, None, refl, sym, ap, arith}
 use Rattle.std.specs.Prelude.{if◌then◌else◌, ◌≤ℤ◌}

@@ -1,4 +1,5 @@
--- What the bytes of a piece do, frame by frame.
+-- What the bytes of a piece do, frame by frame. Each byte makes what is held one longer, until it ends a frame or a length that is not
+-- admitted: so a piece is parted there.
 use Rattle.zk_turns.specs.Turns.{Framed}
 use Rattle.zk_frames.specs.Stream.{StandsNext}
 use Rattle.zk_frames.specs.declared.fault.FrameFault.TheVariants.{Memory}

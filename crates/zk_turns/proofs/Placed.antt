@@ -1,4 +1,5 @@
--- The paths of a list stand in the order in which they last came into it.
+-- The paths of a list stand in the order in which they last came into it: by induction on the past, as what stays keeps its order and what
+-- comes in goes last.
 use Rattle.std.proofs.Common.{◌≡◌, ◌<◌, Bool, true, false, cond, ◌&&◌, ◌||◌, List, [], ◌∷◌, ◌++◌, length, refl, sym, ap, subst, ◌∙◌, inl}
 use Rattle.std.proofs.Common.{inr, ◌⊎◌, arith}
 use Rattle.std.specs.Prelude.{bytes_eq, not, filter, ◌↔◌}

@@ -1,4 +1,5 @@
--- What happens to a client is in range: what it takes is read of a payload, and what it sends was not refused.
+-- What happens to a client is in range: what it takes is read of a payload, and what it sends was not refused. By induction on the items,
+-- signal by signal.
 use Rattle.std.proofs.Common.{◌≡◌, ℕ, zero, suc, ℤ, pos, negsuc, ◌+◌, ◌≤◌, ◌^◌, Bool, true, false, cond, eqb, leb, ltb, ◌&&◌, List, [], ◌∷◌}
 use Rattle.std.proofs.Common.{◌++◌, map, reverse, drop, length, Option, Some, None, Ok, Err, refl, sym, subst, ◌∙◌, arith, length-drop}
 use Rattle.std.proofs.Common.{ltb-false, ltb-true}

@@ -1,4 +1,5 @@
--- A call is refused by the first condition that applies.
+-- A call is refused by the first condition that applies: in each state the tests of a refusal are the conditions in their order, one after
+-- the other.
 use Rattle.std.proofs.Common.{◌≡◌, ◌≤◌, ◌<◌, ◌+◌, ℕ, pos, length, Bool, true, false, cond, ◌||◌, List, [], ◌∷◌, Option, Some, None, refl}
 use Rattle.std.proofs.Common.{sym, ap, subst, ◌∙◌, inl, inr, ◌⊎◌, arith}
 use Rattle.std.specs.Prelude.{nat_le, nat_lt}

@@ -1,4 +1,5 @@
--- The three lists after each message.
+-- The three lists after each message: a message says a word of each path, and a list takes the path in, keeps it or loses it as that word
+-- says.
 use Rattle.zk_turns.specs.Rule.{says_there, with_node, with_children, after_reply}
 use Rattle.zk_watches.specs.Lists.{registered, Lists, no_lists, without, has, with_path, fired}
 use Rattle.std.proofs.Common.{◌≡◌, ℕ, ℤ, Bool, true, false, not, cond, ◌&&◌, ◌||◌, List, [], ◌∷◌, ◌++◌, Option, Some, None, refl, sym, ap}

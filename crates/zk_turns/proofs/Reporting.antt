@@ -1,4 +1,4 @@
--- The reports among the outputs are those of the past.
+-- The reports among the outputs are those of the past: happening by happening, as messages alone report.
 use Rattle.std.proofs.Common.{◌≡◌, ℤ, Bool, true, false, cond, ◌&&◌, List, [], ◌∷◌, ◌++◌, map, refl, sym, ap, ◌∙◌}
 use Rattle.std.specs.List.{flat_map}
 use Rattle.zk_nodes.specs.Path.{Text}

@@ -1,4 +1,5 @@
--- Each request that was sent is of a length that a frame can tell, and fits its layout.
+-- Each request that was sent is of a length that a frame can tell, and fits its layout: all that happened is in range, so what was sent at
+-- each happening is.
 use Rattle.std.proofs.Common.{◌≡◌, ℕ, ℤ, pos, ◌≤◌, ◌<◌, ◌^◌, true, false, List, [], ◌∷◌, ◌++◌, length, Some, subst, arith}
 use Rattle.std.specs.Prelude.{⊤}
 use Rattle.std.specs.List.{AllByRecursion}

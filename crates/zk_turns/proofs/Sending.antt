@@ -1,4 +1,5 @@
--- What the outputs send is what was to be sent.
+-- What the outputs send is what was to be sent, and the state that they told last is the client's: what holds of a past and its outputs is
+-- carried on over happenings, signals and items.
 use Rattle.zk_watches.specs.Lists.{fires, Lists}
 use Rattle.zk_turns.specs.Turns.{Turn, Framed, Start, Outcome, Signal, Opens, Comes, Cuts, Ticks, Calls, Forget, Halt, Output, Report}
 use Rattle.zk_turns.specs.Turns.{Enters, Drop, Item, Turned, Forgets, Halts, signals_of}

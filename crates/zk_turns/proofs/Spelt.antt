@@ -1,4 +1,5 @@
--- A reading is there exactly where a spelling begins the bytes; and what is sent is read again.
+-- A reading is there exactly where a spelling begins the bytes; and what is sent is read again. Both are laws of every layout, used at each
+-- record.
 use Rattle.std.proofs.Common.{◌≡◌, ℕ, ℤ, pos, false, Some, List, ◌++◌, length, Ok, Err, refl, ap, ◌∙◌}
 use Rattle.std.specs.Prelude.{Result as Reading}
 use Rattle.zk_jute.specs.declared.fault.TakeError.{TakeError}

@@ -1,4 +1,5 @@
--- A step keeps what a client stands for.
+-- A step keeps what a client stands for. No reply is taken that was not asked for, so all that happens may happen, and after each happening
+-- the view is that of the past.
 use Rattle.zk_conversation.specs.Results.{response_timeout, response_session, response_password}
 use Rattle.zk_turns.proofs.Arriving.{IsOf, AreOf, of_arriving}
 use Rattle.zk_turns.specs.Past.{Asking, For_call, pending_for, awaited}

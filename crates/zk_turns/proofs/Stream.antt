@@ -1,4 +1,5 @@
--- The bytes that came are whole frames, and then less than one.
+-- The bytes that came are whole frames, and then less than one: by induction on the items, as each byte either makes what is held longer or
+-- ends a frame, which is cut off.
 use Rattle.zk_conversation.specs.Calls.{Call}
 use Rattle.zk_turns.specs.Taken.{phase_of, taken_of}
 use Rattle.zk_conversation.specs.Arriving.{Arrived, Connected as Welcomed, Replied, Watches_set as Part_set, Notice, Pong as Ponged}

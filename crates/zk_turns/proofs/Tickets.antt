@@ -1,4 +1,5 @@
--- Each call is answered once, or waits.
+-- Each call is answered once, or waits: each happening keeps the balance of calls, answers and what waits, so items do. At last what ends a
+-- connection answers all that waits.
 use Rattle.zk_watches.specs.Lists.{fires, Lists}
 use Rattle.zk_conversation.specs.Pending.{call_waits, Pending, Waiting, Part_waits, Call_waits, is_close}
 use Rattle.zk_conversation.specs.Results.{response_timeout, response_session, response_password}

@@ -1,4 +1,4 @@
--- Parts of the definitions, by themselves.
+-- Parts of the definitions, by themselves: what the definitions write out has a name here, so that lemmas can be said of it.
 use Rattle.zk_cache.specs.declared.held.Kept.{Kept}
 use Rattle.zk_cache.specs.Kept.{Answer, Absent, Known, Full, without_stale}
 use Rattle.std.specs.Prelude.{ℕ, ℤ, Bool, true, false, ◌&&◌, List, [], ◌∷◌, Option, Some, None, Ok, Err, bytes_eq, if◌then◌else◌}

@@ -19,32 +19,38 @@ mode_is_small Ephemeral = omega arith
 mode_is_small PersistentSequential = omega arith
 mode_is_small EphemeralSequential = omega arith
 
-pub returns-in-Exists-clause-asked : goal.returns-in-Exists-clause-asked
-returns-in-Exists-clause-asked g c = let text = is_utf8-from_IsUtf8 _ (rw c.as_str.ensures.text at c.as_str.utf8) in
-    subst (λ asked. IsAskable (call_view asked)) (sym c.in-Exists.is) (text, c.as_str.ensures.path)
+pub returns-in-Exists : goal.returns-in-Exists
+returns-in-Exists g c = let text = is_utf8-from_IsUtf8 _ (rw c.as_str.ensures.text at c.as_str.utf8) in
+    record { asked = subst (λ asked. IsAskable (call_view asked)) (sym c.in-Exists.is) (text, c.as_str.ensures.path) }
 
-pub returns-in-GetData-clause-asked : goal.returns-in-GetData-clause-asked
-returns-in-GetData-clause-asked g c = let text = is_utf8-from_IsUtf8 _ (rw c.as_str-in-GetData.ensures.text at c.as_str-in-GetData.utf8) in
-    subst (λ asked. IsAskable (call_view asked)) (sym c.in-GetData.is) (text, c.as_str-in-GetData.ensures.path)
+pub returns-in-GetData : goal.returns-in-GetData
+returns-in-GetData g c = let text = is_utf8-from_IsUtf8 _ (rw c.as_str-in-GetData.ensures.text at c.as_str-in-GetData.utf8) in
+    record { asked = subst (λ asked. IsAskable (call_view asked)) (sym c.in-GetData.is) (text, c.as_str-in-GetData.ensures.path) }
 
-pub returns-in-GetChildren-clause-asked : goal.returns-in-GetChildren-clause-asked
-returns-in-GetChildren-clause-asked g c = let text =
+pub returns-in-GetChildren : goal.returns-in-GetChildren
+returns-in-GetChildren g c = let text =
     is_utf8-from_IsUtf8 _ (rw c.as_str-in-GetChildren.ensures.text at c.as_str-in-GetChildren.utf8) in
-    subst (λ asked. IsAskable (call_view asked)) (sym c.in-GetChildren.is) (text, c.as_str-in-GetChildren.ensures.path)
+    record { asked = subst (λ asked. IsAskable (call_view asked)) (sym c.in-GetChildren.is) (text, c.as_str-in-GetChildren.ensures.path) }
 
-pub returns-in-SetData-clause-asked : goal.returns-in-SetData-clause-asked
-returns-in-SetData-clause-asked g c = let text = is_utf8-from_IsUtf8 _ (rw c.as_str-in-SetData.ensures.text at c.as_str-in-SetData.utf8) in
+pub returns-in-SetData : goal.returns-in-SetData
+returns-in-SetData g c = let text = is_utf8-from_IsUtf8 _ (rw c.as_str-in-SetData.ensures.text at c.as_str-in-SetData.utf8) in
     let v : to_z w32 (of_z w32 c.in-SetData.version) ≡ c.in-SetData.version = omega (arith, ints) in
-    subst (λ asked. IsAskable (call_view asked)) (sym c.in-SetData.is)
-    ((text, rw v at c.known_of_version.ensures.range), c.as_str-in-SetData.ensures.path)
+    record {
+      asked = subst (λ asked. IsAskable (call_view asked)) (sym c.in-SetData.is)
+          ((text, rw v at c.known_of_version.ensures.range), c.as_str-in-SetData.ensures.path);
+    }
 
-pub returns-in-Create-clause-asked : goal.returns-in-Create-clause-asked
-returns-in-Create-clause-asked g c = let text = is_utf8-from_IsUtf8 _ (rw c.as_str-in-Create.ensures.text at c.as_str-in-Create.utf8) in
-    subst (λ asked. IsAskable (call_view asked)) (sym c.in-Create.is)
-    ((text, mode_is_small c.in-Create.mode), c.as_str-in-Create.ensures.path)
+pub returns-in-Create : goal.returns-in-Create
+returns-in-Create g c = let text = is_utf8-from_IsUtf8 _ (rw c.as_str-in-Create.ensures.text at c.as_str-in-Create.utf8) in
+    record {
+      asked = subst (λ asked. IsAskable (call_view asked)) (sym c.in-Create.is)
+          ((text, mode_is_small c.in-Create.mode), c.as_str-in-Create.ensures.path);
+    }
 
-pub returns-in-Delete-clause-asked : goal.returns-in-Delete-clause-asked
-returns-in-Delete-clause-asked g c = let text = is_utf8-from_IsUtf8 _ (rw c.as_str-in-Delete.ensures.text at c.as_str-in-Delete.utf8) in
+pub returns-in-Delete : goal.returns-in-Delete
+returns-in-Delete g c = let text = is_utf8-from_IsUtf8 _ (rw c.as_str-in-Delete.ensures.text at c.as_str-in-Delete.utf8) in
     let v : to_z w32 (of_z w32 c.in-Delete.version) ≡ c.in-Delete.version = omega (arith, ints) in
-    subst (λ asked. IsAskable (call_view asked)) (sym c.in-Delete.is)
-    ((text, rw v at c.known_of_version-in-Delete.ensures.range), c.as_str-in-Delete.ensures.path)
+    record {
+      asked = subst (λ asked. IsAskable (call_view asked)) (sym c.in-Delete.is)
+          ((text, rw v at c.known_of_version-in-Delete.ensures.range), c.as_str-in-Delete.ensures.path);
+    }
