@@ -1,7 +1,7 @@
 -- The first tree of a ticket, looked for from the front: while all before a place have another one (`Missed`), it is the first of the rest.
-use Rattle.std.proofs.Common.{◌≡◌, ◌<◌, ◌+◌, ◌++◌, ◌∙◌, ℕ, Bool, true, false, List, [], ◌∷◌, length, get_or, drop, take, sym, ap, refl}
+use Rattle.std.proofs.Common.{◌≡◌, ◌<◌, ◌+◌, ◌++◌, ◌∙◌, ℕ, Bool, true, false, List, [], ◌∷◌, length, get_or, drop, take, sym, ap}
 use Rattle.std.proofs.Common.{append_assoc, append-nil}
-use Rattle.std.specs.Prelude.{◌==◌, Option, Some, None, if◌then◌else◌}
+use Rattle.std.specs.Prelude.{◌==◌, Some, None, if◌then◌else◌}
 use Rattle.std.proofs.lemmas.List.{drop_more, get_or_default, take_more}
 use Rattle.ffi_agent_device.specs.Tending.{found, left}
 use Rattle.ffi_agent_device.specs.declared.tree.Tree.{Tree}

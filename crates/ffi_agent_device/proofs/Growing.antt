@@ -1,17 +1,16 @@
 -- What is done to a tree is put together from what its parts have done, by the case of each test. A part that failed promises nothing.
-use Rattle.std.proofs.Common.{◌≡◌, ◌+◌, ◌++◌, ◌∷◌, ℕ, Bool, true, false, List, [], refl, sym, ap, subst}
+use Rattle.std.proofs.Common.{◌≡◌, ◌+◌, ◌++◌, ◌∷◌, ℕ, Bool, true, false, List, [], refl, ap, subst}
 use Rattle.std.specs.Prelude.{⊤, Result, Ok, Err, OnOk}
 use Rattle.std.specs.declared.alloc.Global.{Global}
 use Rattle.zk_nodes.specs.Path.{Text}
 use Rattle.zk_nodes.specs.declared.side.Side.{Side}
-use Rattle.zk_nodes.specs.declared.side.Side.TheVariants.{Data, Child}
 use Rattle.zk_agent.specs.Agents.{Move, Follows}
 use Rattle.zk_trees.specs.Trees as trees
 use Rattle.zk_trees.specs.Trees.{AreWanted, Wants}
 use Rattle.zk_trees.specs.declared.member.Member.{Member}
 use Rattle.zk_trees.specs.declared.subject.NodeSide.{NodeSide}
 use Rattle.ffi_agent_device.specs.Taking.{MovesOn, Voice}
-use Rattle.ffi_agent_device.specs.Tending.{bed_of, is_none, lacks_nothing, tells, view_in, Bed, Grows, Joins, LetsAllGo, NotesBound}
+use Rattle.ffi_agent_device.specs.Tending.{is_none, lacks_nothing, tells, view_in, Bed, Grows, Joins, LetsAllGo, NotesBound}
 use Rattle.ffi_agent_device.specs.Tending.{NotesBoundWhere, NotesWhole, NotesWholeWhere, Shifts, TakesAllOn, TakesOnWhere, TendsTree}
 use Rattle.ffi_agent_device.specs.declared.tree.TreeNews.{TreeNews}
 use Rattle.ffi_agent_device.specs.declared.tree.TreeNews.TheVariants as news

@@ -1,6 +1,6 @@
 -- What each step of an agent keeps, and each subject that comes or goes, a whole step of a device keeps: by induction over what it does.
 -- That each subject is followed is kept too, since one that was taken on is read before the step ends.
-use Rattle.std.proofs.Common.{◌≡◌, ◌≢◌, ◌≤◌, ◌+◌, ◌∷◌, ℕ, Bool, true, false, List, [], Option, Some, None, map, refl, sym, subst, ap, arith}
+use Rattle.std.proofs.Common.{◌≡◌, ◌≤◌, ◌+◌, ◌∷◌, ℕ, Bool, true, false, List, [], Option, Some, None, map, refl, sym, subst, ap, arith}
 use Rattle.std.proofs.Common.{◌∙◌}
 use Rattle.std.specs.Prelude.{◌&&◌, ◌==◌, not, All}
 use Rattle.std.specs.List.{filter, FoldsTo}
@@ -13,7 +13,7 @@ use Rattle.zk_nodes.specs.declared.side.Side.TheVariants.{Data, Child}
 use Rattle.zk_turns.specs.View.{View}
 use Rattle.zk_client.specs.Clients.{view_of}
 use Rattle.zk_follow.specs.declared.subject.Subject.{Subject}
-use Rattle.zk_follow.specs.Following.{unfollowed, IsFollowed}
+use Rattle.zk_follow.specs.Following.{IsFollowed}
 use Rattle.zk_agent.specs.Agents.{Follows, Unfollows, Trail}
 use Rattle.zk_agent.specs.Calls.{is_same}
 use Rattle.zk_agent.specs.declared.agent.Agent.{Agent}

@@ -1,5 +1,5 @@
 -- Actions as numbers, and the text that is read separately.
-use Rattle.std.specs.Prelude.{ℕ, ℤ, pos, List, [], length, string_bytes}
+use Rattle.std.specs.Prelude.{ℕ, pos, List, [], length, string_bytes}
 use Rattle.zk_records.specs.Events.{event_number}
 use Rattle.zk_client.specs.FaultText.{fault_code}
 use Rattle.zk_client.specs.Views.{fault_view}

@@ -1,5 +1,5 @@
 -- What is wanted, what is taken on of it, and what is told of bound and whole tree, put together by `ok_grows`; the view is the client's.
-use Rattle.std.proofs.Common.{[], ◌∷◌, List, ap, subst}
+use Rattle.std.proofs.Common.{List, subst}
 use Rattle.zk_client.specs.Clients.{view_of}
 use Rattle.zk_nodes.specs.Path.{Text}
 use Rattle.zk_turns.specs.View.{View}

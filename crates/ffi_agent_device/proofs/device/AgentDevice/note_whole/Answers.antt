@@ -1,5 +1,5 @@
 -- By whether it is news: then it is noted and told (`ok_whole`), else noted alone (`whole_untold`).
-use Rattle.std.proofs.Common.{◌≡◌, ◌∙◌, ap, sym, rules}
+use Rattle.std.proofs.Common.{rules}
 use Rattle.std.specs.Prelude.{◌&&◌}
 use Rattle.ffi_agent_device.specs.Taking.{voice_of}
 use Rattle.ffi_agent_device.specs.Tending.{bed_of, is_moved}

@@ -1,5 +1,5 @@
 -- By the test of the revision: trees that were tended at it rest (`rests`), else `tend_all` tends each (`ok_tends_so`).
-use Rattle.std.proofs.Common.{◌≡◌, ◌∙◌, List, ap, sym, subst}
+use Rattle.std.proofs.Common.{◌∙◌, List, ap, sym, subst}
 use Rattle.std.specs.Prelude.{◌==◌, OnOk}
 use Rattle.ffi_agent_device.specs.declared.tree.Tree.{Tree}
 use Rattle.ffi_agent_device.specs.Taking.{voice_of}

@@ -1,7 +1,7 @@
 -- The slice of all trees is written back (`whole_written`), so each tree that the device then has was tended, and what was taken on is read
 -- (`ok_all`).
 use Rattle.std.proofs.Common.{◌≡◌, ◌∙◌, List, ap, arith, drop, length, subst, sym}
-use Rattle.std.specs.Prelude.{◌==◌, OnOk}
+use Rattle.std.specs.Prelude.{OnOk}
 use Rattle.ffi_agent_device.specs.declared.tree.Tree.{Tree}
 use Rattle.ffi_agent_device.specs.declared.tree.Trees.{Trees}
 use Rattle.ffi_agent_device.specs.Taking.{voice_of}

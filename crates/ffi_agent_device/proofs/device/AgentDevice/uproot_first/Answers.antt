@@ -1,5 +1,5 @@
 -- By whether `take_out` found a tree: what `uproot` ensures of it, or nothing. Neither changes the ticket of the next node before that.
-use Rattle.std.proofs.Common.{◌∙◌, ap, sym, subst}
+use Rattle.std.proofs.Common.{◌∙◌, ap, subst}
 use Rattle.std.specs.Prelude.{Option, OnOk}
 use Rattle.ffi_agent_device.specs.Taking.{voice_of}
 use Rattle.ffi_agent_device.specs.Tending.{Uproots, UprootsSo}

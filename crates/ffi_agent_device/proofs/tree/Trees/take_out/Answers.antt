@@ -1,6 +1,6 @@
 -- The tree at the index is the first of the ticket where those before it have another one (`is_found`, `is_left`, `missed_more`); where the
 -- loop ends, none has it (`none_found`).
-use Rattle.std.proofs.Common.{◌≡◌, ◌≤◌, ◌<◌, ◌+◌, ◌++◌, ◌∙◌, arith, ap, drop, get_or, length, refl, rules, subst, sym, take, true, false}
+use Rattle.std.proofs.Common.{◌≡◌, ◌≤◌, ◌<◌, ◌+◌, ◌++◌, ◌∙◌, arith, ap, drop, get_or, length, refl, rules, subst, take, true, false}
 use Rattle.std.proofs.lemmas.List.{drop_all, take_all}
 use Rattle.std.specs.Prelude.{◌==◌}
 use Rattle.ffi_agent_device.specs.declared.tree.Trees.{Trees}
