@@ -115,7 +115,11 @@ enum dw_kind DW_AS_INT32 {
   DW_KIND_TIMED_OUT = 8,
   DW_KIND_RENEWED = 9,
   DW_KIND_SHOWN = 10,
-  DW_KIND_REFUSED = 11
+  DW_KIND_REFUSED = 11,
+  DW_KIND_TAKEN_ON = 12,
+  DW_KIND_LET_GO = 13,
+  DW_KIND_BOUNDED = 14,
+  DW_KIND_WHOLE = 15
 };
 enum dw_state DW_AS_INT32 {
   DW_STATE_IDLE = 0,
@@ -205,7 +209,14 @@ enum dw_code DW_AS_INT32 {
  *   DW_KIND_RENEWED   the session has expired, with its ephemeral nodes, and another one begins. What is followed is read again.
  *   DW_KIND_SHOWN     what is kept of the subject with this ticket is good: look it up. It was not, or its path was reported since.
  *   DW_KIND_REFUSED   a read of the subject with this ticket was refused: refusal says why, with the code of DW_REFUSAL_CODE. It is read
- *                     again after a second, and this is told once for each new reason. */
+ *                     again after a second, and this is told once for each new reason.
+ * What it says of trees comes after all else that it says of a step:
+ *   DW_KIND_TAKEN_ON  a side of a node is followed for the tree with the ticket tree, by this ticket: side; the text is the path.
+ *   DW_KIND_LET_GO    what this ticket follows for that tree is followed no more: there is no such node, or the tree is followed no more.
+ *   DW_KIND_BOUNDED   whether the tree with this ticket has more nodes than its bound is another than before: is_bounded. While it has, no more of
+ *                     it is taken on.
+ *   DW_KIND_WHOLE     nothing is lacking of the tree with this ticket, and it may be another one than when that was told last: look it up by
+ *                     dw_session_subtree, which judges whether it is of one moment. */
 typedef struct dw_output {
   enum dw_kind kind;
   union {
@@ -217,11 +228,11 @@ typedef struct dw_output {
   };
   union {
     enum dw_reply reply; /* of an answer that is a reply */
-    enum dw_side side; /* of a report */
+    enum dw_side side; /* of a report, and of what is taken on */
   };
   int32_t code; /* one of enum dw_code, or another number */
   union {
-    uint64_t ticket; /* of a call, or of a subject */
+    uint64_t ticket; /* of a call, a subject or a tree */
     uint64_t within_ms; /* of a dial */
   };
   int64_t zxid;
@@ -229,10 +240,12 @@ typedef struct dw_output {
   union {
     size_t names; /* how many there are: dw_name gives each */
     size_t place; /* of a dial */
+    size_t tree; /* of a node of a tree */
   };
   union {
     bool is_null; /* of an answer */
     bool was_sent; /* of a call that has timed out */
+    bool is_bounded; /* of a tree */
   };
   bool has_stat;
   dw_stat stat;
@@ -540,10 +553,23 @@ enum dw_result dw_session_follow_names(dw_session *handle, uint64_t now_ms, uint
 /* The subject of this ticket is followed no more. */
 enum dw_result dw_session_unfollow(dw_session *handle, uint64_t now_ms, uint64_t ticket);
 
-/* Writes the next action of the last step. DW_OK, DW_NONE where all were told, DW_CLOSED; then out is as it was. */
+/* A tree is followed: all nodes at and below a path, the root, of which no more are taken on where there are more than `most`. After each step in
+ * which the revision has risen, each side of a node that good names lead to from the root on, and that lacks a good answer, is followed, unless it
+ * is known that there is no such node; a node below the root of which that is known is let go. The data of the root have the ticket of the tree.
+ * All else has tickets from 2^63 on, which a program uses for nothing else. That there is no root is shown by DW_KIND_SHOWN of its ticket, and its
+ * making is waited for. The root is read in the same step. DW_OK, or what dw_session_follow_data answers. */
+enum dw_result dw_session_follow_tree(dw_session *handle, uint64_t now_ms, uint64_t ticket, const char *path, size_t path_length,
+                                      size_t most);
+
+/* The tree of this ticket is followed no more, nor is any node that was taken on for it. Where there is none, the moment alone is noticed. */
+enum dw_result dw_session_unfollow_tree(dw_session *handle, uint64_t now_ms, uint64_t ticket);
+
+/* Writes what is told next of the last step: its actions, and then what is said of trees. DW_OK, DW_NONE where all was told, DW_CLOSED; then out is
+ * as it was. */
 enum dw_result dw_session_next(dw_session *handle, dw_output *out);
 
-/* These give the text, the names and the words of the action that was told last, as dw_copy, dw_name, dw_names and dw_words do. */
+/* These give the text of what was told last, and the names and the words of the action that was told last, as dw_copy, dw_name, dw_names and
+ * dw_words do. */
 size_t dw_session_copy(dw_session *handle, size_t from, void *out, size_t room);
 size_t dw_session_name(dw_session *handle, size_t index, char *out, size_t room);
 enum dw_result dw_session_names(dw_session *handle, uint8_t *out, size_t room, size_t *count);

@@ -1021,6 +1021,10 @@ static inline void dws_take(dws_session *s, const dw_output *action)
     case DW_KIND_RENEWED:
     case DW_KIND_SHOWN: s->must_look = true; break;
     case DW_KIND_REFUSED: dws_take_refusal(s, action); break;
+    case DW_KIND_TAKEN_ON: /* those of trees: none is followed by the library */
+    case DW_KIND_LET_GO:
+    case DW_KIND_BOUNDED:
+    case DW_KIND_WHOLE: break;
     }
 }
 

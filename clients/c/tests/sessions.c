@@ -242,6 +242,8 @@ static void expect_closed_steps(dw_session *none)
     EXPECT_NUMBER(DW_CLOSED, dw_session_follow_data(none, 1, 2, CONFIG));
     EXPECT_NUMBER(DW_CLOSED, dw_session_follow_names(none, 1, 2, CONFIG));
     EXPECT_NUMBER(DW_CLOSED, dw_session_unfollow(none, 1, 2));
+    EXPECT_NUMBER(DW_CLOSED, dw_session_follow_tree(none, 1, 2, CONFIG, 3));
+    EXPECT_NUMBER(DW_CLOSED, dw_session_unfollow_tree(none, 1, 2));
 }
 
 /* It says nothing, and shows nothing. What it is asked for is not written, and each count is 0. */

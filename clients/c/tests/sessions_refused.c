@@ -76,6 +76,25 @@ static enum dw_result created(struct play *play)
     return hand_in(&play->session, &reply);
 }
 
+/* The root is kept already, and its names are read third. */
+static enum dw_result follow_tree(struct play *play)
+{
+    return dw_session_follow_tree(&play->session, 1, 3, PATH, sizeof PATH, 3);
+}
+
+/* Two nodes are below the root. */
+static enum dw_result named(struct play *play)
+{
+    struct bytes reply = {.length = 0};
+    add_names(&reply, 3, 6, "a", "b", &STAT);
+    return hand_in(&play->session, &reply);
+}
+
+static enum dw_result unfollow_tree(struct play *play)
+{
+    return dw_session_unfollow_tree(&play->session, 1, 3);
+}
+
 static enum dw_result addresses(struct play *play)
 {
     return dw_session_addresses(&play->session, 1, 5);
@@ -128,6 +147,9 @@ static const struct move MOVES[] = {
     {shown, STEP | REFUSES},
     {create, STEP | REFUSES},
     {created, STEP | REFUSES},
+    {follow_tree, STEP | REFUSES},
+    {named, STEP | REFUSES},
+    {unfollow_tree, STEP},
     {addresses, STEP},
     {peek, REFUSES},
     {save, REFUSES},
@@ -148,6 +170,8 @@ static void expect_halted(struct play *play)
     EXPECT_NUMBER(DW_HALTED, connected(play));
     EXPECT_NUMBER(DW_HALTED, follow(play));
     EXPECT_NUMBER(DW_HALTED, create(play));
+    EXPECT_NUMBER(DW_HALTED, follow_tree(play));
+    EXPECT_NUMBER(DW_HALTED, unfollow_tree(play));
     EXPECT_NUMBER(DW_HALTED, cut(play));
     EXPECT_NUMBER(DW_NONE, dw_session_next(&play->session, &action));
     EXPECT_NUMBER(DW_OK, save(play));
@@ -196,7 +220,12 @@ static bool run(struct play *play, long refused_at)
 int main(void)
 {
     static const enum dw_kind TOLD[] = {
-        DW_KIND_DIAL, DW_KIND_SEND, DW_KIND_STATE, DW_KIND_STATE, DW_KIND_SEND, DW_KIND_SHOWN, DW_KIND_SEND, DW_KIND_ANSWER, DW_KIND_STATE,
+        DW_KIND_DIAL, DW_KIND_SEND, DW_KIND_STATE, DW_KIND_STATE, DW_KIND_SEND, DW_KIND_SHOWN, DW_KIND_SEND, DW_KIND_ANSWER,
+        DW_KIND_SEND, DW_KIND_SHOWN, DW_KIND_TAKEN_ON, DW_KIND_TAKEN_ON,
+        DW_KIND_SHOWN, DW_KIND_SEND, DW_KIND_SEND, DW_KIND_SEND, DW_KIND_SEND,
+        DW_KIND_TAKEN_ON, DW_KIND_TAKEN_ON, DW_KIND_TAKEN_ON, DW_KIND_TAKEN_ON,
+        DW_KIND_LET_GO, DW_KIND_LET_GO, DW_KIND_LET_GO, DW_KIND_LET_GO, DW_KIND_LET_GO, DW_KIND_LET_GO,
+        DW_KIND_STATE,
     };
     static struct play whole, part;
     long halted = 0;

@@ -57,6 +57,10 @@ TIMED_OUT = 8
 RENEWED = 9
 SHOWN = 10
 REFUSED = 11
+TAKEN_ON = 12
+LET_GO = 13
+BOUNDED = 14
+WHOLE = 15
 
 IDLE = 0
 CONNECTING = 1
@@ -268,6 +272,8 @@ _FUNCTIONS: dict[str, tuple[Any, tuple[Any, ...]]] = {
     "dw_session_follow_data": (c_int32, (_HANDLE, c_uint64, c_uint64, c_char_p, c_size_t)),
     "dw_session_follow_names": (c_int32, (_HANDLE, c_uint64, c_uint64, c_char_p, c_size_t)),
     "dw_session_unfollow": (c_int32, (_HANDLE, c_uint64, c_uint64)),
+    "dw_session_follow_tree": (c_int32, (_HANDLE, c_uint64, c_uint64, c_char_p, c_size_t, c_size_t)),
+    "dw_session_unfollow_tree": (c_int32, (_HANDLE, c_uint64, c_uint64)),
     "dw_session_next": (c_int32, (_HANDLE, POINTER(_Output))),
     "dw_session_copy": (c_size_t, (_HANDLE, c_size_t, POINTER(c_char), c_size_t)),
     "dw_session_name": (c_size_t, (_HANDLE, c_size_t, POINTER(c_char), c_size_t)),

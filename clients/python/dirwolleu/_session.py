@@ -20,6 +20,7 @@ NO_LIMIT = 2**64 - 1
 _REFUSALS = frozenset(
     (library.READ_CODE, library.READ_TOO_MANY_WATCHES, library.READ_TOO_LARGE, library.READ_CLOSED)
 )
+_SIDES = frozenset((library.DATA_SIDE, library.CHILDREN_SIDE))
 
 
 class Dial(NamedTuple):
@@ -60,9 +61,38 @@ class Refused(NamedTuple):
     code: int
 
 
+class TakenOn(NamedTuple):
+    """A side of a node is followed for a tree, by a ticket: that of the tree, or one from 2^63 on."""
+
+    tree: int
+    ticket: int
+    side: int
+    path: str
+
+
+class LetGo(NamedTuple):
+    """What this ticket follows for a tree is followed no more: there is no such node, or the tree is followed no more."""
+
+    tree: int
+    ticket: int
+
+
+class Bounded(NamedTuple):
+    """Whether a tree has more nodes than its bound is another one than before. Where it has, no more of it is followed."""
+
+    tree: int
+    is_bounded: bool
+
+
+class Whole(NamedTuple):
+    """Nothing is lacking of a tree, and it may be another one than when that was told last: `subtree` judges whether it is of one moment."""
+
+    tree: int
+
+
 _SIGNS = {library.HANG_UP: Sign.HANG_UP, library.RENEWED: Sign.RENEWED}
 
-Action = Union[library.Output, Dial, Sign, TimedOut, Shown, Refused]
+Action = Union[library.Output, Dial, Sign, TimedOut, Shown, Refused, TakenOn, LetGo, Bounded, Whole]
 
 
 class Session(LookUps[Action]):
@@ -159,6 +189,14 @@ class Session(LookUps[Action]):
     def unfollow(self, now: int, ticket: int) -> list[Action]:
         return self._outputs(self._calls.unfollow(self._handle, now, ticket))
 
+    def follow_tree(self, now: int, ticket: int, path: str, most: int) -> list[Action]:
+        """Follows all nodes at and below a path, of which no more are taken on where there are more than `most`."""
+        spelled = self._root.spell(path)
+        return self._outputs(self._calls.follow_tree(self._handle, now, ticket, spelled, len(spelled), most), path)
+
+    def unfollow_tree(self, now: int, ticket: int) -> list[Action]:
+        return self._outputs(self._calls.unfollow_tree(self._handle, now, ticket))
+
     # Look-ups.
 
     def heard_at(self) -> Optional[int]:
@@ -175,7 +213,7 @@ class Session(LookUps[Action]):
     # What a step tells.
 
     def _read(self, fields: tuple[Any, ...]) -> Action:
-        kind, detail, _, code, ticket, _, _, place, was_sent = fields[:9]
+        kind, detail, result, code, ticket, _, length, place, was_sent = fields[:9]
         if kind <= library.DROP:
             return self._output_of(fields)
         if kind == library.DIAL:
@@ -186,4 +224,13 @@ class Session(LookUps[Action]):
             return Shown(ticket)
         if kind == library.REFUSED:
             return Refused(ticket, known("refusal", detail, _REFUSALS), code)
+        if kind == library.TAKEN_ON:
+            side = known("side", result, _SIDES)
+            return TakenOn(place, ticket, side, self._root.read(self._text(length)))
+        if kind == library.LET_GO:
+            return LetGo(place, ticket)
+        if kind == library.BOUNDED:
+            return Bounded(ticket, was_sent)
+        if kind == library.WHOLE:
+            return Whole(ticket)
         return _SIGNS[known("output", kind, _SIGNS)]

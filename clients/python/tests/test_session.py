@@ -10,10 +10,25 @@ from test_library import CONNECT_REQUEST, CONNECT_RESPONSE, STAT, STAT_BYTES, bu
 from dirwolleu import _library as library
 from dirwolleu._library import Answer, Drop, NoMemory, Report, Send, StateChange
 from dirwolleu._root import Root
-from dirwolleu._session import NO_LIMIT, Action, Dial, Refused, Session, Shown, Sign, TimedOut
+from dirwolleu._session import (
+    NO_LIMIT,
+    Action,
+    Bounded,
+    Dial,
+    LetGo,
+    Refused,
+    Session,
+    Shown,
+    Sign,
+    TakenOn,
+    TimedOut,
+    Whole,
+)
 
 EXPIRED = frame(struct.pack(">iiq", 0, 0, 0) + buffer(bytes(16)) + b"\0")
 CONNECTED = [StateChange(library.CONNECTED)]
+FIRST = 2**63
+"""The ticket of the first node of a tree that is not the data of its root."""
 
 
 def asked(xid: int, kind: int, path: str, rest: bytes = b"") -> Send:
@@ -22,6 +37,10 @@ def asked(xid: int, kind: int, path: str, rest: bytes = b"") -> Send:
 
 def read(xid: int, path: str, watch: bool = False) -> Send:
     return asked(xid, 4, path, bytes([watch]))
+
+
+def names(*listed: str) -> bytes:
+    return struct.pack(">i", len(listed)) + b"".join(buffer(name.encode()) for name in listed) + STAT_BYTES
 
 
 class SessionTest(unittest.TestCase):
@@ -115,6 +134,28 @@ class SessionTest(unittest.TestCase):
         self.assertEqual(session.unfollow(600, 5), [])
         self.assertEqual(session.moment(1500), [])
         self.assertEqual(session.follow(1500, 6, "/b", library.CHILDREN_SIDE), [asked(3, 12, "/b", b"\1")])
+
+    def test_a_tree_is_followed_as_its_names_come(self) -> None:
+        session = self.connected(Root("/app"))
+        tree = [TakenOn(5, 5, library.DATA_SIDE, "/a"), TakenOn(5, FIRST, library.CHILDREN_SIDE, "/a")]
+        reads: list[Action] = [read(1, "/app/a", True), asked(2, 12, "/app/a", b"\1")]
+        self.assertEqual(session.follow_tree(200, 5, "/a", 2), [*reads, *tree])
+        self.assertEqual(session.received(300, reply(1, 9, 0, buffer(b"one") + STAT_BYTES)), [Shown(5)])
+        reads = [read(3, "/app/a/b", True), asked(4, 12, "/app/a/b", b"\1")]
+        below = [TakenOn(5, FIRST + 1, library.DATA_SIDE, "/a/b"), TakenOn(5, FIRST + 2, library.CHILDREN_SIDE, "/a/b")]
+        self.assertEqual(session.received(400, reply(2, 9, 0, names("b"))), [Shown(FIRST), *reads, *below])
+        self.assertEqual(session.received(500, reply(3, 9, 0, buffer(b"two") + STAT_BYTES)), [Shown(FIRST + 1)])
+        self.assertEqual(session.received(600, reply(4, 9, 0, names())), [Shown(FIRST + 2), Whole(5)])
+        gone = [LetGo(5, ticket) for ticket in (5, FIRST, FIRST + 1, FIRST + 2)]
+        self.assertEqual(session.unfollow_tree(700, 5), gone)
+        with self.assertRaises(ValueError):
+            session.follow_tree(800, 6, "a", 2)
+
+    def test_a_tree_of_more_nodes_than_its_bound_is_told(self) -> None:
+        session = self.connected()
+        session.follow_tree(200, 5, "/a", 1)
+        session.received(300, reply(1, 9, 0, buffer(b"one") + STAT_BYTES))
+        self.assertEqual(session.received(400, reply(2, 9, 0, names("b"))), [Shown(FIRST), Bounded(5, True)])
 
     def test_a_connection_is_given_up(self) -> None:
         session = self.connected()

@@ -133,6 +133,37 @@ pub enum Action<'a> {
         /// Why.
         reason: Refusal,
     },
+    /// A side of a node is followed for a tree.
+    TakenOn {
+        /// The number that the tree was given.
+        tree: u64,
+        /// The number of what is followed: that of the tree, or one from 2^63 on.
+        ticket: u64,
+        /// The side.
+        side: Side,
+        /// The path of the node.
+        path: Text<'a>,
+    },
+    /// What was followed for a tree is followed no more: there is no such node, or the tree is followed no more.
+    LetGo {
+        /// The number that the tree was given.
+        tree: u64,
+        /// The number of what was followed.
+        ticket: u64,
+    },
+    /// Whether a tree has more nodes than its bound is another one than before.
+    Bounded {
+        /// The number that the tree was given.
+        tree: u64,
+        /// Whether it has: then no more of it is followed.
+        is_bounded: bool,
+    },
+    /// Nothing is lacking of a tree, and it may be another one than when that was told last: look it up by [`subtree`](Machine::subtree),
+    /// which judges whether it is of one moment.
+    Whole {
+        /// The number that the tree was given.
+        tree: u64,
+    },
 }
 
 /// Why a read of what is followed was refused.
@@ -199,6 +230,21 @@ impl<'a> Action<'a> {
                 ticket,
                 reason: Refusal::of(flat)?,
             },
+            kind::TAKEN_ON => Action::TakenOn {
+                tree: flat.names as u64,
+                ticket,
+                side: Side::try_from(flat.result)?,
+                path: Text::of(handle, flat),
+            },
+            kind::LET_GO => Action::LetGo {
+                tree: flat.names as u64,
+                ticket,
+            },
+            kind::BOUNDED => Action::Bounded {
+                tree: ticket,
+                is_bounded: flat.is_null,
+            },
+            kind::WHOLE => Action::Whole { tree: ticket },
             _ => Action::from(Output::of(handle, flat)?),
         })
     }
@@ -221,6 +267,7 @@ mod tests {
     use super::{Action, Refusal};
     use crate::fault::Code;
     use crate::ffi::{self, MachineHandle, Settings};
+    use crate::node::Side;
     use std::time::Duration;
 
     fn handle() -> MachineHandle {
@@ -274,9 +321,46 @@ mod tests {
     }
 
     #[test]
+    fn each_field_of_what_is_told_of_a_tree_has_its_place() {
+        let handle = handle();
+        let flat = |kind| ffi::Output {
+            kind,
+            result: 2,
+            ticket: 9,
+            names: 7,
+            is_null: true,
+            ..ffi::Output::default()
+        };
+        assert!(matches!(
+            Action::of(&handle, &flat(12)),
+            Ok(Action::TakenOn {
+                tree: 7,
+                ticket: 9,
+                side: Side::Children,
+                ..
+            })
+        ));
+        assert!(matches!(
+            Action::of(&handle, &flat(13)),
+            Ok(Action::LetGo { tree: 7, ticket: 9 })
+        ));
+        assert!(matches!(
+            Action::of(&handle, &flat(14)),
+            Ok(Action::Bounded {
+                tree: 9,
+                is_bounded: true
+            })
+        ));
+        assert!(matches!(
+            Action::of(&handle, &flat(15)),
+            Ok(Action::Whole { tree: 9 })
+        ));
+    }
+
+    #[test]
     fn a_number_that_nobody_knows_is_a_fault() {
         let handle = handle();
-        for (kind, detail, what) in [(0, 0, "output"), (12, 0, "output"), (11, 5, "refusal")] {
+        for (kind, detail, what) in [(0, 0, "output"), (16, 0, "output"), (11, 5, "refusal")] {
             let flat = ffi::Output {
                 kind,
                 detail,

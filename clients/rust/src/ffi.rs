@@ -128,6 +128,8 @@ extern "C" {
     fn dw_session_follow_data(handle: *mut Raw, now_ms: u64, ticket: u64, path: *const u8, path_length: usize) -> i32;
     fn dw_session_follow_names(handle: *mut Raw, now_ms: u64, ticket: u64, path: *const u8, path_length: usize) -> i32;
     fn dw_session_unfollow(handle: *mut Raw, now_ms: u64, ticket: u64) -> i32;
+    fn dw_session_follow_tree(handle: *mut Raw, now_ms: u64, ticket: u64, path: *const u8, path_length: usize, most: usize) -> i32;
+    fn dw_session_unfollow_tree(handle: *mut Raw, now_ms: u64, ticket: u64) -> i32;
     fn dw_session_next(handle: *mut Raw, out: *mut Output) -> i32;
     fn dw_session_copy(handle: *mut Raw, from: usize, out: *mut u8, room: usize) -> usize;
     fn dw_session_name(handle: *mut Raw, index: usize, out: *mut u8, room: usize) -> usize;

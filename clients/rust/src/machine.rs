@@ -202,6 +202,32 @@ impl Machine {
         self.step(|handle| handle.unfollow(now, ticket))
     }
 
+    /// Follows all nodes at and below a path, of which no more are taken on where there are more than `most`. The data of its root have the
+    /// ticket, and all else has tickets from 2^63 on, which are used for nothing else. What becomes of it is told by [`Action::TakenOn`] and
+    /// those after it. Where there is no root, that is [shown](Action::Shown), and its making is waited for.
+    ///
+    /// # Errors
+    ///
+    /// As [`follow`](Machine::follow).
+    pub fn follow_tree(
+        &mut self,
+        now: Moment,
+        ticket: u64,
+        path: &str,
+        most: usize,
+    ) -> Result<Actions<'_>, Fault> {
+        self.step(|handle| handle.follow_tree(Call { now, ticket, path }, most))
+    }
+
+    /// The tree of this ticket is followed no more, nor is any node that was taken on for it. Where there is none, the moment alone is noticed.
+    ///
+    /// # Errors
+    ///
+    /// [`Fault::Halted`] and [`Fault::UnknownNumber`].
+    pub fn unfollow_tree(&mut self, now: Moment, ticket: u64) -> Result<Actions<'_>, Fault> {
+        self.step(|handle| handle.unfollow_tree(now, ticket))
+    }
+
     /// Forgets all stale answers. What is kept is bounded by nothing but memory: who goes from path to path calls this now and then. It is
     /// no step, and what is followed is followed still.
     pub fn forget_stale(&mut self) {

@@ -35,6 +35,10 @@ pub(crate) mod kind {
     pub(crate) const RENEWED: i32 = 9;
     pub(crate) const SHOWN: i32 = 10;
     pub(crate) const REFUSED: i32 = 11;
+    pub(crate) const TAKEN_ON: i32 = 12;
+    pub(crate) const LET_GO: i32 = 13;
+    pub(crate) const BOUNDED: i32 = 14;
+    pub(crate) const WHOLE: i32 = 15;
 }
 
 pub(crate) mod state {

@@ -339,6 +339,16 @@ pub struct Text<'a> {
     bytes: Bytes<'a>,
 }
 
+impl<'a> Text<'a> {
+    /// The text of this output.
+    pub(crate) fn of(handle: &'a Handle, flat: &ffi::Output) -> Text<'a> {
+        let length = flat.length;
+        Text {
+            bytes: Bytes { handle, length },
+        }
+    }
+}
+
 impl Text<'_> {
     /// How many bytes it has.
     pub fn len(&self) -> usize {

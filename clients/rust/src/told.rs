@@ -192,7 +192,12 @@ impl Told {
                 Action::Drop(given_up) => self.tell(dropped(&given_up)),
                 Action::Dial { place, within } => self.news.dial = Some((place, within)),
                 Action::HangUp => self.hang_up(),
-                Action::Renewed => {}
+                // of trees: the machine of a session follows none
+                Action::Renewed
+                | Action::TakenOn { .. }
+                | Action::LetGo { .. }
+                | Action::Bounded { .. }
+                | Action::Whole { .. } => {}
                 Action::Shown { ticket } => self.news.shown.push((ticket, Shows::Good)),
                 Action::Refused { ticket, reason } => {
                     self.news.shown.push((ticket, Shows::Refused(reason)));

@@ -33,6 +33,9 @@ fn said(mut actions: Actions<'_>) -> Vec<String> {
             Action::Renewed => String::from("renewed"),
             Action::Shown { ticket } => format!("{ticket}: shown"),
             Action::Refused { ticket, reason } => format!("{ticket}: refused, {reason:?}"),
+            Action::TakenOn { ticket, path, .. } => format!("{ticket}: {path} is taken on"),
+            Action::LetGo { ticket, .. } => format!("{ticket}: let go"),
+            Action::Whole { tree } => format!("{tree}: whole"),
             other => format!("{other:?}"),
         });
     }
@@ -80,6 +83,12 @@ fn connect_again(machine: &mut Machine, now: Moment) -> Vec<String> {
     said(machine.bytes(now, &accepted).unwrap())
 }
 
+fn names(xid: i32, zxid: i64, names: &[&str]) -> Vec<u8> {
+    let count = i32::try_from(names.len()).unwrap();
+    let reply = Record::reply(xid, zxid, 0).texts(names);
+    reply.stat(zxid, 0, 0, count).framed()
+}
+
 fn data(xid: i32, zxid: i64, text: &str) -> Vec<u8> {
     let length = i32::try_from(text.len()).unwrap();
     let reply = Record::reply(xid, zxid, 0).buffer(text.as_bytes());
@@ -109,6 +118,56 @@ fn a_subject_is_read_again_after_each_report() {
     let _ = machine.bytes(START, &Record::notice(3, "/a")).unwrap();
     assert_eq!(said(machine.unfollow(START, 7).unwrap()), [""; 0]);
     let actions = machine.bytes(START, &data(3, 7, "three")).unwrap();
+    assert_eq!(said(actions), [""; 0]);
+}
+
+/// The ticket of the first node of a tree that is not the data of its root.
+const FIRST: u64 = 1 << 63;
+
+#[test]
+fn a_tree_is_followed_as_its_names_come() {
+    let mut machine = connected();
+    let [first, second, third] = [FIRST, FIRST + 1, FIRST + 2];
+    let actions = machine.follow_tree(START, 7, "/a", 2).unwrap();
+    let root = [
+        String::from("send 4"),
+        String::from("send 12"),
+        String::from("7: /a is taken on"),
+        format!("{first}: /a is taken on"),
+    ];
+    assert_eq!(said(actions), root);
+    let actions = machine.bytes(START, &data(1, 5, "one")).unwrap();
+    assert_eq!(said(actions), ["7: shown"]);
+    let actions = machine.bytes(START, &names(2, 5, &["b"])).unwrap();
+    let below = [
+        format!("{first}: shown"),
+        String::from("send 4"),
+        String::from("send 12"),
+        format!("{second}: /a/b is taken on"),
+        format!("{third}: /a/b is taken on"),
+    ];
+    assert_eq!(said(actions), below);
+    let actions = machine.bytes(START, &data(3, 5, "two")).unwrap();
+    assert_eq!(said(actions), [format!("{second}: shown")]);
+    let actions = machine.bytes(START, &names(4, 5, &[])).unwrap();
+    let whole = [format!("{third}: shown"), String::from("7: whole")];
+    assert_eq!(said(actions), whole);
+    let tickets = [7, first, second, third];
+    let lines = said(machine.unfollow_tree(START, 7).unwrap());
+    assert_eq!(lines, tickets.map(|ticket| format!("{ticket}: let go")));
+}
+
+#[test]
+fn a_tree_of_more_nodes_than_its_bound_is_told() {
+    let mut machine = connected();
+    let _ = machine.follow_tree(START, 7, "/a", 1).unwrap();
+    let _ = machine.bytes(START, &data(1, 5, "one")).unwrap();
+    let mut actions = machine.bytes(START, &names(2, 5, &["b"])).unwrap();
+    assert!(matches!(actions.next(), Ok(Some(Action::Shown { .. }))));
+    let Ok(Some(Action::Bounded { tree, is_bounded })) = actions.next() else {
+        panic!("the bound is not told");
+    };
+    assert_eq!((tree, is_bounded), (7, true));
     assert_eq!(said(actions), [""; 0]);
 }
 
@@ -285,6 +344,8 @@ fn what_is_no_path_is_refused() {
         let asked = machine.get_data(START, 1, None, path, Watch::No).map(said);
         assert!(matches!(asked, Err(Fault::NotPath { .. })), "{path:?}");
         let followed = machine.follow(START, 1, path, Side::Data).map(said);
+        assert!(matches!(followed, Err(Fault::NotPath { .. })), "{path:?}");
+        let followed = machine.follow_tree(START, 1, path, 9).map(said);
         assert!(matches!(followed, Err(Fault::NotPath { .. })), "{path:?}");
     }
 }

@@ -1,5 +1,5 @@
 -- Actions as numbers, and the text that is read separately.
-use Rattle.std.specs.Prelude.{ℕ, ℤ, pos, List, [], length, string_bytes}
+use Rattle.std.specs.Prelude.{ℕ, pos, List, [], length, string_bytes}
 use Rattle.zk_records.specs.Events.{event_number}
 use Rattle.zk_client.specs.FaultText.{fault_code}
 use Rattle.zk_client.specs.Views.{fault_view}
@@ -10,6 +10,8 @@ use Rattle.zk_agent.specs.declared.action.Action.TheVariants as action
 use Rattle.ffi_device.specs.Flats.{fault_flat, outcome_flat, outcome_text, plain, side_number}
 use Rattle.ffi_device.specs.Sessions.{state_number}
 use Rattle.ffi_device.specs.declared.flat.Flat.{Flat}
+use Rattle.ffi_agent_device.specs.declared.tree.TreeNews.{TreeNews}
+use Rattle.ffi_agent_device.specs.declared.tree.TreeNews.TheVariants as news
 
 -- why a read was refused
 abbrev pub refusal_flat : Refusal → Flat
@@ -40,3 +42,16 @@ action_text (action.Answer ticket outcome) = outcome_text outcome
 action_text (action.Report path side event) = string_bytes path
 action_text (action.GivenUp fault) = fault_code (fault_view fault)
 action_text _ = []
+
+-- News of a tree as numbers. Where it is about a node, `ticket` is that of the node, and `names` that of the tree.
+abbrev pub news_flat : TreeNews → Flat
+news_flat (news.TakenOn tree ticket side path) =
+    record (plain (pos 12) (pos 0)) { ticket = ticket; names = tree; result = side_number side; length = length path }
+news_flat (news.LetGo tree ticket) = record (plain (pos 13) (pos 0)) { ticket = ticket; names = tree }
+news_flat (news.Bounded tree is_bounded) = record (plain (pos 14) (pos 0)) { ticket = tree; is_null = is_bounded }
+news_flat (news.Whole tree) = record (plain (pos 15) (pos 0)) { ticket = tree }
+
+-- the text of what is told of a tree: the path of what is taken on, and else nothing
+abbrev pub news_text : TreeNews → List ℕ
+news_text (news.TakenOn tree ticket side path) = path
+news_text _ = []

@@ -1,94 +1,43 @@
 -- What becomes of an agent's device, by the number that is told.
-use Rattle.std.specs.Prelude.{◌≡◌, ◌≢◌, ◌+◌, ◌==◌, ◌^◌, Bool, ℕ, zero, ℤ, pos, negsuc, true, false, max, List, [], Option, Some, None}
-use Rattle.std.specs.Prelude.{Result, All, MatchResult, if◌then◌else◌}
+use Rattle.std.specs.Prelude.{◌≡◌, ◌+◌, ◌^◌, ◌++◌, ◌∷◌, ℕ, zero, ℤ, pos, negsuc, false, true, [], None, Result}
+use Rattle.std.specs.Prelude.{MatchResult}
 use Rattle.std.specs.List.Sorted.{IsPermutation}
 use Rattle.std.specs.declared.alloc.Global.{Global}
 use Rattle.zk_nodes.specs.Path.{Text}
-use Rattle.zk_nodes.specs.declared.side.Side.{Side}
-use Rattle.zk_conversation.specs.Calls.{Call}
-use Rattle.zk_conversation.specs.Views.{call_view}
 use Rattle.zk_turns.specs.Turns.{Start}
 use Rattle.zk_turns.specs.Rule.{forgotten}
 use Rattle.zk_turns.specs.View.{View, view_at}
-use Rattle.zk_session.specs.declared.states.State.TheVariants.{Expired, Closed}
 use Rattle.zk_client.specs.Clients.{view_of}
-use Rattle.zk_dialler.specs.Dialling.{is_open}
 use Rattle.zk_dialler.specs.Orders.{numbers, shuffled}
 use Rattle.zk_dialler.specs.Chances.{state_after}
 use Rattle.zk_dialler.specs.declared.dialler.Dialler.{Dialler}
 use Rattle.zk_dialler.specs.declared.dialler.Phase.TheVariants.{Waiting}
-use Rattle.zk_follow.specs.Following.{IsFollowed}
-use Rattle.zk_agent.specs.declared.agent.Agent.{Agent}
 use Rattle.zk_agent.specs.declared.input.AgentInput.{AgentInput}
 use Rattle.zk_agent.specs.declared.input.AgentInput.TheVariants as input
-use Rattle.zk_agent.specs.Agents.{given_of, heard_after, how_many_asked, how_many_ended, trail_of, Comes, IsAnswered, IsDecided, IsLed}
-use Rattle.zk_agent.specs.Calls.{how_many, IsInTime, IsServed}
-use Rattle.zk_agent.specs.Telling.{told_by}
+use Rattle.zk_agent.specs.Agents.{IsLed}
 use Rattle.zk_conclusions.specs.Revisions.{raised}
 use Rattle.ffi_device.specs.Codes.{refusal_code}
 use Rattle.ffi_device.specs.declared.refusal.DeviceRefusal.{DeviceRefusal}
-use Rattle.ffi_agent_device.specs.Revisions.{revised}
+pub use Rattle.ffi_agent_device.specs.Happenings.{Happening, Opened, Failed, Cut, Moment, Bytes, Addressed, Calls, Follows, Unfollows}
+pub use Rattle.ffi_agent_device.specs.Happenings.{happening, is_bytes, limit_of}
+pub use Rattle.ffi_agent_device.specs.Taking.{AgentTook, AreFollowed}
+use Rattle.ffi_agent_device.specs.Taking.{begun, voice_of, StepsOn, Voice}
+use Rattle.ffi_agent_device.specs.Tending.{bed_of, found, left, Plants, TendsAll, TendsSo, UprootsSo}
 use Rattle.ffi_agent_device.specs.declared.device.AgentDevice.{AgentDevice}
-
--- ---- what happens
-
--- What a caller hands in, without where it lies in memory.
-pub data Happening : Type 0 where
-  Opened Failed Cut Moment : Happening
-  Bytes : List ℕ → Happening
-  Addressed : (count : ℕ) → Happening
-  Calls : (ticket : ℕ) → Call → (until : Option ℕ) → Happening
-  Follows : (ticket : ℕ) → Side → Text → Happening
-  Unfollows : (ticket : ℕ) → Happening
-
-abbrev pub happening : {A : Type 0} → AgentInput A → Happening
-happening input.Opened = Opened
-happening input.Failed = Failed
-happening (input.Bytes bytes) = Bytes bytes.items
-happening input.Cut = Cut
-happening input.Moment = Moment
-happening (input.Addresses count) = Addressed count
-happening (input.Call ticket call until) = Calls ticket (call_view call) until
-happening (input.Follow ticket side path) = Follows ticket side path
-happening (input.Unfollow ticket) = Unfollows ticket
-
--- whether bytes came
-abbrev pub is_bytes : Happening → Bool
-is_bytes (Bytes bytes) = true
-is_bytes _ = false
-
--- the limit of a call at a moment: at the last one of all there is none
-abbrev pub limit_of : (until : ℕ) → Option ℕ
-limit_of until = if until == 18446744073709551615 then None else Some until
+use Rattle.ffi_agent_device.specs.declared.tree.Tree.{Tree}
 
 -- ---- steps
 
--- each subject is followed, at the latest moment
-abbrev pub AreFollowed : {A : Type 0} → Agent A → Type 0
-AreFollowed agent = All (IsFollowed agent.latest (view_of agent.asker.follower.client)) agent.asker.follower.subjects.items
-
--- The agent took an input that was noticed at a moment, by all that a step of it promises. What it said is there, in its order, and none of
--- it was read.
+-- The agent took an input that was noticed at a moment, and then trees were tended, and what was taken on was read, at the same moment.
+-- What was said is there, in its order, and none of it was read.
 pub record Took (now : ℕ) (given : AgentInput Global) (before after : AgentDevice) : Type 0 where
   pub went_on : before.is_over ≡ false
   pub goes_on : after.is_over ≡ false
   pub unread : after.read ≡ 0
-  pub comes : Comes (max before.agent.latest now) (given_of before.agent.dialler.phase (max before.agent.latest now) given)
-      (trail_of before.agent []) (trail_of after.agent after.said.items)
-  pub followed : AreFollowed after.agent
-  pub calls : (ticket : ℕ) → how_many ticket after.agent.asker.line.entries.items + how_many_ended ticket (told_by after.said.items)
-      ≡ how_many ticket before.agent.asker.line.entries.items + how_many_asked ticket given
-  pub served : All (IsServed (view_of after.agent.asker.follower.client)) after.agent.asker.line.entries.items
-  pub limits : All (IsInTime after.agent.latest) after.agent.asker.line.entries.items
-  pub answers : IsAnswered after.agent
-  pub closed : (view_of after.agent.asker.follower.client).standing.state ≡ Closed → after.agent.asker.line.entries.items ≡ []
-  pub renewed : (view_of after.agent.asker.follower.client).standing.state ≢ Expired
-  pub dials : (view_of after.agent.asker.follower.client).standing.state ≢ Closed
-      → IsDecided (max before.agent.latest now) (trail_of after.agent after.said.items)
-  pub latest : after.agent.latest ≡ max before.agent.latest now
-  pub heard : after.agent.heard_at ≡ heard_after (is_open before.agent.dialler.phase)
-      (max before.agent.latest now) given before.agent.heard_at
-  pub number : after.revision.number ≡ revised (is_bytes (happening given)) (told_by after.said.items) before.revision.number
+  pub news_unread : after.news_read ≡ 0
+  pub between : Voice
+  pub steps : StepsOn now given (begun (voice_of before)) between
+  pub tends : TendsSo now before.trees.tended before.trees.all.items after.trees.tended after.trees.all.items between (voice_of after)
 
 -- The same of an input that is this.
 pub record Stepped (now : ℕ) (what : Happening) (before after : AgentDevice) : Type 0 where
@@ -101,14 +50,57 @@ pub record Stepped (now : ℕ) (what : Happening) (before after : AgentDevice) :
 pub record Stopped (before after : AgentDevice) : Type 0 where
   pub over : after.is_over ≡ true
   pub silent : after.said.items ≡ []
+  pub untold : after.news.items ≡ []
   pub number : after.revision.number ≡ raised before.revision.number
 
 -- What happened, at a moment: 0 where it was one step of the agent, -1 where the agent goes on no further, and any other number where
--- nothing was done, for a reason that this number has.
+-- nothing happened, for a reason that it has.
 abbrev pub Steps : (Refuses : ℤ → Type 0) → (now : ℕ) → Happening → (before : AgentDevice) → (code : ℤ) → (after : AgentDevice) → Type 0
 Steps Refuses now what before (pos zero) after = Stepped now what before after
 Steps Refuses now what before (negsuc zero) after = Stopped before after
 Steps Refuses now what before code after = Refuses code × (after ≡ before)
+
+-- ---- trees
+
+-- A tree was planted: its root is followed, and read by a step of the agent; then each tree was tended, this one last.
+pub record Planted (now ticket : ℕ) (root : Text) (most : ℕ) (before after : AgentDevice) : Type 0 where
+  pub went_on : before.is_over ≡ false
+  pub goes_on : after.is_over ≡ false
+  pub unread : after.read ≡ 0
+  pub news_unread : after.news_read ≡ 0
+  pub tree : Tree
+  pub planted : Voice
+  pub plants : Plants ticket root most (begun (voice_of before)) (bed_of planted tree)
+  pub between : Voice
+  pub steps : StepsOn now input.Moment planted between
+  pub tended : after.trees.tended ≡ between.number
+  pub tends : TendsAll now (before.trees.all.items ++ tree ∷ []) after.trees.all.items between (voice_of after)
+
+-- That by the number that is told, as of a step.
+abbrev pub Plant : (Refuses : ℤ → Type 0) → (now ticket : ℕ) → Text → (most : ℕ) → (before : AgentDevice) → (code : ℤ)
+    → (after : AgentDevice) → Type 0
+Plant Refuses now ticket root most before (pos zero) after = Planted now ticket root most before after
+Plant Refuses now ticket root most before (negsuc zero) after = Stopped before after
+Plant Refuses now ticket root most before code after = Refuses code × (after ≡ before)
+
+-- The first tree of a ticket is followed no more, where there is one; then the moment was noticed, and the trees that are left were tended.
+pub record Uprooted (now ticket : ℕ) (before after : AgentDevice) : Type 0 where
+  pub went_on : before.is_over ≡ false
+  pub goes_on : after.is_over ≡ false
+  pub unread : after.read ≡ 0
+  pub news_unread : after.news_read ≡ 0
+  pub bare : Voice
+  pub uproots : UprootsSo (found ticket before.trees.all.items) (begun (voice_of before)) bare
+  pub between : Voice
+  pub steps : StepsOn now input.Moment bare between
+  pub tends : TendsSo now before.trees.tended
+      (left ticket before.trees.all.items) after.trees.tended after.trees.all.items between (voice_of after)
+
+-- That by the number that is told: 0, or -1 where the agent goes on no further.
+abbrev pub Uproot : (now ticket : ℕ) → (before : AgentDevice) → (code : ℤ) → (after : AgentDevice) → Type 0
+Uproot now ticket before (pos zero) after = Uprooted now ticket before after
+Uproot now ticket before (negsuc zero) after = Stopped before after
+Uproot now ticket before code after = ⊥
 
 -- ---- beginnings
 
@@ -124,8 +116,11 @@ pub record Forgot (before after : AgentDevice) : Type 0 where
   pub timeout : after.agent.timeout_ms ≡ before.agent.timeout_ms
   pub latest : after.agent.latest ≡ before.agent.latest
   pub heard : after.agent.heard_at ≡ before.agent.heard_at
+  pub trees : after.trees ≡ before.trees
   pub said : after.said ≡ before.said
+  pub news : after.news ≡ before.news
   pub read : after.read ≡ before.read
+  pub news_read : after.news_read ≡ before.news_read
   pub over : after.is_over ≡ before.is_over
   pub number : after.revision ≡ before.revision
 
@@ -138,6 +133,10 @@ pub record BeginsWith (view : View) (device : AgentDevice) : Type 0 where
   pub heard : device.agent.heard_at ≡ None
   pub phase : device.agent.dialler.phase ≡ Waiting
   pub silent : device.said.items ≡ []
+  pub untold : device.news.items ≡ []
+  pub trees : device.trees.all.items ≡ []
+  pub next : device.trees.next ≡ 2 ^ 63
+  pub tended : device.trees.tended ≡ 0
   pub goes_on : device.is_over ≡ false
   pub number : device.revision.number ≡ 1
 

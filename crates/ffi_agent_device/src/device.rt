@@ -1,6 +1,6 @@
 //! An agent with the actions of its last step.
 
-ghost use Rattle.std.specs.Prelude.{◌≡◌, ◌≢◌, ◌<ℤ◌, pos, true, [], IfErr, IfOk, OnOk, Ok, Err, unsigned_abs};
+ghost use Rattle.std.specs.Prelude.{◌≡◌, ◌≢◌, ◌<ℤ◌, pos, false, true, [], IfErr, IfOk, OnOk, Ok, Err, unsigned_abs};
 ghost use Rattle.zk_turns.specs.Turns.{new_start};
 ghost use Rattle.zk_client.specs.Clients.{view_of};
 ghost use Rattle.zk_client.specs.SavedSessions.{PutAway, bytes_read};
@@ -11,20 +11,26 @@ ghost use Rattle.zk_conclusions.specs.Revisions.{raised};
 ghost use Rattle.ffi_device.specs.Codes.{code_of};
 ghost use Rattle.ffi_device.specs.Refused.{RefusesMemory, RefusesNothing, RefusesTimeout};
 ghost use Rattle.ffi_device.specs.Sessions.{put_start};
-ghost use Rattle.ffi_agent_device.specs.Steps.{Addressed, Bytes, Cut, Dials, Failed, Forgot, Moment, Opened, Begins, BeginsWith, Stepped};
-ghost use Rattle.ffi_agent_device.specs.Steps.{Steps, Stopped, happening};
+ghost use Rattle.ffi_agent_device.specs.Happenings.{happening, Addressed, Bytes, Cut, Failed, Moment, Opened};
+ghost use Rattle.zk_agent.specs.Agents as agents;
+ghost use Rattle.ffi_agent_device.specs.Taking.{begun, voice_of, MovesOn, StepsOn, Voice};
+ghost use Rattle.ffi_agent_device.specs.Tending.{TendsSo};
+ghost use Rattle.ffi_agent_device.specs.Steps.{Dials, Forgot, Begins, BeginsWith, Stepped, Steps, Stopped};
 
 use crate::revisions::{is_bytes, revise};
+use crate::tree::{TreeNews, Trees};
 use ffi_device::{Device, DeviceRefusal};
 use std::alloc::Global;
 use zk_agent::{Action, Agent, AgentInput, Settings};
-use zk_client::Client;
+use zk_client::{Client, Path, Side};
 use zk_conclusions::Revision;
+use zk_follow::FollowerStop;
 
 /// An agent, what it said at its last step, how much of that was read, whether it goes on no further, since memory ran out within a step,
-/// and a number that rises where what its client shows may change. Its methods stand by what they are about: calls in `calls`, what is
-/// followed in `subjects`, what was said in `outputs`, and here what comes from a connection. What is kept is looked up by functions of
-/// `ffi_device` over the agent's client.
+/// and a number that rises where what its client shows may change; and the trees that are followed, with what is told of them after what
+/// the agent said, and how much of that was read. Its methods stand by what they are about: calls in `calls`, what is followed in
+/// `subjects`, trees in `planting` and `tending`, what was said in `outputs`, and here what comes from a connection. What is kept is looked
+/// up by functions of `ffi_device` over the agent's client.
 #[derive(Drop)]
 pub struct AgentDevice {
     pub agent: Agent<Global>,
@@ -32,6 +38,9 @@ pub struct AgentDevice {
     pub read: usize,
     pub is_over: bool,
     pub revision: Revision,
+    pub trees: Trees,
+    pub news: Vec<TreeNews, Global>,
+    pub news_read: usize,
 }
 
 impl AgentDevice {
@@ -109,25 +118,108 @@ impl AgentDevice {
                 read: 0,
                 is_over: false,
                 revision: Revision::new(),
+                trees: Trees::new(alloc),
+                news: Vec::new(alloc),
+                news_read: 0,
             }),
             Err(_) => Err(DeviceRefusal::Memory),
         }
     }
 
-    // Memory ran out, within this step or an earlier one.
-    fn stop(&mut self) -> DeviceRefusal
+    // Memory ran out, within this step or an earlier one. Nothing is told, and the revision is the one after that of before the step.
+    pub(crate) fn stop(&mut self, revision: Revision) -> DeviceRefusal
         ensures halted { result ≡ refusals.Halted }
         ensures over { self.new.is_over ≡ true }
-        ensures said { self.new.said ≡ self.old.said }
-        ensures number { self.new.revision.number ≡ raised self.old.revision.number }
+        ensures silent { self.new.said.items ≡ [] }
+        ensures untold { self.new.news.items ≡ [] }
+        ensures number { self.new.revision.number ≡ raised revision.number }
     {
-        self.is_over = true;
+        self.begin_step();
+        self.revision = revision;
         self.revision.raise();
         DeviceRefusal::Halted
     }
 
-    /// Takes an input that is noticed at this moment. What was said before is forgotten. The one refusal is `Halted`, which each later step
-    /// answers too.
+    // A step begins: what was said and told before is forgotten. Until it has ended well, the agent goes on no further.
+    pub(crate) fn begin_step(&mut self)
+        ensures voice { voice_of self.new ≡ begun (voice_of self.old) }
+        ensures trees { self.new.trees ≡ self.old.trees }
+        ensures said { self.new.said.items ≡ [] }
+        ensures news { self.new.news.items ≡ [] }
+        ensures over { self.new.is_over ≡ true }
+    {
+        self.said.clear();
+        self.news.clear();
+        self.is_over = true;
+    }
+
+    // A step has ended well. None of what was said was read yet.
+    pub(crate) fn end_step(&mut self)
+        ensures voice { voice_of self.new ≡ voice_of self.old }
+        ensures trees { self.new.trees ≡ self.old.trees }
+        ensures read { self.new.read ≡ 0 }
+        ensures news_read { self.new.news_read ≡ 0 }
+        ensures over { self.new.is_over ≡ false }
+    {
+        self.read = 0;
+        self.news_read = 0;
+        self.is_over = false;
+    }
+
+    // One step of the agent, whose actions come after those that were said.
+    pub(crate) fn step_on(
+        &mut self,
+        now: u64,
+        input: AgentInput<Global>,
+    ) -> Result<(), FollowerStop>
+        ensures steps { OnOk result (StepsOn now input (voice_of self.old) (voice_of self.new)) }
+        ensures trees { self.new.trees ≡ self.old.trees }
+    {
+        let is_bytes = is_bytes(&input);
+        let mut said = self.agent.step(now, input)?;
+        revise(&mut self.revision, is_bytes, said.as_slice());
+        if self.said.append(&mut said).is_err() {
+            return Err(FollowerStop::Memory);
+        }
+        Ok(())
+    }
+
+    // A subject is followed from the agent's next step on. It is none, so that nothing is said.
+    pub(crate) fn add_subject(
+        &mut self,
+        ticket: u64,
+        side: Side,
+        path: Path<Global>,
+    ) -> Result<(), FollowerStop>
+        ensures moves { OnOk result (MovesOn (agents.Follows ticket side path) (voice_of self.old) (voice_of self.new)) }
+        ensures trees { self.new.trees ≡ self.old.trees }
+    {
+        if self.agent.add_subject(ticket, side, path).is_err() {
+            return Err(FollowerStop::Memory);
+        }
+        Ok(())
+    }
+
+    // A subject is followed no more. It is no step either.
+    pub(crate) fn remove_subject(&mut self, ticket: u64)
+        ensures moves { MovesOn (agents.Unfollows ticket) (voice_of self.old) (voice_of self.new) }
+        ensures trees { self.new.trees ≡ self.old.trees }
+    {
+        self.agent.remove_subject(ticket);
+    }
+
+    // One step of the agent, and then trees are tended.
+    fn advance(&mut self, now: u64, input: AgentInput<Global>) -> Result<(), FollowerStop>
+        ensures { OnOk result ((between : Voice) × StepsOn now input (voice_of self.old) between
+            × TendsSo now self.old.trees.tended self.old.trees.all.items self.new.trees.tended self.new.trees.all.items
+            between (voice_of self.new)) }
+    {
+        self.step_on(now, input)?;
+        self.tend(now)
+    }
+
+    /// Takes an input that is noticed at this moment, and then tends trees. What was said before is forgotten. The one refusal is `Halted`,
+    /// which each later step answers too.
     pub(crate) fn step_at(
         &mut self,
         now: u64,
@@ -136,18 +228,18 @@ impl AgentDevice {
         ensures stepped { OnOk result (Stepped now (happening input) self.old self.new) }
         ensures stopped { IfErr result (λ refusal. (refusal ≡ refusals.Halted) × Stopped self.old self.new) }
     {
-        self.said.clear();
-        self.read = 0;
+        let revision = self.revision;
         if self.is_over {
-            return Err(self.stop());
+            return Err(self.stop(revision));
         }
-        let is_bytes = is_bytes(&input);
-        let Ok(said) = self.agent.step(now, input) else {
-            return Err(self.stop());
-        };
-        revise(&mut self.revision, is_bytes, said.as_slice());
-        self.said = said;
-        Ok(())
+        self.begin_step();
+        match self.advance(now, input) {
+            Ok(()) => {
+                self.end_step();
+                Ok(())
+            }
+            Err(_) => Err(self.stop(revision)),
+        }
     }
 
     /// The connection that was asked for is there.

@@ -1,14 +1,16 @@
 //! Actions as numbers.
 
 ghost use Rattle.std.specs.Prelude.{◌≡◌, pos};
-ghost use Rattle.ffi_device.specs.Flats.{plain};
-ghost use Rattle.ffi_agent_device.specs.Flats.{action_flat, action_text, refusal_flat};
+ghost use Rattle.ffi_device.specs.Flats.{plain, side_number};
+ghost use Rattle.ffi_agent_device.specs.Flats.{action_flat, action_text, news_flat, news_text, refusal_flat};
 
+use crate::tree::TreeNews;
 use ffi_device::{
     Flat, answer_flat, drop_flat, outcome_text, plain, report_flat, send_flat, state_flat,
 };
 use std::alloc::Global;
 use zk_agent::Action;
+use zk_client::Side;
 use zk_follow::Refusal;
 
 // An action of this kind that is about the call or the subject of a ticket.
@@ -78,6 +80,66 @@ pub(crate) fn action_text(action: &Action<Global>) -> &[u8]
         Action::Answer { outcome, .. } => outcome_text(outcome),
         Action::Report { path, .. } => path.as_bytes(),
         Action::GivenUp(fault) => fault.code().as_bytes(),
+        _ => b"",
+    }
+}
+
+// The number of a side.
+fn side_number(side: Side) -> i32
+    ensures { result ≡ side_number side }
+{
+    match side {
+        Side::Data => 1,
+        Side::Child => 2,
+    }
+}
+
+// News of a tree about a node.
+fn about_node(flat: Flat, tree: u64, ticket: u64) -> Flat
+    ensures { result ≡ record flat { ticket = ticket; names = tree } }
+{
+    let mut flat = about(flat, ticket);
+    flat.names = tree as usize;
+    flat
+}
+
+// A side of a node is taken on, whose path has this length.
+fn taken_on_flat(tree: u64, ticket: u64, side: Side, length: usize) -> Flat
+    ensures { result ≡ record (plain (pos 12) (pos 0)) { ticket = ticket; names = tree; result = side_number side; length = length } }
+{
+    let mut flat = about_node(plain(12, 0), tree, ticket);
+    flat.result = side_number(side);
+    flat.length = length;
+    flat
+}
+
+/// News of a tree, as numbers.
+pub(crate) fn news_flat(news: &TreeNews) -> Flat
+    ensures { result ≡ news_flat news.now }
+{
+    match news {
+        TreeNews::TakenOn {
+            tree,
+            ticket,
+            side,
+            path,
+        } => taken_on_flat(*tree, *ticket, *side, path.as_str().len()),
+        TreeNews::LetGo { tree, ticket } => about_node(plain(13, 0), *tree, *ticket),
+        TreeNews::Bounded { tree, is_bounded } => {
+            let mut flat = about(plain(14, 0), *tree);
+            flat.is_null = *is_bounded;
+            flat
+        }
+        TreeNews::Whole { tree } => about(plain(15, 0), *tree),
+    }
+}
+
+/// The text of what is told of a tree: the path of what is taken on, and else nothing.
+pub(crate) fn news_text(news: &TreeNews) -> &[u8]
+    ensures { result.now ≡ news_text news.now }
+{
+    match news {
+        TreeNews::TakenOn { path, .. } => path.as_str().as_bytes(),
         _ => b"",
     }
 }

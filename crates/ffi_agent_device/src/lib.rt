@@ -7,7 +7,11 @@ mod calls;
 mod device;
 mod flat;
 mod outputs;
+mod planting;
 mod revisions;
 mod subjects;
+mod tending;
+mod tree;
 
 pub use device::AgentDevice;
+pub use tree::{Tree, TreeNews, Trees};

@@ -1,12 +1,10 @@
 -- What the handle of a session holds after a call, and what is told of it.
 use Rattle.std.specs.Prelude.{◌≡◌, ◌<◌, ◌^◌, ℕ, zero, suc, ℤ, pos, [], Option, Some, None}
-use Rattle.std.specs.Option.{option_map}
-use Rattle.std.specs.List.{slice_get}
 use Rattle.zk_turns.specs.Turns.{Start}
 use Rattle.zk_turns.specs.View.{view_at}
 use Rattle.zk_agent.specs.Agents.{NothingAt}
 use Rattle.ffi_agent_device.specs.declared.device.AgentDevice.{AgentDevice}
-use Rattle.ffi_agent_device.specs.Flats.{action_flat}
+use Rattle.ffi_agent_device.specs.Outputs.{news_read_after, next_action, next_news, next_of}
 use Rattle.ffi_agent_device.specs.Steps.{BeginsWith, Forgot}
 use Rattle.ffi_device.specs.Outputs.{read_after}
 use Rattle.ffi_device.specs.declared.flat.Flat.{Flat}
@@ -18,12 +16,16 @@ abbrev pub Makes : (Refuses : ℤ → Type 0) → Start → ℤ → Option Agent
 Makes Refuses start (pos zero) held = Holds held (BeginsWith (view_at start []))
 Makes Refuses start code held = Refuses code × (held ≡ None)
 
--- An action is told, the next one, and nothing else changes than that one more was read.
+-- What is told next: an action, and where all were told, news of a tree. Nothing else changes than that one more was read.
 pub record Tells (before : AgentDevice) (room : Flat) (code : ℤ) (told : Flat) (after : AgentDevice) : Type 0 where
-  pub tells : TellsOf (option_map action_flat (slice_get before.said.items before.read)) room code told
+  pub tells : TellsOf (next_of before.said.items before.read before.news.items before.news_read) room code told
   pub agent : after.agent ≡ before.agent
+  pub trees : after.trees ≡ before.trees
   pub said : after.said ≡ before.said
-  pub read : after.read ≡ read_after (option_map action_flat (slice_get before.said.items before.read)) before.read
+  pub news : after.news ≡ before.news
+  pub read : after.read ≡ read_after (next_action before.said.items before.read) before.read
+  pub news_read : after.news_read ≡ news_read_after (next_action before.said.items before.read)
+      (next_news before.news.items before.news_read) before.news_read
   pub over : after.is_over ≡ before.is_over
   pub number : after.revision ≡ before.revision
 

@@ -21,6 +21,9 @@ enum Event {
     Admits,
     Follows(&'static str),
     Unfollows(u64),
+    /// A tree of at most this many nodes is followed.
+    Plants(&'static str, u64),
+    Uproots(u64),
     Creates(&'static str),
     /// With a limit. The server does not answer it yet.
     Reads(&'static str, u64),
@@ -65,6 +68,18 @@ static WAITS: [(u64, Event); 9] = [
     (13_000, Event::Notices),
 ];
 
+/// A tree is followed whose root is there: nothing is lacking of it when both sides have come. A node is made below, and is taken on. In
+/// the end all of it is let go.
+static TREES: [(u64, Event); 7] = [
+    (100, Event::Moment),
+    (200, Event::Opens),
+    (300, Event::Creates("/a")),
+    (400, Event::Plants("/a", 3)),
+    (500, Event::Creates("/a/b")),
+    (600, Event::Uproots(400)),
+    (700, Event::Closes),
+];
+
 /// The frame of a notice that the data of `/b` changed: its length, the header of a notice, the event, the state and the path.
 static NOTICE: [u8; 34] = [
     0, 0, 0, 30, 255, 255, 255, 255, 255, 255, 255, 255, 255, 255, 255, 255, 0, 0, 0, 0, 0, 0, 0,
@@ -103,6 +118,10 @@ fn happen(
         }
         Event::Follows(path) => device.follow_data_at(alloc, now, now, path.as_bytes()),
         Event::Unfollows(ticket) => device.unfollow_at(now, ticket),
+        Event::Plants(path, most) => {
+            device.follow_tree_at(alloc, now, now, path.as_bytes(), most)
+        }
+        Event::Uproots(ticket) => device.unfollow_tree_at(now, ticket),
         Event::Creates(path) => {
             device.create_at(alloc, now, now, u64::MAX, path.as_bytes(), Some(b"one"), 0)
         }
@@ -212,10 +231,11 @@ fn tell_agent(alloc: Global, events: &[(u64, Event)], told: &mut String) -> Resu
     played
 }
 
-/// Plays both sessions.
+/// Plays each session.
 fn tell_agents(alloc: Global, told: &mut String) -> Result<()> {
     tell_agent(alloc, &EVENTS, told)?;
-    tell_agent(alloc, &WAITS, told)
+    tell_agent(alloc, &WAITS, told)?;
+    tell_agent(alloc, &TREES, told)
 }
 
 /// Plays the sessions, and prints what is told.

@@ -2,14 +2,17 @@
 //!
 //! [`wanted_of`] tells what is wanted of trees: what good names lead to from the root on, and lacks an answer, within a bound.
 //! [`is_settled`] tells what of it is not to be taken on: what is a member already, and a node of which it is kept and good that there is
-//! none. [`tickets_gone`] and [`drop_gone`] are about members that were found below a root, and whose node has gone.
+//! none. [`tickets_gone`] and [`drop_gone`] are about members that were found below a root, and whose node has gone. An [`Index`] tells the
+//! same of its members in a time that does not rise with their number.
 #![tactic(auto)]
 
+mod index;
 mod leaving;
 mod member;
 mod subject;
 mod wanting;
 
+pub use index::{Index, index_of};
 pub use leaving::{drop_gone, is_settled, tickets_gone};
 pub use member::Member;
 pub use subject::{NodeSide, copy_of, is_missing};

@@ -4,13 +4,14 @@ use super::{
     bytes_of, check_version, dw_session_addresses, dw_session_bytes, dw_session_close,
     dw_session_copy, dw_session_create, dw_session_cut, dw_session_deadline, dw_session_delete,
     dw_session_exists, dw_session_failed, dw_session_follow_data, dw_session_follow_names,
-    dw_session_forget, dw_session_free, dw_session_get_children, dw_session_get_data,
-    dw_session_heard_at, dw_session_holder, dw_session_lacking, dw_session_last_zxid,
-    dw_session_moment, dw_session_name, dw_session_names, dw_session_next, dw_session_open,
-    dw_session_opened, dw_session_peek_children, dw_session_peek_data, dw_session_peek_names,
-    dw_session_resume, dw_session_revision, dw_session_saved, dw_session_set_data,
-    dw_session_snapshot, dw_session_standing, dw_session_state, dw_session_subtree,
-    dw_session_timeout_ms, dw_session_unfollow, dw_session_words, Call, Functions, Handle, Raw, OK,
+    dw_session_follow_tree, dw_session_forget, dw_session_free, dw_session_get_children,
+    dw_session_get_data, dw_session_heard_at, dw_session_holder, dw_session_lacking,
+    dw_session_last_zxid, dw_session_moment, dw_session_name, dw_session_names, dw_session_next,
+    dw_session_open, dw_session_opened, dw_session_peek_children, dw_session_peek_data,
+    dw_session_peek_names, dw_session_resume, dw_session_revision, dw_session_saved,
+    dw_session_set_data, dw_session_snapshot, dw_session_standing, dw_session_state,
+    dw_session_subtree, dw_session_timeout_ms, dw_session_unfollow, dw_session_unfollow_tree,
+    dw_session_words, Call, Functions, Handle, Raw, OK,
 };
 use crate::fault::{done, done_at, Fault};
 use crate::moment::Moment;
@@ -140,6 +141,20 @@ impl MachineHandle {
     pub(crate) fn unfollow(&mut self, now: Moment, ticket: u64) -> Result<(), Fault> {
         // SAFETY: as `Handle` says.
         done(unsafe { dw_session_unfollow(self.raw(), now.as_millis(), ticket) })
+    }
+
+    pub(crate) fn follow_tree(&mut self, call: Call<'_>, most: usize) -> Result<(), Fault> {
+        let (raw, now) = (self.raw(), call.now.as_millis());
+        let (path, path_length) = (call.path.as_ptr(), call.path.len());
+        // SAFETY: as `Handle` says.
+        let code =
+            unsafe { dw_session_follow_tree(raw, now, call.ticket, path, path_length, most) };
+        done_at(call.path, code)
+    }
+
+    pub(crate) fn unfollow_tree(&mut self, now: Moment, ticket: u64) -> Result<(), Fault> {
+        // SAFETY: as `Handle` says.
+        done(unsafe { dw_session_unfollow_tree(self.raw(), now.as_millis(), ticket) })
     }
 
     /// When the server was heard last, where it was.

@@ -16,7 +16,8 @@ use crate::taking::{CLOSED, NONE};
 use ffi_device::{DeviceRefusal, Flat, copy_into};
 use std::alloc::Global;
 
-/// Writes the next action of the last step, as numbers. The one before is over. 1 says that there is none.
+/// Writes the next action of the last step, as numbers, and after the actions the next news of a tree. The one before is over. 1 says that
+/// there is none.
 #[unsafe(no_mangle)]
 pub extern "C" fn dw_session_next(alloc: Global, handle: &mut DwSession, out: &mut Flat) -> i32
     ensures closed { handle.old.slot.held ≡ None → IsClosed result handle.new.slot.held × (out.new ≡ out.old) }
@@ -36,7 +37,7 @@ pub extern "C" fn dw_session_next(alloc: Global, handle: &mut DwSession, out: &m
     }
 }
 
-/// Copies the text of the action that was told last, from this place on, as much of it as there is room for, and tells how many
+/// Copies the text of what was told last, from this place on, as much of it as there is room for, and tells how many
 /// bytes there are from there on.
 #[unsafe(no_mangle)]
 pub extern "C" fn dw_session_copy(
@@ -46,9 +47,11 @@ pub extern "C" fn dw_session_copy(
     out: &mut [u8],
 ) -> usize
     ensures closed { handle.old.slot.held ≡ None → (result ≡ 0) × (out.new ≡ out.old) }
-    ensures count { (d : AgentDevice) → handle.old.slot.held ≡ Some d → result ≡ length (drop from (told_text d.said.items d.read)) }
-    ensures copied { (d : AgentDevice) → handle.old.slot.held ≡ Some d → out.new ≡ take (length out.old)
-        (drop from (told_text d.said.items d.read)) ++ drop (length (drop from (told_text d.said.items d.read))) out.old }
+    ensures count { (d : AgentDevice) → handle.old.slot.held ≡ Some d
+        → result ≡ length (drop from (told_text d.said.items d.read d.news.items d.news_read)) }
+    ensures copied { (d : AgentDevice) → handle.old.slot.held ≡ Some d
+        → out.new ≡ take (length out.old) (drop from (told_text d.said.items d.read d.news.items d.news_read))
+        ++ drop (length (drop from (told_text d.said.items d.read d.news.items d.news_read))) out.old }
     ensures same { handle.new.slot.held ≡ handle.old.slot.held }
 {
     let Some(session) = take_device(alloc, handle) else {

@@ -3,7 +3,7 @@
 ghost use Rattle.std.specs.Prelude.{◌≡◌, Some, None};
 ghost use Rattle.ffi_agent_device.specs.declared.device.AgentDevice.{AgentDevice};
 ghost use Rattle.zk_nodes.specs.declared.side.Side.TheVariants.{Child, Data};
-ghost use Rattle.ffi_agent_device.specs.Steps.{Follows, Steps, Unfollows};
+ghost use Rattle.ffi_agent_device.specs.Steps.{Follows, Plant, Steps, Unfollows, Uproot};
 ghost use Rattle.ffi_device.specs.Refused.{RefusesNothing, RefusesPath};
 ghost use Rattle.ffi_c.specs.Held.{Holds, IsClosed};
 
@@ -64,4 +64,45 @@ pub extern "C" fn dw_session_unfollow(
         → Holds handle.new.slot.held (Steps RefusesNothing now_ms (Unfollows ticket) d result) }
 {
     drive(alloc, handle, |session| session.unfollow_at(now_ms, ticket))
+}
+
+/// Follows all nodes at and below a path, of which no more are taken on where there are more than `most`. Its root has the ticket, and its
+/// other nodes have tickets from 2^63 on.
+#[unsafe(no_mangle)]
+pub extern "C" fn dw_session_follow_tree(
+    alloc: Global,
+    handle: &mut DwSession,
+    now_ms: u64,
+    ticket: u64,
+    path: &[u8],
+    most: usize,
+) -> i32
+    ensures closed { handle.old.slot.held ≡ None → IsClosed result handle.new.slot.held }
+    ensures plants { (d : AgentDevice) → handle.old.slot.held ≡ Some d
+        → Holds handle.new.slot.held (Plant (RefusesPath path.now) now_ms ticket path.now most d result) }
+{
+    let most = most as u64;
+    drive(
+        alloc,
+        handle,
+        |session| session.follow_tree_at(alloc, now_ms, ticket, path, most),
+    )
+}
+
+/// Follows the tree of this ticket no more.
+#[unsafe(no_mangle)]
+pub extern "C" fn dw_session_unfollow_tree(
+    alloc: Global,
+    handle: &mut DwSession,
+    now_ms: u64,
+    ticket: u64,
+) -> i32
+    ensures closed { handle.old.slot.held ≡ None → IsClosed result handle.new.slot.held }
+    ensures uproots { (d : AgentDevice) → handle.old.slot.held ≡ Some d → Holds handle.new.slot.held (Uproot now_ms ticket d result) }
+{
+    drive(
+        alloc,
+        handle,
+        |session| session.unfollow_tree_at(now_ms, ticket),
+    )
 }

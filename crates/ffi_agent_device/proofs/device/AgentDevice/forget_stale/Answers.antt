@@ -20,8 +20,11 @@ returns g =
       timeout = gone.timeout;
       latest = gone.latest;
       heard = gone.heard;
+      trees = refl;
       said = refl;
+      news = refl;
       read = refl;
+      news_read = refl;
       over = refl;
       number = refl;
     }

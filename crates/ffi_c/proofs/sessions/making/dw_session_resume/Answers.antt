@@ -7,3 +7,7 @@ use Rattle.ffi_c.proofs.sessions.making.dw_session_resume.Goals as goal
 pub returns-in-Ok-clause-broken : goal.returns-in-Ok-clause-broken
 returns-in-Ok-clause-broken c fault reads =
     absurd (true≢false (ap is_ok (c.in-Ok.ensures.unread fault reads (not_memory c.args.saved.now fault reads) c.in-Ok.ensures.accepted)))
+
+pub returns-in-Ok-clause-unread : goal.returns-in-Ok-clause-unread
+returns-in-Ok-clause-unread c fault reads apart above =
+    absurd (true≢false (ap is_ok (c.in-Ok.ensures.unread fault reads apart c.in-Ok.ensures.accepted)))

@@ -1,0 +1,282 @@
+/* A session by hand that follows a tree within a bound: its root and two nodes below are taken on as the names come, a notice makes another look
+ * worth while, a node that has gone is let go and another one taken on, in the end all of it is let go, and of a tree of fewer nodes the bound is
+ * told. What comes of it is what zookeeper.jute and the header say. */
+#include "dirwolleu.h"
+#include "expect.h"
+#include "frames.h"
+
+#include <string.h>
+
+enum { ASKED_MS = 9000, ADDRESSES = 1, TREE = 7, MOST = 3 };
+
+/* Nodes have tickets from this one on. */
+static const uint64_t FIRST = (uint64_t)1 << 63;
+
+static const dw_stat STAT = {6, 6, 1000, 1000, 0, 6, 0, 0, 0, 2, 0};
+
+static dw_output expect_next(dw_session *session, enum dw_kind kind)
+{
+    dw_output action;
+    EXPECT_NUMBER(DW_OK, dw_session_next(session, &action));
+    EXPECT_NUMBER(kind, action.kind);
+    return action;
+}
+
+static void expect_no_more(dw_session *session)
+{
+    dw_output action;
+    EXPECT_NUMBER(DW_NONE, dw_session_next(session, &action));
+}
+
+/* The next action is a frame. Tells its xid, which stands after the length. */
+static int32_t expect_sent(dw_session *session)
+{
+    uint8_t frame[128];
+    size_t length = expect_next(session, DW_KIND_SEND).length;
+    EXPECT_NUMBER(length, dw_session_copy(session, 0, frame, sizeof frame));
+    EXPECT(length >= 8 && length <= sizeof frame);
+    return (int32_t)((uint32_t)frame[4] << 24 | (uint32_t)frame[5] << 16 | (uint32_t)frame[6] << 8 | frame[7]);
+}
+
+static void expect_shown(dw_session *session, uint64_t ticket)
+{
+    EXPECT(expect_next(session, DW_KIND_SHOWN).ticket == ticket);
+}
+
+/* A side of a node is taken on for the tree, by this ticket. */
+static void expect_taken_on(dw_session *session, uint64_t ticket, enum dw_side side, const char *path)
+{
+    char text[64];
+    dw_output told = expect_next(session, DW_KIND_TAKEN_ON);
+    size_t length = dw_session_copy(session, 0, text, sizeof text);
+    EXPECT(told.ticket == ticket);
+    EXPECT_NUMBER(TREE, told.tree);
+    EXPECT_NUMBER(side, told.side);
+    EXPECT_NUMBER(strlen(path), told.length);
+    EXPECT_NUMBER(strlen(path), length);
+    EXPECT(memcmp(path, text, length) == 0);
+}
+
+static void expect_let_go(dw_session *session, uint64_t ticket)
+{
+    dw_output told = expect_next(session, DW_KIND_LET_GO);
+    EXPECT(told.ticket == ticket);
+    EXPECT_NUMBER(TREE, told.tree);
+    EXPECT_NUMBER(0, told.length);
+}
+
+static void expect_whole(dw_session *session)
+{
+    EXPECT_NUMBER(TREE, expect_next(session, DW_KIND_WHOLE).ticket);
+}
+
+static void hand_in(dw_session *session, uint64_t now_ms, const struct bytes *bytes)
+{
+    EXPECT_NUMBER(DW_OK, dw_session_bytes(session, now_ms, bytes->at, bytes->length));
+}
+
+/* The connection is there, and a server admits the session. */
+static void connect_session(dw_session *session)
+{
+    struct bytes response;
+    response.length = 0;
+    add_connected(&response);
+    EXPECT_NUMBER(DW_OK, dw_session_opened(session, 30));
+    expect_sent(session);
+    EXPECT_NUMBER(DW_STATE_CONNECTING, expect_next(session, DW_KIND_STATE).state);
+    expect_no_more(session);
+    hand_in(session, 31, &response);
+    EXPECT_NUMBER(DW_STATE_CONNECTED, expect_next(session, DW_KIND_STATE).state);
+}
+
+static void answer_data(dw_session *session, uint64_t now_ms, int32_t xid, int64_t zxid)
+{
+    struct bytes came;
+    came.length = 0;
+    add_data(&came, xid, zxid, "up", &STAT);
+    hand_in(session, now_ms, &came);
+}
+
+static void answer_no_names(dw_session *session, uint64_t now_ms, int32_t xid, int64_t zxid)
+{
+    struct bytes came;
+    came.length = 0;
+    add_no_names(&came, xid, zxid, &STAT);
+    hand_in(session, now_ms, &came);
+}
+
+static void answer_no_node(dw_session *session, uint64_t now_ms, int32_t xid, int64_t zxid)
+{
+    struct bytes came;
+    came.length = 0;
+    add_header(&came, xid, zxid, CODE_NO_NODE);
+    hand_in(session, now_ms, &came);
+}
+
+static void notice(dw_session *session, uint64_t now_ms, enum dw_event event, const char *path)
+{
+    struct bytes came;
+    came.length = 0;
+    add_notice(&came, event, path);
+    hand_in(session, now_ms, &came);
+}
+
+/* The root has the ticket of the tree, and its names the first one of nodes. The names lead to two nodes, which are read in their order. */
+static void grow(dw_session *session)
+{
+    struct bytes came;
+    int32_t data = expect_sent(session), names = expect_sent(session), reads[4];
+    expect_no_more(session);
+    answer_data(session, 40, data, 6);
+    expect_shown(session, TREE);
+    expect_no_more(session);
+    came.length = 0;
+    add_names(&came, names, 6, "a", "b", &STAT);
+    hand_in(session, 41, &came);
+    expect_shown(session, FIRST);
+    for (int i = 0; i < 4; i++) {
+        reads[i] = expect_sent(session);
+    }
+    expect_taken_on(session, FIRST + 1, DW_SIDE_DATA, "/t/a");
+    expect_taken_on(session, FIRST + 2, DW_SIDE_DATA, "/t/b");
+    expect_taken_on(session, FIRST + 3, DW_SIDE_CHILDREN, "/t/a");
+    expect_taken_on(session, FIRST + 4, DW_SIDE_CHILDREN, "/t/b");
+    expect_no_more(session);
+    answer_data(session, 42, reads[0], 6);
+    expect_shown(session, FIRST + 1);
+    expect_no_more(session);
+    answer_data(session, 43, reads[1], 6);
+    expect_shown(session, FIRST + 2);
+    expect_no_more(session);
+    answer_no_names(session, 44, reads[2], 6);
+    expect_shown(session, FIRST + 3);
+    expect_no_more(session);
+    answer_no_names(session, 45, reads[3], 6);
+    expect_shown(session, FIRST + 4);
+    expect_whole(session);
+    expect_no_more(session);
+}
+
+/* It is told once that nothing is lacking, and again where a node has changed. After a report of a path its other side is shown again. */
+static void change(dw_session *session)
+{
+    int32_t read;
+    EXPECT_NUMBER(DW_OK, dw_session_moment(session, 50));
+    expect_no_more(session);
+    notice(session, 51, DW_EVENT_DATA_CHANGED, "/t/a");
+    expect_next(session, DW_KIND_REPORT);
+    read = expect_sent(session);
+    expect_shown(session, FIRST + 3);
+    expect_no_more(session);
+    answer_data(session, 52, read, 7);
+    expect_shown(session, FIRST + 1);
+    expect_whole(session);
+    expect_no_more(session);
+}
+
+/* A node has gone, which the reads of both sides find, and then that it is absent. It is let go once that is known, and not taken on again
+ * while the names still have it. */
+static void lose(dw_session *session)
+{
+    int32_t data, names, absent_data, absent_names;
+    notice(session, 53, DW_EVENT_DELETED, "/t/b");
+    expect_next(session, DW_KIND_REPORT);
+    expect_next(session, DW_KIND_REPORT);
+    data = expect_sent(session);
+    names = expect_sent(session);
+    expect_no_more(session);
+    answer_no_node(session, 54, data, 8);
+    absent_data = expect_sent(session);
+    expect_no_more(session);
+    answer_no_node(session, 55, names, 8);
+    absent_names = expect_sent(session);
+    expect_no_more(session);
+    answer_no_node(session, 56, absent_data, 8);
+    expect_shown(session, FIRST + 2);
+    expect_shown(session, FIRST + 4);
+    expect_let_go(session, FIRST + 2);
+    expect_let_go(session, FIRST + 4);
+    expect_no_more(session);
+    answer_no_node(session, 57, absent_names, 8);
+    expect_no_more(session);
+}
+
+/* The names lead to another node instead. */
+static void replace(dw_session *session)
+{
+    struct bytes came;
+    int32_t names, data;
+    notice(session, 58, DW_EVENT_CHILDREN_CHANGED, "/t");
+    expect_next(session, DW_KIND_REPORT);
+    names = expect_sent(session);
+    expect_shown(session, TREE);
+    expect_no_more(session);
+    came.length = 0;
+    add_names(&came, names, 9, "a", "c", &STAT);
+    hand_in(session, 59, &came);
+    expect_shown(session, FIRST);
+    data = expect_sent(session);
+    names = expect_sent(session);
+    expect_taken_on(session, FIRST + 5, DW_SIDE_DATA, "/t/c");
+    expect_taken_on(session, FIRST + 6, DW_SIDE_CHILDREN, "/t/c");
+    expect_no_more(session);
+    answer_data(session, 60, data, 9);
+    expect_shown(session, FIRST + 5);
+    expect_no_more(session);
+    answer_no_names(session, 61, names, 9);
+    expect_shown(session, FIRST + 6);
+    expect_whole(session);
+    expect_no_more(session);
+}
+
+/* All that is followed still is let go, in the order in which it was taken on. */
+static void uproot(dw_session *session)
+{
+    static const uint64_t after[] = {0, 1, 3, 5, 6};
+    EXPECT_NUMBER(DW_OK, dw_session_unfollow_tree(session, 70, TREE));
+    expect_let_go(session, TREE);
+    for (size_t i = 0; i < sizeof after / sizeof after[0]; i++) {
+        expect_let_go(session, FIRST + after[i]);
+    }
+    expect_no_more(session);
+    EXPECT_NUMBER(DW_OK, dw_session_unfollow_tree(session, 71, TREE));
+    expect_no_more(session);
+}
+
+/* A tree of fewer nodes than there are: that is told, and no node is taken on. The tickets go on. */
+static void follow_less(dw_session *session)
+{
+    EXPECT_NUMBER(DW_OK, dw_session_follow_tree(session, 80, TREE + 1, "/t", 2, MOST - 1));
+    expect_shown(session, TREE + 1);
+    expect_shown(session, FIRST + 7);
+    EXPECT_NUMBER(TREE + 1, expect_next(session, DW_KIND_TAKEN_ON).tree);
+    EXPECT_NUMBER(TREE + 1, expect_next(session, DW_KIND_TAKEN_ON).tree);
+    dw_output told = expect_next(session, DW_KIND_BOUNDED);
+    EXPECT_NUMBER(TREE + 1, told.ticket);
+    EXPECT(told.is_bounded);
+    expect_no_more(session);
+}
+
+int main(void)
+{
+    static dw_session session;
+    EXPECT_NUMBER(DW_OK, dw_session_open(&session, ASKED_MS, ADDRESSES, 1));
+    EXPECT_NUMBER(DW_OK, dw_session_moment(&session, 0));
+    expect_next(&session, DW_KIND_DIAL);
+    EXPECT_NUMBER(DW_NOT_PATH, dw_session_follow_tree(&session, 1, TREE, "t", 1, MOST));
+    EXPECT_NUMBER(DW_NOT_TEXT, dw_session_follow_tree(&session, 1, TREE, "/\xff", 2, MOST));
+    EXPECT_NUMBER(DW_OK, dw_session_follow_tree(&session, 10, TREE, "/t", 2, MOST));
+    expect_taken_on(&session, TREE, DW_SIDE_DATA, "/t");
+    expect_taken_on(&session, FIRST, DW_SIDE_CHILDREN, "/t");
+    expect_no_more(&session);
+    connect_session(&session);
+    grow(&session);
+    change(&session);
+    lose(&session);
+    replace(&session);
+    uproot(&session);
+    follow_less(&session);
+    dw_session_free(&session);
+    EXPECT_NUMBER(DW_CLOSED, dw_session_follow_tree(&session, 1, TREE, "/t", 2, MOST));
+    return EXIT_SUCCESS;
+}

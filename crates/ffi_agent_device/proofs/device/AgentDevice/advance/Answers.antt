@@ -1,0 +1,19 @@
+-- One step of the agent, and trees tended after it, from where the step left them: `ok_advances`, as `step_on` leaves the trees.
+use Rattle.std.proofs.Common.{subst}
+use Rattle.std.specs.Prelude.{OnOk}
+use Rattle.ffi_agent_device.specs.Taking.{voice_of}
+use Rattle.ffi_agent_device.specs.Tending.{TendsSo}
+use Rattle.ffi_agent_device.specs.declared.tree.Trees.{Trees}
+use Rattle.ffi_agent_device.proofs.Chains.{ok_advances}
+use Rattle.ffi_agent_device.proofs.device.AgentDevice.advance.Goals as goal
+
+pub returns : goal.returns
+returns c =
+    let old = c.args.self.now in
+    let between = c.step_on.new.self in
+    let new = c.tend.new.self in
+    ok_advances c.tend.result c.args.now c.args.input old.trees.tended old.trees.all.items new.trees.tended new.trees.all.items
+    (voice_of old) (voice_of between) (voice_of new)
+    c.in_ok-step_on.ensures.steps
+    (subst (λ (t : Trees). OnOk c.tend.result (TendsSo c.args.now t.tended t.all.items new.trees.tended new.trees.all.items
+    (voice_of between) (voice_of new))) c.step_on.ensures.trees c.tend.ensures)

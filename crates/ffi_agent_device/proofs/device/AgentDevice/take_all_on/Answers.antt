@@ -1,0 +1,17 @@
+-- Where nothing is wanted nothing is taken on (`none_taken`); else `index_of` makes the index that `take_each_on` requires.
+use Rattle.std.proofs.Common.{List, subst, sym, ◌∙◌}
+use Rattle.std.specs.declared.alloc.Global.{Global}
+use Rattle.zk_trees.specs.Trees.{IsIndexOf}
+use Rattle.zk_trees.specs.declared.member.Member.{Member}
+use Rattle.ffi_agent_device.specs.Taking.{voice_of}
+use Rattle.ffi_agent_device.specs.Tending.{bed_of}
+use Rattle.ffi_agent_device.proofs.Growing.{none_taken}
+use Rattle.ffi_agent_device.proofs.device.AgentDevice.take_all_on.Goals as goal
+
+pub returns-then-is_none : goal.returns-then-is_none
+returns-then-is_none c =
+    none_taken c.args.subjects.now (bed_of (voice_of c.args.self.now) c.args.tree.now) (sym c.is_none.ensures ∙ c.if-is_none.true)
+
+pub take_each_on-requires : goal.take_each_on-requires
+take_each_on-requires c =
+    subst (λ (l : List (Member Global _)). IsIndexOf c.in_ok-index.index l) c.as_slice.ensures.value c.in_ok-index.ensures

@@ -1,0 +1,34 @@
+-- One more subject is taken on after those before it (`mapped_next`), and the index stays one of the members; at the end `take_all`.
+use Rattle.std.proofs.Common.{◌≤◌, List, arith, length, refl, subst}
+use Rattle.std.proofs.lemmas.List.{take_all}
+use Rattle.std.specs.declared.alloc.Global.{Global}
+use Rattle.zk_trees.specs.Trees.{aim_of, aims_of}
+use Rattle.zk_trees.specs.declared.subject.NodeSide.{NodeSide}
+use Rattle.zk_trees.proofs.Growing.{mapped_next}
+use Rattle.ffi_agent_device.specs.Taking.{voice_of}
+use Rattle.ffi_agent_device.specs.Tending.{bed_of, TakesAllOn, TakesOn}
+use Rattle.ffi_agent_device.proofs.device.AgentDevice.take_each_on.Goals as goal
+
+pub loop-subject-init : goal.loop-subject-init
+loop-subject-init c = record { takes = refl; index = c.requires }
+
+pub take_on-requires : goal.take_on-requires
+take_on-requires c = c.loop-subject.invariant.index
+
+pub loop-subject-preserved : goal.loop-subject-preserved
+loop-subject-preserved c = record {
+  takes = mapped_next (λ at aim after. TakesOn aim at after) aim_of c.args.subjects.now
+      c.loop-subject.subject-index c.subject-item.result
+      (bed_of (voice_of c.args.self.now) c.args.tree.now) (bed_of (voice_of c.loop-subject.self) c.loop-subject.tree)
+      (bed_of (voice_of c.take_on.new.self) c.take_on.new.tree)
+      c.loop-subject-test.true c.subject-item.is c.loop-subject.invariant.takes c.in_ok-take_on.ensures.takes;
+  index = c.in_ok-take_on.ensures.index;
+}
+
+pub returns : goal.returns
+returns c =
+    let subjects = c.args.subjects.now in
+    let past : length subjects ≤ c.loop-subject.subject-index = omega (arith, c.loop-subject-test.false) in
+    subst (λ (l : List (NodeSide Global)). TakesAllOn (aims_of l) (bed_of (voice_of c.args.self.now) c.args.tree.now)
+    (bed_of (voice_of c.loop-subject.self) c.loop-subject.tree))
+    (take_all c.loop-subject.subject-index subjects past) c.loop-subject.invariant.takes

@@ -1,0 +1,32 @@
+-- What `uproot_and_tend` ensures between `begin_step` and `end_step`, which leave the trees as they are: `uprooted`; else `stopped`.
+use Rattle.std.proofs.Common.{subst, sym}
+use Rattle.ffi_agent_device.specs.Taking.{begun, voice_of, Voice}
+use Rattle.ffi_agent_device.specs.declared.tree.Trees.{Trees}
+use Rattle.ffi_agent_device.proofs.Chains.{uprooted, stopped, UprootsAndTends}
+use Rattle.ffi_agent_device.proofs.device.AgentDevice.uproot_at.Goals as goal
+
+pub returns-in-Ok-clause-uprooted : goal.returns-in-Ok-clause-uprooted
+returns-in-Ok-clause-uprooted c =
+    let old = c.args.self.now in
+    let begins = c.begin_step.new.self in
+    let last = c.uproot_and_tend.new.self in
+    let new = c.end_step.new.self in
+    uprooted c.args.now c.args.ticket old new (voice_of last) c.if-self.false c.end_step.ensures.over c.end_step.ensures.read
+    c.end_step.ensures.news_read c.end_step.ensures.voice
+    (subst (λ (t : Trees). UprootsAndTends c.args.now c.args.ticket old.trees.tended old.trees.all.items t.tended t.all.items
+    (begun (voice_of old)) (voice_of last)) (sym c.end_step.ensures.trees)
+    (subst (λ (v : Voice). UprootsAndTends c.args.now c.args.ticket old.trees.tended old.trees.all.items last.trees.tended
+    last.trees.all.items v (voice_of last)) c.begin_step.ensures.voice
+    (subst (λ (t : Trees). UprootsAndTends c.args.now c.args.ticket t.tended t.all.items last.trees.tended last.trees.all.items
+    (voice_of begins) (voice_of last)) c.begin_step.ensures.trees c.in-Ok.ensures)))
+
+pub returns-then-self-clause-stopped : goal.returns-then-self-clause-stopped
+returns-then-self-clause-stopped c =
+    stopped c.args.self.now c.stop.new.self c.stop.result c.stop.ensures.halted c.stop.ensures.over c.stop.ensures.silent
+    c.stop.ensures.untold c.stop.ensures.number
+
+pub returns-in-Err-clause-stopped : goal.returns-in-Err-clause-stopped
+returns-in-Err-clause-stopped c =
+    let stop = c.stop-in-Err in
+    stopped c.args.self.now stop.new.self stop.result stop.ensures.halted stop.ensures.over stop.ensures.silent stop.ensures.untold
+    stop.ensures.number
