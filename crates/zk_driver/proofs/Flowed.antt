@@ -37,7 +37,8 @@ pub flow_after : {A : Type 0} {far : FarEnd} (old between new : Flow A far) → 
 flow_after old between new first rest =
     record { deeds = first.deeds ++ rest.deeds; carries = carries_on first.deeds rest.deeds old between new first.carries rest.carries }
 
-pub ok_flow_after : {A X E : Type 0} {far : FarEnd} (result : Result X E) (old between new : Flow A far) → Flows old between → OnOk result (Flows between new)
+pub ok_flow_after : {A X E : Type 0} {far : FarEnd} (result : Result X E) (old between new : Flow A far)
+    → Flows old between → OnOk result (Flows between new)
     → OnOk result (Flows old new)
 ok_flow_after (Ok x) old between new first rest = flow_after old between new first rest
 ok_flow_after (Err e) old between new first rest = tt
@@ -52,7 +53,8 @@ flow_noted input old new channel known meets bytes lasts hands = record {
   carries = (hands.between, ((channel, meets, hands.takes), lasts hands.between hands.lasts, bytes, hands.held), (new, hands.writes, refl));
 }
 
-pub ok_flow_noted : {A X E : Type 0} {far : FarEnd} (result : Result X E) (input : AgentInput A) (old new : Flow A far) (channel : ChannelView) (known : Reached far)
+pub ok_flow_noted : {A X E : Type 0} {far : FarEnd} (result : Result X E) (input : AgentInput A) (old new : Flow A far)
+    (channel : ChannelView) (known : Reached far)
     → Meets old.course.channel input channel → bytes_in input ≡ old.held
     → ((between : Flow A far) → (between.course.channel.is_open ≡ true → between.known ≡ known) → Lasts input old between)
     → OnOk result (HandsOver input (record { course = record old.course { channel = channel }; known = known; held = [] }) new)
@@ -128,7 +130,8 @@ open_before (Made (Noted now input)) old new carries within there = absurd carri
 open_before (Asked now input) old new carries within there = (open_taken now input old.course new.course carries.0 there).0
 
 -- what is sent by one that leaves a connection there, which is the one that was there
-pub goes_on : {A : Type 0} {far : FarEnd} (now : ℕ) (input : AgentInput A) (old new : Flow A far) (carries : Carries old (Made (Noted now input)) new)
+pub goes_on : {A : Type 0} {far : FarEnd} (now : ℕ) (input : AgentInput A) (old new : Flow A far)
+    (carries : Carries old (Made (Noted now input)) new)
     → AreWithin (Made (Noted now input) ∷ [])
     → new.course.channel.is_open ≡ true
     → (new.known ≡ old.known) × (new.course.channel.unsent ≡ old.course.channel.unsent ++ flat_map frame_of (told_by carries.0.2.actions))
@@ -249,7 +252,8 @@ comes_asked now input deeds old mid new carries rest within false shut begins =
     begins_all old.held (flat_map handed_by deeds) old.known.left
     (none_through deeds mid new rest within (λ there. let e : true ≡ false = sym there ∙ shut in cc) ∙ sym carries.3)
 
-comes : {A : Type 0} {far : FarEnd} (deeds : List (Deed A)) (old new : Flow A far) (carries : FoldsTo Carries old deeds new) → AreWithin deeds
+comes : {A : Type 0} {far : FarEnd} (deeds : List (Deed A)) (old new : Flow A far)
+    (carries : FoldsTo Carries old deeds new) → AreWithin deeds
     → Begins old.held (flat_map handed_by deeds) old.known.left
 comes [] old new carries within = begins_none old.held old.known.left
 comes (Made Written ∷ deeds) old new carries within =

@@ -17,7 +17,8 @@ passes_of (deed ∷ deeds) old new carries = (carries.0, carries.1, passes_of de
 pub calls_run : {A : Type 0} {far : FarEnd} (old new : Flow A far) → Flows old new → Runs old new
 calls_run old new flows = record { steps = map Some flows.deeds; passes = passes_of flows.deeds old new flows.carries }
 
-pub taking_runs : {A : Type 0} {far : FarEnd} (old : Flow A far) (told : List Told) → Runs old (record old { course = record old.course { told = told } })
+pub taking_runs : {A : Type 0} {far : FarEnd} (old : Flow A far) (told : List Told)
+    → Runs old (record old { course = record old.course { told = told } })
 taking_runs old told = record { steps = None ∷ []; passes = (record old { course = record old.course { told = told } }, refl, refl) }
 
 passes_on : {A : Type 0} {far : FarEnd} (steps more : List (Option (Deed A))) (old between new : Flow A far)
@@ -30,17 +31,20 @@ runs_join old between new first rest =
     record { steps = first.steps ++ rest.steps; passes = passes_on first.steps rest.steps old between new first.passes rest.passes }
 
 -- one that returns an action, which the program takes
-pub next_runs : {A S : Type 0} (remaining contents : S → Option (List ℕ)) (far : FarEnd) (state : S → far.State) (old : Flow A far) (engine : Engine A S) (passed : Option (Action A))
+pub next_runs : {A S : Type 0} (remaining contents : S → Option (List ℕ)) (far : FarEnd) (state : S → far.State) (old : Flow A far)
+    (engine : Engine A S) (passed : Option (Action A))
     → Flows old (flow_of remaining contents far state engine passed) → Runs old (flow_of remaining contents far state engine None)
 next_runs remaining contents far state old engine passed flows =
     let told = flow_of remaining contents far state engine passed in
-    runs_join old told (flow_of remaining contents far state engine None) (calls_run old told flows) (taking_runs told (told_by engine.waiting.items))
+    runs_join old told (flow_of remaining contents far state engine None) (calls_run old told flows)
+    (taking_runs told (told_by engine.waiting.items))
 
 pub runs_same : {A : Type 0} {far : FarEnd} (old new : Flow A far) → old ≡ new → Runs old new
 runs_same old new is = record { steps = []; passes = is }
 
 -- and one more of those
-pub next_run : {A S : Type 0} (remaining contents : S → Option (List ℕ)) (far : FarEnd) (state : S → far.State) (first until engine : Engine A S) (passed : Option (Action A))
+pub next_run : {A S : Type 0} (remaining contents : S → Option (List ℕ)) (far : FarEnd) (state : S → far.State)
+    (first until engine : Engine A S) (passed : Option (Action A))
     → Runs (flow_of remaining contents far state first None) (flow_of remaining contents far state until None)
     → Flows (flow_of remaining contents far state until None) (flow_of remaining contents far state engine passed)
     → Runs (flow_of remaining contents far state first None) (flow_of remaining contents far state engine None)
@@ -50,11 +54,13 @@ next_run remaining contents far state first until engine passed runs flows =
     (next_runs remaining contents far state at engine passed flows)
 
 -- a call, and what comes after it
-pub ok_asked_runs : {A X E : Type 0} {far : FarEnd} (result : Result X E) (old asked new : Flow A far) → Flows old asked → OnOk result (Runs asked new)
+pub ok_asked_runs : {A X E : Type 0} {far : FarEnd} (result : Result X E) (old asked new : Flow A far)
+    → Flows old asked → OnOk result (Runs asked new)
     → OnOk result (Runs old new)
 ok_asked_runs (Ok x) old asked new flows rest = runs_join old asked new (calls_run old asked flows) rest
 ok_asked_runs (Err e) old asked new flows rest = tt
 
-pub ok_calls_run : {A X E : Type 0} {far : FarEnd} (result : Result X E) (old new : Flow A far) → OnOk result (Flows old new) → OnOk result (Runs old new)
+pub ok_calls_run : {A X E : Type 0} {far : FarEnd} (result : Result X E) (old new : Flow A far) → OnOk result (Flows old new)
+    → OnOk result (Runs old new)
 ok_calls_run (Ok x) old new flows = calls_run old new flows
 ok_calls_run (Err e) old new flows = tt

@@ -105,7 +105,8 @@ impl<A: Allocator + Copy, S: Stream> Channel<A, S> {
     pub(crate) fn flush(&mut self) -> bool
         ensures writes { Writes (channel_view self.old) (channel_view self.new) }
         ensures sends { Sends self.old.unsent.items self.new.unsent.items
-            ((reached_of S.remaining S.contents S.far S.state self.old.stream).took) ((reached_of S.remaining S.contents S.far S.state self.new.stream).took) }
+            ((reached_of S.remaining S.contents S.far S.state self.old.stream).took)
+            ((reached_of S.remaining S.contents S.far S.state self.new.stream).took) }
         ensures gives { Keeps ((reached_of S.remaining S.contents S.far S.state self.old.stream).left)
             ((reached_of S.remaining S.contents S.far S.state self.new.stream).left) }
         ensures trades { Trades S.far self.old.unsent.items self.new.unsent.items []
@@ -131,7 +132,8 @@ impl<A: Allocator + Copy, S: Stream> Channel<A, S> {
             Looks (look_after began is_again (is_nothing brought) self.old.looked) (channel_view self.old) (channel_view self.new)) }
         ensures brings { IfOk result (λ brought. IsBrought S.remaining self.new.stream brought) }
         ensures whole { IfOk result (λ brought. Reaches self.old.unsent.items self.new.unsent.items
-            (reached_of S.remaining S.contents S.far S.state self.old.stream) (reached_of S.remaining S.contents S.far S.state self.new.stream)
+            (reached_of S.remaining S.contents S.far S.state self.old.stream)
+            (reached_of S.remaining S.contents S.far S.state self.new.stream)
             (bytes_in (input_of brought))) }
     {
         let brought = self.read(alloc, ms)?;
@@ -145,7 +147,8 @@ impl<A: Allocator + Copy, S: Stream> Channel<A, S> {
         ensures writes { Writes (channel_view self.old) (channel_view self.new) }
         ensures brings { IfOk result (λ brought. IsBrought S.remaining self.new.stream brought) }
         ensures whole { IfOk result (λ brought. Reaches self.old.unsent.items self.new.unsent.items
-            (reached_of S.remaining S.contents S.far S.state self.old.stream) (reached_of S.remaining S.contents S.far S.state self.new.stream)
+            (reached_of S.remaining S.contents S.far S.state self.old.stream)
+            (reached_of S.remaining S.contents S.far S.state self.new.stream)
             (bytes_in (input_of brought))) }
     {
         make_room(&mut self.room)?;

@@ -190,7 +190,8 @@ impl<'a, A: Allocator + Copy, D: Dial + Drop, C: Clock + Drop> Driver<'a, A, D, 
     /// another driver, from what was saved.
     pub fn next(&mut self, until: u64) -> Result<Option<Action<A>>, Stop>
         ensures goes { IfOk result (λ passed. Goes (course_of self.old.engine None) (course_of self.new.engine passed)) }
-        ensures flows { IfOk result (λ passed. Flows (flow_of D.Stream.remaining D.Stream.contents D.Stream.far D.Stream.state self.old.engine None)
+        ensures flows { IfOk result
+            (λ passed. Flows (flow_of D.Stream.remaining D.Stream.contents D.Stream.far D.Stream.state self.old.engine None)
             (flow_of D.Stream.remaining D.Stream.contents D.Stream.far D.Stream.state self.new.engine passed)) }
         ensures come { IfOk result (λ passed. IfNone passed (until ≤ self.new.engine.agent.latest)) }
         ensures none { IfOk result (λ passed. IfNone passed (self.new.engine.waiting.items ≡ [])) }
@@ -216,7 +217,8 @@ impl<'a, A: Allocator + Copy, D: Dial + Drop, C: Clock + Drop> Driver<'a, A, D, 
     pub fn turn(&mut self, until: u64) -> Result<Turn<A>, Stop>
         ensures goes { IfOk result
             (λ turn. GoesBy (notes_of turn) (course_of self.old.engine None) (course_of self.new.engine (passed_in turn))) }
-        ensures flows { IfOk result (λ turn. Flows (flow_of D.Stream.remaining D.Stream.contents D.Stream.far D.Stream.state self.old.engine None)
+        ensures flows { IfOk result
+            (λ turn. Flows (flow_of D.Stream.remaining D.Stream.contents D.Stream.far D.Stream.state self.old.engine None)
             (flow_of D.Stream.remaining D.Stream.contents D.Stream.far D.Stream.state self.new.engine (passed_in turn))) }
         ensures come { IfOk result (λ turn. is_come turn ≡ true → until ≤ self.new.engine.agent.latest) }
         ensures none { IfOk result (λ turn. is_come turn ≡ true → self.new.engine.waiting.items ≡ []) }

@@ -116,7 +116,8 @@ impl<A: Allocator + Copy, S: Stream> Engine<A, S> {
         requires { IsPatient now input (course_of self.old None) }
         ensures hands { OnOk result (Hands input (course_of self.old None) (course_of self.new None)) }
         ensures flows { OnOk result
-            (HandsOver input (flow_of S.remaining S.contents S.far S.state self.old None) (flow_of S.remaining S.contents S.far S.state self.new None)) }
+            (HandsOver input (flow_of S.remaining S.contents S.far S.state self.old None)
+            (flow_of S.remaining S.contents S.far S.state self.new None)) }
         ensures told { IfOk result (λ moment. moment ≤ self.new.agent.latest) }
         ensures noted { OnOk result (now ≤ self.new.agent.latest) }
         ensures kept { Extends (told_by self.old.waiting.items) (told_by self.new.waiting.items) }
@@ -138,7 +139,8 @@ impl<A: Allocator + Copy, S: Stream> Engine<A, S> {
         requires begins { S.far.begins (S.state stream) }
         ensures goes { OnOk result (GoesBy (Made ∷ []) (course_of self.old None) (course_of self.new None)) }
         ensures notes { OnOk result (Notes happens.Opened (course_of self.old None) (course_of self.new None)) }
-        ensures flows { OnOk result (Flows (flow_of S.remaining S.contents S.far S.state self.old None) (flow_of S.remaining S.contents S.far S.state self.new None)) }
+        ensures flows { OnOk result (Flows (flow_of S.remaining S.contents S.far S.state self.old None)
+            (flow_of S.remaining S.contents S.far S.state self.new None)) }
         ensures told { IfOk result (λ moment. moment ≤ self.new.agent.latest) }
         ensures kept { Extends (told_by self.old.waiting.items) (told_by self.new.waiting.items) }
     {
@@ -151,7 +153,8 @@ impl<A: Allocator + Copy, S: Stream> Engine<A, S> {
         requires { is_some self.old.channel.attempt ≡ true }
         ensures goes { OnOk result (GoesBy (Missed ∷ []) (course_of self.old None) (course_of self.new None)) }
         ensures notes { OnOk result (Notes happens.Failed (course_of self.old None) (course_of self.new None)) }
-        ensures flows { OnOk result (Flows (flow_of S.remaining S.contents S.far S.state self.old None) (flow_of S.remaining S.contents S.far S.state self.new None)) }
+        ensures flows { OnOk result (Flows (flow_of S.remaining S.contents S.far S.state self.old None)
+            (flow_of S.remaining S.contents S.far S.state self.new None)) }
         ensures told { IfOk result (λ moment. moment ≤ self.new.agent.latest) }
         ensures noted { OnOk result (now ≤ self.new.agent.latest) }
         ensures kept { Extends (told_by self.old.waiting.items) (told_by self.new.waiting.items) }
@@ -167,7 +170,8 @@ impl<A: Allocator + Copy, S: Stream> Engine<A, S> {
         requires open { is_some self.old.channel.stream ≡ true }
         ensures goes { OnOk result (GoesBy (Lost ∷ []) (course_of self.old None) (course_of self.new None)) }
         ensures notes { OnOk result (Notes happens.Cut (course_of self.old None) (course_of self.new None)) }
-        ensures flows { OnOk result (Flows (flow_of S.remaining S.contents S.far S.state self.old None) (flow_of S.remaining S.contents S.far S.state self.new None)) }
+        ensures flows { OnOk result (Flows (flow_of S.remaining S.contents S.far S.state self.old None)
+            (flow_of S.remaining S.contents S.far S.state self.new None)) }
         ensures shut { OnOk result (is_some self.new.channel.stream ≡ false) }
         ensures told { IfOk result (λ moment. moment ≤ self.new.agent.latest) }
         ensures kept { Extends (told_by self.old.waiting.items) (told_by self.new.waiting.items) }
@@ -184,7 +188,8 @@ impl<A: Allocator + Copy, S: Stream> Engine<A, S> {
         requires open { is_some self.old.channel.stream ≡ true }
         ensures goes { OnOk result (GoesBy (Lost ∷ []) (course_of self.old None) (course_of self.new None)) }
         ensures notes { OnOk result (Notes happens.Cut (course_of self.old None) (course_of self.new None)) }
-        ensures flows { OnOk result (Flows (flow_of S.remaining S.contents S.far S.state self.old None) (flow_of S.remaining S.contents S.far S.state self.new None)) }
+        ensures flows { OnOk result (Flows (flow_of S.remaining S.contents S.far S.state self.old None)
+            (flow_of S.remaining S.contents S.far S.state self.new None)) }
         ensures told { IfOk result (λ moment. moment ≤ self.new.agent.latest) }
         ensures kept { Extends (told_by self.old.waiting.items) (told_by self.new.waiting.items) }
     {
@@ -201,7 +206,8 @@ impl<A: Allocator + Copy, S: Stream> Engine<A, S> {
         requires timely { IsTimely now (course_of self.old None) }
         ensures goes { OnOk result (GoesBy [] (course_of self.old None) (course_of self.new None)) }
         ensures notes { OnOk result (Notes happens.Moment (course_of self.old None) (course_of self.new None)) }
-        ensures flows { OnOk result (Flows (flow_of S.remaining S.contents S.far S.state self.old None) (flow_of S.remaining S.contents S.far S.state self.new None)) }
+        ensures flows { OnOk result (Flows (flow_of S.remaining S.contents S.far S.state self.old None)
+            (flow_of S.remaining S.contents S.far S.state self.new None)) }
         ensures told { IfOk result (λ moment. moment ≤ self.new.agent.latest) }
         ensures noted { OnOk result (now ≤ self.new.agent.latest) }
         ensures kept { Extends (told_by self.old.waiting.items) (told_by self.new.waiting.items) }
@@ -335,7 +341,8 @@ impl<A: Allocator + Copy, S: Stream> Engine<A, S> {
     fn catch_up(&mut self, now: u64, told: u64) -> Result<u64, Stop>
         requires { told ≤ self.old.agent.latest }
         ensures goes { OnOk result (GoesBy [] (course_of self.old None) (course_of self.new None)) }
-        ensures flows { OnOk result (Flows (flow_of S.remaining S.contents S.far S.state self.old None) (flow_of S.remaining S.contents S.far S.state self.new None)) }
+        ensures flows { OnOk result (Flows (flow_of S.remaining S.contents S.far S.state self.old None)
+            (flow_of S.remaining S.contents S.far S.state self.new None)) }
         ensures told { IfOk result (λ moment. moment ≤ self.new.agent.latest) }
         ensures kept { Extends (told_by self.old.waiting.items) (told_by self.new.waiting.items) }
     {
@@ -352,7 +359,8 @@ impl<A: Allocator + Copy, S: Stream> Engine<A, S> {
         requires taken { IsTaken now brought (course_of self.old None) }
         ensures goes { OnOk result (GoesBy (notes_in (input_of brought)) (course_of self.old None) (course_of self.new None)) }
         ensures notes { OnOk result (Notes (input_of brought) (course_of self.old None) (course_of self.new None)) }
-        ensures flows { OnOk result (Flows (record (flow_of S.remaining S.contents S.far S.state self.old None) { held = bytes_in (input_of brought) })
+        ensures flows { OnOk result
+            (Flows (record (flow_of S.remaining S.contents S.far S.state self.old None) { held = bytes_in (input_of brought) })
             (flow_of S.remaining S.contents S.far S.state self.new None)) }
         ensures told { IfOk result (λ moment. moment ≤ self.new.agent.latest) }
         ensures kept { Extends (told_by self.old.waiting.items) (told_by self.new.waiting.items) }
@@ -368,7 +376,8 @@ impl<A: Allocator + Copy, S: Stream> Engine<A, S> {
     /// connection that is there as one that is over.
     pub(crate) fn settle(&mut self, now: u64) -> Result<u64, Stop>
         ensures goes { OnOk result (Goes (course_of self.old None) (course_of self.new None)) }
-        ensures flows { OnOk result (Flows (flow_of S.remaining S.contents S.far S.state self.old None) (flow_of S.remaining S.contents S.far S.state self.new None)) }
+        ensures flows { OnOk result (Flows (flow_of S.remaining S.contents S.far S.state self.old None)
+            (flow_of S.remaining S.contents S.far S.state self.new None)) }
         ensures told { OnOk result (now ≤ self.new.agent.latest) }
         ensures kept { Extends (told_by self.old.waiting.items) (told_by self.new.waiting.items) }
     {
@@ -386,7 +395,8 @@ impl<A: Allocator + Copy, S: Stream> Engine<A, S> {
     fn settle_closed(&mut self, now: u64) -> Result<u64, Stop>
         requires { is_some self.old.channel.stream ≡ false }
         ensures goes { OnOk result (Goes (course_of self.old None) (course_of self.new None)) }
-        ensures flows { OnOk result (Flows (flow_of S.remaining S.contents S.far S.state self.old None) (flow_of S.remaining S.contents S.far S.state self.new None)) }
+        ensures flows { OnOk result (Flows (flow_of S.remaining S.contents S.far S.state self.old None)
+            (flow_of S.remaining S.contents S.far S.state self.new None)) }
         ensures told { OnOk result (now ≤ self.new.agent.latest) }
         ensures kept { Extends (told_by self.old.waiting.items) (told_by self.new.waiting.items) }
     {
@@ -399,7 +409,8 @@ impl<A: Allocator + Copy, S: Stream> Engine<A, S> {
     /// The next action for the program.
     pub(crate) fn pop(&mut self) -> Option<Action<A>>
         ensures same { course_of self.new result ≡ course_of self.old None }
-        ensures flow { flow_of S.remaining S.contents S.far S.state self.new result ≡ flow_of S.remaining S.contents S.far S.state self.old None }
+        ensures flow { flow_of S.remaining S.contents S.far S.state self.new result
+            ≡ flow_of S.remaining S.contents S.far S.state self.old None }
         ensures none { IfNone result (self.new.waiting.items ≡ []) }
     {
         self.waiting.pop_front()

@@ -24,7 +24,8 @@ returns-clause-took g c =
 
 pub returns-then-is_err-clause-goes : goal.returns-then-is_err-clause-goes
 returns-then-is_err-clause-goes g c =
-    goes_once g.S.Stream.far [] [] (g.S.Stream.state c.args.stream.now) (g.S.Stream.state c.wait_at_most.new.self) c.wait_at_most.ensures.goes
+    goes_once g.S.Stream.far [] [] (g.S.Stream.state c.args.stream.now)
+    (g.S.Stream.state c.wait_at_most.new.self) c.wait_at_most.ensures.goes
 
 pub returns-clause-goes : goal.returns-clause-goes
 returns-clause-goes g c =

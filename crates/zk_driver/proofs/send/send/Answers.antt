@@ -32,7 +32,8 @@ loop-preserved g c =
     let then_met = g.S.Stream.state c.write_some.new.stream in
     let went = trades_front far c.in-Some.count c.min-piece.result c.as_slice.result.now met then_met c.in-Some.ensures.most
     c.in-Some.ensures.goes in
-    let goes = subst (λ unsent. Trades far unsent (drop c.in-Some.count unsent) [] (Some met) (Some then_met)) c.as_slice.ensures.value went in
+    let goes =
+    subst (λ unsent. Trades far unsent (drop c.in-Some.count unsent) [] (Some met) (Some then_met)) c.as_slice.ensures.value went in
     let trades = subst (λ rest. Trades far c.loop.unsent.items rest [] (Some met) (Some then_met)) (sym c.forget_front.ensures) goes in
     record {
       left = left_of c.args.unsent.now.items c.forget_front.new.unsent.items first after all;

@@ -20,10 +20,18 @@ returns-then-not-send-clause-whole g c =
     let know = reached_of g.S.Read.remaining g.S.Write.contents g.S.Stream.far g.S.Stream.state in
     let unsent = c.args.self.now.unsent.items in
     let rest = c.send.new.unsent.items in
-    let new : Reached g.S.Stream.far = record { left = g.S.Read.remaining c.send.new.stream; took = g.S.Write.contents c.send.new.stream; end = Some (g.S.Stream.state c.send.new.stream) } in
+    let new : Reached g.S.Stream.far = record {
+      left = g.S.Read.remaining c.send.new.stream;
+      took = g.S.Write.contents c.send.new.stream;
+      end = Some (g.S.Stream.state c.send.new.stream);
+    } in
     subst (λ stream. Reaches unsent rest (know stream) new []) (sym c.in-Some.is)
     (reaches_none unsent rest
-    (record { left = g.S.Read.remaining c.in-Some.stream; took = g.S.Write.contents c.in-Some.stream; end = Some (g.S.Stream.state c.in-Some.stream) }) new c.send.ensures.sends
+    (record {
+      left = g.S.Read.remaining c.in-Some.stream;
+      took = g.S.Write.contents c.in-Some.stream;
+      end = Some (g.S.Stream.state c.in-Some.stream);
+    }) new c.send.ensures.sends
     c.send.ensures.gives c.send.ensures.trades)
 
 pub returns-clause-whole : goal.returns-clause-whole
@@ -31,10 +39,22 @@ returns-clause-whole g c =
     let know = reached_of g.S.Read.remaining g.S.Write.contents g.S.Stream.far g.S.Stream.state in
     let unsent = c.args.self.now.unsent.items in
     let rest = c.send.new.unsent.items in
-    let wrote : Reached g.S.Stream.far = record { left = g.S.Read.remaining c.send.new.stream; took = g.S.Write.contents c.send.new.stream; end = Some (g.S.Stream.state c.send.new.stream) } in
-    let new : Reached g.S.Stream.far = record { left = g.S.Read.remaining c.bring.new.stream; took = g.S.Write.contents c.bring.new.stream; end = Some (g.S.Stream.state c.bring.new.stream) } in
+    let wrote : Reached g.S.Stream.far = record {
+      left = g.S.Read.remaining c.send.new.stream;
+      took = g.S.Write.contents c.send.new.stream;
+      end = Some (g.S.Stream.state c.send.new.stream);
+    } in
+    let new : Reached g.S.Stream.far = record {
+      left = g.S.Read.remaining c.bring.new.stream;
+      took = g.S.Write.contents c.bring.new.stream;
+      end = Some (g.S.Stream.state c.bring.new.stream);
+    } in
     subst (λ stream. IfOk c.bring.result (λ brought. Reaches unsent rest (know stream) new (bytes_in (input_of brought))))
     (sym c.in-Some.is)
     (reached c.bring.result (λ brought. bytes_in (input_of brought)) unsent rest
-    (record { left = g.S.Read.remaining c.in-Some.stream; took = g.S.Write.contents c.in-Some.stream; end = Some (g.S.Stream.state c.in-Some.stream) }) wrote new
+    (record {
+      left = g.S.Read.remaining c.in-Some.stream;
+      took = g.S.Write.contents c.in-Some.stream;
+      end = Some (g.S.Stream.state c.in-Some.stream);
+    }) wrote new
     c.send.ensures.sends c.send.ensures.gives c.bring.ensures.took c.bring.ensures.whole c.send.ensures.trades c.bring.ensures.goes)

@@ -13,8 +13,11 @@ hand-requires g c = asked_patiently c.moment_of_hand-moment.result c.args.input
 
 pub returns-in-Ok-clause-flows : goal.returns-in-Ok-clause-flows
 returns-in-Ok-clause-flows g c =
-    let new = flow_of g.D.Stream.Read.remaining g.D.Stream.Write.contents g.D.Stream.Stream.far g.D.Stream.Stream.state c.hand.new.self None in
+    let new =
+    flow_of g.D.Stream.Read.remaining g.D.Stream.Write.contents g.D.Stream.Stream.far g.D.Stream.Stream.state c.hand.new.self None in
     subst (λ (e : Engine g.row.A.Denot g.row.D-Stream.Denot).
-    Flows (flow_of g.D.Stream.Read.remaining g.D.Stream.Write.contents g.D.Stream.Stream.far g.D.Stream.Stream.state e None) new) c.now-now.ensures.engine
-    (flow_asked c.args.input (flow_of g.D.Stream.Read.remaining g.D.Stream.Write.contents g.D.Stream.Stream.far g.D.Stream.Stream.state c.now-now.new.self.engine None) new refl
+    Flows (flow_of g.D.Stream.Read.remaining g.D.Stream.Write.contents g.D.Stream.Stream.far g.D.Stream.Stream.state e None) new)
+    c.now-now.ensures.engine
+    (flow_asked c.args.input (flow_of g.D.Stream.Read.remaining g.D.Stream.Write.contents g.D.Stream.Stream.far g.D.Stream.Stream.state
+    c.now-now.new.self.engine None) new refl
     c.requires c.in-Ok.ensures.flows)

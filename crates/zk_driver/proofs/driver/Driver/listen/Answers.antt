@@ -26,9 +26,12 @@ loop-preserved g c =
     record {
       goes = by_after [] notes old so_far new
           (subst (λ ns. GoesBy ns old so_far) (c.loop.invariant.quiet again) c.loop.invariant.goes) c.in_ok-glance-2.ensures.goes;
-      flows = flow_after (flow_of g.D.Stream.Read.remaining g.D.Stream.Write.contents g.D.Stream.Stream.far g.D.Stream.Stream.state c.args.self.now.engine None)
-          (flow_of g.D.Stream.Read.remaining g.D.Stream.Write.contents g.D.Stream.Stream.far g.D.Stream.Stream.state c.loop.self.engine None)
-          (flow_of g.D.Stream.Read.remaining g.D.Stream.Write.contents g.D.Stream.Stream.far g.D.Stream.Stream.state c.read-in-loop.new.self.engine None)
+      flows = flow_after (flow_of g.D.Stream.Read.remaining g.D.Stream.Write.contents g.D.Stream.Stream.far g.D.Stream.Stream.state
+          c.args.self.now.engine None)
+          (flow_of g.D.Stream.Read.remaining g.D.Stream.Write.contents g.D.Stream.Stream.far g.D.Stream.Stream.state
+          c.loop.self.engine None)
+          (flow_of g.D.Stream.Read.remaining g.D.Stream.Write.contents g.D.Stream.Stream.far g.D.Stream.Stream.state
+          c.read-in-loop.new.self.engine None)
           c.loop.invariant.flows c.in_ok-glance-2.ensures.flows;
       told = c.in_ok-glance-2.ensures.told;
       none = c.in_ok-glance-2.ensures.none;

@@ -11,7 +11,8 @@ use Rattle.zk_driver.proofs.driver.Driver.listen.Given as goal
 abbrev pub invariant-loop : goal.invariant-loop
 invariant-loop g l = record {
   goes : GoesBy (notes_of_event l.glance.event) (course_of l.fn.self.engine None) (course_of l.self.engine None);
-  flows : Flows (flow_of g.D.Stream.Read.remaining g.D.Stream.Write.contents g.D.Stream.Stream.far g.D.Stream.Stream.state l.fn.self.engine None)
+  flows : Flows
+      (flow_of g.D.Stream.Read.remaining g.D.Stream.Write.contents g.D.Stream.Stream.far g.D.Stream.Stream.state l.fn.self.engine None)
       (flow_of g.D.Stream.Read.remaining g.D.Stream.Write.contents g.D.Stream.Stream.far g.D.Stream.Stream.state l.self.engine None);
   told : l.glance.told ≤ l.self.engine.agent.latest;
   none : l.glance.is_again ≡ true → l.self.engine.channel.attempt ≡ None;

@@ -14,7 +14,8 @@ use Rattle.zk_driver.proofs.driver.Driver.next.Goals as goal
 pub loop-init : goal.loop-init
 loop-init g c =
     let here = course_of c.args.self.now.engine None in
-    let flow = flow_of g.D.Stream.Read.remaining g.D.Stream.Write.contents g.D.Stream.Stream.far g.D.Stream.Stream.state c.args.self.now.engine None in
+    let flow = flow_of g.D.Stream.Read.remaining g.D.Stream.Write.contents g.D.Stream.Stream.far g.D.Stream.Stream.state
+    c.args.self.now.engine None in
     record {
       goes = same here here refl;
       flows = flow_same flow flow refl;
@@ -37,7 +38,8 @@ loop-preserved g c =
     let until = flow_of remaining contents far state c.loop.self.engine None in
     let popped = flow_of remaining contents far state c.pop.new.self None in
     let still : popped ≡ until = subst
-    (λ (r : Option (Action g.row.A.Denot)). flow_of remaining contents far state c.pop.new.self r ≡ until) c.in_default.is c.pop.ensures.flow in
+    (λ (r : Option (Action g.row.A.Denot)). flow_of remaining contents far state c.pop.new.self r ≡ until)
+    c.in_default.is c.pop.ensures.flow in
     let gone = flow_of remaining contents far state c.round.new.self.engine None in
     let flows = flow_after first until gone c.loop.invariant.flows
     (flow_after until popped gone (flow_same until popped (sym still)) c.in_ok-round.ensures.flows) in
@@ -99,7 +101,8 @@ returns-then-branch-clause-flows g c =
     let until = flow_of remaining contents far state c.loop.self.engine None in
     let popped = flow_of remaining contents far state c.pop.new.self None in
     let still : popped ≡ until = subst
-    (λ (r : Option (Action g.row.A.Denot)). flow_of remaining contents far state c.pop.new.self r ≡ until) c.in_default.is c.pop.ensures.flow in
+    (λ (r : Option (Action g.row.A.Denot)). flow_of remaining contents far state c.pop.new.self r ≡ until)
+    c.in_default.is c.pop.ensures.flow in
     let gone = flow_of remaining contents far state c.round.new.self.engine None in
     let flows = flow_after first until gone c.loop.invariant.flows
     (flow_after until popped gone (flow_same until popped (sym still)) c.in_ok-round.ensures.flows) in

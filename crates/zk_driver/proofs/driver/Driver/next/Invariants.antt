@@ -9,7 +9,8 @@ use Rattle.zk_driver.proofs.driver.Driver.next.Given as goal
 abbrev pub invariant-loop : goal.invariant-loop
 invariant-loop g l = record {
   goes : Goes (course_of l.fn.self.engine None) (course_of l.self.engine None);
-  flows : Flows (flow_of g.D.Stream.Read.remaining g.D.Stream.Write.contents g.D.Stream.Stream.far g.D.Stream.Stream.state l.fn.self.engine None)
+  flows : Flows
+      (flow_of g.D.Stream.Read.remaining g.D.Stream.Write.contents g.D.Stream.Stream.far g.D.Stream.Stream.state l.fn.self.engine None)
       (flow_of g.D.Stream.Read.remaining g.D.Stream.Write.contents g.D.Stream.Stream.far g.D.Stream.Stream.state l.self.engine None);
   kept : Extends (told_by l.fn.self.engine.waiting.items) (told_by l.self.engine.waiting.items);
 }

@@ -17,12 +17,16 @@ returns-then-announces-clause-goes g c =
     (sym c.in_default.ensures.same ∙ sym (ap (λ (e : Engine g.row.A.Denot g.row.D-Stream.Denot). course_of e None) c.announces.ensures))
 
 pub returns-in-Some-clause-flows : goal.returns-in-Some-clause-flows
-returns-in-Some-clause-flows g c = flow_same (flow_of g.D.Stream.Read.remaining g.D.Stream.Write.contents g.D.Stream.Stream.far g.D.Stream.Stream.state c.args.self.now.engine None)
-    (flow_of g.D.Stream.Read.remaining g.D.Stream.Write.contents g.D.Stream.Stream.far g.D.Stream.Stream.state c.pop.new.self (Some c.in-Some.action)) (sym c.in-Some.ensures.flow)
+returns-in-Some-clause-flows g c = flow_same
+    (flow_of g.D.Stream.Read.remaining g.D.Stream.Write.contents g.D.Stream.Stream.far g.D.Stream.Stream.state c.args.self.now.engine None)
+    (flow_of g.D.Stream.Read.remaining g.D.Stream.Write.contents g.D.Stream.Stream.far g.D.Stream.Stream.state c.pop.new.self
+    (Some c.in-Some.action)) (sym c.in-Some.ensures.flow)
 
 pub returns-then-announces-clause-flows : goal.returns-then-announces-clause-flows
 returns-then-announces-clause-flows g c =
-    flow_same (flow_of g.D.Stream.Read.remaining g.D.Stream.Write.contents g.D.Stream.Stream.far g.D.Stream.Stream.state c.args.self.now.engine None)
-    (flow_of g.D.Stream.Read.remaining g.D.Stream.Write.contents g.D.Stream.Stream.far g.D.Stream.Stream.state c.announces.new.self.engine None)
+    flow_same (flow_of g.D.Stream.Read.remaining g.D.Stream.Write.contents g.D.Stream.Stream.far g.D.Stream.Stream.state
+    c.args.self.now.engine None)
+    (flow_of g.D.Stream.Read.remaining g.D.Stream.Write.contents g.D.Stream.Stream.far g.D.Stream.Stream.state
+    c.announces.new.self.engine None)
     (sym c.in_default.ensures.flow ∙ sym (ap (λ (e : Engine g.row.A.Denot g.row.D-Stream.Denot).
     flow_of g.D.Stream.Read.remaining g.D.Stream.Write.contents g.D.Stream.Stream.far g.D.Stream.Stream.state e None) c.announces.ensures))

@@ -46,7 +46,8 @@ returns-clause-notes g c =
 
 pub returns-then-told-now-clause-flows : goal.returns-then-told-now-clause-flows
 returns-then-told-now-clause-flows g c =
-    let old = record (flow_of g.S.Read.remaining g.S.Write.contents g.S.Stream.far g.S.Stream.state c.args.self.now None) { held = c.args.bytes.items } in
+    let old = record (flow_of g.S.Read.remaining g.S.Write.contents g.S.Stream.far g.S.Stream.state c.args.self.now None)
+    { held = c.args.bytes.items } in
     let new = (flow_of g.S.Read.remaining g.S.Write.contents g.S.Stream.far g.S.Stream.state c.hand.new.self None) in
     flow_noted (happens.Bytes c.args.bytes) old new (channel_view c.args.self.now.channel)
     (reached_of g.S.Read.remaining g.S.Write.contents g.S.Stream.far g.S.Stream.state c.args.self.now.channel.stream)
@@ -54,9 +55,11 @@ returns-then-told-now-clause-flows g c =
 
 pub returns-clause-flows : goal.returns-clause-flows
 returns-clause-flows g c =
-    let old = record (flow_of g.S.Read.remaining g.S.Write.contents g.S.Stream.far g.S.Stream.state c.args.self.now None) { held = c.args.bytes.items } in
+    let old = record (flow_of g.S.Read.remaining g.S.Write.contents g.S.Stream.far g.S.Stream.state c.args.self.now None)
+    { held = c.args.bytes.items } in
     let new = (flow_of g.S.Read.remaining g.S.Write.contents g.S.Stream.far g.S.Stream.state c.hand.new.self None) in
-    ok_flow_after c.catch_up.result old new (flow_of g.S.Read.remaining g.S.Write.contents g.S.Stream.far g.S.Stream.state c.catch_up.new.self None)
+    ok_flow_after c.catch_up.result old new
+    (flow_of g.S.Read.remaining g.S.Write.contents g.S.Stream.far g.S.Stream.state c.catch_up.new.self None)
     (flow_noted (happens.Bytes c.args.bytes) old new (channel_view c.args.self.now.channel)
     (reached_of g.S.Read.remaining g.S.Write.contents g.S.Stream.far g.S.Stream.state c.args.self.now.channel.stream)
     (c.requires.none, c.requires.open, refl) refl (λ between lasts. lasts) c.in_ok-told.ensures.flows) c.catch_up.ensures.flows

@@ -18,9 +18,11 @@ returns-clause-notes g c = first c.hand.result happens.Cut (course_of c.args.sel
 
 pub returns-clause-flows : goal.returns-clause-flows
 returns-clause-flows g c =
-    ok_flow_noted c.hand.result happens.Cut (flow_of g.S.Read.remaining g.S.Write.contents g.S.Stream.far g.S.Stream.state c.args.self.now None)
+    ok_flow_noted c.hand.result happens.Cut
+    (flow_of g.S.Read.remaining g.S.Write.contents g.S.Stream.far g.S.Stream.state c.args.self.now None)
     (flow_of g.S.Read.remaining g.S.Write.contents g.S.Stream.far g.S.Stream.state c.hand.new.self None) (channel_view c.close.new.self)
-    (reached_of g.S.Read.remaining g.S.Write.contents g.S.Stream.far g.S.Stream.state c.close.new.self.stream) (c.requires.none, c.requires.open, c.close.ensures.view) refl
+    (reached_of g.S.Read.remaining g.S.Write.contents g.S.Stream.far g.S.Stream.state c.close.new.self.stream)
+    (c.requires.none, c.requires.open, c.close.ensures.view) refl
     (λ between lasts. tt) c.hand.ensures.flows
 
 pub returns-clause-shut : goal.returns-clause-shut

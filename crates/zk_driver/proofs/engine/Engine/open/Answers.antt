@@ -19,9 +19,11 @@ returns-clause-notes g c = first c.hand.result happens.Opened (course_of c.args.
 
 pub returns-clause-flows : goal.returns-clause-flows
 returns-clause-flows g c =
-    ok_flow_noted c.hand.result happens.Opened (flow_of g.S.Read.remaining g.S.Write.contents g.S.Stream.far g.S.Stream.state c.args.self.now None)
+    ok_flow_noted c.hand.result happens.Opened
+    (flow_of g.S.Read.remaining g.S.Write.contents g.S.Stream.far g.S.Stream.state c.args.self.now None)
     (flow_of g.S.Read.remaining g.S.Write.contents g.S.Stream.far g.S.Stream.state c.hand.new.self None) (channel_view c.hold.new.self)
-    (reached_of g.S.Read.remaining g.S.Write.contents g.S.Stream.far g.S.Stream.state c.hold.new.self.stream) (c.requires.attempt, c.hold.ensures.view) refl
+    (reached_of g.S.Read.remaining g.S.Write.contents g.S.Stream.far g.S.Stream.state c.hold.new.self.stream)
+    (c.requires.attempt, c.hold.ensures.view) refl
     (λ between lasts there. subst (λ (k : Reached g.S.Stream.far). Begun g.S.Stream.far k.end)
     (sym (lasts there ∙ ap (reached_of g.S.Read.remaining g.S.Write.contents g.S.Stream.far g.S.Stream.state) c.hold.ensures.stream))
     c.requires.begins) c.hand.ensures.flows

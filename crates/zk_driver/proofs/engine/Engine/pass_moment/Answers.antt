@@ -18,7 +18,10 @@ returns-clause-notes g c = first c.hand.result happens.Moment (course_of c.args.
 
 pub returns-clause-flows : goal.returns-clause-flows
 returns-clause-flows g c =
-    ok_flow_noted c.hand.result happens.Moment (flow_of g.S.Read.remaining g.S.Write.contents g.S.Stream.far g.S.Stream.state c.args.self.now None)
-    (flow_of g.S.Read.remaining g.S.Write.contents g.S.Stream.far g.S.Stream.state c.hand.new.self None) (channel_view c.args.self.now.channel)
-    (reached_of g.S.Read.remaining g.S.Write.contents g.S.Stream.far g.S.Stream.state c.args.self.now.channel.stream) (c.requires.none, refl) refl
+    ok_flow_noted c.hand.result happens.Moment
+    (flow_of g.S.Read.remaining g.S.Write.contents g.S.Stream.far g.S.Stream.state c.args.self.now None)
+    (flow_of g.S.Read.remaining g.S.Write.contents g.S.Stream.far g.S.Stream.state c.hand.new.self None)
+    (channel_view c.args.self.now.channel)
+    (reached_of g.S.Read.remaining g.S.Write.contents g.S.Stream.far g.S.Stream.state c.args.self.now.channel.stream)
+    (c.requires.none, refl) refl
     (λ between lasts. lasts) c.hand.ensures.flows
