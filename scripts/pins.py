@@ -172,9 +172,10 @@ def type_parts(found: re.Match[str], text: str, scope: Scope) -> Iterator[Part]:
 
 
 def ghost_part(head: str, text: str, scope: Scope) -> Part:
-    """A ghost item of a trait or an impl; of a law with its proof, the law."""
+    """A ghost item of a trait or an impl, with what it is where an impl does not say; of a law with its proof, the law."""
     law = re.match(r"ghost \w+:\s*(?=\{)", text)
-    return scope.part(" ".join(head.split()[:2]).rstrip(":"), flat(text[: closing(blank(text), law.end())] if law else text))
+    end = closing(blank(text), law.end()) if law else len(text)
+    return scope.part(" ".join(head.split()[:2]).rstrip(":"), flat(text if text[end:].lstrip().startswith("=") else text[:end]))
 
 
 def owner_of(head: str) -> str:

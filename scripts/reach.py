@@ -371,7 +371,9 @@ def named_by_part(crate: str, part: Part) -> set[Key]:
         return {sources[pair] for pair in others | {(crate, word) for word in own} if pair in sources}
     found: set[Key] = set()
     for inner in re.findall(r"\{(.*)\}", part.words, re.S) or [part.words]:
-        follow(group_of(inner), set(), scope_of_part(part), found)
+        # a ghost member of a trait has its type, and after it what it is where an impl does not say
+        for one in re.split(r"\} = \{", inner):
+            follow(group_of(one), set(), scope_of_part(part), found)
     return found
 
 

@@ -10,7 +10,8 @@ use Rattle.zk_turns.specs.Rule.{Rule}
 use Rattle.zk_link.specs.declared.brought.Brought.{Brought}
 use Rattle.script_live.specs.Frames.{frames}
 use Rattle.script_live.specs.Trails.{is_given, kept}
-use Rattle.zk_link.specs.Streams.{Exchanges, Known, Sends}
+use Rattle.zk_link.specs.Streams.{Sends}
+use Rattle.script_live.specs.Exchanged.{Exchanges, Known}
 use Rattle.script_live.specs.Flowing.{bytes_of, handed_by, holding, piece_in, sent_by, AreWithin, Begins, BytesComeWhole}
 use Rattle.script_live.specs.inner.Flowing.{piece_bytes}
 use Rattle.script_live.specs.Flowing.{BytesGoWhole, Carries, Cuts, Deed, Delivers, Ends, Fails, Flow, Hears, HearsSo, Looks, Reads}

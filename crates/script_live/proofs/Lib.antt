@@ -3,6 +3,7 @@ pub mod HeardLemmas
 pub mod LiveLemmas
 pub mod TrailLemmas
 pub mod GiveLemmas
+pub mod Exchanging
 pub mod Flowed
 pub mod Printing
 pub mod Living

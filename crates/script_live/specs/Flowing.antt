@@ -11,7 +11,7 @@ use Rattle.script_replay.specs.ClientLines.{CallLine, ClientValue, CutLine, NowL
 use Rattle.script_replay.specs.Played.{DoesClient}
 use Rattle.zk_link.specs.declared.brought.Brought.{Brought}
 use Rattle.zk_link.specs.declared.brought.Brought.TheVariants as brought
-use Rattle.zk_link.specs.Streams.{known_of, Exchanges, Known}
+use Rattle.script_live.specs.Exchanged.{known_of, Exchanges, Known}
 use Rattle.script_live.specs.declared.joint.Joint.{Joint}
 use Rattle.script_live.specs.Frames.{frames}
 use Rattle.script_live.specs.Trails.{is_given, kept}

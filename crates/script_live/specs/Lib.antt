@@ -6,6 +6,7 @@ pub mod Heard
 pub mod Lives
 pub mod Frames
 pub mod Trails
+pub mod Exchanged
 pub mod Flowing
 pub mod Printed
 pub mod inner

@@ -7,7 +7,7 @@ ghost use Rattle.zk_client.specs.Clients.{view_of};
 ghost use Rattle.zk_client.specs.Views.{input_view, said};
 ghost use Rattle.script_words.specs.declared.stop.LineStop.TheVariants.{Memory};
 ghost use Rattle.zk_link.specs.Written.{IsLeftOf};
-ghost use Rattle.zk_link.specs.Streams.{known_of, Exchanges};
+ghost use Rattle.script_live.specs.Exchanged.{known_of, Exchanges};
 ghost use Rattle.script_live.specs.Flowing.{flow_of, piece_in, Cuts, Delivers, HoldsSo};
 ghost use Rattle.script_live.specs.Frames.{frames};
 ghost use Rattle.script_live.specs.Trails.{bare_of, is_given, kept, trail_of, Fails, Hears, IsLoud};

@@ -13,7 +13,7 @@ use Rattle.zk_history.specs.HistoryView.{history_of}
 use Rattle.zk_bench.specs.Served.{Served}
 use Rattle.zk_bench.specs.Served as bench
 use Rattle.zk_bench.specs.Stepping.{shown_of}
-use Rattle.zk_link.specs.Streams.{Known}
+use Rattle.script_live.specs.Exchanged.{Known}
 use Rattle.zk_driver.specs.Driving.{ChannelView}
 use Rattle.zk_driver.specs.Flowing.{Flow}
 use Rattle.zk_served.specs.ServedDrivers.{Begins}

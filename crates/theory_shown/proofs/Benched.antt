@@ -21,7 +21,7 @@ use Rattle.zk_served.specs.Worlds.{Befalls, ByDriver, ByStream, Meanwhile}
 use Rattle.zk_served.proofs.Benched.{bench_advances, bench_connects, bench_ends, bench_gives, bench_processes, bench_takes}
 use Rattle.zk_served.proofs.Served.{bytes_serve, streams_cohere, streams_serve}
 use Rattle.theory_shown.specs.Benched.{BenchesReceive}
-use Rattle.zk_served.specs.BenchActs.{BenchDoes}
+use Rattle.theory_shown.specs.BenchActs.{BenchDoes}
 use Rattle.theory_shown.specs.Benched.{BefallsBench, BenchesCohere, BenchesMeet, BenchesServe, DrivesBench, MeanwhileBench}
 
 -- ---- acts

@@ -22,7 +22,7 @@ use Rattle.zk_driver.specs.Noting.{is_come}
 use Rattle.zk_driver.specs.Flowing.{Asked, AreWithin, Carries, Deed, Flow, Made, Passes, Runs}
 use Rattle.zk_driver.proofs.Flowed.{goes_on, open_before}
 use Rattle.zk_served.specs.Acts.{given_in, taken_in, Act, Gives, Serves, Takes}
-use Rattle.zk_served.specs.BenchActs.{bench_end, BenchBegins, BenchDoes, BenchGoes, LineBegins, LineDoes}
+use Rattle.theory_shown.specs.BenchActs.{bench_end, BenchBegins, BenchDoes, BenchGoes, LineBegins, LineDoes}
 use Rattle.zk_served.specs.Worlds.{ByDriver}
 use Rattle.zk_served.proofs.Turned.{goes_nowhere}
 use Rattle.shell_watch.specs.declared.plan.Style.{Style}

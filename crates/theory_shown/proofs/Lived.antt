@@ -16,7 +16,7 @@ use Rattle.theory_serving.specs.Shown.{connected, sent_in, EndsNothing, Shown}
 use Rattle.theory_serving.specs.Wires.{is_up}
 use Rattle.theory_serving.proofs.Views.{first_session, forget_session}
 use Rattle.zk_bench.proofs.Processed.{goes_further}
-use Rattle.zk_link.specs.Streams.{Exchanges, Known}
+use Rattle.script_live.specs.Exchanged.{Exchanges, Known}
 use Rattle.zk_served.specs.Acts.{given_in, taken_in}
 use Rattle.zk_served.proofs.Acted.{acts_keep, apart_kept}
 use Rattle.zk_served.proofs.Heard.{input_keeps, IsHanded}

@@ -23,7 +23,7 @@ use Rattle.zk_driver.specs.Flowing.{Asked, Deed, Flow, Made, Passes}
 use Rattle.zk_served.specs.Acts.{Takes}
 use Rattle.zk_served.specs.Worlds.{ByDriver}
 use Rattle.zk_served.proofs.Turned.{goes_nowhere}
-use Rattle.zk_link.specs.Streams.{Exchanges, Known}
+use Rattle.script_live.specs.Exchanged.{Exchanges, Known}
 use Rattle.script_live.specs.Flowing as live
 use Rattle.script_live.specs.Frames.{frames}
 use Rattle.theory_shown.specs.Agreeing.{BefallsBench, LivesWait, MeanwhileBench as LiveBench, NothingIsRead}

@@ -9,7 +9,7 @@ use Rattle.theory_serving.specs.GoingOn.{GoesOn}
 use Rattle.zk_bench.specs.Served.{Served}
 use Rattle.zk_bench.specs.Served as bench
 use Rattle.zk_bench.specs.Stepping.{IsReady}
-use Rattle.zk_link.specs.Streams.{Known}
+use Rattle.script_live.specs.Exchanged.{Known}
 use Rattle.zk_driver.specs.Flowing.{Flow, Runs}
 use Rattle.zk_served.specs.Acts.{given_in, taken_in, Act}
 use Rattle.script_words.specs.declared.script.ScriptEnd.{ScriptEnd}
@@ -19,7 +19,7 @@ use Rattle.script_live.specs.Lives.{Lives}
 use Rattle.script_live.specs.Printed as lived
 use Rattle.shell_watch.specs.declared.plan.Style.{Style}
 use Rattle.shell_watch.specs.Watching.{flow_in, EndsFrom, IsBegun, PrintsFrom, Stand}
-use Rattle.zk_served.specs.BenchActs.{BenchDoes}
+use Rattle.theory_shown.specs.BenchActs.{BenchDoes}
 use Rattle.theory_shown.specs.Benched.{MeetsBench}
 use Rattle.theory_shown.specs.Lived.{ByClient, DeedsMeet}
 use Rattle.theory_shown.specs.Lived as lived_so

@@ -8,7 +8,7 @@ use Rattle.zk_turns.specs.Rule.{Stands}
 use Rattle.zk_laws.specs.Headline.{IsCoherentWith}
 use Rattle.theory_serving.specs.GoingOn.{GoesOn}
 use Rattle.theory_serving.specs.Shown.{connected, Shown}
-use Rattle.zk_link.specs.Streams.{Known}
+use Rattle.script_live.specs.Exchanged.{Known}
 use Rattle.zk_served.specs.Acts.{given_in, taken_in, Act, Happens}
 use Rattle.script_live.specs.Flowing.{Begins, Carries, Deed, Ends, Flow, Hears, Reads}
 use Rattle.script_live.specs.Frames.{frames}

@@ -6,7 +6,7 @@ use Rattle.std.specs.Io.KnownBytes.{Appends, Consumes, Keeps}
 use Rattle.std.proofs.Math.Seq.{drop-append_seam}
 use Rattle.std.proofs.lemmas.List.{take-append-le}
 use Rattle.zk_link.specs.Written.{IsLeftOf}
-use Rattle.zk_link.specs.Streams.{Exchanges, Known, Sends}
+use Rattle.zk_link.specs.Streams.{Sends}
 
 -- ---- known bytes
 
@@ -53,11 +53,6 @@ sends_on unsent mid rest a b c first more = (
   appends_on a b c first.0 more.0 first.2 more.2,
 )
 
--- nothing was read after it
-pub exchanges_none : (unsent rest : List ℕ) (old new : Known)
-    → Sends unsent rest old.took new.took → Keeps old.left new.left → Exchanges unsent rest old new []
-exchanges_none unsent rest old new sends keeps = record { sends = sends; gives = consumes_none old.left new.left keeps }
-
 -- what a stream kept before it was read
 pub read_kept : {X E : Type 0} (result : Result X E) (piece : X → List ℕ) (a b c : Option (List ℕ)) → Keeps a b
     → IfOk result (λ brought. Consumes b c (piece brought)) → IfOk result (λ brought. Consumes a c (piece brought))
@@ -81,18 +76,6 @@ sends_front count piece unsent a b most takes =
 pub sends_no_more : (unsent rest : List ℕ) (a b c : Option (List ℕ)) → Sends unsent rest a b → Appends b c [] → Sends unsent rest a c
 sends_no_more unsent rest a b c sends takes = sends_on unsent rest rest a b c sends ([], refl, takes)
 
--- some was written, and then a read was made
-pub exchanged : {X E : Type 0} (result : Result X E) (piece : X → List ℕ) (unsent rest : List ℕ) (old wrote new : Known)
-    → Sends unsent rest old.took wrote.took
-    → Keeps old.left wrote.left → Keeps wrote.took new.took
-    → IfOk result (λ brought. Consumes wrote.left new.left (piece brought))
-    → IfOk result (λ brought. Exchanges unsent rest old new (piece brought))
-exchanged (Ok brought) piece unsent rest old wrote new sends left took gives = record {
-  sends = (sends.0, sends.1, appends_kept old.took wrote.took new.took sends.0 sends.2 took);
-  gives = kept_consumes old.left wrote.left new.left (piece brought) left gives;
-}
-exchanged (Err e) piece unsent rest old wrote new sends left took gives = tt
-
 pub keeps_on : (a b c : Option (List ℕ)) → Keeps a b → Keeps b c → Keeps a c
 keeps_on None b c first rest = tt
 keeps_on (Some x) None c first rest = absurd first
@@ -109,23 +92,3 @@ pub keeps_consumed : (a b : Option (List ℕ)) → Consumes a b [] → Keeps a b
 keeps_consumed None b consumes = tt
 keeps_consumed (Some x) None consumes = absurd consumes
 keeps_consumed (Some x) (Some y) consumes = sym consumes
-
--- an exchange that brought nothing, and one after it
-pub exchanges_on : (unsent mid rest : List ℕ) (old between new : Known) (piece : List ℕ)
-    → Exchanges unsent mid old between [] → Exchanges mid rest between new piece
-    → Exchanges unsent rest old new piece
-exchanges_on unsent mid rest old between new piece first more = record {
-  sends = sends_on unsent mid rest old.took between.took new.took first.sends more.sends;
-  gives = consumes_on old.left between.left new.left piece first.gives more.gives;
-}
-
-pub ok_exchanges_on : {X E : Type 0} (result : Result X E) (piece : X → List ℕ) (unsent mid rest : List ℕ) (old between new : Known)
-    → Exchanges unsent mid old between []
-    → IfOk result (λ brought. Exchanges mid rest between new (piece brought))
-    → IfOk result (λ brought. Exchanges unsent rest old new (piece brought))
-ok_exchanges_on (Ok brought) piece unsent mid rest old between new first more =
-    exchanges_on unsent mid rest old between new (piece brought) first more
-ok_exchanges_on (Err e) piece unsent mid rest old between new first more = tt
-
-pub exchanges_same : (unsent : List ℕ) (known : Known) → Exchanges unsent unsent known known []
-exchanges_same unsent known = exchanges_none unsent unsent known known (sends_none unsent known.took) (keeps_same known.left)

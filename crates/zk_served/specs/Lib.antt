@@ -1,6 +1,5 @@
 -- A driver over connections to servers of the model: what befalls the servers, and that its client was served by them.
 pub mod Acts
-pub mod BenchActs
 pub mod Worlds
 pub mod ServedDrivers
 pub mod Benches

@@ -1,9 +1,10 @@
 -- Three ends: with no stream, or after a failed write, nothing is read (`exchanges_none`); else a read follows the write (`exchanged`).
 use Rattle.std.proofs.Common.{[], subst, sym}
 use Rattle.std.specs.Prelude.{IfOk}
-use Rattle.zk_link.specs.Streams.{known_of, Exchanges, Known}
+use Rattle.script_live.specs.Exchanged.{known_of, Exchanges, Known}
 use Rattle.script_live.specs.Flowing.{piece_in}
-use Rattle.zk_link.proofs.Streaming.{exchanged, exchanges_none, keeps_same, sends_none}
+use Rattle.zk_link.proofs.Streaming.{keeps_same, sends_none}
+use Rattle.script_live.proofs.Exchanging.{exchanged, exchanges_none}
 use Rattle.script_live.proofs.joint.Joint.exchange.Goals as goal
 
 pub returns-in_default-clause-whole : goal.returns-in_default-clause-whole

@@ -1,9 +1,10 @@
 -- One exchange after those that brought nothing makes one with them (`exchanges_on`); what is unsent after it is a rest (`left_of`).
 use Rattle.std.proofs.Common.{◌∙◌, [], ap, subst}
-use Rattle.zk_link.specs.Streams.{known_of, Exchanges}
+use Rattle.script_live.specs.Exchanged.{known_of, Exchanges}
 use Rattle.script_live.specs.Flowing.{piece_in}
 use Rattle.script_live.specs.Trails.{Trail}
-use Rattle.zk_link.proofs.Streaming.{exchanges_on, left_of, ok_exchanges_on}
+use Rattle.zk_link.proofs.Streaming.{left_of}
+use Rattle.script_live.proofs.Exchanging.{exchanges_on, ok_exchanges_on}
 use Rattle.script_live.proofs.joint.Joint.read.Goals as goal
 
 pub returns-in_default : goal.returns-in_default

@@ -1,7 +1,7 @@
 -- Loop over the waits: some unsent bytes were written, and nothing was read. So the last exchange alone brings the piece.
 use Rattle.std.proofs.Common.{◌≡◌, []}
 use Rattle.zk_link.specs.Written.{IsLeftOf}
-use Rattle.zk_link.specs.Streams.{known_of, Exchanges}
+use Rattle.script_live.specs.Exchanged.{known_of, Exchanges}
 use Rattle.script_live.specs.Trails.{bare_of}
 use Rattle.script_live.proofs.joint.Joint.read.Given as goal
 

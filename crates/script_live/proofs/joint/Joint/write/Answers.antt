@@ -2,9 +2,10 @@
 use Rattle.std.proofs.Common.{◌++◌, [], subst, sym}
 use Rattle.zk_client.specs.Views.{said}
 use Rattle.zk_link.specs.Written.{IsLeftOf}
-use Rattle.zk_link.specs.Streams.{known_of, Exchanges, Known, Sends}
+use Rattle.zk_link.specs.Streams.{Sends}
+use Rattle.script_live.specs.Exchanged.{known_of, Exchanges, Known}
 use Rattle.script_live.specs.Frames.{frames}
-use Rattle.zk_link.proofs.Streaming.{exchanges_none}
+use Rattle.script_live.proofs.Exchanging.{exchanges_none}
 use Rattle.script_live.proofs.joint.Joint.write.Goals as goal
 
 pub returns-in_ok-queue-in-Some-clause-kept : goal.returns-in_ok-queue-in-Some-clause-kept
