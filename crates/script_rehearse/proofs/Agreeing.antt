@@ -18,7 +18,7 @@ use Rattle.script_words.specs.Said.{DoesSome}
 use Rattle.zk_laws.specs.Messages.{from_zero}
 use Rattle.zk_laws.specs.Server.{Fits, FitsNames}
 use Rattle.zk_laws.specs.Headline.{IsCoherentWith, IsTrueOf}
-use Rattle.zk_laws.proofs.ServerMoves.{fields_eq-refl}
+use Rattle.zk_laws.proofs.AnswerMoves.{fields_eq-refl}
 use Rattle.theory_serving.proofs.Views.{good_session}
 use Rattle.zk_bench.specs.Stepping.{shown_of}
 use Rattle.script_rehearse.specs.BenchLines.{GoodLine}

@@ -27,7 +27,9 @@ use Rattle.zk_laws.proofs.Basics.{text_eq-true, text_eq_from}
 use Rattle.theory_runs.proofs.Shown.{all_sent}
 use Rattle.zk_laws.proofs.Stamps.{IsNextAt}
 use Rattle.zk_laws.proofs.Ahead.{IsLess, ahead_more, ahead_right, right_less, told_log, told_less, notices_ahead, max_zero}
-use Rattle.zk_laws.proofs.ServerMoves.{next_ahead, answer_ahead, part_ahead}
+use Rattle.zk_laws.proofs.NextMoves.{next_ahead}
+use Rattle.zk_laws.proofs.AnswerMoves.{answer_ahead}
+use Rattle.zk_laws.proofs.PartMoves.{part_ahead}
 use Rattle.zk_laws.proofs.Moving.{refusal}
 use Rattle.theory_local.specs.LocalSteps.{IsAbout, GivesAt, AreToldAt}
 

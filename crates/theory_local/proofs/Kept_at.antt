@@ -30,7 +30,7 @@ use Rattle.zk_turns.proofs.Ranged.{all_append}
 use Rattle.zk_laws.proofs.Basics.{none_sent}
 use Rattle.zk_laws.proofs.Stamps.{IsNextAt, next_at}
 use Rattle.zk_laws.proofs.Ahead.{ahead_right, ahead_map, ahead_same, right_less, max_zero}
-use Rattle.zk_laws.proofs.ServerMoves.{pong_ahead}
+use Rattle.zk_laws.proofs.AnswerMoves.{pong_ahead}
 use Rattle.zk_laws.proofs.Joining.{joined}
 use Rattle.theory_local.specs.LocalSteps.{GivesAt, AreToldAt}
 use Rattle.theory_local.proofs.Elsewhere.{told_more, next_at_path, part_at_path, answer_at_path, left_refused, denied_ahead}

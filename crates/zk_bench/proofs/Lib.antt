@@ -12,6 +12,10 @@ pub mod Restored
 pub mod Stepped
 pub mod Asked
 pub mod Processed
+pub mod ProcessedLooks
+pub mod ProcessedTaken
+pub mod ProcessedWrites
+pub mod ProcessedFirst
 pub mod Called
 pub mod Written
 pub mod Allowed

@@ -5,7 +5,9 @@ pub mod Tables
 pub mod Firing
 pub mod Stamps
 pub mod Ahead
-pub mod ServerMoves
+pub mod NextMoves
+pub mod AnswerMoves
+pub mod PartMoves
 pub mod Joining
 pub mod Whole
 pub mod More

@@ -29,7 +29,7 @@ use Rattle.zk_laws.specs.Messages.{Replies, from_zero}
 use Rattle.zk_laws.proofs.Seen.{seen, node_answer, names_answer, if_good}
 use Rattle.zk_laws.proofs.Basics.{text_eq-true, text_eq-refl}
 use Rattle.zk_laws.proofs.Ahead.{max_zero}
-use Rattle.zk_laws.proofs.ServerMoves.{fields_eq-refl}
+use Rattle.zk_laws.proofs.AnswerMoves.{fields_eq-refl}
 use Rattle.zk_turns.proofs.Words.{notice_word}
 
 -- ---- texts

@@ -28,7 +28,9 @@ use Rattle.zk_laws.proofs.Stamps.{IsNextAt, next_at}
 use Rattle.zk_laws.proofs.Invariant.{AreAskable, IsRight, Ahead, is_in, IsAwaited, IsSure, IsSettled, IsUnwatched, IsOpening, IsStarting}
 use Rattle.zk_laws.proofs.Invariant.{IsTalking, IsKeptUp, IsKeptBy, IsKept}
 use Rattle.zk_laws.proofs.Ahead.{ahead_right, ahead_map, ahead_same, right_less, max_zero}
-use Rattle.zk_laws.proofs.ServerMoves.{next_ahead, answer_ahead, pong_ahead, part_ahead}
+use Rattle.zk_laws.proofs.NextMoves.{next_ahead}
+use Rattle.zk_laws.proofs.AnswerMoves.{answer_ahead, pong_ahead}
+use Rattle.zk_laws.proofs.PartMoves.{part_ahead}
 use Rattle.zk_laws.proofs.Joining.{joined}
 
 pub next_is : {A : Type 0} (x : A) (xs : List A) → IsNext x xs → xs ≡ x ∷ rest_of xs

@@ -9,7 +9,7 @@ use Rattle.zk_bench.proofs.Answered.{errs_so}
 use Rattle.zk_laws.specs.Messages.{Request as Wanted}
 use Rattle.zk_bench.specs.Served.{ended}
 use Rattle.zk_bench.proofs.Called.{look_if, pings_asked}
-use Rattle.zk_bench.proofs.Processed.{stops_by}
+use Rattle.zk_bench.proofs.ProcessedWrites.{stops_by}
 use Rattle.zk_jute.specs.Spelling.{Fits}
 use Rattle.zk_records.specs.Layouts.{create_request, set_data_request}
 use Rattle.zk_records.specs.Operations.{body_layout}

@@ -10,7 +10,7 @@ use Rattle.zk_bench.specs.inner.Stepping.{HasClient}
 use Rattle.zk_bench.specs.Stepping.{TakesSome, shown_of}
 use Rattle.zk_bench.proofs.Fields.{bench_of}
 use Rattle.zk_bench.proofs.Stepped.{ok_so}
-use Rattle.zk_bench.proofs.Processed.{shows_caught}
+use Rattle.zk_bench.proofs.ProcessedTaken.{shows_caught}
 use Rattle.zk_bench.proofs.bench.Bench.catch_up.Goals as goal
 
 pub returns-clause-takes : goal.returns-clause-takes

@@ -8,7 +8,7 @@ use Rattle.zk_bench.specs.inner.Stepping.{AnswersOne}
 use Rattle.zk_bench.specs.Stepping.{zxid_of, shown_of}
 use Rattle.zk_bench.specs.inner.Serving.{SendsHeader}
 use Rattle.zk_bench.proofs.Fields.{bench_of}
-use Rattle.zk_bench.proofs.Processed.{closes_so}
+use Rattle.zk_bench.proofs.ProcessedLooks.{closes_so}
 use Rattle.zk_bench.proofs.bench.Bench.close.Goals as goal
 
 pub returns-clause-answers : goal.returns-clause-answers

@@ -14,7 +14,8 @@ use Rattle.zk_bench.specs.inner.Stepping.{AnswersOne, Declines}
 use Rattle.zk_bench.specs.Stepping.{shown_of}
 use Rattle.zk_bench.proofs.Stepped.{ok_so, err_so}
 use Rattle.zk_bench.proofs.Called.{creates_asked, mode_is}
-use Rattle.zk_bench.proofs.Processed.{processes_then, declines_then, ends_then, stops_by}
+use Rattle.zk_bench.proofs.ProcessedTaken.{processes_then, declines_then, ends_then}
+use Rattle.zk_bench.proofs.ProcessedWrites.{stops_by}
 use Rattle.zk_bench.proofs.bench.Bench.create.Goals as goal
 
 pub returns-in-Err-clause-declines : goal.returns-in-Err-clause-declines

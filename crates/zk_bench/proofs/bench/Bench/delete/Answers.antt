@@ -19,8 +19,9 @@ use Rattle.zk_bench.specs.inner.Stepping.{AnswersOne, Declines, HasClient, HasWr
 use Rattle.zk_bench.specs.Stepping.{zxid_of, shown_of}
 use Rattle.zk_bench.proofs.Answered.{errs_so}
 use Rattle.zk_bench.proofs.Called.{deletes_asked}
-use Rattle.zk_bench.proofs.Processed.{takes_then, ends_then, ends_sending, stops_by, declines_then, declines_unmade, unmade_same}
-use Rattle.zk_bench.proofs.Processed.{deleted_so}
+use Rattle.zk_bench.proofs.ProcessedTaken.{takes_then, ends_then, declines_then}
+use Rattle.zk_bench.proofs.ProcessedWrites.{ends_sending, stops_by, declines_unmade, unmade_same}
+use Rattle.zk_bench.proofs.ProcessedWrites.{deleted_so}
 use Rattle.zk_bench.proofs.bench.Bench.delete.Goals as goal
 use Rattle.zk_bench.proofs.bench.Bench.delete.Goals.{In_ok-catch_up}
 use Rattle.zk_history.specs.HistoryView.{IsAccepted, newest_tree}

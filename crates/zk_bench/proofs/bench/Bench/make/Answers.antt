@@ -15,7 +15,7 @@ use Rattle.zk_bench.specs.inner.Writing.{owner_of, IsAnswer}
 use Rattle.zk_bench.specs.inner.Stepping.{Declines, HasWritten}
 use Rattle.zk_bench.specs.Stepping.{zxid_of}
 use Rattle.zk_bench.proofs.Answered.{errs_so}
-use Rattle.zk_bench.proofs.Processed.{declines_unmade, unmade_same, ends_sending, stops_by, created_so}
+use Rattle.zk_bench.proofs.ProcessedWrites.{declines_unmade, unmade_same, ends_sending, stops_by, created_so}
 use Rattle.zk_nodes.specs.PathFault.{IsPath}
 use Rattle.zk_history.specs.HistoryView.{IsAccepted}
 use Rattle.zk_history.specs.Made.{change_of}

@@ -5,7 +5,7 @@ use Rattle.zk_bench.specs.Served.{Served}
 use Rattle.zk_bench.specs.inner.Stepping.{AnswersOne}
 use Rattle.zk_bench.specs.Stepping.{shown_of}
 use Rattle.zk_bench.proofs.Stepped.{ok_so}
-use Rattle.zk_bench.proofs.Processed.{pongs}
+use Rattle.zk_bench.proofs.ProcessedLooks.{pongs}
 use Rattle.zk_bench.proofs.bench.Bench.pong.Goals as goal
 
 pub returns-clause-answers : goal.returns-clause-answers

@@ -10,7 +10,7 @@ use Rattle.zk_bench.specs.declared.stop.Stop.TheVariants as stops
 use Rattle.zk_bench.specs.declared.phase.Phase.TheVariants.{Opening}
 use Rattle.zk_bench.specs.inner.Stepping.{AnswersOne}
 use Rattle.zk_bench.specs.Stepping.{stage_of, shown_of}
-use Rattle.zk_bench.proofs.Processed.{first_by}
+use Rattle.zk_bench.proofs.ProcessedFirst.{first_by}
 use Rattle.zk_bench.specs.Answerable.{IsAnswerable}
 use Rattle.zk_bench.proofs.bench.Bench.process_frame.Goals as goal
 

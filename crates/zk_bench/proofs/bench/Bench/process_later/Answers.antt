@@ -21,7 +21,8 @@ use Rattle.zk_bench.specs.Stepping.{zxid_of, shown_of}
 use Rattle.zk_bench.proofs.Fields.{bench_of}
 use Rattle.zk_bench.proofs.Stepped.{ok_so, front_gone}
 use Rattle.zk_bench.proofs.Called.{found_front, read_front}
-use Rattle.zk_bench.proofs.Processed.{has_front, ready_sending, owed_to, owed_unsent, ends_unsent}
+use Rattle.zk_bench.proofs.ProcessedLooks.{ends_unsent}
+use Rattle.zk_bench.proofs.ProcessedFirst.{has_front, ready_sending, owed_to, owed_unsent}
 use Rattle.zk_bench.specs.Answerable.{IsAnswerable}
 use Rattle.zk_bench.proofs.Staying.{handed_on}
 use Rattle.zk_bench.proofs.bench.Bench.process_later.Goals as goal

@@ -7,7 +7,7 @@ use Rattle.theory_serving.specs.Wires.{IsFit}
 use Rattle.zk_bench.specs.Front.{IsShort, IsWhole}
 use Rattle.zk_bench.specs.Served.{Served}
 use Rattle.zk_bench.proofs.Stepped.{not_short, whole_payload}
-use Rattle.zk_bench.proofs.Processed.{not_negative}
+use Rattle.zk_bench.proofs.ProcessedFirst.{not_negative}
 use Rattle.zk_bench.proofs.bench.Bench.process_next.Goals as goal
 
 pub returns-in-Unfinished-clause-serves : goal.returns-in-Unfinished-clause-serves

@@ -19,7 +19,7 @@ use Rattle.zk_bench.specs.Stepping.{shown_of}
 use Rattle.zk_bench.proofs.Fields.{bench_of}
 use Rattle.zk_bench.proofs.Stepped.{ok_so, reads_so}
 use Rattle.zk_bench.proofs.Called.{looks}
-use Rattle.zk_bench.proofs.Processed.{restores_so, declines_read, declines_part}
+use Rattle.zk_bench.proofs.ProcessedLooks.{restores_so, declines_read, declines_part}
 use Rattle.zk_bench.specs.Answerable.{AnswerFits, IsAnswerable}
 use Rattle.zk_bench.proofs.bench.Bench.read.Goals as goal
 

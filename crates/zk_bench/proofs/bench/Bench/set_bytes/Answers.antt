@@ -9,7 +9,8 @@ use Rattle.zk_laws.specs.Messages.{Ask}
 use Rattle.zk_bench.specs.inner.Stepping.{Declines, HasWritten, SendsStat, LeavesUnsent}
 use Rattle.zk_bench.proofs.Answered.{errs_so}
 use Rattle.zk_bench.proofs.Stepped.{ok_so, err_so}
-use Rattle.zk_bench.proofs.Processed.{takes_then, ends_then, stops_by, declines_then, declines_unmade, unmade_same, declines_unsent, set_so}
+use Rattle.zk_bench.proofs.ProcessedTaken.{takes_then, ends_then, declines_then}
+use Rattle.zk_bench.proofs.ProcessedWrites.{stops_by, declines_unmade, unmade_same, declines_unsent, set_so}
 use Rattle.zk_history.specs.HistoryView.{IsAccepted, newest_tree}
 use Rattle.zk_bench.proofs.Staying.{handed_on}
 use Rattle.zk_bench.proofs.bench.Bench.set_bytes.Goals as goal

@@ -13,7 +13,8 @@ use Rattle.zk_bench.specs.inner.Stepping.{HasClient, LeavesUnmade}
 use Rattle.zk_bench.proofs.Fields.{bench_of}
 use Rattle.zk_bench.proofs.Answered.{errs_so}
 use Rattle.zk_bench.proofs.Stepped.{continues_so}
-use Rattle.zk_bench.proofs.Processed.{client_later, takes_later, leaves_append, wrote_so}
+use Rattle.zk_bench.proofs.ProcessedTaken.{client_later, takes_later}
+use Rattle.zk_bench.proofs.ProcessedWrites.{leaves_append, wrote_so}
 use Rattle.zk_history.specs.HistoryView.{IsAccepted, newest_tree}
 use Rattle.zk_bench.proofs.Staying.{handed_on, taken_write}
 use Rattle.zk_bench.proofs.bench.Bench.write.Goals as goal

@@ -10,7 +10,8 @@ use Rattle.zk_history.proofs.ViewLemmas.{refused_by, accepted_by, IsSound-change
 use Rattle.zk_history.specs.Versions.{versions_of, IsIndexed}
 use Rattle.zk_history.specs.inner.Versions.{versions_after, versions_before, last_transaction, next_origin}
 use Rattle.zk_history.proofs.VersionsLemmas.{on_err_is, on_ok_is}
-use Rattle.zk_history.proofs.IndexLemmas.{can_be_noted, IsIndexed-change, IsIndexed-same, noted_forgotten}
+use Rattle.zk_history.proofs.IndexLemmas.{can_be_noted, IsIndexed-change, IsIndexed-same}
+use Rattle.zk_history.proofs.SmallLemmas.{noted_forgotten}
 use Rattle.zk_history.proofs.history.History.change.Goals as goal
 
 pub returns-then-not-takes-clause-refused : goal.returns-then-not-takes-clause-refused

@@ -7,7 +7,7 @@ use Rattle.zk_nodes.specs.History.{size_of, tree_at}
 use Rattle.zk_history.specs.HistoryView.{history_of}
 use Rattle.zk_history.specs.Versions.{Tells, node_with}
 use Rattle.zk_history.specs.declared.version.Entry.{Entry}
-use Rattle.zk_history.proofs.IndexLemmas.{found_told, node_small}
+use Rattle.zk_history.proofs.SmallLemmas.{found_told, node_small}
 use Rattle.zk_history.proofs.history.History.found.Goals as goal
 
 pub invariant_of-result : goal.invariant_of-result

@@ -14,7 +14,8 @@ use Rattle.zk_history.specs.declared.version.Origin.TheVariants.{First}
 use Rattle.zk_history.specs.Versions.{versions_of, IsIndexed}
 use Rattle.zk_history.specs.inner.Versions.{versions_after, versions_before}
 use Rattle.zk_history.proofs.VersionsLemmas.{on_err_is, on_ok_is}
-use Rattle.zk_history.proofs.IndexLemmas.{can_be_noted, IsIndexed-node, IsIndexed-same, noted_forgotten}
+use Rattle.zk_history.proofs.IndexLemmas.{can_be_noted, IsIndexed-node, IsIndexed-same}
+use Rattle.zk_history.proofs.SmallLemmas.{noted_forgotten}
 use Rattle.zk_history.proofs.history.History.node.Goals as goal
 
 pub returns-then-not-takes-clause-refused : goal.returns-then-not-takes-clause-refused
