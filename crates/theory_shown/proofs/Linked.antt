@@ -1,8 +1,7 @@
 -- Over streams at whose far end a bench is, the bench does beside each run what its clauses say: step after step, what the stream says of
 -- its far end is what the bench does. Its history stays, so each connection is one to a bench with the same history.
-use Rattle.std.proofs.Common.{◌≡◌, ◌++◌, ◌∙◌, ℕ, Bool, true, false, List, [], ◌∷◌, Option, Some, None, inl, inr, ap, append-nil}
-use Rattle.std.proofs.Common.{append_assoc, arith, refl, sym, subst}
-use Rattle.std.specs.Prelude.{length}
+use Rattle.std.proofs.Common.{◌≡◌, ◌++◌, ◌∙◌, ℕ, Bool, true, false, List, [], ◌∷◌, Option, Some, None, inl, inr, ap, append-nil, lit<}
+use Rattle.std.proofs.Common.{append_assoc, refl, sym, subst}
 use Rattle.std.specs.List.{flat_map, FoldsTo}
 use Rattle.zk_link.specs.FarEnds.{Begun, Goes, Reached, Trades}
 use Rattle.zk_nodes.specs.Path.{Text}
@@ -10,7 +9,6 @@ use Rattle.zk_nodes.specs.History.{IsHistory}
 use Rattle.zk_nodes.specs.declared.side.Side.{Side}
 use Rattle.zk_history.specs.HistoryView.{history_of, HistoryView}
 use Rattle.theory_serving.proofs.Later.{taken_none}
-use Rattle.zk_bench.specs.declared.phase.Phase.{Phase}
 use Rattle.zk_bench.specs.declared.phase.Phase.TheVariants.{Apart, Ended, Opening}
 use Rattle.zk_bench.specs.Served.{ended, is_open, started, Served}
 use Rattle.zk_bench.specs.Served as bench
@@ -22,16 +20,16 @@ use Rattle.zk_driver.specs.Noting.{is_come}
 use Rattle.zk_driver.specs.Flowing.{Asked, AreWithin, Carries, Deed, Flow, Made, Passes, Runs}
 use Rattle.zk_driver.proofs.Flowed.{goes_on, open_before}
 use Rattle.zk_served.specs.Acts.{given_in, taken_in, Act, Gives, Serves, Takes}
-use Rattle.theory_shown.specs.BenchActs.{bench_end, BenchBegins, BenchDoes, BenchGoes, LineBegins, LineDoes}
+use Rattle.theory_shown.specs.BenchActs.{bench_end, BenchBegins, BenchDoes, BenchGoes, LineDoes}
 use Rattle.zk_served.specs.Worlds.{ByDriver}
 use Rattle.zk_served.proofs.Turned.{goes_nowhere}
 use Rattle.shell_watch.specs.declared.plan.Style.{Style}
-use Rattle.shell_watch.specs.Watching.{flow_in, Closes, Does, EndsFrom, FollowsAll, IsBegun, Move, PrintsFrom, Stand, Takes as Prints}
+use Rattle.shell_watch.specs.Watching.{flow_in, Closes, Does, FollowsAll, IsBegun, Move, Stand, Takes as Prints}
 use Rattle.shell_watch.proofs.Running.{follows_run, tended_run}
-use Rattle.theory_shown.specs.Agreeing.{IsTimed, RunBenches}
+use Rattle.theory_shown.specs.Agreeing.{RunBenches}
 use Rattle.theory_shown.specs.Benched.{BefallsBench, MeanwhileBench, MeetsBench}
 use Rattle.theory_shown.specs.Linked.{LinkedEndAgrees, LinkedWatchAgrees}
-use Rattle.theory_shown.specs.Watched.{AllCohere, MoveMeets, MovesMeet}
+use Rattle.theory_shown.specs.Watched.{AllCohere, MovesMeet}
 use Rattle.theory_shown.proofs.Agreeing.{watch_agrees, watch_end_agrees}
 use Rattle.theory_shown.proofs.Waiting.{connected_ready}
 use Rattle.theory_shown.proofs.Watched.{ends_cohere, prints_cohere}
@@ -60,7 +58,7 @@ given_on (Serves ∷ acts) more = given_on acts more
 -- ---- where a line is, a bench is
 
 -- The bench is the one at the far end; where the line is over, it has ended the connection.
-IsAt : Option Served → Served → Type 0
+abbrev IsAt : Option Served → Served → Type 0
 IsAt (Some now) served = served ≡ now
 IsAt None served = served.connection.phase ≡ Ended
 
@@ -105,7 +103,6 @@ goes_lost took gave old over none = record {
 
 line_goes : (took gave : List ℕ) (old new : Option Served) (before : Served) → IsAt old before → LineDoes old took gave new
     → GoesAt took gave new before
-unfolding IsAt
 line_goes took gave (Some old) (Some new) before at does =
     record { after = new; at = refl; goes = subst (λ (s : Served). BenchGoes s took gave new) (sym at) does }
 line_goes took gave (Some old) None before at does = record {
@@ -119,15 +116,9 @@ line_goes took gave (Some old) None before at does = record {
 line_goes took gave None None before at does = record { after = before; at = at; goes = goes_lost took gave before at does }
 line_goes took gave None (Some new) before at does = absurd does
 
-abbrev took_by : List ℕ × List ℕ → List ℕ
-took_by step = step.0
-
-abbrev gave_by : List ℕ × List ℕ → List ℕ
-gave_by step = step.1
-
 lines_go : (steps : List (List ℕ × List ℕ)) (old new : Option Served) (before : Served) → IsAt old before
     → FoldsTo (λ from step to. LineDoes from step.0 step.1 to) old steps new
-    → GoesAt (flat_map took_by steps) (flat_map gave_by steps) new before
+    → GoesAt (flat_map (λ (step : List ℕ × List ℕ). step.0) steps) (flat_map (λ (step : List ℕ × List ℕ). step.1) steps) new before
 lines_go [] old new before at same =
     record { after = before; at = subst (λ (s : Option Served). IsAt s before) same at; goes = goes_first before }
 lines_go (step ∷ steps) old new before at does =
@@ -136,7 +127,8 @@ lines_go (step ∷ steps) old new before at does =
     record {
       after = rest.after;
       at = rest.at;
-      goes = goes_after step.0 step.1 (flat_map took_by steps) (flat_map gave_by steps) before one.after rest.after one.goes rest.goes;
+      goes = goes_after step.0 step.1 (flat_map (λ (step : List ℕ × List ℕ). step.0) steps)
+          (flat_map (λ (step : List ℕ × List ℕ). step.1) steps) before one.after rest.after one.goes rest.goes;
     }
 
 far_goes : (past : HistoryView) (took gave : List ℕ) (old new : Option Served) (before : Served) → IsAt old before
@@ -147,12 +139,12 @@ far_goes past took gave old new before at goes =
       after = all.after;
       at = all.at;
       goes = subst (λ l. BenchGoes before l gave all.after) goes.took
-          (subst (λ l. BenchGoes before (flat_map took_by goes.steps) l all.after) goes.gave all.goes);
+          (subst (λ l. BenchGoes before (flat_map (λ (step : List ℕ × List ℕ). step.0) goes.steps) l all.after) goes.gave all.goes);
     }
 
 -- ---- where a connection is, a bench is
 
-IsThere : Option (Option Served) → Served → Type 0
+abbrev IsThere : Option (Option Served) → Served → Type 0
 IsThere (Some state) served = IsAt state served
 IsThere None served = ⊥
 
@@ -168,7 +160,6 @@ record TradesAt (unsent rest piece : List ℕ) (end : Option (Option Served)) (b
 
 trades_at : (past : HistoryView) (unsent rest piece : List ℕ) (old new : Option (Option Served)) (before : Served) → IsThere old before
     → Trades (bench_end past) unsent rest piece old new → TradesAt unsent rest piece new before
-unfolding IsThere
 trades_at past unsent rest piece (Some old) (Some new) before there trades =
     let all = far_goes past trades.0 piece old new before there trades.2 in
     record {
@@ -189,7 +180,6 @@ record StartsAt (past : HistoryView) (end : Option (Option Served)) : Type 0 whe
   begins : BenchBegins past after
 
 starts_at : (past : HistoryView) (end : Option (Option Served)) → Begun (bench_end past) end → StartsAt past end
-unfolding IsThere IsAt
 starts_at past None begun = absurd begun
 starts_at past (Some None) begun = absurd begun
 starts_at past (Some (Some served)) begun = record { after = served; there = refl; begins = begun }
@@ -199,12 +189,9 @@ starts_at past (Some (Some served)) begun = record { after = served; there = ref
 started_ready : (past : HistoryView) → IsReady (started past)
 started_ready past = record {
   taken = taken_none (history_of past) (started past).taken (refl, refl, refl, refl, refl, refl, refl, refl, tt);
-  there = omega arith;
-  unwatched = λ opening. absurd (apart_is opening);
+  there = lit< tt;
+  unwatched = λ opening. let e : Apart ≡ Opening = opening in cc;
 }
-  where
-    apart_is : Apart ≡ Opening → ⊥
-    apart_is e = cc
 
 -- ---- one deed
 
