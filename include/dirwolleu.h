@@ -557,7 +557,8 @@ enum dw_result dw_session_unfollow(dw_session *handle, uint64_t now_ms, uint64_t
  * which the revision has risen, each side of a node that good names lead to from the root on, and that lacks a good answer, is followed, unless it
  * is known that there is no such node; a node below the root of which that is known is let go. The data of the root have the ticket of the tree.
  * All else has tickets from 2^63 on, which a program uses for nothing else. That there is no root is shown by DW_KIND_SHOWN of its ticket, and its
- * making is waited for. The root is read in the same step. DW_OK, or what dw_session_follow_data answers. */
+ * making is waited for. The root is read in the same step. Each step to which bytes come goes over all of the tree, at some half a millisecond for
+ * each thousand nodes. DW_OK, or what dw_session_follow_data answers. */
 enum dw_result dw_session_follow_tree(dw_session *handle, uint64_t now_ms, uint64_t ticket, const char *path, size_t path_length,
                                       size_t most);
 
