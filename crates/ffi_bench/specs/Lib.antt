@@ -1,4 +1,2 @@
 -- What a handle on a server in memory owns, and what it holds after each call.
 pub mod Held
-pub mod Owned
-pub mod inner

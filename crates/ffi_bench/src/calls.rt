@@ -6,7 +6,8 @@ ghost use Rattle.ffi_server.specs.Moves.{Connects, Cuts, Expires, Hears, Process
 ghost use Rattle.ffi_server.specs.declared.server.MemoryServer.{MemoryServer};
 
 use crate::handle::DwBench;
-use crate::taking::{CLOSED, drive, take_server};
+use crate::taking::{CLOSED, drive};
+use ffi_handles::{Handle, take_value};
 use ffi_server::code_of;
 use std::alloc::Global;
 
@@ -51,7 +52,7 @@ pub extern "C" fn dw_bench_say(
         → Tells (Says out.old out.new count.new s.bench) result handle.new.slot.held }
 {
     *count = 0;
-    let Some(mut server) = take_server(alloc, handle) else {
+    let Some(mut server) = take_value(alloc, handle) else {
         return CLOSED;
     };
     let done = server.say(out, count);

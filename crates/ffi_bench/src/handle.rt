@@ -2,7 +2,8 @@
 
 ghost use Rattle.std.specs.Prelude.{◌≡◌, IfSome, IfNone, Some, None, is_some};
 
-use crate::slot::Slot;
+use crate::slot::ServerSlot;
+use ffi_handles::{Handle, Slot};
 use ffi_server::MemoryServer;
 use std::alloc::Global;
 
@@ -10,39 +11,40 @@ use std::alloc::Global;
 #[repr(C)]
 pub struct DwBench {
     is_open: bool,
-    slot: Slot,
+    slot: ServerSlot,
     ghost told: { is_open ≡ is_some slot.held },
 }
 
-impl DwBench {
-    /// A handle of nothing.
-    pub fn closed(alloc: Global) -> DwBench
+impl Handle for DwBench {
+    type Value = MemoryServer;
+
+    ghost held = { λ handle. handle.slot.held };
+
+    fn closed(alloc: Global) -> DwBench
         ensures { result.slot.held ≡ None }
     {
         DwBench {
             is_open: false,
-            slot: Slot::empty(alloc),
+            slot: ServerSlot::of(Slot::empty(alloc)),
         }
     }
 
-    /// A handle of this server.
-    pub fn of(server: Box<MemoryServer, Global>) -> DwBench
+    fn of(server: Box<MemoryServer, Global>) -> DwBench
         ensures { result.slot.held ≡ Some server.value }
     {
         DwBench {
             is_open: true,
-            slot: Slot::of(server),
+            slot: ServerSlot::of(Slot::of(server)),
         }
     }
 
-    /// The server of a handle, if it has one.
-    pub fn into_box(self) -> Option<Box<MemoryServer, Global>>
+    fn into_box(self) -> Option<Box<MemoryServer, Global>>
         ensures some { IfSome result (λ b. self.slot.held ≡ Some b.value) }
         ensures none { IfNone result (self.slot.held ≡ None) }
     {
         let DwBench { is_open, slot } = self;
         if is_open {
-            return Some(slot.into_box());
+            return Some(slot.into_slot().into_box());
         }
         None
     }

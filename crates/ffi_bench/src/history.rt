@@ -7,7 +7,8 @@ ghost use Rattle.ffi_server.specs.Moves.{Changes, Learns};
 ghost use Rattle.ffi_server.specs.declared.server.MemoryServer.{MemoryServer};
 
 use crate::handle::DwBench;
-use crate::taking::{CLOSED, drive, take_server};
+use crate::taking::{CLOSED, drive};
+use ffi_handles::{Handle, take_value};
 use std::alloc::Global;
 
 /// Another session changes the tree at this moment: 1 makes a node with an owner, or 0 for none, 2 writes its data, 3 deletes it. What the
@@ -40,7 +41,7 @@ pub extern "C" fn dw_bench_learn(alloc: Global, handle: &mut DwBench, other: &mu
         → Tells (Learns o.bench s.bench) result handle.new.slot.held }
     ensures same { other.new.slot.held ≡ other.old.slot.held }
 {
-    let Some(from) = take_server(alloc, other) else {
+    let Some(from) = take_value(alloc, other) else {
         return CLOSED;
     };
     let code = drive(alloc, handle, |server| server.learn(alloc, &from));
@@ -55,7 +56,7 @@ pub extern "C" fn dw_bench_zxid(alloc: Global, handle: &mut DwBench) -> i64
     ensures last { (s : MemoryServer) → handle.old.slot.held ≡ Some s → result ≡ pos (newest 0 s.bench.history.transactions) }
     ensures same { handle.new.slot.held ≡ handle.old.slot.held }
 {
-    let Some(server) = take_server(alloc, handle) else {
+    let Some(server) = take_value(alloc, handle) else {
         return i64::from(CLOSED);
     };
     let last = server.bench.history().last_zxid();

@@ -6,6 +6,5 @@ mod calls;
 mod handle;
 mod history;
 mod making;
-mod parts;
 mod slot;
 mod taking;

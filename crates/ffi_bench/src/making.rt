@@ -4,6 +4,7 @@ ghost use Rattle.std.specs.Prelude.{◌≡◌, ◌⊎◌, Some, None, pos, negsu
 ghost use Rattle.ffi_bench.specs.Held.{Makes};
 
 use crate::handle::DwBench;
+use ffi_handles::Handle;
 use ffi_server::{MemoryServer, Undone};
 use std::alloc::Global;
 
@@ -12,16 +13,10 @@ fn hold(alloc: Global, handle: &mut DwBench, server: MemoryServer) -> i32
     ensures { ((result ≡ pos 0) × (handle.new.slot.held ≡ Some server))
         ⊎ ((result ≡ negsuc 1) × (handle.new.slot.held ≡ handle.old.slot.held)) }
 {
-    match Box::new(alloc, server) {
-        Ok(held) => {
-            *handle = DwBench::of(held);
-            0
-        }
-        Err(failed) => {
-            drop(failed);
-            Undone::Memory.code()
-        }
+    if ffi_handles::hold(alloc, handle, server) {
+        return 0;
     }
+    Undone::Memory.code()
 }
 
 /// Makes a server of the session of this number, over a history with the root alone. What the handle held is freed first.

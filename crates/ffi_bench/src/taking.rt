@@ -1,6 +1,6 @@
-//! A server is taken out of its handle for a call, and put back.
+//! What a call on a handle answers, and a step of its server.
 
-ghost use Rattle.std.specs.Prelude.{◌≡◌, ⊤, Result, Some, None, IfSome, IfNone};
+ghost use Rattle.std.specs.Prelude.{◌≡◌, ⊤, Result, Some, None};
 ghost use Rattle.std.specs.Fn.{FnOnceReturnsAtMut};
 ghost use Rattle.ffi_server.specs.Codes.{code_of};
 ghost use Rattle.ffi_bench.specs.Held.{IsClosed};
@@ -14,15 +14,6 @@ use std::alloc::Global;
 /// The handle holds no server.
 pub const CLOSED: i32 = -3;
 
-/// Takes the server of a handle, if it has one.
-pub fn take_server(alloc: Global, handle: &mut DwBench) -> Option<Box<MemoryServer, Global>>
-    ensures some { IfSome result (λ server. handle.old.slot.held ≡ Some server.value) }
-    ensures none { IfNone result (handle.old.slot.held ≡ None) }
-    ensures rest { handle.new.slot.held ≡ None }
-{
-    std::mem::replace(handle, DwBench::closed(alloc)).into_box()
-}
-
 /// Does this with the server of a handle, if it has one, puts it back, and tells the number of what was done.
 pub fn drive<F: FnOnce(&mut MemoryServer) -> Result<(), Undone>>(
     alloc: Global,
@@ -34,10 +25,8 @@ pub fn drive<F: FnOnce(&mut MemoryServer) -> Result<(), Undone>>(
     ensures done { (before : MemoryServer) → handle.old.slot.held ≡ Some before → (after : MemoryServer) × (done : Result ⊤ Undone)
         × (handle.new.slot.held ≡ Some after) × (result ≡ code_of done) × FnOnceReturnsAtMut F.FnOnce step before done after }
 {
-    let Some(mut server) = take_server(alloc, handle) else {
-        return CLOSED;
-    };
-    let done = step(&mut server);
-    *handle = DwBench::of(server);
-    code_of(done)
+    match ffi_handles::drive(alloc, handle, step) {
+        Some(done) => code_of(done),
+        None => CLOSED,
+    }
 }

@@ -2,7 +2,6 @@
 pub mod Held
 pub mod Kept
 pub mod Lives
-pub mod Owned
 pub mod SessionLives
 pub mod Sessions
 pub mod Stood

@@ -1,3 +1,2 @@
 -- What contracts of private functions say: nobody has to believe it.
-pub mod Owned
 pub mod Stood

@@ -15,8 +15,9 @@ ghost use Rattle.ffi_c.specs.Stood.{FindsHolder, FindsStanding};
 ghost use Rattle.ffi_c.specs.inner.Stood.{TellsStands};
 
 use crate::handle::DwClient;
-use crate::taking::{CLOSED, NONE, WAITS, take_device};
+use crate::taking::{CLOSED, NONE, WAITS};
 use ffi_device::{Contender, DeviceRefusal, Stands, holder, lacking, snapshot, standing, subtree};
+use ffi_handles::{Handle, take_value};
 use std::alloc::Global;
 
 /// Copies all nodes at and below a path, of which there may be at most `most`, each after its parent, as many bytes of them as there is
@@ -37,7 +38,7 @@ pub extern "C" fn dw_subtree(
     ensures same { handle.new.slot.held ≡ handle.old.slot.held }
 {
     *count = 0;
-    let Some(device) = take_device(alloc, handle) else {
+    let Some(device) = take_value(alloc, handle) else {
         return CLOSED;
     };
     let found = subtree(alloc, &device.client, path, most, out);
@@ -69,7 +70,7 @@ pub extern "C" fn dw_lacking(
     ensures same { handle.new.slot.held ≡ handle.old.slot.held }
 {
     *count = 0;
-    let Some(device) = take_device(alloc, handle) else {
+    let Some(device) = take_value(alloc, handle) else {
         return CLOSED;
     };
     let found = lacking(alloc, &device.client, path, most, out);
@@ -100,7 +101,7 @@ pub extern "C" fn dw_snapshot(
     ensures same { handle.new.slot.held ≡ handle.old.slot.held }
 {
     *count = 0;
-    let Some(device) = take_device(alloc, handle) else {
+    let Some(device) = take_value(alloc, handle) else {
         return CLOSED;
     };
     let found = snapshot(alloc, &device.client, nodes, parents, out);
@@ -154,7 +155,7 @@ pub extern "C" fn dw_standing(
     ensures same { handle.new.slot.held ≡ handle.old.slot.held }
 {
     (*token, *count) = (0, 0);
-    let Some(device) = take_device(alloc, handle) else {
+    let Some(device) = take_value(alloc, handle) else {
         return CLOSED;
     };
     let contender = Contender {
@@ -186,7 +187,7 @@ pub extern "C" fn dw_holder(
     ensures same { handle.new.slot.held ≡ handle.old.slot.held }
 {
     *token = 0;
-    let Some(device) = take_device(alloc, handle) else {
+    let Some(device) = take_value(alloc, handle) else {
         return CLOSED;
     };
     let found = holder(alloc, &device.client, directory, prefix, path);

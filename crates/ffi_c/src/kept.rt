@@ -9,10 +9,11 @@ ghost use Rattle.ffi_c.specs.Held.{Forgets, Holds, IsClosed, LeavesRoom};
 ghost use Rattle.ffi_c.specs.Kept.{FindsData, FindsNames, FindsText};
 
 use crate::handle::DwClient;
-use crate::taking::{CLOSED, take_device};
+use crate::taking::CLOSED;
 use ffi_device::{
     KeptData, KeptNames, forget_stale, peek_children, peek_data, peek_name, peek_names,
 };
+use ffi_handles::{Handle, take_value};
 use std::alloc::Global;
 
 /// Tells what is kept about the data of a path, and copies the data, as much of them as there is room for.
@@ -29,7 +30,7 @@ pub extern "C" fn dw_peek_data(
         → FindsData (RefusesPath path.now) ((view_of d.client).cache.nodes path.now) result kept.old kept.new out.old out.new }
     ensures same { handle.new.slot.held ≡ handle.old.slot.held }
 {
-    let Some(device) = take_device(alloc, handle) else {
+    let Some(device) = take_value(alloc, handle) else {
         return CLOSED;
     };
     let found = peek_data(&device.client, path, out);
@@ -56,7 +57,7 @@ pub extern "C" fn dw_peek_children(
         → FindsNames (RefusesPath path.now) ((view_of d.client).cache.children path.now) result kept.old kept.new }
     ensures same { handle.new.slot.held ≡ handle.old.slot.held }
 {
-    let Some(device) = take_device(alloc, handle) else {
+    let Some(device) = take_value(alloc, handle) else {
         return CLOSED;
     };
     let found = peek_children(&device.client, path);
@@ -87,7 +88,7 @@ pub extern "C" fn dw_peek_name(
     ensures same { handle.new.slot.held ≡ handle.old.slot.held }
 {
     *count = 0;
-    let Some(device) = take_device(alloc, handle) else {
+    let Some(device) = take_value(alloc, handle) else {
         return CLOSED;
     };
     let found = peek_name(&device.client, path, index, out);
@@ -117,7 +118,7 @@ pub extern "C" fn dw_peek_names(
     ensures same { handle.new.slot.held ≡ handle.old.slot.held }
 {
     *count = 0;
-    let Some(device) = take_device(alloc, handle) else {
+    let Some(device) = take_value(alloc, handle) else {
         return CLOSED;
     };
     let found = peek_names(alloc, &device.client, path, out);
@@ -137,7 +138,7 @@ pub extern "C" fn dw_forget(alloc: Global, handle: &mut DwClient) -> i32
     ensures closed { handle.old.slot.held ≡ None → IsClosed result handle.new.slot.held }
     ensures forgets { (d : Device) → handle.old.slot.held ≡ Some d → Holds handle.new.slot.held (Forgets d result) }
 {
-    let Some(mut device) = take_device(alloc, handle) else {
+    let Some(mut device) = take_value(alloc, handle) else {
         return CLOSED;
     };
     forget_stale(&mut device.client);

@@ -9,7 +9,6 @@ mod kept;
 mod laws;
 mod making;
 mod outputs;
-mod parts;
 mod session;
 mod sessions;
 mod slot;

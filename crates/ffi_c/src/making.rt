@@ -7,23 +7,18 @@ ghost use Rattle.ffi_c.specs.Held.{Makes};
 
 use crate::handle::DwClient;
 use ffi_device::{Device, DeviceRefusal};
+use ffi_handles::Handle;
 use std::alloc::Global;
 
-/// Has a handle hold this client. Where there is no memory for it, the handle is left as it was.
-pub fn hold(alloc: Global, handle: &mut DwClient, device: Device) -> i32
-    ensures { ((result ≡ pos 0) × (handle.new.slot.held ≡ Some device))
-        ⊎ ((result ≡ negsuc 1) × (handle.new.slot.held ≡ handle.old.slot.held)) }
+/// Has a handle hold this. Where there is no memory for it, the handle is left as it was.
+pub fn hold<H: Handle>(alloc: Global, handle: &mut H, value: H::Value) -> i32
+    ensures { ((result ≡ pos 0) × (H.held handle.new ≡ Some value))
+        ⊎ ((result ≡ negsuc 1) × (H.held handle.new ≡ H.held handle.old)) }
 {
-    match Box::new(alloc, device) {
-        Ok(held) => {
-            *handle = DwClient::of(held);
-            0
-        }
-        Err(failed) => {
-            drop(failed);
-            DeviceRefusal::Memory.code()
-        }
+    if ffi_handles::hold(alloc, handle, value) {
+        return 0;
     }
+    DeviceRefusal::Memory.code()
 }
 
 /// Makes a client of no session yet, which asks for this timeout in milliseconds. What the handle held is freed first.

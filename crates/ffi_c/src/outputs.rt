@@ -10,8 +10,9 @@ ghost use Rattle.ffi_c.specs.Held.{Holds, IsClosed, LeavesRoom, Tells, Writes};
 ghost use Rattle.ffi_c.specs.Kept.{FindsText};
 
 use crate::handle::DwClient;
-use crate::taking::{CLOSED, NONE, take_device};
+use crate::taking::{CLOSED, NONE};
 use ffi_device::{DeviceRefusal, Flat, copy_into};
+use ffi_handles::{Handle, take_value};
 use std::alloc::Global;
 
 /// Writes the next output of the last step, as numbers. The one before is over. 1 says that there is none.
@@ -20,7 +21,7 @@ pub extern "C" fn dw_next(alloc: Global, handle: &mut DwClient, out: &mut Flat) 
     ensures closed { handle.old.slot.held ≡ None → IsClosed result handle.new.slot.held × (out.new ≡ out.old) }
     ensures next { (d : Device) → handle.old.slot.held ≡ Some d → Holds handle.new.slot.held (Tells d out.old result out.new) }
 {
-    let Some(mut device) = take_device(alloc, handle) else {
+    let Some(mut device) = take_value(alloc, handle) else {
         return CLOSED;
     };
     let next = device.next();
@@ -49,7 +50,7 @@ pub extern "C" fn dw_copy(
         (drop from (told_text d.said.items d.read)) ++ drop (length (drop from (told_text d.said.items d.read))) out.old }
     ensures same { handle.new.slot.held ≡ handle.old.slot.held }
 {
-    let Some(device) = take_device(alloc, handle) else {
+    let Some(device) = take_value(alloc, handle) else {
         return 0;
     };
     let count = device.copy_text(from, out);
@@ -72,7 +73,7 @@ pub extern "C" fn dw_name(
         ≡ take (length out.old) (told_name index d.said.items d.read) ++ drop (length (told_name index d.said.items d.read)) out.old }
     ensures same { handle.new.slot.held ≡ handle.old.slot.held }
 {
-    let Some(device) = take_device(alloc, handle) else {
+    let Some(device) = take_value(alloc, handle) else {
         return 0;
     };
     let count = device.copy_name(index, out);
@@ -95,7 +96,7 @@ pub extern "C" fn dw_names(
     ensures same { handle.new.slot.held ≡ handle.old.slot.held }
 {
     *count = 0;
-    let Some(device) = take_device(alloc, handle) else {
+    let Some(device) = take_value(alloc, handle) else {
         return CLOSED;
     };
     let names = device.copy_names(alloc, out);
@@ -123,7 +124,7 @@ pub extern "C" fn dw_words(
     ensures same { handle.new.slot.held ≡ handle.old.slot.held }
 {
     *count = 0;
-    let Some(device) = take_device(alloc, handle) else {
+    let Some(device) = take_value(alloc, handle) else {
         return CLOSED;
     };
     let words = device.words(alloc);

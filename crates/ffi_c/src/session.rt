@@ -12,8 +12,9 @@ ghost use Rattle.ffi_c.specs.Held.{Holds, IsClosed, LeavesRoom, Makes, Writes};
 
 use crate::handle::DwClient;
 use crate::making::hold;
-use crate::taking::{CLOSED, NONE, drive, take_device};
+use crate::taking::{CLOSED, NONE, drive};
 use ffi_device::{Device, DeviceRefusal, copy_into, saved, state};
+use ffi_handles::{Handle, take_value};
 use std::alloc::Global;
 
 /// Makes a client that takes up the session of these bytes. What the handle held is freed first.
@@ -53,7 +54,7 @@ pub extern "C" fn dw_state(alloc: Global, handle: &mut DwClient) -> i32
     ensures state { (d : Device) → handle.old.slot.held ≡ Some d → result ≡ pos (state_number (view_of d.client).standing.state) }
     ensures same { handle.new.slot.held ≡ handle.old.slot.held }
 {
-    let Some(device) = take_device(alloc, handle) else {
+    let Some(device) = take_value(alloc, handle) else {
         return CLOSED;
     };
     let state = state(&device.client);
@@ -68,7 +69,7 @@ pub extern "C" fn dw_last_zxid(alloc: Global, handle: &mut DwClient) -> i64
     ensures last { (d : Device) → handle.old.slot.held ≡ Some d → result ≡ (view_of d.client).saved.last }
     ensures same { handle.new.slot.held ≡ handle.old.slot.held }
 {
-    let Some(device) = take_device(alloc, handle) else {
+    let Some(device) = take_value(alloc, handle) else {
         return i64::from(CLOSED);
     };
     let last = device.client.last_zxid();
@@ -84,7 +85,7 @@ pub extern "C" fn dw_revision(alloc: Global, handle: &mut DwClient) -> u64
     ensures begun { (d : Device) → handle.old.slot.held ≡ Some d → 1 ≤ result }
     ensures same { handle.new.slot.held ≡ handle.old.slot.held }
 {
-    let Some(device) = take_device(alloc, handle) else {
+    let Some(device) = take_value(alloc, handle) else {
         return 0;
     };
     let number = device.revision.number();
@@ -99,7 +100,7 @@ pub extern "C" fn dw_timeout_ms(alloc: Global, handle: &mut DwClient) -> i64
     ensures timeout { (d : Device) → handle.old.slot.held ≡ Some d → result ≡ pos (view_of d.client).saved.session.timeout }
     ensures same { handle.new.slot.held ≡ handle.old.slot.held }
 {
-    let Some(device) = take_device(alloc, handle) else {
+    let Some(device) = take_value(alloc, handle) else {
         return i64::from(CLOSED);
     };
     let timeout = device.client.timeout_ms();
@@ -116,7 +117,7 @@ pub extern "C" fn dw_deadline(alloc: Global, handle: &mut DwClient, first_ms: &m
     ensures same { handle.new.slot.held ≡ handle.old.slot.held }
 {
     *first_ms = 0;
-    let Some(device) = take_device(alloc, handle) else {
+    let Some(device) = take_value(alloc, handle) else {
         return CLOSED;
     };
     let deadline = device.client.deadline();
@@ -144,7 +145,7 @@ pub extern "C" fn dw_saved(
     ensures same { handle.new.slot.held ≡ handle.old.slot.held }
 {
     *count = 0;
-    let Some(device) = take_device(alloc, handle) else {
+    let Some(device) = take_value(alloc, handle) else {
         return CLOSED;
     };
     let saved = saved(alloc, &device.client);

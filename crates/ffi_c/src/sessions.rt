@@ -10,4 +10,3 @@ mod shown;
 mod slot;
 mod steps;
 mod subjects;
-mod taking;

@@ -1,74 +1,52 @@
 //! A device on the heap at a pointer that C may hold.
 
-ghost use Rattle.std.specs.Prelude.{◌≡◌, Option, Some, None, IsSome};
+ghost use Rattle.std.specs.Prelude.{◌≡◌, Option};
+ghost use Rattle.std.specs.Coded.{coded_option};
+ghost use Rattle.std.specs.contracts.impls.GlobalAllocator.TheImpl.{ghosts};
+ghost use Rattle.ffi_device.specs.contracts.device.Device.{the_row};
 ghost use Rattle.ffi_device.specs.declared.device.Device.{Device};
-ghost use Rattle.ffi_c.specs.Owned.{owned};
-ghost use Rattle.ffi_c.specs.inner.Owned.{coded_held};
+ghost use Rattle.ffi_handles.specs.Owned.{owned};
 
-use crate::parts::Parts;
 use ffi_device::Device;
+use ffi_handles::Slot;
 use std::alloc::Global;
 use std::marker::Model;
 
-/// A device on the heap, or nothing.
+/// A device on the heap, or nothing: a `Slot` for C's memory, where no type has a parameter.
 #[repr(C)]
 #[derive(Drop)]
-pub struct Slot {
+pub struct DeviceSlot {
     at: *mut u8,
     alloc: Global,
-    pub ghost held: { Option Device } by { coded_held },
+    pub ghost held: { Option Device } by { coded_option the_row.coded },
 }
 
-impl Model for Slot {
-    ghost also_owns = { λ h. owned h.alloc h.at h.held };
+impl Model for DeviceSlot {
+    ghost also_owns = { λ slot. owned the_row (ghosts.dealloc_token slot.alloc) slot.at slot.held };
 }
 
-impl Slot {
-    /// A slot with nothing.
-    pub fn empty(alloc: Global) -> Slot
-        ensures { result.held ≡ None }
+impl DeviceSlot {
+    /// What this slot holds, for C.
+    pub fn of(slot: Slot<Device, Global>) -> DeviceSlot
+        ensures { result.held ≡ slot.held }
     {
+        let Slot { at, alloc } = slot;
+        DeviceSlot {
+            at: at.cast::<u8>(),
+            alloc,
+        }
+    }
+
+    /// What it holds, for Rattle.
+    pub fn into_slot(self) -> Slot<Device, Global>
+        ensures { result.held ≡ self.held }
+    {
+        let DeviceSlot { at, alloc } = self;
         Slot {
-            at: std::ptr::null_mut(),
-            alloc,
-        }
-    }
-
-    /// A slot with this device.
-    pub fn of(device: Box<Device, Global>) -> Slot
-        ensures { result.held ≡ Some device.value }
-    {
-        Slot::of_parts(Parts::of(device))
-    }
-
-    /// The device of a slot that has one.
-    pub fn into_box(self) -> Box<Device, Global>
-        requires { IsSome self.held }
-        ensures { Some result.value ≡ self.held }
-    {
-        self.into_parts().into_box()
-    }
-
-    fn of_parts(parts: Parts<Device, Global>) -> Slot
-        ensures { result.held ≡ Some parts.value }
-    {
-        let Parts { ptr, alloc } = parts;
-        Slot {
-            at: ptr.cast::<u8>(),
-            alloc,
-        }
-    }
-
-    fn into_parts(self) -> Parts<Device, Global>
-        requires { IsSome self.held }
-        ensures { Some result.value ≡ self.held }
-    {
-        let Slot { at, alloc } = self;
-        Parts {
-            ptr: at.cast::<Device>(),
+            at: at.cast::<Device>(),
             alloc,
         }
     }
 }
 
-unsafe impl Send for Slot {}
+unsafe impl Send for DeviceSlot {}

@@ -1,17 +1,16 @@
-//! A device is taken out of its handle for a call, and put back.
+//! What a call on a handle answers, and a step of what the handle holds.
 
-ghost use Rattle.std.specs.Prelude.{◌≡◌, ⊤, Result, Some, None, IfSome, IfNone};
+ghost use Rattle.std.specs.Prelude.{◌≡◌, ⊤, Result, Some, None};
 ghost use Rattle.std.specs.Fn.{FnOnceReturnsAtMut};
 ghost use Rattle.ffi_device.specs.Codes.{code_of};
-ghost use Rattle.ffi_device.specs.declared.device.Device.{Device};
 ghost use Rattle.ffi_device.specs.declared.refusal.DeviceRefusal.{DeviceRefusal};
 ghost use Rattle.ffi_c.specs.Held.{IsClosed};
 
-use crate::handle::DwClient;
-use ffi_device::{Device, DeviceRefusal, code_of};
+use ffi_device::{DeviceRefusal, code_of};
+use ffi_handles::Handle;
 use std::alloc::Global;
 
-/// The handle holds no client.
+/// The handle holds nothing.
 pub const CLOSED: i32 = -3;
 
 /// There is none.
@@ -20,30 +19,19 @@ pub const NONE: i32 = 1;
 /// The session does not stand first: it waits for another one.
 pub const WAITS: i32 = 2;
 
-/// Takes the device of a handle, if it has one.
-pub fn take_device(alloc: Global, handle: &mut DwClient) -> Option<Box<Device, Global>>
-    ensures some { IfSome result (λ device. handle.old.slot.held ≡ Some device.value) }
-    ensures none { IfNone result (handle.old.slot.held ≡ None) }
-    ensures rest { handle.new.slot.held ≡ None }
-{
-    std::mem::replace(handle, DwClient::closed(alloc)).into_box()
-}
-
-/// Does this with the device of a handle, if it has one, puts it back, and tells the number of what was done.
-pub fn drive<F: FnOnce(&mut Device) -> Result<(), DeviceRefusal>>(
+/// Does this with what a handle holds, if anything, puts it back, and tells the number of what was done.
+pub fn drive<H: Handle, F: FnOnce(&mut H::Value) -> Result<(), DeviceRefusal>>(
     alloc: Global,
-    handle: &mut DwClient,
+    handle: &mut H,
     step: F,
 ) -> i32
     requires { F.IsAlwaysCallable step }
-    ensures closed { handle.old.slot.held ≡ None → IsClosed result handle.new.slot.held }
-    ensures done { (before : Device) → handle.old.slot.held ≡ Some before → (after : Device) × (done : Result ⊤ DeviceRefusal)
-        × (handle.new.slot.held ≡ Some after) × (result ≡ code_of done) × FnOnceReturnsAtMut F.FnOnce step before done after }
+    ensures closed { H.held handle.old ≡ None → IsClosed result (H.held handle.new) }
+    ensures done { (before : H.Value) → H.held handle.old ≡ Some before → (after : H.Value) × (done : Result ⊤ DeviceRefusal)
+        × (H.held handle.new ≡ Some after) × (result ≡ code_of done) × FnOnceReturnsAtMut F.FnOnce step before done after }
 {
-    let Some(mut device) = take_device(alloc, handle) else {
-        return CLOSED;
-    };
-    let done = step(&mut device);
-    *handle = DwClient::of(device);
-    code_of(done)
+    match ffi_handles::drive(alloc, handle, step) {
+        Some(done) => code_of(done),
+        None => CLOSED,
+    }
 }

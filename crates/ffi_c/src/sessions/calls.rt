@@ -10,7 +10,7 @@ ghost use Rattle.ffi_c.specs.Held.{Holds, IsClosed};
 
 use crate::calls::data_of;
 use crate::sessions::handle::DwSession;
-use crate::sessions::taking::drive;
+use crate::taking::drive;
 use std::alloc::Global;
 
 /// Asks whether there is a node, and what is known of it. As each call it waits until this moment at most, and without a limit at the last

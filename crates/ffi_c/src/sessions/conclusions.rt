@@ -15,9 +15,9 @@ ghost use Rattle.ffi_c.specs.Stood.{FindsHolder, FindsStanding};
 ghost use Rattle.ffi_c.specs.inner.Stood.{TellsStands};
 
 use crate::sessions::handle::DwSession;
-use crate::sessions::taking::take_device;
 use crate::taking::{CLOSED, NONE, WAITS};
 use ffi_device::{Contender, DeviceRefusal, Stands, holder, lacking, snapshot, standing, subtree};
+use ffi_handles::{Handle, take_value};
 use std::alloc::Global;
 
 /// Copies all nodes at and below a path, of which there may be at most `most`, each after its parent, as many bytes of them as there is
@@ -39,7 +39,7 @@ pub extern "C" fn dw_session_subtree(
     ensures same { handle.new.slot.held ≡ handle.old.slot.held }
 {
     *count = 0;
-    let Some(session) = take_device(alloc, handle) else {
+    let Some(session) = take_value(alloc, handle) else {
         return CLOSED;
     };
     let found = subtree(alloc, session.agent.client(), path, most, out);
@@ -72,7 +72,7 @@ pub extern "C" fn dw_session_lacking(
     ensures same { handle.new.slot.held ≡ handle.old.slot.held }
 {
     *count = 0;
-    let Some(session) = take_device(alloc, handle) else {
+    let Some(session) = take_value(alloc, handle) else {
         return CLOSED;
     };
     let found = lacking(alloc, session.agent.client(), path, most, out);
@@ -104,7 +104,7 @@ pub extern "C" fn dw_session_snapshot(
     ensures same { handle.new.slot.held ≡ handle.old.slot.held }
 {
     *count = 0;
-    let Some(session) = take_device(alloc, handle) else {
+    let Some(session) = take_value(alloc, handle) else {
         return CLOSED;
     };
     let found = snapshot(alloc, session.agent.client(), nodes, parents, out);
@@ -158,7 +158,7 @@ pub extern "C" fn dw_session_standing(
     ensures same { handle.new.slot.held ≡ handle.old.slot.held }
 {
     (*token, *count) = (0, 0);
-    let Some(session) = take_device(alloc, handle) else {
+    let Some(session) = take_value(alloc, handle) else {
         return CLOSED;
     };
     let contender = Contender {
@@ -190,7 +190,7 @@ pub extern "C" fn dw_session_holder(
     ensures same { handle.new.slot.held ≡ handle.old.slot.held }
 {
     *token = 0;
-    let Some(session) = take_device(alloc, handle) else {
+    let Some(session) = take_value(alloc, handle) else {
         return CLOSED;
     };
     let found = holder(alloc, session.agent.client(), directory, prefix, path);

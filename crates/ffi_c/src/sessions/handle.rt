@@ -4,6 +4,7 @@ ghost use Rattle.std.specs.Prelude.{◌≡◌, IfSome, IfNone, Some, None, is_so
 
 use crate::sessions::slot::SessionSlot;
 use ffi_agent_device::AgentDevice;
+use ffi_handles::{Handle, Slot};
 use std::alloc::Global;
 
 /// A session, or nothing. C makes the first one of zeros.
@@ -14,35 +15,36 @@ pub struct DwSession {
     ghost told: { is_open ≡ is_some slot.held },
 }
 
-impl DwSession {
-    /// A handle of nothing.
-    pub fn closed(alloc: Global) -> DwSession
+impl Handle for DwSession {
+    type Value = AgentDevice;
+
+    ghost held = { λ handle. handle.slot.held };
+
+    fn closed(alloc: Global) -> DwSession
         ensures { result.slot.held ≡ None }
     {
         DwSession {
             is_open: false,
-            slot: SessionSlot::empty(alloc),
+            slot: SessionSlot::of(Slot::empty(alloc)),
         }
     }
 
-    /// A handle of this session.
-    pub fn of(session: Box<AgentDevice, Global>) -> DwSession
+    fn of(session: Box<AgentDevice, Global>) -> DwSession
         ensures { result.slot.held ≡ Some session.value }
     {
         DwSession {
             is_open: true,
-            slot: SessionSlot::of(session),
+            slot: SessionSlot::of(Slot::of(session)),
         }
     }
 
-    /// The session of a handle, if it has one.
-    pub fn into_box(self) -> Option<Box<AgentDevice, Global>>
+    fn into_box(self) -> Option<Box<AgentDevice, Global>>
         ensures some { IfSome result (λ b. self.slot.held ≡ Some b.value) }
         ensures none { IfNone result (self.slot.held ≡ None) }
     {
         let DwSession { is_open, slot } = self;
         if is_open {
-            return Some(slot.into_box());
+            return Some(slot.into_slot().into_box());
         }
         None
     }

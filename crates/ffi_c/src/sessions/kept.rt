@@ -10,9 +10,9 @@ ghost use Rattle.ffi_c.specs.Kept.{FindsData, FindsNames, FindsText};
 ghost use Rattle.ffi_c.specs.Sessions.{ForgetsStale};
 
 use crate::sessions::handle::DwSession;
-use crate::sessions::taking::take_device;
 use crate::taking::CLOSED;
 use ffi_device::{KeptData, KeptNames, peek_children, peek_data, peek_name, peek_names};
+use ffi_handles::{Handle, take_value};
 use std::alloc::Global;
 
 /// Tells what is kept about the data of a path, and copies the data, as much of them as there is room for.
@@ -29,7 +29,7 @@ pub extern "C" fn dw_session_peek_data(
         ((view_of d.agent.asker.follower.client).cache.nodes path.now) result kept.old kept.new out.old out.new }
     ensures same { handle.new.slot.held ≡ handle.old.slot.held }
 {
-    let Some(session) = take_device(alloc, handle) else {
+    let Some(session) = take_value(alloc, handle) else {
         return CLOSED;
     };
     let found = peek_data(session.agent.client(), path, out);
@@ -56,7 +56,7 @@ pub extern "C" fn dw_session_peek_children(
         → FindsNames (RefusesPath path.now) ((view_of d.agent.asker.follower.client).cache.children path.now) result kept.old kept.new }
     ensures same { handle.new.slot.held ≡ handle.old.slot.held }
 {
-    let Some(session) = take_device(alloc, handle) else {
+    let Some(session) = take_value(alloc, handle) else {
         return CLOSED;
     };
     let found = peek_children(session.agent.client(), path);
@@ -87,7 +87,7 @@ pub extern "C" fn dw_session_peek_name(
     ensures same { handle.new.slot.held ≡ handle.old.slot.held }
 {
     *count = 0;
-    let Some(session) = take_device(alloc, handle) else {
+    let Some(session) = take_value(alloc, handle) else {
         return CLOSED;
     };
     let found = peek_name(session.agent.client(), path, index, out);
@@ -117,7 +117,7 @@ pub extern "C" fn dw_session_peek_names(
     ensures same { handle.new.slot.held ≡ handle.old.slot.held }
 {
     *count = 0;
-    let Some(session) = take_device(alloc, handle) else {
+    let Some(session) = take_value(alloc, handle) else {
         return CLOSED;
     };
     let found = peek_names(alloc, session.agent.client(), path, out);
@@ -137,7 +137,7 @@ pub extern "C" fn dw_session_forget(alloc: Global, handle: &mut DwSession) -> i3
     ensures closed { handle.old.slot.held ≡ None → IsClosed result handle.new.slot.held }
     ensures forgets { (d : AgentDevice) → handle.old.slot.held ≡ Some d → Holds handle.new.slot.held (ForgetsStale d result) }
 {
-    let Some(mut session) = take_device(alloc, handle) else {
+    let Some(mut session) = take_value(alloc, handle) else {
         return CLOSED;
     };
     session.forget_stale();

@@ -1,6 +1,6 @@
 //! A handle gets a session, and gives it up.
 
-ghost use Rattle.std.specs.Prelude.{◌≡◌, ◌≢◌, ◌<ℤ◌, ◌⊎◌, Some, None, Ok, Err, pos, negsuc, unsigned_abs};
+ghost use Rattle.std.specs.Prelude.{◌≡◌, ◌≢◌, ◌<ℤ◌, None, Ok, Err, pos, negsuc, unsigned_abs};
 ghost use Rattle.zk_turns.specs.Turns.{new_start};
 ghost use Rattle.zk_client.specs.SavedSessions.{PutAway, bytes_read};
 ghost use Rattle.zk_client.specs.declared.saved_fault.SavedFault.{SavedFault};
@@ -9,27 +9,11 @@ ghost use Rattle.ffi_device.specs.Refused.{RefusesTimeout};
 ghost use Rattle.ffi_device.specs.Sessions.{put_start};
 ghost use Rattle.ffi_c.specs.Sessions.{Makes};
 
+use crate::making::hold;
 use crate::sessions::handle::DwSession;
 use ffi_agent_device::AgentDevice;
-use ffi_device::DeviceRefusal;
+use ffi_handles::Handle;
 use std::alloc::Global;
-
-/// Has a handle hold this session. Where there is no memory for it, the handle is left as it was.
-fn hold(alloc: Global, handle: &mut DwSession, session: AgentDevice) -> i32
-    ensures { ((result ≡ pos 0) × (handle.new.slot.held ≡ Some session))
-        ⊎ ((result ≡ negsuc 1) × (handle.new.slot.held ≡ handle.old.slot.held)) }
-{
-    match Box::new(alloc, session) {
-        Ok(held) => {
-            *handle = DwSession::of(held);
-            0
-        }
-        Err(failed) => {
-            drop(failed);
-            DeviceRefusal::Memory.code()
-        }
-    }
-}
 
 /// Makes a session of no server yet, which asks for this timeout in milliseconds and has this many addresses, in an order that is random by
 /// the seed. What the handle held is freed first.

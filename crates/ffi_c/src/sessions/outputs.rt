@@ -11,9 +11,9 @@ ghost use Rattle.ffi_c.specs.Sessions.{Tells};
 ghost use Rattle.ffi_c.specs.Kept.{FindsText};
 
 use crate::sessions::handle::DwSession;
-use crate::sessions::taking::take_device;
 use crate::taking::{CLOSED, NONE};
 use ffi_device::{DeviceRefusal, Flat, copy_into};
+use ffi_handles::{Handle, take_value};
 use std::alloc::Global;
 
 /// Writes the next action of the last step, as numbers, and after the actions the next news of a tree. The one before is over. 1 says that
@@ -23,7 +23,7 @@ pub extern "C" fn dw_session_next(alloc: Global, handle: &mut DwSession, out: &m
     ensures closed { handle.old.slot.held ≡ None → IsClosed result handle.new.slot.held × (out.new ≡ out.old) }
     ensures next { (d : AgentDevice) → handle.old.slot.held ≡ Some d → Holds handle.new.slot.held (Tells d out.old result out.new) }
 {
-    let Some(mut session) = take_device(alloc, handle) else {
+    let Some(mut session) = take_value(alloc, handle) else {
         return CLOSED;
     };
     let next = session.next();
@@ -54,7 +54,7 @@ pub extern "C" fn dw_session_copy(
         ++ drop (length (drop from (told_text d.said.items d.read d.news.items d.news_read))) out.old }
     ensures same { handle.new.slot.held ≡ handle.old.slot.held }
 {
-    let Some(session) = take_device(alloc, handle) else {
+    let Some(session) = take_value(alloc, handle) else {
         return 0;
     };
     let count = session.copy_text(from, out);
@@ -77,7 +77,7 @@ pub extern "C" fn dw_session_name(
         ≡ take (length out.old) (told_name index d.said.items d.read) ++ drop (length (told_name index d.said.items d.read)) out.old }
     ensures same { handle.new.slot.held ≡ handle.old.slot.held }
 {
-    let Some(session) = take_device(alloc, handle) else {
+    let Some(session) = take_value(alloc, handle) else {
         return 0;
     };
     let count = session.copy_name(index, out);
@@ -100,7 +100,7 @@ pub extern "C" fn dw_session_names(
     ensures same { handle.new.slot.held ≡ handle.old.slot.held }
 {
     *count = 0;
-    let Some(session) = take_device(alloc, handle) else {
+    let Some(session) = take_value(alloc, handle) else {
         return CLOSED;
     };
     let names = session.copy_names(alloc, out);
@@ -128,7 +128,7 @@ pub extern "C" fn dw_session_words(
     ensures same { handle.new.slot.held ≡ handle.old.slot.held }
 {
     *count = 0;
-    let Some(session) = take_device(alloc, handle) else {
+    let Some(session) = take_value(alloc, handle) else {
         return CLOSED;
     };
     let words = session.words(alloc);

@@ -9,9 +9,9 @@ ghost use Rattle.ffi_c.specs.Held.{LeavesRoom, Writes};
 ghost use Rattle.ffi_c.specs.Sessions.{FirstDue, TellsMoment};
 
 use crate::sessions::handle::DwSession;
-use crate::sessions::taking::take_device;
 use crate::taking::{CLOSED, NONE};
 use ffi_device::{DeviceRefusal, copy_into, saved, state};
+use ffi_handles::{Handle, take_value};
 use std::alloc::Global;
 
 /// Where the client stands: 0 idle, 1 connecting, 2 connected, 3 expired, 4 closed.
@@ -22,7 +22,7 @@ pub extern "C" fn dw_session_state(alloc: Global, handle: &mut DwSession) -> i32
         → result ≡ pos (state_number (view_of d.agent.asker.follower.client).standing.state) }
     ensures same { handle.new.slot.held ≡ handle.old.slot.held }
 {
-    let Some(session) = take_device(alloc, handle) else {
+    let Some(session) = take_value(alloc, handle) else {
         return CLOSED;
     };
     let state = state(session.agent.client());
@@ -37,7 +37,7 @@ pub extern "C" fn dw_session_last_zxid(alloc: Global, handle: &mut DwSession) ->
     ensures last { (d : AgentDevice) → handle.old.slot.held ≡ Some d → result ≡ (view_of d.agent.asker.follower.client).saved.last }
     ensures same { handle.new.slot.held ≡ handle.old.slot.held }
 {
-    let Some(session) = take_device(alloc, handle) else {
+    let Some(session) = take_value(alloc, handle) else {
         return i64::from(CLOSED);
     };
     let last = session.agent.client().last_zxid();
@@ -53,7 +53,7 @@ pub extern "C" fn dw_session_revision(alloc: Global, handle: &mut DwSession) -> 
     ensures begun { (d : AgentDevice) → handle.old.slot.held ≡ Some d → 1 ≤ result }
     ensures same { handle.new.slot.held ≡ handle.old.slot.held }
 {
-    let Some(session) = take_device(alloc, handle) else {
+    let Some(session) = take_value(alloc, handle) else {
         return 0;
     };
     let number = session.revision.number();
@@ -69,7 +69,7 @@ pub extern "C" fn dw_session_timeout_ms(alloc: Global, handle: &mut DwSession) -
         → result ≡ pos (view_of d.agent.asker.follower.client).saved.session.timeout }
     ensures same { handle.new.slot.held ≡ handle.old.slot.held }
 {
-    let Some(session) = take_device(alloc, handle) else {
+    let Some(session) = take_value(alloc, handle) else {
         return i64::from(CLOSED);
     };
     let timeout = session.agent.client().timeout_ms();
@@ -90,7 +90,7 @@ pub extern "C" fn dw_session_deadline(
     ensures same { handle.new.slot.held ≡ handle.old.slot.held }
 {
     *first_ms = 0;
-    let Some(session) = take_device(alloc, handle) else {
+    let Some(session) = take_value(alloc, handle) else {
         return CLOSED;
     };
     let deadline = session.agent.deadline();
@@ -116,7 +116,7 @@ pub extern "C" fn dw_session_heard_at(
     ensures same { handle.new.slot.held ≡ handle.old.slot.held }
 {
     *moment_ms = 0;
-    let Some(session) = take_device(alloc, handle) else {
+    let Some(session) = take_value(alloc, handle) else {
         return CLOSED;
     };
     let heard = session.agent.heard_at();
@@ -144,7 +144,7 @@ pub extern "C" fn dw_session_saved(
     ensures same { handle.new.slot.held ≡ handle.old.slot.held }
 {
     *count = 0;
-    let Some(session) = take_device(alloc, handle) else {
+    let Some(session) = take_value(alloc, handle) else {
         return CLOSED;
     };
     let saved = saved(alloc, session.agent.client());

@@ -1,71 +1,49 @@
 //! A session on the heap at a pointer that C may hold.
 
-ghost use Rattle.std.specs.Prelude.{◌≡◌, Option, Some, None, IsSome};
+ghost use Rattle.std.specs.Prelude.{◌≡◌, Option};
+ghost use Rattle.std.specs.Coded.{coded_option};
+ghost use Rattle.std.specs.contracts.impls.GlobalAllocator.TheImpl.{ghosts};
+ghost use Rattle.ffi_agent_device.specs.contracts.device.AgentDevice.{the_row};
 ghost use Rattle.ffi_agent_device.specs.declared.device.AgentDevice.{AgentDevice};
-ghost use Rattle.ffi_c.specs.inner.Owned.{coded_session};
-ghost use Rattle.ffi_c.specs.Owned.{owned_session};
+ghost use Rattle.ffi_handles.specs.Owned.{owned};
 
-use crate::parts::Parts;
 use ffi_agent_device::AgentDevice;
+use ffi_handles::Slot;
 use std::alloc::Global;
 use std::marker::Model;
 
-/// A session on the heap, or nothing.
+/// A session on the heap, or nothing: a `Slot` for C's memory, where no type has a parameter.
 #[repr(C)]
 #[derive(Drop)]
 pub struct SessionSlot {
     at: *mut u8,
     alloc: Global,
-    pub ghost held: { Option AgentDevice } by { coded_session },
+    pub ghost held: { Option AgentDevice } by { coded_option the_row.coded },
 }
 
 impl Model for SessionSlot {
-    ghost also_owns = { λ h. owned_session h.alloc h.at h.held };
+    ghost also_owns = { λ slot. owned the_row (ghosts.dealloc_token slot.alloc) slot.at slot.held };
 }
 
 impl SessionSlot {
-    /// A slot with nothing.
-    pub fn empty(alloc: Global) -> SessionSlot
-        ensures { result.held ≡ None }
+    /// What this slot holds, for C.
+    pub fn of(slot: Slot<AgentDevice, Global>) -> SessionSlot
+        ensures { result.held ≡ slot.held }
     {
+        let Slot { at, alloc } = slot;
         SessionSlot {
-            at: std::ptr::null_mut(),
+            at: at.cast::<u8>(),
             alloc,
         }
     }
 
-    /// A slot with this session.
-    pub fn of(session: Box<AgentDevice, Global>) -> SessionSlot
-        ensures { result.held ≡ Some session.value }
-    {
-        SessionSlot::of_parts(Parts::of(session))
-    }
-
-    /// The session of a slot that has one.
-    pub fn into_box(self) -> Box<AgentDevice, Global>
-        requires { IsSome self.held }
-        ensures { Some result.value ≡ self.held }
-    {
-        self.into_parts().into_box()
-    }
-
-    fn of_parts(parts: Parts<AgentDevice, Global>) -> SessionSlot
-        ensures { result.held ≡ Some parts.value }
-    {
-        let Parts { ptr, alloc } = parts;
-        SessionSlot {
-            at: ptr.cast::<u8>(),
-            alloc,
-        }
-    }
-
-    fn into_parts(self) -> Parts<AgentDevice, Global>
-        requires { IsSome self.held }
-        ensures { Some result.value ≡ self.held }
+    /// What it holds, for Rattle.
+    pub fn into_slot(self) -> Slot<AgentDevice, Global>
+        ensures { result.held ≡ self.held }
     {
         let SessionSlot { at, alloc } = self;
-        Parts {
-            ptr: at.cast::<AgentDevice>(),
+        Slot {
+            at: at.cast::<AgentDevice>(),
             alloc,
         }
     }

@@ -7,7 +7,7 @@ ghost use Rattle.ffi_device.specs.Refused.{RefusesMemory, RefusesNothing};
 ghost use Rattle.ffi_c.specs.Held.{Holds, IsClosed};
 
 use crate::sessions::handle::DwSession;
-use crate::sessions::taking::drive;
+use crate::taking::drive;
 use std::alloc::Global;
 
 /// The connection that was asked for is there at this moment.

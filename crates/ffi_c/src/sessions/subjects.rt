@@ -8,7 +8,7 @@ ghost use Rattle.ffi_device.specs.Refused.{RefusesNothing, RefusesPath};
 ghost use Rattle.ffi_c.specs.Held.{Holds, IsClosed};
 
 use crate::sessions::handle::DwSession;
-use crate::sessions::taking::drive;
+use crate::taking::drive;
 use std::alloc::Global;
 
 /// Follows the data of a node, or that there is none.

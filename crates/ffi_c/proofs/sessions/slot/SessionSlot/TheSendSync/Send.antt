@@ -1,28 +1,19 @@
--- The slot of a session may go to another thread, as a box of one may.
-use Rattle.std.specs.Prelude.{Option, Some, None}
-use mir.Raw.{raw}
-use base.Shift.{Keyless}
-use denote.Memory.{lone}
-use denote.RawPtr.{Ptr}
+-- The slot may go to another thread, as a box of a session may.
 use denote.Struct.Struct.{exits_of}
 use denote.Struct.Owning.{shape, fields, to}
 use denote.Param.Send.{IsSend, AllSend, owning_send, struct_send, sendable}
 use Rattle.std.proofs.Crossing as heap
-use Rattle.std.specs.declared.alloc.Global.{Global}
-use Rattle.std_alloc.proofs.SendSync.{quiet, lies}
+use Rattle.std_alloc.proofs.SendSync.{quiet}
+use Rattle.std_heap.specs.contracts.Global as Heap
+use Rattle.std_heap.specs.contracts.GlobalAllocator.TheImpl.{ghosts}
 use Rattle.std_heap.proofs.Global.TheSendSync as handle
-use Rattle.ffi_agent_device.specs.declared.device.AgentDevice.{AgentDevice}
+use Rattle.ffi_handles.proofs.Crossing.{crosses}
 use Rattle.ffi_agent_device.specs.contracts.device.AgentDevice as Home
 use Rattle.ffi_agent_device.proofs.device.AgentDevice.TheSendSync.{the_send as home}
-use Rattle.ffi_c.specs.Owned.{owned_session}
 use Rattle.ffi_c.specs.contracts.sessions.slot.SessionSlot.{the_row, the_type}
-
-crosses : (a : Global) (p : Ptr) (m : Option AgentDevice) → Keyless (owned_session a p m)
-crosses a p None = tt
-crosses a p (Some x) = (lies Home.the_row home p x, heap.frees.frees a (raw (lone Home.the_row.mir)) p)
 
 pub send : IsSend the_row
 send =
     let all : AllSend (fields the_type) = (search sendable, (handle.the_field_send, tt)) in
-    owning_send the_type all (λ d. crosses d.alloc d.at d.held)
+    owning_send the_type all (λ slot. crosses Home.the_row Heap.the_row ghosts home heap.frees slot.alloc slot.at slot.held)
     (λ k. quiet (to the_type) (exits_of k (fields the_type)) ((struct_send (shape the_type) all).leaving k))

@@ -1,2 +1,0 @@
--- What contracts of private functions say: nobody has to believe it.
-pub mod Owned
