@@ -1,6 +1,7 @@
 -- What a watch does, and what it prints.
-use Rattle.std.specs.Prelude.{◌≡◌, ◌≢◌, ◌≤◌, ◌+◌, ◌||◌, min, ◌^◌, ◌-◌, ◌⊎◌, ⊤, ℕ, Bool, true, false, bytes_eq, List, [], ◌∷◌, ◌++◌, length}
-use Rattle.std.specs.Prelude.{map, Option, Some, None, string_bytes}
+use Rattle.std.specs.Prelude.{◌≡◌, ◌≢◌, ◌<◌, ◌≤◌, ◌+◌, ◌||◌, min, ◌^◌, ◌-◌, ◌⊎◌, ⊤, ℕ, Bool, true, false, bytes_eq, List, [], ◌∷◌, ◌++◌}
+use Rattle.std.specs.Prelude.{length}
+use Rattle.std.specs.Prelude.{map, Option, Some, None, string_bytes, unsigned_abs}
 use Rattle.std.specs.List.{filter, flat_map, FoldsTo}
 use Rattle.zk_nodes.specs.Path.{Text}
 use Rattle.zk_nodes.specs.declared.side.Side.{Side}
@@ -233,9 +234,13 @@ pub record IsOver {A : Type 0} {far : FarEnd} (for_ms : Option ℕ) (ready last 
 
 -- ---- the whole
 
--- A new session, which asks for some timeout, and no connection; how it is printed; and the roots of trees, of which nothing is known.
+-- A new session, which asks for a timeout above 0 and of 31 bits, as later ones will, and no connection; how it is printed; and the roots
+-- of trees, of which nothing is known.
 pub record IsBegun {A : Type 0} {far : FarEnd} (style : Style) (roots : List Text) (most : ℕ) (first : Stand A far) : Type 0 where
   pub timeout : ℕ
+  pub least : 0 < timeout
+  pub below : timeout < 2 ^ 31
+  pub later : unsigned_abs first.course.agent.timeout_ms ≡ timeout
   pub client : view_in first ≡ view_at (new_start timeout) []
   pub followed : AreFollowed first.course.agent
   pub channel : first.course.channel ≡ closed

@@ -1,6 +1,6 @@
 -- What is printed over connections to a server in memory is what its history has: such a server does what servers of the model do, so their
 -- laws hold.
-use Rattle.std.proofs.Common.{ℕ, Bool, true, false, List, [], ◌++◌, refl, sym, subst, ap}
+use Rattle.std.proofs.Common.{◌<◌, ◌^◌, ℕ, Bool, true, false, List, [], ◌++◌, refl, sym, subst, ap}
 use Rattle.zk_link.specs.FarEnds.{FarEnd}
 use Rattle.zk_nodes.specs.History.{IsHistory}
 use Rattle.zk_turns.specs.Turns.{new_start}
@@ -24,7 +24,7 @@ use Rattle.script_live.specs.Frames.{frames}
 use Rattle.script_live.proofs.Living.{lives_print}
 use Rattle.shell_watch.specs.declared.plan.Style.{Style}
 use Rattle.shell_watch.specs.Watching.{flow_in, IsBegun, Stand}
-use Rattle.theory_shown.specs.Agreeing.{BefallsBench, IsTimed, LifeAgrees, MeanwhileBench, RunBenches, WatchAgrees, WatchEndAgrees}
+use Rattle.theory_shown.specs.Agreeing.{BefallsBench, LifeAgrees, MeanwhileBench, RunBenches, WatchAgrees, WatchEndAgrees}
 use Rattle.theory_shown.specs.Lived.{Befalls, LifeCoheres, Meanwhile}
 use Rattle.theory_shown.specs.Watched.{EndsCohere, PrintsCohere, RunMeets}
 use Rattle.theory_shown.proofs.Benched.{acts_done, benches_meet}
@@ -36,17 +36,16 @@ use Rattle.theory_shown.proofs.Watched.{moves_too}
 
 -- it begins as its laws want
 watch_begins : {A : Type 0} {far : FarEnd} (style : Style) (roots : List Text) (most : ℕ) (first : Stand A far)
-    (begun : IsBegun style roots most first)
-    → IsTimed begun.timeout first → Begins (flow_in first)
-watch_begins style roots most first begun timed = record {
+    → IsBegun style roots most first → Begins (flow_in first)
+watch_begins style roots most first begun = record {
   apart = ap (λ (c : ChannelView). c.is_open) begun.channel;
   start = new_start begun.timeout;
   stands = subst (λ (v : View). Stands (new_start begun.timeout) [] v) (sym begun.client)
       (record { standing = refl; saved = refl; lists = refl; cache = refl; going = λ _. refl; said = tt; asked = tt });
-  resumable = new_resumable begun.timeout timed.most;
-  timed = timed.least;
-  later = new_resumable _ timed.later_most;
-  later_timed = timed.later_least;
+  resumable = new_resumable begun.timeout begun.below;
+  timed = begun.least;
+  later = new_resumable _ (subst (λ t. t < 2 ^ 31) (sym begun.later) begun.below);
+  later_timed = subst (λ t. 0 < t) (sym begun.later) begun.least;
 }
 
 module _ {A : Type 0} {far : FarEnd} (By : List ℕ → List ℕ → Flow A far → Flow A far → Type 0) where
@@ -59,11 +58,11 @@ module _ {A : Type 0} {far : FarEnd} (By : List ℕ → List ℕ → Flow A far 
 
 pub watch_agrees : (A : Type 0) (far : FarEnd) (By : List ℕ → List ℕ → Flow A far → Flow A far → Type 0) (after : Served)
     → PrintsCohere A far By → IsHistory (history_of after.history) → WatchAgrees A far By after
-watch_agrees A far By after cohere is style roots most aims first text begun from timed beside =
+watch_agrees A far By after cohere is style roots most aims first text begun from beside =
     cohere aims first text from (shown_of after) (record {
       ready = shown_of beside.ready;
       follows = record {
-        begins = watch_begins style roots most first begun timed;
+        begins = watch_begins style roots most first begun;
         before = shown_of beside.before;
         runs = run_servers By (flow_in first) (flow_in from.ready) beside.before beside.ready beside.follows;
       };
@@ -74,12 +73,12 @@ watch_agrees A far By after cohere is style roots most aims first text begun fro
 
 pub watch_end_agrees : (A : Type 0) (far : FarEnd) (By : List ℕ → List ℕ → Flow A far → Flow A far → Type 0) (after : Served)
     → EndsCohere A far By → IsHistory (history_of after.history) → WatchEndAgrees A far By after
-watch_end_agrees A far By after cohere is style roots most aims for_ms first text is_accepted begun from timed beside =
+watch_end_agrees A far By after cohere is style roots most aims for_ms first text is_accepted begun from beside =
     cohere aims for_ms first text is_accepted from (shown_of after) (record {
       ready = shown_of beside.ready;
       over = shown_of beside.over;
       follows = record {
-        begins = watch_begins style roots most first begun timed;
+        begins = watch_begins style roots most first begun;
         before = shown_of beside.before;
         runs = run_servers By (flow_in first) (flow_in from.ready) beside.before beside.ready beside.follows;
       };

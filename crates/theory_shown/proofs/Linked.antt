@@ -394,13 +394,13 @@ module _ {A : Type 0} (past : HistoryView) where
       (beside_first style roots most first begun)
 
 pub linked_watch_agrees : (A : Type 0) (past : HistoryView) → IsHistory (history_of past) → LinkedWatchAgrees A past
-linked_watch_agrees A past is style roots most aims first text begun from timed =
+linked_watch_agrees A past is style roots most aims first text begun from =
     let follows = followed past style roots most aims first from.ready begun from.follows in
     let prints = moved past from.prints.moves from.ready from.last from.prints.does follows.after follows.beside in
     let same = prints.beside.history in
     subst (λ (h : HistoryView). AllCohere (history_of h) from.prints.moves from.ready from.last from.prints.does) same
     (watch_agrees A (bench_end past) ByDriver prints.after (prints_cohere A (bench_end past))
-    (subst (λ (h : HistoryView). IsHistory (history_of h)) (sym same) is) style roots most aims first text begun from timed (record {
+    (subst (λ (h : HistoryView). IsHistory (history_of h)) (sym same) is) style roots most aims first text begun from (record {
       before = started past;
       ready = follows.after;
       follows = follows.benches;
@@ -408,7 +408,7 @@ linked_watch_agrees A past is style roots most aims first text begun from timed 
     }))
 
 pub linked_end_agrees : (A : Type 0) (past : HistoryView) → IsHistory (history_of past) → LinkedEndAgrees A past
-linked_end_agrees A past is style roots most aims for_ms first text is_accepted begun from timed =
+linked_end_agrees A past is style roots most aims for_ms first text is_accepted begun from =
     let follows = followed past style roots most aims first from.ready begun from.follows in
     let prints = moved past from.over.prints.moves from.ready from.over.over from.over.prints.does follows.after follows.beside in
     let closes = moved past from.over.closes.moves from.over.over from.last from.over.closes.does prints.after prints.beside in
@@ -418,7 +418,7 @@ linked_end_agrees A past is style roots most aims for_ms first text is_accepted 
     × AllCohere (history_of h) from.over.closes.moves from.over.over from.last from.over.closes.does) same
     (watch_end_agrees A (bench_end past) ByDriver closes.after (ends_cohere A (bench_end past))
     (subst (λ (h : HistoryView). IsHistory (history_of h)) (sym same) is) style roots most aims for_ms first text
-    is_accepted begun from timed
+    is_accepted begun from
     (record {
       before = started past;
       ready = follows.after;

@@ -1,5 +1,5 @@
 -- What `watch` and `live` print over connections to a server in memory is what that server's history has.
-use Rattle.std.specs.Prelude.{◌≡◌, ◌<◌, ◌^◌, ◌++◌, ⊤, ℕ, Bool, true, false, List, [], ◌∷◌, Option, unsigned_abs}
+use Rattle.std.specs.Prelude.{◌≡◌, ◌++◌, ⊤, ℕ, Bool, true, false, List, [], ◌∷◌, Option}
 use Rattle.std.specs.List.{FoldsTo}
 use Rattle.zk_link.specs.FarEnds.{FarEnd}
 use Rattle.zk_nodes.specs.Path.{Text}
@@ -55,19 +55,12 @@ pub record EndsBench {A : Type 0} {far : FarEnd} (By : List ℕ → List ℕ →
   pub prints : MovesMeet (RunBenches By) from.over.prints.moves from.ready from.over.over from.over.prints.does ready over
   pub closes : MovesMeet (RunBenches By) from.over.closes.moves from.over.over from.last from.over.closes.does over after
 
--- The timeouts that a watch asks for, for its first session and for later ones, are above 0, and of 31 bits: so are those of its driver.
-pub record IsTimed {A : Type 0} {far : FarEnd} (timeout : ℕ) (first : Stand A far) : Type 0 where
-  pub least : 0 < timeout
-  pub most : timeout < 2 ^ 31
-  pub later_least : 0 < unsigned_abs first.course.agent.timeout_ms
-  pub later_most : unsigned_abs first.course.agent.timeout_ms < 2 ^ 31
-
 -- Each good answer of the client of which a watch prints a line is the answer of the bench's history at the last seen zxid that this line
 -- has, wherever pieces and cuts fall: by what a watch has printed (`IsPrinted` of its contract), and by the bench as it is in the end.
 abbrev pub WatchAgrees : (A : Type 0) (far : FarEnd) → (List ℕ → List ℕ → Flow A far → Flow A far → Type 0) → Served → Type 0
 WatchAgrees A far By after =
     (style : Style) (roots : List Text) (most : ℕ) (aims : List (Side × Text)) (first : Stand A far) (text : List ℕ)
-    (begun : IsBegun style roots most first) (from : PrintsFrom aims first text) → IsTimed begun.timeout first
+    → IsBegun style roots most first → (from : PrintsFrom aims first text)
     → PrintsBench By aims first text from after
     → AllCohere (history_of after.history) from.prints.moves from.ready from.last from.prints.does
 
@@ -75,8 +68,8 @@ WatchAgrees A far By after =
 abbrev pub WatchEndAgrees : (A : Type 0) (far : FarEnd) → (List ℕ → List ℕ → Flow A far → Flow A far → Type 0) → Served → Type 0
 WatchEndAgrees A far By after =
     (style : Style) (roots : List Text) (most : ℕ) (aims : List (Side × Text)) (for_ms : Option ℕ) (first : Stand A far) (text : List ℕ)
-    (is_accepted : Bool) (begun : IsBegun style roots most first) (from : EndsFrom aims for_ms first text is_accepted)
-    → IsTimed begun.timeout first → EndsBench By aims for_ms first text is_accepted from after
+    (is_accepted : Bool) → IsBegun style roots most first → (from : EndsFrom aims for_ms first text is_accepted)
+    → EndsBench By aims for_ms first text is_accepted from after
     → AllCohere (history_of after.history) from.over.prints.moves from.ready from.over.over from.over.prints.does
     × AllCohere (history_of after.history) from.over.closes.moves from.over.over from.last from.over.closes.does
 

@@ -6,7 +6,6 @@ use Rattle.zk_history.specs.HistoryView.{history_of, HistoryView}
 use Rattle.theory_shown.specs.BenchActs.{bench_end}
 use Rattle.shell_watch.specs.declared.plan.Style.{Style}
 use Rattle.shell_watch.specs.Watching.{EndsFrom, IsBegun, PrintsFrom, Stand}
-use Rattle.theory_shown.specs.Agreeing.{IsTimed}
 use Rattle.theory_shown.specs.Watched.{AllCohere}
 
 -- Each good answer of the client of which a watch prints a line is the answer of this history at the last seen zxid that this line has,
@@ -15,14 +14,13 @@ use Rattle.theory_shown.specs.Watched.{AllCohere}
 abbrev pub LinkedWatchAgrees : Type 0 → HistoryView → Type 0
 LinkedWatchAgrees A past =
     (style : Style) (roots : List Text) (most : ℕ) (aims : List (Side × Text)) (first : Stand A (bench_end past)) (text : List ℕ)
-    (begun : IsBegun style roots most first) (from : PrintsFrom aims first text) → IsTimed begun.timeout first
+    → IsBegun style roots most first → (from : PrintsFrom aims first text)
     → AllCohere (history_of past) from.prints.moves from.ready from.last from.prints.does
 
 -- And of one whose time is over (`IsWatched`): what it has printed then, and what it prints at the end.
 abbrev pub LinkedEndAgrees : Type 0 → HistoryView → Type 0
 LinkedEndAgrees A past =
     (style : Style) (roots : List Text) (most : ℕ) (aims : List (Side × Text)) (for_ms : Option ℕ) (first : Stand A (bench_end past))
-    (text : List ℕ) (is_accepted : Bool) (begun : IsBegun style roots most first) (from : EndsFrom aims for_ms first text is_accepted)
-    → IsTimed begun.timeout first
+    (text : List ℕ) (is_accepted : Bool) → IsBegun style roots most first → (from : EndsFrom aims for_ms first text is_accepted)
     → AllCohere (history_of past) from.over.prints.moves from.ready from.over.over from.over.prints.does
     × AllCohere (history_of past) from.over.closes.moves from.over.over from.last from.over.closes.does
