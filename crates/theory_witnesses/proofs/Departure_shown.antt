@@ -243,5 +243,6 @@ no_node (Some node) f = let v : negsuc 0 ≡ pos node.version = ap (λ fields. f
 
 pub not_by_model : (h : History) → IsHistory h → Served h new_client (items_at until_config) → ⊥
 not_by_model h is served =
-    no_node (tree_at h 5 (path_of at_config)) (true_reads h is new_client (items_at until_config) (tt, (refl, (tt, (tt, tt)))) served 7
+    no_node (tree_at h 5 (path_of at_config)) (true_reads h is new_client (items_at until_config)
+    (tt, (config_askable, (tt, (tt, tt)))) served 7
     (question_of read_config) (pos 5) what_config_held config_taken)
