@@ -216,7 +216,8 @@ enum dw_code DW_AS_INT32 {
  *   DW_KIND_BOUNDED   whether the tree with this ticket has more nodes than its bound is another than before: is_bounded. While it has, no more of
  *                     it is taken on.
  *   DW_KIND_WHOLE     nothing is lacking of the tree with this ticket, and it may be another one than when that was told last: look it up by
- *                     dw_session_subtree, which judges whether it is of one moment. */
+ *                     dw_session_subtree, which judges whether it is of one moment. What was good before the tree was followed has no
+ *                     ticket of it: look after a report of a node below the root too. */
 typedef struct dw_output {
   enum dw_kind kind;
   union {
