@@ -7,9 +7,11 @@ use Rattle.zk_nodes.proofs.NamesLemmas.{names_of-insert}
 use Rattle.script_rehearse.specs.Scenes.{named_path, with_path}
 use Rattle.script_rehearse.proofs.called.add_path.Goals as goal
 
-pub returns-in_ok-insert-clause-added : goal.returns-in_ok-insert-clause-added
-returns-in_ok-insert-clause-added g c =
+pub returns-in_ok-insert : goal.returns-in_ok-insert
+returns-in_ok-insert g c =
     let named : named_path (call_view c.args.call.now) ≡ Some c.in-Some.path.now = search rules in
-    names_of-insert c.args.called.now c.insert.new.self c.in_ok-from_str.field-0 c.in_ok-insert.ensures.updates
-    ∙ ap (set.insert (names_of c.args.called.now)) c.in_ok-from_str.ensures.ok
-    ∙ ap (λ path. with_path path (names_of c.args.called.now)) (sym named)
+    record {
+      added = names_of-insert c.args.called.now c.insert.new.self c.in_ok-from_str.field-0 c.in_ok-insert.ensures.updates
+          ∙ ap (set.insert (names_of c.args.called.now)) c.in_ok-from_str.ensures.ok
+          ∙ ap (λ path. with_path path (names_of c.args.called.now)) (sym named);
+    }
