@@ -7,38 +7,60 @@ JSON, and the server ends with it. No more are made after the end of standard in
 
 from __future__ import annotations
 
+import fcntl
+import gc
 import json
 import os
 import selectors
 import signal
 import socket
 import sys
+import traceback
+from typing import NoReturn
 
 sys.dont_write_bytecode = True
 
 import hostile  # noqa: E402
 
 
-def read_line(connection: socket.socket) -> str:
+LAST = 512
+"""A number of a file above those that a server opens: so it is closed last, and who reads from it is told of the end of all."""
+
+
+def be_server(words: list[str], file: int) -> NoReturn:
+    """Is a server with these words, whose standard input and output are a file, and ends this process.
+
+    It ends at once: an interpreter that ends by itself writes to all memory that it shares with whoever has forked it, which takes longer than
+    all that a server does.
+    """
+    status = 1
+    try:
+        signal.signal(signal.SIGCHLD, signal.SIG_DFL)
+        for number in (0, 1):
+            os.dup2(file, number)
+        fcntl.fcntl(file, fcntl.F_DUPFD_CLOEXEC, LAST)
+        os.close(file)
+        sys.argv = ["hostile.py", *words]
+        hostile.main()
+        status = 0
+    except BaseException:
+        traceback.print_exc()
+    finally:
+        os._exit(status)
+
+
+def prepare_forks() -> None:
+    """Nobody waits for the processes that are forked from now on, and what is there stays shared with them as long as it can."""
+    signal.signal(signal.SIGCHLD, signal.SIG_IGN)
+    gc.freeze()
+
+
+def read_line(connection: socket.socket) -> bytes:
+    """A line, or what comes before the end."""
     line = b""
-    while not line.endswith(b"\n"):
-        byte = connection.recv(1)
-        if not byte:
-            raise EOFError
+    while not line.endswith(b"\n") and (byte := connection.recv(1)):
         line += byte
-    return line.decode()
-
-
-def run(connection: socket.socket) -> None:
-    """Is the server of a connection."""
-    signal.signal(signal.SIGCHLD, signal.SIG_DFL)
-    words = json.loads(read_line(connection))
-    for number in (0, 1):
-        os.dup2(connection.fileno(), number)
-    connection.close()
-    sys.argv = ["hostile.py", *words]
-    hostile.main()
-    sys.stdout.flush()
+    return line
 
 
 def make(listener: socket.socket) -> None:
@@ -46,14 +68,14 @@ def make(listener: socket.socket) -> None:
     with connection:
         if os.fork() == 0:
             listener.close()
-            try:
-                run(connection)
-            finally:
+            line = read_line(connection)
+            if not line:  # nobody wants one
                 os._exit(0)
+            be_server(json.loads(line), connection.detach())
 
 
 def main() -> None:
-    signal.signal(signal.SIGCHLD, signal.SIG_IGN)
+    prepare_forks()
     with socket.create_server(("127.0.0.1", 0), backlog=128) as listener, selectors.DefaultSelector() as selector:
         selector.register(listener, selectors.EVENT_READ)
         selector.register(0, selectors.EVENT_READ)
@@ -66,4 +88,5 @@ def main() -> None:
                     return
 
 
-main()
+if __name__ == "__main__":
+    main()

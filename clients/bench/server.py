@@ -11,6 +11,7 @@ from __future__ import annotations
 import argparse
 import asyncio
 import itertools
+import socket
 import struct
 import sys
 import threading
@@ -299,15 +300,28 @@ def read_lines(loop: asyncio.AbstractEventLoop, lines: asyncio.Queue[Optional[st
     loop.call_soon_threadsafe(lines.put_nowait, None)
 
 
+def hold(port: int) -> socket.socket:
+    """A socket that has a port of 127.0.0.1, or for 0 a free one, and does not listen.
+
+    So the system gives the port to nobody else while a server is down: neither to another server, which clients of this one would reach, nor
+    to a connection, which this one could not listen beside.
+    """
+    held = socket.socket()
+    held.setsockopt(socket.SOL_SOCKET, socket.SO_REUSEADDR, 1)
+    held.bind(("127.0.0.1", port))
+    return held
+
+
 async def serve(port: int, server: Server) -> None:
-    await server.listen(port)
-    print(f"listening {server.port}", flush=True)
-    lines: asyncio.Queue[Optional[str]] = asyncio.Queue()
-    threading.Thread(target=read_lines, args=(asyncio.get_running_loop(), lines), daemon=True).start()
-    while (line := await lines.get()) is not None:
-        print(await server.obey(line), flush=True)
-    server.stop_listening()
-    server.drop()
+    with hold(port) as held:
+        await server.listen(held.getsockname()[1])
+        print(f"listening {server.port}", flush=True)
+        lines: asyncio.Queue[Optional[str]] = asyncio.Queue()
+        threading.Thread(target=read_lines, args=(asyncio.get_running_loop(), lines), daemon=True).start()
+        while (line := await lines.get()) is not None:
+            print(await server.obey(line), flush=True)
+        server.stop_listening()
+        server.drop()
 
 
 def main() -> None:

@@ -7,7 +7,7 @@ import tempfile
 import threading
 import time
 
-from programs import BOUND, DATA, EXISTS, GET_DATA, PING, SLACK, STAT, Case, program, unused_address
+from programs import BOUND, DATA, EXISTS, GET_DATA, NOBODY, PING, SLACK, STAT, Case, program
 
 PROGRAM, ASKS = program("follow"), program("tests/asks")
 
@@ -186,7 +186,7 @@ class Follow(Followed):
 
     def test_next_address(self):
         partner = self.partner()
-        self.follow(f"{unused_address()},[::1]:1,{partner.address}")
+        self.follow(f"{NOBODY},[::1]:1,{partner.address}")
         self.expect("good absent")
 
     def test_pieces(self):
@@ -208,7 +208,7 @@ class Follow(Followed):
         self.assertEqual(self.followed.process.wait(BOUND), 0)
 
     def test_no_server(self):
-        self.follow(unused_address())
+        self.follow(NOBODY)
         with self.assertRaises(subprocess.TimeoutExpired):
             self.followed.process.wait(1)
         self.expect_end(signal.SIGTERM, False)
@@ -261,10 +261,9 @@ class Asks(Case):
             self.assertEqual(self.says(address, path), why)
 
     def test_no_server(self):
-        address = unused_address()
-        asking = subprocess.Popen([ASKS, address, "/a"], stderr=subprocess.PIPE, text=True)
+        asking = subprocess.Popen([ASKS, NOBODY, "/a"], stderr=subprocess.PIPE, text=True)
         self.addCleanup(asking.stderr.close)
         self.addCleanup(asking.wait, BOUND)
         self.addCleanup(asking.kill)
-        wanted = f"session: no server of {address} accepted the session in 9 s; last: {address}: connection refused\n"
+        wanted = f"session: no server of {NOBODY} accepted the session in 9 s; last: {NOBODY}: connection refused\n"
         self.assertEqual(asking.stderr.readline(), wanted)

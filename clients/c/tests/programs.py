@@ -171,11 +171,8 @@ DATA = struct.pack(">i", 3) + b"one" + STAT
 EXISTS, GET_DATA, PING = 3, 4, 11
 
 
-def unused_address():
-    """An address at which nobody listens."""
-    with socket.socket() as taken:
-        taken.bind(("127.0.0.1", 0))
-        return f"127.0.0.1:{taken.getsockname()[1]}"
+# Where nobody listens: no system gives that port away. One that was free a moment ago, another test may have got.
+NOBODY = "127.0.0.1:1"
 
 
 class Case(unittest.TestCase):

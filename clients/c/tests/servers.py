@@ -103,6 +103,7 @@ class Servers(Followed):
             self.wait_for_words("connection timed out\n")
             self.assertGreater(time.monotonic() - begun, 3.33)
             self.assertLess(time.monotonic() - begun, 3.4 + SLACK)
+            self.followed.end()  # before another test may get the port
 
     def test_server_that_stays_away(self):
         """It is dialled three times a second at most, and the pauses grow; once it is there it is found."""

@@ -8,7 +8,7 @@ import queue
 import threading
 from typing import Any, Callable
 
-from support import WAIT, PartnerCase
+from support import TIMEOUT, WAIT, PartnerCase
 
 import dirwolleu
 from dirwolleu import aio
@@ -64,7 +64,7 @@ class Blocking:
 class BothCase(PartnerCase):
     """A test of the client for threads. A class that also is an `AioCase` makes the same test of the one for asyncio."""
 
-    def client(self, host: str, timeout: float = 6.0, **named: Any) -> Any:
+    def client(self, host: str, timeout: float = TIMEOUT, **named: Any) -> Any:
         """A client that is started, and is stopped at the end of the test."""
         client = self.made(lambda: self.module().Client(host, timeout, **named))
         self.addCleanup(client.close)

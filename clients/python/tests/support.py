@@ -24,14 +24,16 @@ if signal.getsignal(signal.SIGINT) is signal.SIG_IGN:  # as in the background of
 
 WAIT = 60.0
 """The longest that a test waits for one thing, in seconds: a busy machine takes less."""
+TIMEOUT = 60.0
+"""The timeout of a session, in seconds, where a test does not wait for its end: so no machine that holds its server up ends a call."""
 
 
 def _begin_making() -> socket.socket:
     """Begins what makes partners, and gives the socket for what is wished of it. It ends with the last process that has the socket."""
     ours, its = socket.socketpair(socket.AF_UNIX, socket.SOCK_SEQPACKET)
     with its:
-        command = [sys.executable, "-I", str(pathlib.Path(__file__).with_name("partners.py")), str(its.fileno())]
-        MAKING.append(subprocess.Popen(command, pass_fds=[its.fileno()], stdin=subprocess.DEVNULL, start_new_session=True))
+        command = [sys.executable, "-IB", str(pathlib.Path(__file__).with_name("partners.py")), str(its.fileno())]
+        MAKING.append(subprocess.Popen(command, pass_fds=[its.fileno()], stdin=subprocess.DEVNULL))
     return ours
 
 
@@ -42,10 +44,10 @@ WISHES = _begin_making()
 class Partner:
     """A server in memory, in a process of its own."""
 
-    def __init__(self, *options: str, port: int = 0) -> None:
+    def __init__(self, *options: str) -> None:
         self._commands, its = socket.socketpair()
         with its:
-            socket.send_fds(WISHES, [json.dumps(["--port", str(port), *options]).encode()], [its.fileno()])
+            socket.send_fds(WISHES, [json.dumps(options).encode()], [its.fileno()])
         self._commands.settimeout(6 * WAIT)
         self._answers = self._commands.makefile()
         self.port = int(self._answers.readline().split()[1])
@@ -204,8 +206,8 @@ class PartnerCase(unittest.TestCase):
 
     _shared: Partner
 
-    def partner(self, *options: str, port: int = 0) -> Partner:
-        partner = Partner(*options, port=port)
+    def partner(self, *options: str) -> Partner:
+        partner = Partner(*options)
         self.addCleanup(partner.stop)
         return partner
 

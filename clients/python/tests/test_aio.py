@@ -11,7 +11,7 @@ import unittest
 from collections.abc import AsyncIterator
 from typing import Any, Callable, Optional
 
-from support import CLIENTS, WAIT, Partner, PartnerCase, Peer
+from support import CLIENTS, TIMEOUT, WAIT, Partner, PartnerCase, Peer
 
 from dirwolleu import (
     ConnectionClosedError,
@@ -46,7 +46,7 @@ class AioTest(unittest.IsolatedAsyncioTestCase, PartnerCase):
     async def asyncSetUp(self) -> None:
         asyncio.get_running_loop().slow_callback_duration = WAIT  # a partner that starts holds the loop up
 
-    async def client(self, partner: Partner, timeout: float = 6.0, saved: Optional[bytes] = None) -> Client:
+    async def client(self, partner: Partner, timeout: float = TIMEOUT, saved: Optional[bytes] = None) -> Client:
         client = Client(partner.host, timeout, saved)
         self.addAsyncCleanup(client.close)
         self.addAsyncCleanup(client.stop)

@@ -17,7 +17,7 @@ from typing import Any, Callable, Optional
 from unittest import mock
 
 from both import in_thread
-from support import CLIENTS, GET_DATA, SET_WATCHES, WAIT, PartnerCase, Peer, data_reply, reply, within
+from support import CLIENTS, GET_DATA, SET_WATCHES, TIMEOUT, WAIT, PartnerCase, Peer, data_reply, reply, within
 
 from dirwolleu import (
     CallTimeoutError,
@@ -42,7 +42,7 @@ SET_DATA = 5
 
 
 class ClientCase(PartnerCase):
-    def client(self, host: str, timeout: float = 6.0, retry: Optional[Retry] = None) -> Client:
+    def client(self, host: str, timeout: float = TIMEOUT, retry: Optional[Retry] = None) -> Client:
         client = Client(host, timeout, retry=retry)
         self.addCleanup(client.close)
         self.addCleanup(client.stop)

@@ -10,7 +10,7 @@ import time
 import unittest
 from typing import Any, Callable, Optional
 
-from support import WAIT, Partner, PartnerCase, within
+from support import TIMEOUT, WAIT, Partner, PartnerCase, within
 
 import dirwolleu
 from dirwolleu import (
@@ -72,7 +72,7 @@ class Following:
 
 
 class ClientCase(PartnerCase):
-    def client(self, *partners: Partner, timeout: float = 6.0, saved: Optional[bytes] = None) -> Client:
+    def client(self, *partners: Partner, timeout: float = TIMEOUT, saved: Optional[bytes] = None) -> Client:
         hosts = ",".join(partner.host for partner in partners)
         client = Client(hosts, timeout, saved, randomize_hosts=False)
         self.addCleanup(client.close)
@@ -467,14 +467,12 @@ class SessionTest(ClientCase):
         self.assertGreaterEqual(other.last_zxid, client.last_zxid)
 
     def test_a_server_that_is_behind_is_not_read(self) -> None:
-        partner = self.partner()
+        partner, behind = self.partner(), self.partner()
         partner.do("create /a one")
-        client = self.client(partner)
+        client = self.client(partner, behind)
         client.get("/a", watch=True)
-        port = partner.port
-        partner.stop()
+        partner.do("down")
         within(lambda: client.state is State.SUSPENDED)
-        behind = self.partner(port=port)
         saved = client.saved_session
         assert saved is not None
         self.assertEqual(struct.unpack(">q", saved[-8:])[0], client.last_zxid)

@@ -13,7 +13,7 @@ from collections.abc import Sequence
 from typing import Any, Callable
 from unittest import mock
 
-from support import WAIT, Partner, PartnerCase, Peer, within
+from support import TIMEOUT, WAIT, Partner, PartnerCase, Peer, within
 
 from dirwolleu import Client, EventType, Mark, NoNodeError, State, WatchedEvent
 from dirwolleu._hosts import Place, Servers, hosts_of
@@ -99,7 +99,7 @@ class HostsTest(PartnerCase):
 
 
 class NamesTest(PartnerCase):
-    def client(self, hosts: str, timeout: float = 6.0) -> Client:
+    def client(self, hosts: str, timeout: float = TIMEOUT) -> Client:
         client = Client(hosts, timeout)
         self.addCleanup(client.close)
         self.addCleanup(client.stop)

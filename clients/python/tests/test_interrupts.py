@@ -21,7 +21,7 @@ from types import FrameType
 from typing import Any, Callable, Optional
 from unittest import mock
 
-from support import CLIENTS, CLOSE_SESSION, WAIT, PartnerCase, Peer, reply, within
+from support import CLIENTS, CLOSE_SESSION, TIMEOUT, WAIT, PartnerCase, Peer, reply, within
 
 from dirwolleu import (
     Barrier,
@@ -43,7 +43,7 @@ INTERRUPTED_CALLS, LONGEST = 100_000, 8.0
 class ClientCase(PartnerCase):
     is_armed = False
 
-    def client(self, host: str, timeout: float = 10.0) -> Client:
+    def client(self, host: str, timeout: float = TIMEOUT) -> Client:
         client = Client(host, timeout)
         self.addCleanup(client.close)
         self.addCleanup(client.stop)

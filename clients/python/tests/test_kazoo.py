@@ -15,7 +15,7 @@ from collections.abc import Callable
 from typing import Any, Optional
 from unittest import mock
 
-from support import CLIENTS, WAIT, Partner, PartnerCase, Peer, within
+from support import CLIENTS, TIMEOUT, WAIT, Partner, PartnerCase, Peer, within
 
 from dirwolleu._library import Standing
 from dirwolleu.kazoo import client, exceptions, security
@@ -58,7 +58,7 @@ class KazooCase(PartnerCase):
         return client
 
     def unstarted(self, root: str = "", kind: type[KazooClient] = KazooClient, **named: Any) -> KazooClient:
-        words: dict[str, Any] = {"timeout": 6.0, **named}
+        words: dict[str, Any] = {"timeout": TIMEOUT, **named}
         client = kind(self.server.host + root, **words)
         self.addCleanup(client.close)
         self.addCleanup(client.stop)

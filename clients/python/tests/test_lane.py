@@ -10,7 +10,7 @@ import time
 import unittest
 from typing import Any, Callable
 
-from support import EXISTS, GET_DATA, PING, SET_WATCHES, STAT, WAIT, Asked, PartnerCase, Peer, data_reply, notice, reply, within
+from support import EXISTS, GET_DATA, PING, SET_WATCHES, STAT, TIMEOUT, WAIT, Asked, PartnerCase, Peer, data_reply, notice, reply, within
 
 from dirwolleu import (
     AuthFailedError,
@@ -48,7 +48,7 @@ OPEN_ACL = struct.pack(">ii", 1, 31) + text("world") + text("anyone")
 
 
 class LaneCase(PartnerCase):
-    def client(self, host: str, timeout: float = 6.0, auth_data: Any = ()) -> Client:
+    def client(self, host: str, timeout: float = TIMEOUT, auth_data: Any = ()) -> Client:
         client = Client(host, timeout, auth_data=auth_data)
         self.addCleanup(client.close)
         client.start(WAIT)

@@ -133,8 +133,7 @@ class RefusalTest(MessageCase):
         self.assertEqual(message, wanted)
 
     def test_where_no_server_is_there_the_last_attempt_is_told(self) -> None:
-        with socket.create_server(("127.0.0.1", 0)) as taken:
-            host = f"127.0.0.1:{taken.getsockname()[1]}"
+        host = "127.0.0.1:1"  # a port that no system gives away, so no other test listens there
         client = Client(host, timeout=0.5)
         self.addCleanup(client.close)
         self.start_says(client, f"no server of {host} accepted the session in ", f" s; last: {host}: connection refused")

@@ -12,7 +12,7 @@ from typing import Any, Callable, Optional
 from unittest import mock
 
 from both import in_thread
-from support import WAIT, PartnerCase, within
+from support import TIMEOUT, WAIT, PartnerCase, within
 
 import dirwolleu
 from dirwolleu import (
@@ -34,7 +34,7 @@ from dirwolleu._contending import in_line
 
 
 class RecipeCase(PartnerCase):
-    def client(self, host: str, timeout: float = 6.0) -> Client:
+    def client(self, host: str, timeout: float = TIMEOUT) -> Client:
         client = Client(host, timeout)
         self.addCleanup(client.close)
         self.addCleanup(client.stop)

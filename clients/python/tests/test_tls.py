@@ -14,7 +14,7 @@ import threading
 import unittest
 from typing import Optional
 
-from support import WAIT, Partner, PartnerCase, within
+from support import TIMEOUT, WAIT, Partner, PartnerCase, within
 
 from dirwolleu import Client, ConnectionClosedError, State, aio, tls_context
 
@@ -115,7 +115,7 @@ class TlsTest(PartnerCase):
         return partner, wrapper.port
 
     def client(self, port: int, context: ssl.SSLContext, host: str = "localhost") -> Client:
-        client = Client(f"{host}:{port}", 6.0, ssl=context)
+        client = Client(f"{host}:{port}", TIMEOUT, ssl=context)
         self.addCleanup(client.close)
         self.addCleanup(client.stop)
         return client

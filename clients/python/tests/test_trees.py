@@ -7,7 +7,7 @@ import threading
 import unittest
 from typing import Callable, Optional
 
-from support import WAIT, PartnerCase, within
+from support import TIMEOUT, WAIT, PartnerCase, within
 
 import dirwolleu
 from dirwolleu import NoNodeError, TreeSnapshot
@@ -23,7 +23,7 @@ class SnapshotTest(PartnerCase):
     def setUp(self) -> None:
         self.server = self.partner()
         self.server.do(*MADE)
-        self.client = dirwolleu.Client(self.server.host, 5.0)
+        self.client = dirwolleu.Client(self.server.host, TIMEOUT)
         self.addCleanup(self.client.stop)
         self.client.start(WAIT)
         self.tree = self.client.tree("/t")
@@ -119,7 +119,7 @@ class SnapshotTest(PartnerCase):
         self.assertRaises(StopIteration, next, snapshots)
 
     def test_no_answer_in_time_is_told(self) -> None:
-        client = dirwolleu.Client(self.server.host, 5.0)
+        client = dirwolleu.Client(self.server.host, TIMEOUT)
         self.addCleanup(client.close)
         client.start(WAIT)
         self.server.do("drop")
@@ -131,7 +131,7 @@ class SnapshotTest(PartnerCase):
         self.assertRaises(ValueError, self.client.tree, "/t", most=0)
 
     def test_a_tree_below_a_chroot(self) -> None:
-        with dirwolleu.Client(f"{self.server.host}/t", 5.0) as client, client.tree("/") as tree:
+        with dirwolleu.Client(f"{self.server.host}/t", TIMEOUT) as client, client.tree("/") as tree:
             self.assertEqual(sorted(tree.wait(WAIT)), ["/", "/a", "/a/deep", "/b"])
 
 
@@ -141,7 +141,7 @@ class MomentTest(PartnerCase):
     def test_all_is_good_or_there_is_none(self) -> None:
         server = self.partner()
         server.do(*MADE)
-        with dirwolleu.Client(server.host, 5.0) as client:
+        with dirwolleu.Client(server.host, TIMEOUT) as client:
             self.assertIsNone(client.snapshot(nodes=["/t/a"]))
             client.get("/t/a", watch=True)
             client.exists("/none", watch=True)
@@ -162,7 +162,7 @@ class MomentTest(PartnerCase):
         """It is what a look-up of that path alone has."""
         server = self.partner()
         server.do(*MADE)
-        with dirwolleu.Client(f"{server.host}/t", 5.0) as client:
+        with dirwolleu.Client(f"{server.host}/t", TIMEOUT) as client:
             client.get("/a", watch=True)
             client.exists("/b", watch=True)
             client.exists("/none", watch=True)
@@ -182,7 +182,7 @@ class MomentTest(PartnerCase):
         server, paths = self.partner(), ["/a", "/b", "/c"]
         server.do(*(f"create {path} 0" for path in paths))
         shown = list[int]()
-        with dirwolleu.Client(server.host, 5.0) as client, dirwolleu.Client(server.host, 5.0) as writer:
+        with dirwolleu.Client(server.host, TIMEOUT) as client, dirwolleu.Client(server.host, TIMEOUT) as writer:
             for number in range(30):
                 transaction = writer.transaction()
                 for path in paths:
@@ -208,7 +208,7 @@ class AsyncTest(PartnerCase):
 
         async def follow() -> list[int]:
             given = []
-            async with AioClient(server.host, 5.0) as client, client.tree("/t") as tree:
+            async with AioClient(server.host, TIMEOUT) as client, client.tree("/t") as tree:
                 await tree.wait(WAIT)
                 async for snapshot in tree.snapshots():
                     given.append(len(snapshot))

@@ -11,7 +11,7 @@ import unittest
 from typing import Any, Callable, Optional
 
 from both import AioCase, Blocking, BothCase
-from support import GET_DATA, WAIT, Peer, data_reply, notice, reply, within
+from support import GET_DATA, TIMEOUT, WAIT, Peer, data_reply, notice, reply, within
 
 import dirwolleu
 from dirwolleu import KeptChildren, Mark, NoAuthError, State, aio
@@ -165,7 +165,7 @@ class WatchRules(BothCase):
 
     def test_a_watch_may_begin_before_its_client_and_outlives_a_stop(self) -> None:
         partner, told = self.partner(), queue.Queue[Any]()
-        client = self.made(lambda: self.module().Client(partner.host, 6.0))
+        client = self.made(lambda: self.module().Client(partner.host, TIMEOUT))
         self.addCleanup(client.close)
         self.addCleanup(client.stop)
         self.watch(client, "DataWatch", "/a", lambda data, _: told.put(data))

@@ -3,7 +3,7 @@
 use crate::server::Server;
 use dirwolleu::{Client, Hosts, Mode, Moment, Session, SessionOptions, Watch, ANY_VERSION};
 use std::fmt::Display;
-use std::net::{SocketAddr, TcpListener};
+use std::net::{IpAddr, Ipv4Addr, SocketAddr, TcpListener};
 use std::thread;
 use std::time::Duration;
 
@@ -16,11 +16,8 @@ fn printed<T, E: Display>(outcome: Result<T, E>) -> String {
     }
 }
 
-/// An address that nobody listens at.
-fn nobody() -> SocketAddr {
-    let listener = TcpListener::bind("127.0.0.1:0").unwrap();
-    listener.local_addr().unwrap()
-}
+/// An address that nobody listens at: no system gives that port away.
+const NOBODY: SocketAddr = SocketAddr::new(IpAddr::V4(Ipv4Addr::LOCALHOST), 1);
 
 /// A message about a search for a server, with the seconds that it says.
 fn searched(message: &str, hosts: &str) -> (f64, String) {
@@ -133,21 +130,19 @@ fn a_text_that_is_no_path_says_why() {
 
 #[test]
 fn where_no_server_is_there_the_last_attempt_is_told() {
-    let address = nobody();
-    let session = Session::open(address, Duration::from_secs(3)).unwrap();
-    let (seconds, last) = searched(&printed(session.get("/a")), &format!(" of {address}"));
+    let session = Session::open(NOBODY, Duration::from_secs(3)).unwrap();
+    let (seconds, last) = searched(&printed(session.get("/a")), &format!(" of {NOBODY}"));
     assert!(seconds >= 3.0, "{seconds}");
-    assert_eq!(last, format!("{address}: connection refused"));
+    assert_eq!(last, format!("{NOBODY}: connection refused"));
 }
 
 #[test]
 fn a_call_whose_limit_has_passed_tells_it_too() {
-    let address = nobody();
     let options = SessionOptions::new(TIMEOUT).limit(Duration::from_secs(2));
-    let session = options.open(address).unwrap();
-    let (seconds, last) = searched(&printed(session.get("/a")), &format!(" of {address}"));
+    let session = options.open(NOBODY).unwrap();
+    let (seconds, last) = searched(&printed(session.get("/a")), &format!(" of {NOBODY}"));
     assert!((2.0..10.0).contains(&seconds), "{seconds}");
-    assert_eq!(last, format!("{address}: connection refused"));
+    assert_eq!(last, format!("{NOBODY}: connection refused"));
 }
 
 #[test]

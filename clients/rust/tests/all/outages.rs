@@ -116,6 +116,12 @@ fn a_server_that_accepts_and_never_answers_is_left() {
     assert!(took >= least && took < least + SLACK, "{took:?}");
 }
 
+/// A listener at an address of this process and this test alone: so while it is gone, nobody else gets its port.
+fn own_listener(test: u8) -> TcpListener {
+    let [.., high, low] = std::process::id().to_be_bytes();
+    TcpListener::bind(SocketAddr::from(([127, test, high, low], 0))).expect("a port is free")
+}
+
 /// A session at this address, and how often it has dialled.
 fn counting(address: SocketAddr, timeout: Duration) -> (Session, Arc<AtomicUsize>) {
     let dials = Arc::new(AtomicUsize::new(0));
@@ -130,7 +136,7 @@ fn counting(address: SocketAddr, timeout: Duration) -> (Session, Arc<AtomicUsize
 
 #[test]
 fn a_server_that_stays_away_is_dialled_until_it_comes() {
-    let listener = TcpListener::bind("127.0.0.2:0").unwrap(); // others take no port of it
+    let listener = own_listener(1);
     let address = listener.local_addr().unwrap();
     drop(listener);
     let begun = Instant::now();
@@ -165,7 +171,7 @@ fn serve_and_go(listener: TcpListener, timeout: i32) {
 
 #[test]
 fn what_was_read_stays_good_while_a_server_stays_away_and_ends_with_the_session() {
-    let listener = TcpListener::bind("127.0.0.3:0").unwrap();
+    let listener = own_listener(2);
     let address = listener.local_addr().unwrap();
     let goes = thread::spawn(move || serve_and_go(listener, 3_000));
     let session = Session::open(address, millis(3_000)).unwrap();
