@@ -231,7 +231,7 @@ impl<A: Allocator + Copy> Walk<A> {
         alloc: A,
         bounds: Bounds,
     ) -> Result<Ending<A>, Stop>
-        ensures { IfOk result (λ ending. (last : Stage A)
+        ensures { IfOk result (λ ending. (last : Stage A D.Stream.far)
             × Reaches bounds
             (stage_of (flow_of D.Stream.remaining D.Stream.contents D.Stream.far D.Stream.state driver.old.engine None) self.old) last
             × EndsAt bounds last (ending_view ending) × (self.new.printed.items ≡ last.printed)) }
