@@ -6,4 +6,4 @@ mod Printing
 mod Showing
 mod Telling
 mod Tending
-mod Running
+pub mod Running
