@@ -188,14 +188,14 @@ starts_at past (Some (Some served)) begun = record { after = served; there = ref
 
 started_ready : (past : HistoryView) → IsReady (started past)
 started_ready past = record {
-  taken = taken_none (history_of past) (started past).taken (refl, refl, refl, refl, refl, refl, refl, refl, tt);
+  taken = taken_none (history_of past) (started past).taken (refl, (refl, (refl, (refl, (refl, (refl, (refl, (refl, tt))))))));
   there = lit< tt;
   unwatched = λ opening. let e : Apart ≡ Opening = opening in cc;
 }
 
 -- ---- one deed
 
-module _ {A : Type 0} (past : HistoryView) where
+module _ (A : Type 0) (past : HistoryView) where
   abbrev Linked : Type 0
   Linked = Flow A (bench_end past)
 
@@ -395,8 +395,8 @@ module _ {A : Type 0} (past : HistoryView) where
 
 pub linked_watch_agrees : (A : Type 0) (past : HistoryView) → IsHistory (history_of past) → LinkedWatchAgrees A past
 linked_watch_agrees A past is style roots most aims first text begun from =
-    let follows = followed past style roots most aims first from.ready begun from.follows in
-    let prints = moved past from.prints.moves from.ready from.last from.prints.does follows.after follows.beside in
+    let follows = followed A past style roots most aims first from.ready begun from.follows in
+    let prints = moved A past from.prints.moves from.ready from.last from.prints.does follows.after follows.beside in
     let same = prints.beside.history in
     subst (λ (h : HistoryView). AllCohere (history_of h) from.prints.moves from.ready from.last from.prints.does) same
     (watch_agrees A (bench_end past) ByDriver prints.after (prints_cohere A (bench_end past))
@@ -409,9 +409,9 @@ linked_watch_agrees A past is style roots most aims first text begun from =
 
 pub linked_end_agrees : (A : Type 0) (past : HistoryView) → IsHistory (history_of past) → LinkedEndAgrees A past
 linked_end_agrees A past is style roots most aims for_ms first text is_accepted begun from =
-    let follows = followed past style roots most aims first from.ready begun from.follows in
-    let prints = moved past from.over.prints.moves from.ready from.over.over from.over.prints.does follows.after follows.beside in
-    let closes = moved past from.over.closes.moves from.over.over from.last from.over.closes.does prints.after prints.beside in
+    let follows = followed A past style roots most aims first from.ready begun from.follows in
+    let prints = moved A past from.over.prints.moves from.ready from.over.over from.over.prints.does follows.after follows.beside in
+    let closes = moved A past from.over.closes.moves from.over.over from.last from.over.closes.does prints.after prints.beside in
     let same = closes.beside.history in
     subst (λ (h : HistoryView).
     AllCohere (history_of h) from.over.prints.moves from.ready from.over.over from.over.prints.does
