@@ -1,13 +1,15 @@
-"""Requests that the model of a server has not, answered over the server in memory: sync, create2, ACLs, credentials and transactions.
+"""Requests that the model of a server has not, and that the proved server would end the connection at: sync, create2, ACLs, credentials and
+transactions. No other request is answered here.
 
-What is not proved of them: a transaction is tried on another server that has learned all, and then made by one change after the other, so
-each has a zxid of its own; ACLs are kept beside and admit everybody; and the scheme `digest` takes any credentials.
+What the model has of them the proved server is asked: each change, whether a node is there, and its Stat. What is not proved: a transaction is
+tried on another server that has learned all, and then made by one change after the other, so each has a zxid of its own, and a check compares
+the version of a Stat; ACLs are kept beside and admit everybody; the scheme `digest` takes any credentials; and sync answers at once.
 """
 
 from __future__ import annotations
 
 import struct
-from typing import TYPE_CHECKING, NamedTuple
+from typing import TYPE_CHECKING, Callable, NamedTuple
 
 import frames
 from frames import CHECK, CREATE, CREATE2, DELETE, ERROR, EXISTS, OK, SET_DATA, Malformed, Record, Reply, put_text
@@ -15,21 +17,7 @@ from frames import CHECK, CREATE, CREATE2, DELETE, ERROR, EXISTS, OK, SET_DATA, 
 if TYPE_CHECKING:
     from server import Server, Session
 
-PROVED = {
-    frames.CREATE,
-    frames.DELETE,
-    frames.EXISTS,
-    frames.GET_DATA,
-    frames.SET_DATA,
-    frames.GET_CHILDREN,
-    frames.GET_CHILDREN2,
-    frames.PING,
-    frames.SET_WATCHES,
-    frames.CLOSE_SESSION,
-}
-"""The requests that the server in memory answers itself."""
-
-RUNTIME_INCONSISTENCY, UNIMPLEMENTED, BAD_VERSION, AUTH_FAILED = -2, -6, -103, -115
+RUNTIME_INCONSISTENCY, BAD_VERSION, AUTH_FAILED = -2, -103, -115
 ANY_VERSION = -1
 OPEN_ACL = struct.pack(">ii", 1, 31) + put_text("world") + put_text("anyone")
 ACL_VERSION = slice(40, 44)
@@ -72,7 +60,12 @@ def with_version(stat: bytes, acl: Acl) -> bytes:
     return stat[: ACL_VERSION.start] + struct.pack(">i", acl.version) + stat[ACL_VERSION.stop :]
 
 
-def create2(server: Server, session: Session, body: bytes, notices: list[bytes]) -> bytes:
+def sync(_server: Server, _session: Session, record: Record, _notices: list[bytes]) -> bytes:
+    return put_text(record.take_text())
+
+
+def create2(server: Server, session: Session, record: Record, notices: list[bytes]) -> bytes:
+    body = record.rest()
     reply = ask(session, CREATE, body, notices)
     if reply.code != OK:
         raise Refused(reply.code)
@@ -124,7 +117,7 @@ def take_parts(record: Record) -> list[tuple[int, bytes]]:
 def operate(server: Server, session: Session, kind: int, part: bytes, notices: list[bytes]) -> bytes:
     """Does an operation of a transaction, and gives its result."""
     if kind == CREATE2:
-        return create2(server, session, part, notices)
+        return create2(server, session, Record(part), notices)
     if kind == CHECK:
         record = Record(part)
         stat, version = stat_of(session, record.take_text(), notices), record.take_int()
@@ -167,31 +160,30 @@ def transact(server: Server, session: Session, record: Record, notices: list[byt
     return b"".join(put_header(kind, OK) + operate(server, session, kind, part, notices) for kind, part in parts) + END
 
 
-def answered(server: Server, session: Session, kind: int, record: Record, notices: list[bytes]) -> bytes:
-    """The body of the reply to a request."""
-    if kind == CREATE2:
-        return create2(server, session, record.rest(), notices)
-    if kind == frames.SYNC:
-        return put_text(record.take_text())
-    if kind == frames.GET_ACL:
-        return get_acl(server, session, record, notices)
-    if kind == frames.SET_ACL:
-        return set_acl(server, session, record, notices)
-    if kind == frames.MULTI:
-        return transact(server, session, record, notices)
-    if kind != frames.AUTH:
-        raise Refused(UNIMPLEMENTED)
+def introduce(_server: Server, _session: Session, record: Record, _notices: list[bytes]) -> bytes:
+    """Takes credentials."""
     record.take_int()
     if record.take_text() != "digest":
         raise Refused(AUTH_FAILED)
     return b""
 
 
+ANSWERS: dict[int, Callable[[Server, Session, Record, list[bytes]], bytes]] = {
+    CREATE2: create2,
+    frames.SYNC: sync,
+    frames.GET_ACL: get_acl,
+    frames.SET_ACL: set_acl,
+    frames.MULTI: transact,
+    frames.AUTH: introduce,
+}
+"""The body of the reply to each of these requests. All others are the proved server's."""
+
+
 def answer(server: Server, session: Session, xid: int, kind: int, record: Record) -> tuple[list[bytes], bool]:
     """The frames that are sent for a request, and whether the connection ends after them: so it does where credentials are refused."""
     notices = list[bytes]()
     try:
-        body, code = answered(server, session, kind, record, notices), OK
+        body, code = ANSWERS[kind](server, session, record, notices), OK
     except Refused as refused:
         body, code = b"", refused.code
     return [*notices, frames.put_reply(xid, session.bench.zxid(), code, body)], kind == frames.AUTH and code != OK

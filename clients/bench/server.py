@@ -279,12 +279,12 @@ class Connection(asyncio.Protocol):
         xid, kind = record.take_int(), record.take_int()
         if kind == frames.CLOSE_SESSION:
             self.server.end(session)
-        if kind in lane.PROVED:
+        if kind in lane.ANSWERS:
+            output, is_last = lane.answer(self.server, session, xid, kind, record)
+        else:
             output, is_last = session.answer(frame), False
             if output and (reply := frames.read_reply(output[-1])).code == frames.OK:
                 self.server.note(session, kind, record.rest(), reply)
-        else:
-            output, is_last = lane.answer(self.server, session, xid, kind, record)
         self.send(b"".join(output))
         self.server.spread(session.bench)
         if is_last or not session.bench.is_open:

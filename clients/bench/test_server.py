@@ -12,6 +12,9 @@ import time
 import unittest
 from typing import Optional
 
+import lane
+from library import Bench
+
 MAKER = pathlib.Path(__file__).resolve().with_name("maker.py")
 PASSWORD_OF_NONE = struct.pack(">i", 16) + bytes(16)
 OPEN_ACL = struct.pack(">ii", 1, 31) + struct.pack(">i", 5) + b"world" + struct.pack(">i", 6) + b"anyone"
@@ -63,6 +66,20 @@ def header(payload: Optional[bytes]) -> tuple[int, int, int]:
     assert payload is not None
     xid, zxid, code = struct.unpack(">iqi", payload[:16])
     return xid, zxid, code
+
+
+class LaneTest(unittest.TestCase):
+    def test_the_lane_answers_nothing_that_the_proved_server_does(self) -> None:
+        connect = struct.pack(">iqiq", 0, 0, 6000, 0) + PASSWORD_OF_NONE + b"\0"
+        for kind in lane.ANSWERS:
+            bench = Bench(1)
+            bench.connect(1)
+            for payload in (connect, struct.pack(">ii", 1, kind) + text("/") + bytes(64)):
+                self.assertTrue(bench.is_open)
+                bench.hear(struct.pack(">i", len(payload)) + payload)
+                self.assertTrue(bench.process(1))
+                said = bench.say()
+            self.assertEqual((said, bench.is_open), (b"", False), kind)
 
 
 class ServerTest(unittest.TestCase):
@@ -139,7 +156,11 @@ class ServerTest(unittest.TestCase):
         self.assertEqual(self.command("create / x"), "refused: -110")
         self.assertEqual(self.command("delete /"), "refused: -8")
         self.assertEqual(self.command("fly"), "unknown: fly")
-        self.assertEqual(header(self.connected().ask(1, 77)), (1, 2, -6))
+
+    def test_what_neither_the_model_nor_the_lane_has_ends_the_connection(self) -> None:
+        self.start()
+        peer = self.connected()
+        self.assertIsNone(peer.ask(1, 77))
 
     def test_a_transaction_happens_as_a_whole_or_not_at_all(self) -> None:
         self.start()
