@@ -43,8 +43,8 @@ TURNS, LAWS, LOCAL = "zk_turns", "zk_laws", "theory_local"
 KINDS = ("weaker", "narrower", "wrong")
 # the crates of laws above one
 ABOVE = {
-    TURNS: ["theory_turns", "theory_rules"],
-    LAWS: ["theory_runs", "theory_serving", "theory_rules"],
+    TURNS: ["theory_pieces", "theory_rules"],
+    LAWS: ["theory_messages", "theory_serving", "theory_rules"],
     LOCAL: ["theory_witnesses"],
     "zk_conclusions": ["theory_witnesses"],
 }

@@ -13,7 +13,6 @@ use crate::end::CallEnd;
 use script_words::values::push_value;
 use std::alloc::{AllocError, Allocator};
 use zk_client::{CallResult, Code, Outcome};
-use zk_conversation::NO_NODE;
 
 /// What a code of a server means.
 fn code_words(code: Code) -> &'static str
@@ -68,14 +67,13 @@ pub(crate) fn fault_line<A: Allocator + Copy>(
 fn refusal<A: Allocator + Copy>(alloc: A, name: &str, code: Code) -> Result<String<A>, AllocError>
     ensures { IfOk result (λ text. string_bytes text ≡ result_told name.now (code_result (code_number code))) }
 {
-    let number = code.number();
-    if number == NO_NODE {
+    if code.is_no_node() {
         let mut text = String::from_str(alloc, "no node: ")?;
         text.push_str(name)?;
         text.push_str("\n")?;
         return Ok(text);
     }
-    let why = refusal_words(alloc, number)?;
+    let why = refusal_words(alloc, code.number())?;
     fault_line(alloc, "refused: ", name, why.as_str())
 }
 
@@ -158,7 +156,7 @@ fn outcome_end<A: Allocator>(outcome: &Outcome<A>) -> CallEnd
             zxid: _,
             result: CallResult::Code(code),
         } => {
-            if code.number() == NO_NODE {
+            if code.is_no_node() {
                 CallEnd::NoNode
             } else {
                 CallEnd::Refused

@@ -24,7 +24,7 @@ use Rattle.zk_laws.proofs.Log.{Item, Took, zxid_in, last, good, left_by, leaves,
 use Rattle.zk_laws.proofs.Steps.{is_behind}
 use Rattle.zk_laws.proofs.Invariant.{IsRight, Ahead, IsCovered, IsSure, IsSettled}
 use Rattle.zk_laws.proofs.Basics.{text_eq-true, text_eq_from}
-use Rattle.theory_runs.proofs.Shown.{all_sent}
+use Rattle.theory_messages.proofs.Shown.{all_sent}
 use Rattle.zk_laws.proofs.Stamps.{IsNextAt}
 use Rattle.zk_laws.proofs.Ahead.{IsLess, ahead_more, ahead_right, right_less, told_log, told_less, notices_ahead, max_zero}
 use Rattle.zk_laws.proofs.NextMoves.{next_ahead}

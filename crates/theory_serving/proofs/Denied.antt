@@ -29,7 +29,7 @@ use Rattle.zk_laws.specs.Messages.{Ask}
 use Rattle.zk_laws.specs.Served.{Sent, Entry, Serves, MayServe, ArePayloads, first_xid, items_in, wire_of, is_going, requests, unread}
 use Rattle.zk_laws.specs.Served.{IsServing}
 use Rattle.zk_laws.proofs.Basics.{text_eq-true}
-use Rattle.theory_runs.specs.Meeting_example.{new_client}
+use Rattle.theory_messages.specs.Meeting_example.{new_client}
 use Rattle.theory_serving.specs.Whole_example.{three_changes, long_path, ask_long, absent_payload, asking, denying, numbers}
 
 -- ---- what is asked

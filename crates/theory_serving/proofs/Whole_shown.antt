@@ -30,10 +30,10 @@ use Rattle.theory_serving.proofs.GoingOn.{goes_serving}
 use Rattle.zk_laws.specs.ServerSteps.{Waiting, Serving, Ended}
 use Rattle.zk_laws.specs.Messages.{Connect, Restore, Ask, Ping}
 use Rattle.zk_laws.specs.Served.{Entry, items_in, wire_of, requests, unread, IsServing}
-use Rattle.theory_runs.specs.Example.{two_changes, at_a, fields_at_five, a_changed}
-use Rattle.theory_runs.specs.Meeting_example.{welcome_payload, notice_payload, new_client, until_half_read}
-use Rattle.theory_runs.proofs.Shown.{all_sent, is_history}
-use Rattle.theory_runs.proofs.Meeting_shown.{half_read_then, stands_then}
+use Rattle.theory_messages.specs.Example.{two_changes, at_a, fields_at_five, a_changed}
+use Rattle.theory_messages.specs.Meeting_example.{welcome_payload, notice_payload, new_client, until_half_read}
+use Rattle.theory_messages.proofs.Shown.{all_sent, is_history}
+use Rattle.theory_messages.proofs.Meeting_shown.{half_read_then, stands_then}
 use Rattle.theory_serving.proofs.Asked.{all_typed}
 use Rattle.theory_serving.proofs.Denied.{asking_said, asking_serving, asked_still, denied_still}
 use Rattle.theory_serving.specs.Whole_example.{third_change, three_changes, first_part, second_part, write_a, restored_payload}

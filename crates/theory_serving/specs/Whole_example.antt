@@ -14,8 +14,8 @@ use Rattle.zk_conversation.specs.Results.{Result, NoNode, Found}
 use Rattle.zk_turns.specs.Turns.{Bytes, Cut, Now, Call as Calling, Opened as Opening}
 use Rattle.zk_laws.specs.ServerSteps.{Advances, Admits, Refuses, Answers, Restores, Pongs}
 use Rattle.zk_laws.specs.Served.{Entry, Goes_on, Serves}
-use Rattle.theory_runs.specs.Example.{root_alone, two_changes, at_a, a_changed}
-use Rattle.theory_runs.specs.Meeting_example.{due_turn, welcome_payload, reply_ends, notice_payload, until_half_read}
+use Rattle.theory_messages.specs.Example.{root_alone, two_changes, at_a, a_changed}
+use Rattle.theory_messages.specs.Meeting_example.{due_turn, welcome_payload, reply_ends, notice_payload, until_half_read}
 
 -- /a is set once more, at 7
 abbrev pub third_change : Transaction

@@ -16,8 +16,8 @@ use Rattle.zk_bench.specs.Stepping.{shown_of}
 use Rattle.script_live.specs.Exchanged.{Known}
 use Rattle.zk_driver.specs.Driving.{ChannelView}
 use Rattle.zk_driver.specs.Flowing.{Flow}
-use Rattle.zk_served.specs.ServedDrivers.{Begins}
-use Rattle.zk_served.proofs.Benched.{bench_connects}
+use Rattle.theory_drivers.specs.ServedDrivers.{Begins}
+use Rattle.theory_drivers.proofs.Benched.{bench_connects}
 use Rattle.script_replay.specs.Played.{start_of}
 use Rattle.script_live.specs.Flowing as live
 use Rattle.script_live.specs.Frames.{frames}

@@ -15,11 +15,11 @@ use Rattle.zk_bench.specs.Stepping.{phase_of, shown_of, IsReady}
 use Rattle.zk_agent.specs.declared.input.AgentInput.TheVariants as happens
 use Rattle.zk_driver.specs.Driving.{Looked, Noted, Written}
 use Rattle.zk_driver.specs.Flowing.{Asked, Deed, Flow, Made}
-use Rattle.zk_served.specs.Acts.{Act, Gives, Happens, Serves, Takes}
-use Rattle.zk_served.specs.ServedDrivers.{MeetsServers}
-use Rattle.zk_served.specs.Worlds.{Befalls, ByDriver, ByStream, Meanwhile}
-use Rattle.zk_served.proofs.Benched.{bench_advances, bench_connects, bench_ends, bench_gives, bench_processes, bench_takes}
-use Rattle.zk_served.proofs.Served.{bytes_serve, streams_cohere, streams_serve}
+use Rattle.theory_drivers.specs.Acts.{Act, Gives, Happens, Serves, Takes}
+use Rattle.theory_drivers.specs.ServedDrivers.{MeetsServers}
+use Rattle.theory_drivers.specs.Worlds.{Befalls, ByDriver, ByStream, Meanwhile}
+use Rattle.theory_drivers.proofs.Benched.{bench_advances, bench_connects, bench_ends, bench_gives, bench_processes, bench_takes}
+use Rattle.theory_drivers.proofs.Served.{bytes_serve, streams_cohere, streams_serve}
 use Rattle.theory_shown.specs.Benched.{BenchesReceive}
 use Rattle.theory_shown.specs.BenchActs.{BenchDoes}
 use Rattle.theory_shown.specs.Benched.{BefallsBench, BenchesCohere, BenchesMeet, BenchesServe, DrivesBench, MeanwhileBench}

@@ -13,10 +13,10 @@ use Rattle.zk_bench.proofs.Processed.{goes_further}
 use Rattle.zk_agent.specs.declared.input.AgentInput.TheVariants as happens
 use Rattle.zk_driver.specs.Driving.{Looked, Noted, Written}
 use Rattle.zk_driver.specs.Flowing.{Asked, Deed, Flow, Made, Passes}
-use Rattle.zk_served.specs.Acts.{Act, Gives, Happens, Serves, Takes}
-use Rattle.zk_served.specs.Worlds.{Befalls, ByDriver, ByStream, Meanwhile, Meets}
-use Rattle.zk_served.proofs.Turned.{goes_nowhere, Kept}
-use Rattle.zk_served.proofs.Served.{meets_driver, steps_bound, Bound}
+use Rattle.theory_drivers.specs.Acts.{Act, Gives, Happens, Serves, Takes}
+use Rattle.theory_drivers.specs.Worlds.{Befalls, ByDriver, ByStream, Meanwhile, Meets}
+use Rattle.theory_drivers.proofs.Turned.{goes_nowhere, Kept}
+use Rattle.theory_drivers.proofs.Served.{meets_driver, steps_bound, Bound}
 use Rattle.theory_shown.specs.Watched.{RunMeets}
 
 pub same_on : (before after : Shown) → after ≡ before → GoesOn before.history after.history

@@ -19,10 +19,10 @@ use Rattle.zk_driver.specs.Driving.{ChannelView, Looked, Noted, Written}
 use Rattle.zk_driver.specs.Noting.{is_come}
 use Rattle.zk_driver.specs.Flowing.{Asked, AreWithin, Carries, Deed, Flow, Made, Passes, Runs}
 use Rattle.zk_driver.proofs.Flowed.{goes_on, open_before}
-use Rattle.zk_served.specs.Acts.{given_in, taken_in, Act, Gives, Serves, Takes}
+use Rattle.theory_drivers.specs.Acts.{given_in, taken_in, Act, Gives, Serves, Takes}
 use Rattle.theory_shown.specs.BenchActs.{bench_end, BenchBegins, BenchDoes, BenchGoes, LineDoes}
-use Rattle.zk_served.specs.Worlds.{ByDriver}
-use Rattle.zk_served.proofs.Turned.{goes_nowhere}
+use Rattle.theory_drivers.specs.Worlds.{ByDriver}
+use Rattle.theory_drivers.proofs.Turned.{goes_nowhere}
 use Rattle.shell_watch.specs.declared.plan.Style.{Style}
 use Rattle.shell_watch.specs.Watching.{flow_in, Closes, Does, FollowsAll, IsBegun, Move, Stand, Takes as Prints}
 use Rattle.shell_watch.proofs.Running.{follows_run, tended_run}

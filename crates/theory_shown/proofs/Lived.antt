@@ -17,11 +17,12 @@ use Rattle.theory_serving.specs.Wires.{is_up}
 use Rattle.theory_serving.proofs.Views.{first_session, forget_session}
 use Rattle.zk_bench.proofs.Processed.{goes_further}
 use Rattle.script_live.specs.Exchanged.{Exchanges, Known}
-use Rattle.zk_served.specs.Acts.{given_in, taken_in}
-use Rattle.zk_served.proofs.Acted.{acts_keep, apart_kept}
-use Rattle.zk_served.proofs.Heard.{input_keeps, IsHanded}
-use Rattle.zk_served.proofs.Served.{known_gave, known_took}
-use Rattle.zk_served.proofs.Turned.{cut_down, cut_kept, goes_nowhere, kept_down, let_go, opened_ends, opened_kept, stays_up, IsWithin, Kept}
+use Rattle.theory_drivers.specs.Acts.{given_in, taken_in}
+use Rattle.theory_drivers.proofs.Acted.{acts_keep, apart_kept}
+use Rattle.theory_drivers.proofs.Heard.{input_keeps, IsHanded}
+use Rattle.theory_drivers.proofs.Served.{known_gave, known_took}
+use Rattle.theory_drivers.proofs.Turned.{cut_down, cut_kept, goes_nowhere, kept_down, let_go, opened_ends, opened_kept, stays_up, IsWithin}
+use Rattle.theory_drivers.proofs.Turned.{Kept}
 use Rattle.script_replay.specs.ClientLines.{CallLine, ClientValue, CutLine, ForgetLine, LastLine, NowLine, PeekLine, SavedLine}
 use Rattle.script_replay.proofs.CourseLemmas.{forgets}
 use Rattle.script_live.specs.Frames.{frames}

@@ -20,9 +20,9 @@ use Rattle.zk_bench.specs.Stepping.{shown_watches, IsReady}
 use Rattle.zk_agent.specs.declared.input.AgentInput.TheVariants as happens
 use Rattle.zk_driver.specs.Driving.{Looked, Noted, Written}
 use Rattle.zk_driver.specs.Flowing.{Asked, Deed, Flow, Made, Passes}
-use Rattle.zk_served.specs.Acts.{Takes}
-use Rattle.zk_served.specs.Worlds.{ByDriver}
-use Rattle.zk_served.proofs.Turned.{goes_nowhere}
+use Rattle.theory_drivers.specs.Acts.{Takes}
+use Rattle.theory_drivers.specs.Worlds.{ByDriver}
+use Rattle.theory_drivers.proofs.Turned.{goes_nowhere}
 use Rattle.script_live.specs.Exchanged.{Exchanges, Known}
 use Rattle.script_live.specs.Flowing as live
 use Rattle.script_live.specs.Frames.{frames}

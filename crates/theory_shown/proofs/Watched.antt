@@ -8,9 +8,9 @@ use Rattle.theory_serving.specs.GoingOn.{GoesOn}
 use Rattle.theory_serving.specs.Shown.{Shown}
 use Rattle.zk_bench.proofs.Processed.{goes_further}
 use Rattle.zk_driver.specs.Flowing.{Flow}
-use Rattle.zk_served.specs.Worlds.{ByDriver, ByStream}
-use Rattle.zk_served.proofs.Served.{begins_bound, held_where, Bound}
-use Rattle.zk_served.proofs.Turned.{goes_nowhere}
+use Rattle.theory_drivers.specs.Worlds.{ByDriver, ByStream}
+use Rattle.theory_drivers.proofs.Served.{begins_bound, held_where, Bound}
+use Rattle.theory_drivers.proofs.Turned.{goes_nowhere}
 use Rattle.shell_watch.specs.Watching.{flow_in, view_in, Closes, Does, Move, Stand, Takes}
 use Rattle.theory_shown.specs.Watched.{AllCohere, EndsCohere, FollowsMeet, IsMoveCoherent, MoveMeets, MovesMeet, PrintsCohere, RunMeets}
 use Rattle.theory_shown.proofs.Going.{kept_coheres, run_bound, run_driver, run_on, same_on}

@@ -11,7 +11,7 @@ use Rattle.zk_bench.specs.Served as bench
 use Rattle.zk_bench.specs.Stepping.{IsReady}
 use Rattle.script_live.specs.Exchanged.{Known}
 use Rattle.zk_driver.specs.Flowing.{Flow, Runs}
-use Rattle.zk_served.specs.Acts.{given_in, taken_in, Act}
+use Rattle.theory_drivers.specs.Acts.{given_in, taken_in, Act}
 use Rattle.script_words.specs.declared.script.ScriptEnd.{ScriptEnd}
 use Rattle.script_live.specs.Flowing as live
 use Rattle.script_live.specs.Frames.{frames}

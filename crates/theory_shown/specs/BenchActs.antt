@@ -12,7 +12,7 @@ use Rattle.zk_bench.specs.declared.phase.Phase.TheVariants.{Ended}
 use Rattle.zk_bench.specs.Served.{ended, is_open, with_requests, without_output, Served}
 use Rattle.zk_bench.specs.Served as bench
 use Rattle.zk_bench.specs.Stepping.{shown_of, IsReady, ProcessesFirst, TakesSome}
-use Rattle.zk_served.specs.Acts.{given_in, taken_in, Act, Gives, Serves, Takes}
+use Rattle.theory_drivers.specs.Acts.{given_in, taken_in, Act, Gives, Serves, Takes}
 
 -- ---- what a bench does while a connection is there
 

@@ -9,7 +9,7 @@ use Rattle.zk_laws.specs.Headline.{IsCoherentWith}
 use Rattle.theory_serving.specs.GoingOn.{GoesOn}
 use Rattle.theory_serving.specs.Shown.{connected, Shown}
 use Rattle.script_live.specs.Exchanged.{Known}
-use Rattle.zk_served.specs.Acts.{given_in, taken_in, Act, Happens}
+use Rattle.theory_drivers.specs.Acts.{given_in, taken_in, Act, Happens}
 use Rattle.script_live.specs.Flowing.{Begins, Carries, Deed, Ends, Flow, Hears, Reads}
 use Rattle.script_live.specs.Frames.{frames}
 use Rattle.script_live.specs.Printed.{Prints}

@@ -8,8 +8,8 @@ use Rattle.zk_nodes.specs.declared.side.Side.{Side}
 use Rattle.zk_laws.specs.Headline.{IsCoherentWith}
 use Rattle.theory_serving.specs.Shown.{Shown}
 use Rattle.zk_driver.specs.Flowing.{Flow, Runs}
-use Rattle.zk_served.specs.ServedDrivers.{Begins}
-use Rattle.zk_served.specs.Worlds.{Meets}
+use Rattle.theory_drivers.specs.ServedDrivers.{Begins}
+use Rattle.theory_drivers.specs.Worlds.{Meets}
 use Rattle.shell_watch.specs.Watching.{flow_in, view_in, Closes, Does, EndsFrom, Move, PrintsFrom, Stand, Takes}
 
 -- ---- what goes on beside a watch

@@ -5,7 +5,7 @@
 
 ghost use Rattle.zk_history.specs.HistoryView.{history_of};
 ghost use Rattle.zk_nodes.specs.History.{IsHistory};
-ghost use Rattle.zk_served.specs.Worlds.{ByDriver, ByStream};
+ghost use Rattle.theory_drivers.specs.Worlds.{ByDriver, ByStream};
 ghost use Rattle.theory_shown.specs.Agreeing.{LifeAgrees, LivesWait, WatchAgrees, WatchEndAgrees};
 ghost use Rattle.theory_shown.specs.Benched.{BenchesCohere, BenchesMeet, BenchesReceive, BenchesServe, BenchesWait};
 ghost use Rattle.theory_shown.specs.Linked.{LinkedEndAgrees, LinkedWatchAgrees};

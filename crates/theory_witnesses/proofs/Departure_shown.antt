@@ -26,10 +26,10 @@ use Rattle.zk_turns.proofs.Stepped.{given_stands}
 use Rattle.zk_cache.specs.Kept.{Full, good}
 use Rattle.zk_laws.specs.Server.{Fits}
 use Rattle.zk_laws.specs.Served.{Served}
-use Rattle.theory_runs.specs.Example.{two_changes, at_a, fields_at_five}
-use Rattle.theory_runs.specs.Meeting_example.{new_client, welcome_payload, reply_ends, until_accepted}
-use Rattle.theory_runs.proofs.Shown.{a_askable}
-use Rattle.theory_runs.proofs.Meeting_shown.{accepted_then}
+use Rattle.theory_messages.specs.Example.{two_changes, at_a, fields_at_five}
+use Rattle.theory_messages.specs.Meeting_example.{new_client, welcome_payload, reply_ends, until_accepted}
+use Rattle.theory_messages.proofs.Shown.{a_askable}
+use Rattle.theory_messages.proofs.Meeting_shown.{accepted_then}
 use Rattle.zk_laws.proofs.Headlines.{true_reads}
 use Rattle.theory_local.specs.LocalSteps.{IsOf, IsAbout}
 use Rattle.theory_local.specs.LocalServed.{items_at, IsServingAt}

@@ -5,8 +5,8 @@ use Rattle.std.specs.Prelude.{bytes_eq, nat_le}
 use Rattle.std.proofs.lemmas.Slice.Eq.{bytes_eq-Decides}
 use Rattle.zk_nodes.specs.Path.{Name}
 use Rattle.zk_nodes.specs.History.{Node, Tree, made, apply_all, after, tree_at, IsHistory}
-use Rattle.theory_runs.specs.Example.{root_alone}
-use Rattle.theory_runs.proofs.Shown.{is_history}
+use Rattle.theory_messages.specs.Example.{root_alone}
+use Rattle.theory_messages.proofs.Shown.{is_history}
 use Rattle.zk_conclusions.specs.Holders.{is_before, IsHolder, NamesRise}
 use Rattle.theory_witnesses.specs.Rising.{line, in_line, first_name, second_name, first_comes, second_comes, first_goes, two_in_line}
 

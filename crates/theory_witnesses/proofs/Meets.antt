@@ -5,8 +5,8 @@ use Rattle.zk_turns.specs.Turns.{IsAskable, AllAskOf}
 use Rattle.zk_turns.specs.Rule.{AllSaid}
 use Rattle.zk_turns.proofs.Stepped.{given_stands}
 use Rattle.zk_laws.specs.Served.{Entry, items_in, IsServing}
-use Rattle.theory_runs.specs.Example.{at_a, fields_at_five}
-use Rattle.theory_runs.specs.Meeting_example.{new_client}
+use Rattle.theory_messages.specs.Example.{at_a, fields_at_five}
+use Rattle.theory_messages.specs.Meeting_example.{new_client}
 use Rattle.theory_serving.specs.Whole_example.{three_changes, until_lost, until_written, until_expired}
 use Rattle.theory_serving.proofs.Whole_shown.{three_history, whole_stands, lost_then, written_then, expired_then, good_then, seven_then}
 use Rattle.zk_conclusions.specs.Seen.{IsServedFrom}

@@ -10,8 +10,8 @@ use Rattle.zk_turns.specs.Turns.{Input, Bytes, Cut, Call, Item, Turned, signals_
 use Rattle.zk_turns.specs.Taken.{past_of}
 use Rattle.zk_turns.specs.Rule.{due_signals}
 use Rattle.zk_laws.specs.ServerSteps.{Admits, Answers}
-use Rattle.theory_runs.specs.Example.{at_a, read_a, what_a_held}
-use Rattle.theory_runs.specs.Meeting_example.{new_client, welcome_payload, reply_begins, reply_ends, until_accepted}
+use Rattle.theory_messages.specs.Example.{at_a, read_a, what_a_held}
+use Rattle.theory_messages.specs.Meeting_example.{new_client, welcome_payload, reply_begins, reply_ends, until_accepted}
 use Rattle.theory_local.specs.LocalServed.{LocalEntry, Goes, Steps, Fails, items_at, local_of}
 
 -- /a, and no other path

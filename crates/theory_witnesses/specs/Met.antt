@@ -3,7 +3,7 @@ use Rattle.std.specs.Prelude.{List}
 use Rattle.zk_turns.specs.View.{View, view_at}
 use Rattle.zk_turns.specs.Taken.{past_of}
 use Rattle.zk_laws.specs.Served.{Entry, items_in}
-use Rattle.theory_runs.specs.Meeting_example.{new_client}
+use Rattle.theory_messages.specs.Meeting_example.{new_client}
 
 -- what the client shows after these entries
 abbrev pub shown_after : List Entry → View

@@ -2,7 +2,7 @@
 use Rattle.std.specs.Prelude.{pos, [], ◌∷◌, None}
 use Rattle.zk_nodes.specs.Path.{Name, NodePath}
 use Rattle.zk_nodes.specs.History.{Creates, Deletes, Transaction, History}
-use Rattle.theory_runs.specs.Example.{root_alone}
+use Rattle.theory_messages.specs.Example.{root_alone}
 
 abbrev pub line : NodePath
 line = []

@@ -10,8 +10,8 @@ ghost use Rattle.zk_turns.specs.View.{View};
 ghost use Rattle.zk_turns.specs.Rule.{Stands};
 ghost use Rattle.zk_client.specs.Runs.{Holds};
 
-pub use theory_runs::{one_entry, one_item, small_schedule, taken_as_sent};
-pub use theory_turns::{good_marks, sent_frames, standing_answers};
+pub use theory_messages::{one_entry, one_item, small_schedule, taken_as_sent};
+pub use theory_pieces::{good_marks, sent_frames, standing_answers};
 pub use zk_laws::{
     above_the_saved, answers_are_true, coherence, drops_are_due, headline, parsed_requests,
     quiet_client, sent_requests,

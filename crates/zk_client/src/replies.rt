@@ -25,7 +25,7 @@ ghost use Rattle.zk_client.specs.Seen.{view_with};
 ghost use Rattle.zk_client.specs.inner.Seen.{while_pending, origin};
 ghost use Rattle.zk_client.specs.Sound.{CoreIsSound};
 ghost use Rattle.zk_client.specs.inner.Sound.{CoreHasArrived, IsLeft};
-ghost use Rattle.zk_client.specs.inner.Steps.{is_no_node, closing};
+ghost use Rattle.zk_client.specs.inner.Steps.{closing};
 ghost use Rattle.zk_limits.specs.declared.limits.TheConstants.{MOST_PATHS};
 
 use crate::copies::copied;
@@ -34,18 +34,10 @@ use crate::machine::{Core, say};
 use crate::output::{Outcome, Output};
 use std::alloc::{AllocError, Allocator};
 use zk_cache::{Cache, DataAnswer};
-use zk_conversation::{NO_NODE, Question, ReplyResult};
+use zk_conversation::{Question, ReplyResult};
 use zk_jute::TextRef;
 use zk_nodes::{DataStat, Path, Side, Stat, copied_data};
-use zk_records::Code;
 use zk_watches::Registry;
-
-/// Whether the code says that there is no node.
-fn says_absent(code: Code) -> bool
-    ensures { result ≡ is_no_node code }
-{
-    code.number() == NO_NODE
-}
 
 /// What a reply that leaves a watch says of its path, lent by the question and the reply.
 #[derive(Drop)]
@@ -72,7 +64,7 @@ fn left_by<'a, 'b, A: Allocator + Copy>(
 {
     match (question, found) {
         (Question::Exists { path, watch: true }, ReplyResult::Code(code)) => {
-            if says_absent(*code) {
+            if code.is_no_node() {
                 return Some(Left::Absent(path));
             }
             None

@@ -45,7 +45,7 @@ fn are_digits(bytes: &[u8]) -> bool
     bytes.iter().all(|byte| matches!(*byte, b'0'..=b'9'))
 }
 
-fn has_end(bytes: &[u8], marker: &[u8]) -> bool
+fn ends_with(bytes: &[u8], marker: &[u8]) -> bool
     ensures { result ≡ ends_with nat_eq bytes.now marker.now }
 {
     bytes.ends_with(marker)
@@ -55,7 +55,7 @@ fn has_end(bytes: &[u8], marker: &[u8]) -> bool
 pub(crate) fn is_numbered(name: &str, marker: &str) -> bool
     ensures { result ≡ is_numbered marker.now name.now }
 {
-    name.len() >= 10 && are_digits(number_of(name)) && has_end(front_of(name), marker.as_bytes())
+    name.len() >= 10 && are_digits(number_of(name)) && ends_with(front_of(name), marker.as_bytes())
 }
 
 /// Whether the one name is before the other: by their numbers, and where these are the same in the order of bytes.

@@ -30,4 +30,4 @@ pub use conversation::{Asked, Conversation, Pending};
 pub use fault::{AskFault, TalkFault};
 pub use phase::Phase;
 pub use question::Question;
-pub use result::{NO_NODE, ReplyResult};
+pub use result::ReplyResult;

@@ -12,9 +12,6 @@ use std::alloc::Allocator;
 use zk_jute::{Cursor, Readable, TakeError, TextRef, take};
 use zk_records::{Code, CreateRef, GetChildren2Ref, GetDataRef, Stat};
 
-/// The number of the code with which a server answers where there is no node.
-pub const NO_NODE: i32 = -101;
-
 /// What a reply brings: the code of its error, or the record of its question. Texts and bytes are slices of the
 /// payload.
 #[derive(Drop)]

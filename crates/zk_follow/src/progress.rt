@@ -8,7 +8,6 @@ ghost use Rattle.zk_follow.specs.Following.{after_code, later, missing_after, pr
 
 use std::alloc::Allocator;
 use zk_client::{CallResult, Code, Outcome};
-use zk_conversation::NO_NODE;
 
 /// How long, in milliseconds, a subject waits whose read was refused.
 const PAUSE_MS: u64 = 1_000;
@@ -49,12 +48,11 @@ fn later(now: u64) -> u64
 fn after_code(now: u64, was_there: bool, code: Code) -> Progress
     ensures { result ≡ after_code now was_there (code_result (code_number code)) }
 {
-    let number = code.number();
-    if number == NO_NODE && !was_there {
+    if code.is_no_node() && !was_there {
         return Progress::Due;
     }
     Progress::Refused {
-        why: Refusal::Code(number),
+        why: Refusal::Code(code.number()),
         until: later(now),
     }
 }
@@ -97,7 +95,7 @@ pub(crate) fn missing_after<A: Allocator>(was_missing: bool, outcome: &Outcome<A
         Outcome::Replied {
             result: CallResult::Code(code),
             ..
-        } => { was_missing || code.number() == NO_NODE }
+        } => { was_missing || code.is_no_node() }
         Outcome::Replied { .. } => false,
         _ => was_missing,
     }
@@ -115,7 +113,7 @@ pub(crate) fn there_after<A: Allocator>(
         Outcome::Replied {
             result: CallResult::Code(code),
             ..
-        } => was_there && code.number() != NO_NODE,
+        } => was_there && !code.is_no_node(),
         Outcome::Replied { .. } => was_missing,
         _ => was_there,
     }

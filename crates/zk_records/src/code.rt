@@ -1,7 +1,7 @@
 //! Why a server refused a request.
 
 ghost use Rattle.std.specs.Prelude.{◌≡◌};
-ghost use Rattle.zk_records.specs.Codes.{code_of, code_number};
+ghost use Rattle.zk_records.specs.Codes.{code_of, code_number, is_no_node};
 
 /// Why a server refused a request: the error codes of the protocol that this client knows by name. Any other number is
 /// carried as it is, which is a rule of this project.
@@ -64,5 +64,12 @@ impl Code {
             Code::SessionMoved => -118,
             Code::Other(number) => number,
         }
+    }
+
+    /// Whether it says that there is no node.
+    pub fn is_no_node(self) -> bool
+        ensures { result ≡ is_no_node self }
+    {
+        self.number() == Code::NoNode.number()
     }
 }

@@ -1,4 +1,4 @@
--- What bytes do that come piece by piece, in the words of `theory_turns`. The client's own proofs name it too.
+-- What bytes do that come piece by piece, in the words of `theory_pieces`. The client's own proofs name it too.
 use Rattle.zk_turns.specs.Past.{Happening}
 use Rattle.std.specs.Prelude.{◌≡◌, ℕ, false, List, [], ◌∷◌, ◌++◌}
 use Rattle.zk_turns.specs.View.{View}

@@ -1,4 +1,4 @@
--- The frames that a connection was sent, by what happened: in the words of `theory_turns`. `requests` in
+-- The frames that a connection was sent, by what happened: in the words of `theory_pieces`. `requests` in
 -- `zk_laws/specs/Served.antt` has them with what was asked.
 use Rattle.std.specs.Prelude.{pos, ℕ, ℤ, List, [], ◌∷◌, ◌++◌, map}
 use Rattle.zk_turns.specs.Turns.{Start}

@@ -1,4 +1,4 @@
--- When an answer stands, and what it says, by one look back in place of another: in the words of `theory_turns`.
+-- When an answer stands, and what it says, by one look back in place of another: in the words of `theory_pieces`.
 use Rattle.zk_cache.specs.Kept.{Answer, Absent, Known, Full}
 use Rattle.zk_cache.specs.declared.held.Kept.{Kept}
 use Rattle.std.specs.Prelude.{◌≡◌, List, ◌∷◌, ◌++◌}

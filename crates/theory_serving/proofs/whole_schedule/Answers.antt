@@ -1,5 +1,5 @@
 -- The schedule over three connections meets each premise, entry by entry, and what it leads to is computed: the lemmas of `Whole_shown`.
-use Rattle.theory_runs.proofs.Meeting_shown.{resumable_then}
+use Rattle.theory_messages.proofs.Meeting_shown.{resumable_then}
 use Rattle.theory_serving.proofs.Whole_shown.{three_history, expired_then, whole_stands, whole_typed, good_then, behind_then, stale_then}
 use Rattle.theory_serving.proofs.Whole_shown.{asked_then, answered_then, quiet_then, seven_then, over_then}
 use Rattle.theory_serving.proofs.whole_schedule.Goals as goal

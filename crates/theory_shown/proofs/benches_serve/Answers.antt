@@ -1,6 +1,6 @@
 -- What a bench does beside a driver is what servers of the model do, act by act and deed by deed (`benches_meet`), so the laws of drivers
 -- over such servers tell the rest; and a ready bench can receive (`benches_receive`) and wait (`benches_wait`).
-use Rattle.zk_served.specs.Worlds.{ByDriver, ByStream}
+use Rattle.theory_drivers.specs.Worlds.{ByDriver, ByStream}
 use Rattle.theory_shown.proofs.Benched.{benches_cohere, benches_cohere_bytes, benches_meet, benches_receive, benches_serve}
 use Rattle.theory_shown.proofs.Benched.{benches_serve_bytes}
 use Rattle.theory_shown.proofs.Waiting.{benches_wait}

@@ -1,5 +1,5 @@
 -- Runs beside a bench are runs beside servers of the model, so what a watch prints agrees with its history (`watch_agrees`).
-use Rattle.zk_served.specs.Worlds.{ByDriver, ByStream}
+use Rattle.theory_drivers.specs.Worlds.{ByDriver, ByStream}
 use Rattle.theory_shown.proofs.Agreeing.{watch_agrees, watch_end_agrees}
 use Rattle.theory_shown.proofs.Watched.{ended_cohere, ends_cohere, prints_cohere, streams_cohere}
 use Rattle.theory_shown.proofs.watches_agree.Goals as goal

@@ -1,6 +1,6 @@
 -- The schedule whose server departs at another path meets the premise at /a, and what it leads to is computed. No history explains the read
 -- of the configuration, as no node has the version -1: `not_by_model`.
-use Rattle.theory_runs.proofs.Shown.{is_history}
+use Rattle.theory_messages.proofs.Shown.{is_history}
 use Rattle.theory_witnesses.proofs.Departure_shown.{refused_then, refused_stands, good_then, five_then, dropped_then, not_by_model}
 use Rattle.theory_witnesses.proofs.departing_schedule.Goals as goal
 

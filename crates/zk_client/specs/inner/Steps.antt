@@ -1,10 +1,7 @@
 -- What contracts of private functions say: nobody has to believe it.
-use Rattle.std.specs.Prelude.{◌≡◌, ℕ, Bool, negsuc, ◌+◌, ◌<◌, ◌≤◌, pos, List, [], ◌∷◌, ◌++◌, length, Option, Some, None, unsigned_abs, true}
+use Rattle.std.specs.Prelude.{◌≡◌, ℕ, Bool, ◌+◌, ◌<◌, ◌≤◌, pos, List, [], ◌∷◌, ◌++◌, length, Option, Some, None, unsigned_abs, true}
 use Rattle.std.specs.Prelude.{false}
-use Rattle.std.specs.Ordering.{int_eq}
 use Rattle.zk_nodes.specs.declared.side.Side.{Side}
-use Rattle.zk_records.specs.declared.code.Code.{Code}
-use Rattle.zk_records.specs.Codes.{code_number}
 use Rattle.zk_conversation.specs.Calls.{Call, call_payload}
 use Rattle.zk_conversation.specs.Questions.{Close, Question, question_of, watched_side}
 use Rattle.zk_conversation.specs.Pending.{calls_pending, watches_pending}
@@ -25,9 +22,6 @@ pub record IsSendable (view : View) (call : Call) : Type 0 where
   pub room : (side : Side)
       → watched_side (question_of call) ≡ Some side → count_of view.lists side + watches_pending side view.pending < MOST_PATHS
   pub fits : length (call_payload (pos view.xid) call) ≤ LONGEST_OUTGOING
-
-abbrev pub is_no_node : Code → Bool
-is_no_node code = int_eq (code_number code) (negsuc 100)
 
 -- the session that an accepted response gives
 abbrev pub welcome_of : Response → Welcome
