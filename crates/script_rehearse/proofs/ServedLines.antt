@@ -1,5 +1,5 @@
--- Each line of a rehearsal keeps its client served by servers of the laws: line by line, each an item of the client or a move of the
--- servers.
+-- Each line of a rehearsal keeps its client, once there is one, served by servers of the laws: line by line, each an item of the client,
+-- some moves of the servers, another client, or none of these.
 use Rattle.std.proofs.Common.{◌≡◌, ◌≢◌, ◌<◌, ◌-◌, ◌+◌, eqb, ℕ, ℤ, pos, negsuc, Bool, true, false, List, [], ◌∷◌, ◌++◌, take, drop, refl}
 use Rattle.std.proofs.Common.{sym, ap, ap₂, subst, ◌∙◌, arith}
 use Rattle.std.proofs.lemmas.Bool.{eqb-true, eqb-false}

@@ -1,4 +1,5 @@
--- What a watch does is, byte by byte, a run of its driver: move by move, each a call of the driver or none.
+-- What a watch does is, byte by byte, a run of its driver: move by move, each some calls of the driver, or none. So is that it begins to
+-- follow subjects.
 use Rattle.std.proofs.Common.{◌≡◌, ◌∙◌, Bool, true, false, List, [], ◌∷◌, ap, refl, sym}
 use Rattle.std.specs.Prelude.{ℕ}
 use Rattle.std.specs.List.{filter, FoldsTo}

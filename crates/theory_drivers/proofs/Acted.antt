@@ -1,4 +1,5 @@
--- What befalls the servers keeps a client served, with what is under way in the driver: act by act, each an entry of the schedule or none.
+-- What befalls the servers keeps a client served, with what is under way in the driver: act by act, each some entries of the schedule, or
+-- none. Where the client or its driver has no connection, only the history goes on.
 use Rattle.std.proofs.Common.{◌≡◌, ◌≢◌, ◌<◌, ◌≤◌, ◌+◌, ◌^◌, ◌++◌, ◌∙◌, ◌⊎◌, inl, inr, ℕ, ℤ, Bool, true, false, List, [], ◌∷◌, length, take}
 use Rattle.std.proofs.Common.{drop, ap, append-nil, append_assoc, refl, sym, subst, arith}
 use Rattle.std.specs.List.{FoldsTo}

@@ -1,5 +1,6 @@
--- What each move of an agent keeps, and all of them: a client that is served, with what is under way in the driver. Move by move, each a
--- turn of the client or none.
+-- What moves of an agent keep: a client that is served, with what is under way in the driver. Move by move, each is some turns of the
+-- client, another session, or neither. Two moves keep it only as the driver notes them: a connection begins, to a server at a place of the
+-- history, where the client had none; and bytes come, all that were held.
 use Rattle.std.proofs.Common.{◌≡◌, ◌≤◌, ◌<◌, ◌++◌, ◌∙◌, ℕ, ℤ, Bool, true, false, cond, List, [], ◌∷◌, Option, Some, None, length, ap}
 use Rattle.std.proofs.Common.{append_assoc, refl, sym, subst, arith}
 use Rattle.std.specs.Prelude.{⊤, fold, filter, FitsSigned, pos, ◌≤ℤ◌, unsigned_abs}

@@ -1,5 +1,6 @@
--- Where a session ends: by a message alone, and the client says so. Each happening that brings no message leaves the state one that is not
--- final, and the reply to a close ends the connection.
+-- Neither a call that is handed over nor the end of a connection ends a session: a happening that brings no message leaves the state as it
+-- is, or makes it one that is not final. And a client that is closed was closed before, or bytes came, and of what it says then some output
+-- ends the connection.
 use Rattle.std.proofs.Common.{◌≡◌, ◌++◌, ◌⊎◌, inl, inr, ℕ, Bool, true, false, ◌||◌, List, [], ◌∷◌, Option, Some, None, refl, sym, ap, subst}
 use Rattle.std.proofs.Common.{◌∙◌}
 use Rattle.std.specs.Prelude.{max}

@@ -1,4 +1,5 @@
--- Each call waits or is settled, and never both: each move keeps the sum of those that wait and those that are told, ticket by ticket.
+-- Ticket by ticket, the calls that wait and the ends that are told are together as many as the calls that waited and those that were asked:
+-- each move keeps that sum, and one that asks for a call adds that call.
 use Rattle.std.proofs.Common.{zero-add, ◌≡◌, ◌++◌, ◌+◌, ℕ, Bool, true, false, cond, ◌&&◌, not, List, [], ◌∷◌, Option, Some, None, map, refl}
 use Rattle.std.proofs.Common.{sym, ap, ◌∙◌, arith}
 use Rattle.std.specs.Prelude.{◌==◌}

@@ -1,4 +1,5 @@
--- A call is handed over as one move of the agent; and with each one fewer wait for their turn, so handing over ends.
+-- A call is handed over as one move of the agent, or nothing happens. Where another may be handed over after it, fewer wait for their turn,
+-- so handing over ends.
 use Rattle.std.proofs.Common.{◌≡◌, ◌≢◌, ◌<◌, ◌+◌, arith, cond, inl, inr, ℕ, Bool, true, false, not, List, [], Option, Some, None, refl, sym}
 use Rattle.std.proofs.Common.{ap, subst, ◌∙◌}
 use Rattle.std.specs.Prelude.{All}

@@ -1,5 +1,5 @@
--- A call that was handed over goes on waiting for its reply, until the line hears an answer to it: turn by turn of the client, and output
--- by output of what it says.
+-- A call that was handed over goes on waiting for its reply, until an answer to it or another state ends its wait: turn by turn of the
+-- client, and output by output of what it says.
 use Rattle.std.proofs.Common.{◌≡◌, ◌<◌, ◌++◌, ℕ, zero, suc, ℤ, Bool, true, false, cond, ◌&&◌, ◌||◌, not, List, [], ◌∷◌, refl, sym, ap, ◌∙◌}
 use Rattle.std.proofs.Common.{eq-eqb, arith}
 use Rattle.std.specs.Prelude.{◌==◌, All, bytes_eq, length}

@@ -1,4 +1,4 @@
--- A server that has not answered in time is left: the connection is let go, and the client hears that it is over.
+-- A server that has not answered in time is left: the connection is let go, and the client hears that it is over. Else nothing happens.
 use Rattle.std.proofs.Common.{◌≡◌, ◌++◌, inr, ℕ, true, false, [], ◌∷◌, refl, sym, ap, subst, ◌∙◌}
 use Rattle.std.specs.Prelude.{All}
 use Rattle.zk_turns.specs.Turns as turns

@@ -1,5 +1,6 @@
--- What becomes of a line while a call is handed over: what is heard settles calls and makes others wait again, and never makes one wait for
--- its turn that did not.
+-- What becomes of a line that hears outputs, and of one whose next call is handed over. The client waits for the reply to each call that
+-- counts as handed over; no limit has come that had not; and where a call is handed over and no output sends one back, fewer wait for their
+-- turn.
 use Rattle.std.proofs.Common.{◌≡◌, ◌≤◌, ◌<◌, ◌+◌, ◌++◌, ◌⊎◌, inl, inr, ℕ, Bool, true, false, cond, not, List, [], ◌∷◌, Option, Some, None}
 use Rattle.std.proofs.Common.{refl, sym, ap, subst, ◌∙◌, arith}
 use Rattle.std.specs.Prelude.{◌||◌, All, get_or}

@@ -1,5 +1,5 @@
--- Turns of a client: what they leave waiting for replies, and where no call can be handed over. A call that is sent waits, and one that is
--- denied was so for a reason that stays.
+-- What turns of a client leave waiting for replies, and when no call can be handed over after them. A call that was handed over waits for
+-- its reply, where no output ends its wait; and where an answer sends a call back, or the connection ends, no call can be handed over.
 use Rattle.std.proofs.Common.{◌≡◌, ◌≢◌, ◌++◌, append_assoc, ◌⊎◌, inl, inr, ℕ, pos, Bool, true, false, cond, ◌||◌, List, [], ◌∷◌, Option}
 use Rattle.std.proofs.Common.{Some, None, refl, sym, ap, subst, ◌∙◌, eq-eqb, arith}
 use Rattle.std.specs.Prelude.{◌==◌, nat_le, nat_lt, length, max}

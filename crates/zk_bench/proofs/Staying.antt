@@ -1,4 +1,5 @@
--- Why a connection stays: what is sent fits a frame, since each field of it is short, or is as long as what came in a frame.
+-- Lengths of what a server sends: a notice, a Stat, and the answers to a create and to a ConnectRequest fit a frame, since each of their
+-- fields is short; the data of a node with its Stat do where they fit a reply. And when an error is not the one that ends a connection.
 use Rattle.std.proofs.Common.{ℕ, ℤ, pos, ◌≡◌, ◌+◌, ◌≤◌, ap, ◌∙◌, arith, true, List, [], ◌++◌, length, length-append, Option, Some, None}
 use Rattle.std.specs.Prelude.{FitsSigned, Ok, Err, IsErrOf}
 use Rattle.std.specs.Prelude.{Result as Outcome}

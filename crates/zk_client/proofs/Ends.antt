@@ -1,5 +1,5 @@
--- The ends of a session and of a connection, in what a client shows: nothing is left of a session that has expired, so each field is the
--- empty one.
+-- A session expires, in what a client shows: the saved session and the moments stay; the lists, the answers and what is pending are empty
+-- then, and no bytes are held.
 use Rattle.std.proofs.lemmas.Int.{ints}
 use Rattle.std.proofs.Common.{◌≡◌, ℕ, zero, suc, ℤ, pos, negsuc, ◌≤ℤ◌, Bool, false, List, [], ◌∷◌, length, refl, ap, ◌∙◌, arith}
 use Rattle.std.specs.Prelude.{int_lt, unsigned_abs, if◌then◌else◌}

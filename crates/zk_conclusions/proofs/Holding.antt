@@ -1,5 +1,5 @@
--- Who holds by what a client shows, in one tree, and in a later one: the holder's name is the first, and its token is its czxid, so a later
--- holder was made later.
+-- Who holds by what a client shows, in one tree, and in a later one: the holder's name is the first, and its token is its czxid, so where
+-- names rise with creation a later holder's token is not smaller.
 use Rattle.std.proofs.Common.{◌≡◌, ◌≢◌, ◌≤◌, ◌<◌, ◌≤ℤ◌, ◌⊎◌, ℕ, ℤ, pos, Bool, true, false, ◌&&◌, not, nat_le, ◌∷◌, Option, Some, None, refl}
 use Rattle.std.proofs.Common.{ap, sym, ◌∙◌, subst, inl, inr, arith}
 use Rattle.std.proofs.lemmas.Bool.{and_parts}

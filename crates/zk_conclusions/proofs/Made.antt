@@ -1,5 +1,5 @@
--- A node stands with the czxid with which it was made: by induction on the changes since, each of which makes nodes with its own newer zxid
--- or leaves the czxid.
+-- A node that stands at a later zxid, and was made by an earlier one, stood at the earlier one: by induction on the changes in between,
+-- each of which makes nodes with its own newer zxid or leaves the czxid.
 use Rattle.std.specs.Option.{option_map}
 use Rattle.std.proofs.Common.{ℕ, ℤ, ◌≡◌, ◌<◌, ◌≤◌, Bool, true, false, List, [], ◌∷◌, refl, ap, ◌∙◌, subst, arith, Option, Some, None}
 use Rattle.zk_nodes.specs.Path.{NodePath, path_eq}

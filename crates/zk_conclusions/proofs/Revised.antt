@@ -1,4 +1,4 @@
--- A number that is the same: nothing of that kind was said, as each saying raises it until it is the greatest.
+-- A number below the greatest that is the same: nothing of that kind was said, as each saying raises such a number.
 use Rattle.std.proofs.Common.{◌≡◌, ℕ, ◌-◌, ◌^◌, ◌<◌, ◌≤◌, Bool, true, false, ◌||◌, cond, List, [], ◌∷◌, refl, sym, ap, ◌∙◌, arith}
 use Rattle.zk_turns.specs.Turns.{Item, Turned, Forgets, Halts, Output}
 use Rattle.std.specs.List.{list_any}

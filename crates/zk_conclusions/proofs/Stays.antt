@@ -1,5 +1,5 @@
--- Who stands first stays first, and tokens rise: a node that is still there has the czxid with which it was made, and a later first one was
--- made later.
+-- Who stands first stays first while its node is there, and where numbers rise with creation no token falls: a node that is still there has
+-- the czxid with which it was made, and a rival of it that stands first later was made no earlier.
 use Rattle.std.proofs.Common.{ℕ, ℤ, pos, ◌≡◌, ◌≤◌, ◌<◌, ◌≤ℤ◌, ◌⊎◌, inl, inr, Bool, true, false, ◌∷◌, Option, Some, None, refl, sym, ap}
 use Rattle.std.proofs.Common.{subst, arith, nat_le, ◌∙◌}
 use Rattle.std.specs.Prelude.{is_some}

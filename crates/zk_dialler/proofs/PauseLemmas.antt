@@ -1,4 +1,4 @@
--- From eight failures on the longest pause is the longest of all.
+-- The longest pause is never above the longest of all, and from eight failures on it is that, where that is at most ten seconds.
 use Rattle.std.proofs.Common.{◌≡◌, ◌≤◌, ℕ, zero, suc, ◌*◌, ◌^◌, sym, arith}
 use Rattle.std.proofs.Math.Nat.{min-le_left, min-eq_left}
 use Rattle.std.proofs.Math.Pow.{pow_mono}

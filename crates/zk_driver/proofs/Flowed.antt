@@ -1,6 +1,6 @@
--- What goes through a driver: deeds one after the other; and of a connection, that bytes come and go whole. What a read brings is held
--- until the agent is handed it, so that at each point what it was handed and what is held are what the stream gave; and what it took and
--- what is unsent is what was sent.
+-- What goes through a driver: deeds one after the other; and as long as one connection lasts, that bytes come and go whole. What a read
+-- brings is held until the agent is handed it, so that at each point what it was handed and what is held are the first bytes of what the
+-- stream had to give; and what the stream took and what is unsent are what was unsent at first, and was sent since.
 use Rattle.std.proofs.Common.{◌≡◌, ◌++◌, ◌∙◌, ℕ, Bool, true, false, List, [], ◌∷◌, ap, append-nil, append_assoc, refl, sym, subst, Option}
 use Rattle.std.proofs.Common.{Some, None}
 use Rattle.std.specs.Prelude.{Result, Ok, Err, OnOk, IfSome, fold}

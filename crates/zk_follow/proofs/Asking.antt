@@ -1,5 +1,5 @@
--- What comes of a read that is asked of a client that is connected: it is sent and waits, or it is refused for the one reason that can be,
--- that as many calls wait as may.
+-- What comes of a read that is asked of a client that is connected: it is sent and waits, or it is refused. Then as many calls wait as may,
+-- or the moment to read the subject again is after this one. Other subjects are followed as they were, and so is one that is not due.
 use Rattle.std.proofs.Common.{◌≡◌, ◌≢◌, ◌<◌, ◌^◌, ◌+◌, ◌⊎◌, inl, inr, ℕ, pos, Bool, true, false, cond, List, [], ◌∷◌, ◌++◌, Option, Some}
 use Rattle.std.proofs.Common.{None, refl, sym, ap, subst, ◌∙◌, arith, eq-eqb}
 use Rattle.std.proofs.lemmas.List.{append-nil, length-append}
