@@ -1,6 +1,7 @@
 -- Lemmas on servers in memory: the request in a payload is found, each kind of it is a step of a server of the laws, and
 -- its reply fits a frame.
 mod Fields
+mod Framing
 pub mod Continuing
 pub mod Watched
 pub mod Placed

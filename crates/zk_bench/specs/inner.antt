@@ -2,7 +2,6 @@
 pub mod Answerable
 pub mod Answering
 pub mod Asking
-pub mod Front
 pub mod Refusals
 pub mod Restoring
 pub mod Serving

@@ -6,7 +6,7 @@ ghost use Rattle.zk_frames.specs.Frame.{frame, IsNegative};
 ghost use Rattle.zk_bench.specs.declared.phase.Phase.TheVariants.{Apart, Opening, Accepted};
 ghost use Rattle.zk_bench.specs.declared.stop.Stop.TheVariants as stops;
 ghost use Rattle.zk_bench.specs.declared.stop.Refusal.TheVariants as refusals;
-ghost use Rattle.zk_bench.specs.Front.{IsShort, IsWhole};
+ghost use Rattle.zk_bench.specs.Front.{IsFramed, IsFront, IsShort, IsWhole};
 ghost use Rattle.zk_history.specs.HistoryView.{IsAccepted, history_of, natural, newest_tree};
 ghost use Rattle.zk_history.specs.declared.history_fault.HistoryFault.TheVariants as faults;
 ghost use Rattle.zk_laws.specs.Server.{zxid_held, tree_held, is_sequential};
@@ -182,6 +182,14 @@ impl<A: Allocator + Copy> Bench<A> {
         ensures { result ≡ bytes_of self.now.connection.requests }
     {
         self.connection.requests.len()
+    }
+
+    /// What stands at the front of the bytes that came in and are not processed.
+    pub fn front(&self) -> Front
+        ensures front { IsFront self.now.connection.requests result }
+        ensures framed { IsFramed self.now.connection.requests result }
+    {
+        first_frame(self.connection.requests.as_slice())
     }
 
     /// One more transaction, of another session, with this change alone: it stands at the end of the history, one zxid above the last, at

@@ -2,7 +2,7 @@
 
 ghost use Rattle.std.specs.Prelude.{◌≡◌, ◌≤◌, ◌<◌, ◌^◌, drop, take as first, length as bytes_of, vec_len, ◌-◌, OnOk, IsErrOf, ◌++◌};
 ghost use Rattle.zk_frames.specs.Frame.{frame};
-ghost use Rattle.zk_bench.specs.inner.Front.{IsFront};
+ghost use Rattle.zk_bench.specs.Front.{IsFramed, IsFront};
 ghost use Rattle.zk_bench.specs.declared.stop.Stop.TheVariants as stops;
 
 use crate::stop::Stop;
@@ -11,7 +11,7 @@ use std::alloc::Allocator;
 
 /// What stands at the front of the bytes that a server was sent.
 #[derive(Clone, Copy)]
-pub(crate) enum Front {
+pub enum Front {
     /// Less than a frame.
     Unfinished,
     /// A length below 0.
@@ -22,7 +22,8 @@ pub(crate) enum Front {
 
 /// What stands at the front of some bytes.
 pub(crate) fn first_frame(bytes: &[u8]) -> Front
-    ensures { IsFront bytes.now result }
+    ensures front { IsFront bytes.now result }
+    ensures framed { IsFramed bytes.now result }
 {
     if bytes.len() < 4 {
         return Front::Unfinished;

@@ -28,4 +28,5 @@ mod watches;
 mod writes;
 
 pub use bench::Bench;
+pub use frames::Front;
 pub use zk_history::{Change, History, HistoryFault};

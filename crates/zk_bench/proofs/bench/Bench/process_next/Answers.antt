@@ -13,18 +13,18 @@ use Rattle.zk_bench.proofs.bench.Bench.process_next.Goals as goal
 pub returns-in-Unfinished-clause-serves : goal.returns-in-Unfinished-clause-serves
 returns-in-Unfinished-clause-serves g c = λ asked xid payload rest ready up stands now.
     absurd (not_short payload rest c.args.self.now.connection.requests stands.whole stands.small
-    (subst IsShort (c.as_slice.ensures.value ∙ ap (λ (s : Served). s.connection.requests) c.self.view_is) c.in-Unfinished.ensures))
+    (subst IsShort (c.as_slice.ensures.value ∙ ap (λ (s : Served). s.connection.requests) c.self.view_is) c.in-Unfinished.ensures.front))
 
 pub returns-in-Negative-clause-breaks : goal.returns-in-Negative-clause-breaks
 returns-in-Negative-clause-breaks g c = λ asked xid payload rest ready up stands now over.
     absurd (not_negative payload rest c.args.self.now.connection.requests stands.whole stands.small
-    (subst IsNegative (c.as_slice.ensures.value ∙ ap (λ (s : Served). s.connection.requests) c.self.view_is) c.in-Negative.ensures))
+    (subst IsNegative (c.as_slice.ensures.value ∙ ap (λ (s : Served). s.connection.requests) c.self.view_is) c.in-Negative.ensures.front))
 
 pub returns-in-Whole-clause-serves : goal.returns-in-Whole-clause-serves
 returns-in-Whole-clause-serves g c = λ asked xid payload rest ready up stands now.
     let whole : IsWhole c.args.self.now.connection.requests c.in-Whole.length =
     subst (λ bytes. IsWhole bytes c.in-Whole.length)
-    (c.as_slice.ensures.value ∙ ap (λ (s : Served). s.connection.requests) c.self.view_is) c.in-Whole.ensures in
+    (c.as_slice.ensures.value ∙ ap (λ (s : Served). s.connection.requests) c.self.view_is) c.in-Whole.ensures.front in
     let same = whole_payload payload rest c.args.self.now.connection.requests c.in-Whole.length stands.whole stands.small whole in
     c.process_frame.ensures.serves asked xid ready up now (subst (λ (p : List ℕ). IsReadAs asked xid p) same stands.read)
     (subst (λ (p : List ℕ). IsFit asked p) same stands.fit)
@@ -33,7 +33,7 @@ pub returns-in-Whole-clause-breaks : goal.returns-in-Whole-clause-breaks
 returns-in-Whole-clause-breaks g c = λ asked xid payload rest ready up stands now over.
     let whole : IsWhole c.args.self.now.connection.requests c.in-Whole.length =
     subst (λ bytes. IsWhole bytes c.in-Whole.length)
-    (c.as_slice.ensures.value ∙ ap (λ (s : Served). s.connection.requests) c.self.view_is) c.in-Whole.ensures in
+    (c.as_slice.ensures.value ∙ ap (λ (s : Served). s.connection.requests) c.self.view_is) c.in-Whole.ensures.front in
     let same = whole_payload payload rest c.args.self.now.connection.requests c.in-Whole.length stands.whole stands.small whole in
     c.process_frame.ensures.ends asked xid ready up now (subst (λ (p : List ℕ). IsReadAs asked xid p) same stands.read)
     (subst (λ (p : List ℕ). IsFit asked p) same stands.fit) over
@@ -41,13 +41,13 @@ returns-in-Whole-clause-breaks g c = λ asked xid payload rest ready up stands n
 pub returns-in-Negative-clause-stays : goal.returns-in-Negative-clause-stays
 returns-in-Negative-clause-stays g c = λ asked xid payload rest ready up stands now answerable over.
     not_negative payload rest c.args.self.now.connection.requests stands.whole stands.small
-    (subst IsNegative (c.as_slice.ensures.value ∙ ap (λ (s : Served). s.connection.requests) c.self.view_is) c.in-Negative.ensures)
+    (subst IsNegative (c.as_slice.ensures.value ∙ ap (λ (s : Served). s.connection.requests) c.self.view_is) c.in-Negative.ensures.front)
 
 pub returns-in-Whole-clause-stays : goal.returns-in-Whole-clause-stays
 returns-in-Whole-clause-stays g c = λ asked xid payload rest ready up stands now answerable.
     let whole : IsWhole c.args.self.now.connection.requests c.in-Whole.length =
     subst (λ bytes. IsWhole bytes c.in-Whole.length)
-    (c.as_slice.ensures.value ∙ ap (λ (s : Served). s.connection.requests) c.self.view_is) c.in-Whole.ensures in
+    (c.as_slice.ensures.value ∙ ap (λ (s : Served). s.connection.requests) c.self.view_is) c.in-Whole.ensures.front in
     let same = whole_payload payload rest c.args.self.now.connection.requests c.in-Whole.length stands.whole stands.small whole in
     c.process_frame.ensures.stays asked xid ready up now (subst (λ (p : List ℕ). IsReadAs asked xid p) same stands.read)
     (subst (λ (p : List ℕ). IsFit asked p) same stands.fit) answerable
