@@ -1,5 +1,5 @@
 -- All outputs that wait to be told, as bytes: actions, and then news of trees.
-use Rattle.std.specs.Prelude.{◌≡◌, ◌≤◌, ◌<◌, ◌++◌, ℕ, List, drop, length, map, Some}
+use Rattle.std.specs.Prelude.{◌≡◌, ◌≤◌, ◌<◌, ◌++◌, ℕ, ℤ, List, drop, length, map, Some}
 use Rattle.std.specs.Int.{w64, cast_signed}
 use Rattle.std.specs.List.{flat_map, AllByRecursion}
 use Rattle.zk_jute.specs.Layout.{Layout, Value, buffer, ustring, boolean, long, int, ◌⨾◌}
@@ -26,17 +26,29 @@ stat_layout = long ⨾ (long ⨾ (long ⨾ (long ⨾ (int ⨾ (int ⨾ (int ⨾ 
 abbrev pub output_layout : Layout
 output_layout = numbers_layout ⨾ (stat_layout ⨾ buffer)
 
--- A number of 64 bits without a sign is the long of the same bits.
-abbrev pub numbers_value : Flat → Value numbers_layout
-numbers_value f = (f.kind, (f.detail, (f.result, (f.code, (cast_signed w64 f.ticket, (f.zxid,
-    (cast_signed w64 f.length, (cast_signed w64 f.names, (f.is_null, f.has_stat)))))))))
-
 abbrev pub stat_value : FlatStat → Value stat_layout
 stat_value s = (s.czxid, (s.mzxid, (s.ctime, (s.mtime, (s.version, (s.cversion, (s.aversion,
     (s.ephemeral_owner, (s.data_length, (s.num_children, s.pzxid))))))))))
 
-abbrev pub output_value : Flat → (bytes : List ℕ) → Value output_layout
-output_value f bytes = (numbers_value f, (stat_value f.stat, Some bytes))
+abbrev pub output_value : Flat → (ticket size names : ℤ) → (bytes : List ℕ) → Value output_layout
+output_value f ticket size names bytes = (
+  (f.kind, (f.detail, (f.result, (f.code, (ticket, (f.zxid, (size, (names, (f.is_null, f.has_stat))))))))),
+  (stat_value f.stat, Some bytes),
+)
+
+-- what is written of an output with these longs, and that there is such a spelling
+unfoldable pub spelled : Flat → (ticket size names : ℤ) → (bytes : List ℕ) → List ℕ
+spelled f ticket size names bytes = spelling output_layout (output_value f ticket size names bytes)
+
+unfoldable pub IsSpelled : Flat → (ticket size names : ℤ) → (bytes : List ℕ) → Type 0
+IsSpelled f ticket size names bytes = Fits output_layout (output_value f ticket size names bytes)
+
+-- A number of 64 bits without a sign is the long of the same bits.
+abbrev pub output_bytes : Flat × List ℕ → List ℕ
+output_bytes o = spelled o.0 (cast_signed w64 o.0.ticket) (cast_signed w64 o.0.length) (cast_signed w64 o.0.names) o.1
+
+abbrev pub FitsOutput : Flat × List ℕ → Type 0
+FitsOutput o = IsSpelled o.0 (cast_signed w64 o.0.ticket) (cast_signed w64 o.0.length) (cast_signed w64 o.0.names) o.1
 
 -- ---- what waits to be told
 
@@ -49,20 +61,21 @@ joined = flat_map (λ text. spelling ustring (Some text))
 abbrev pub bytes_of : {A : Type 0} → Action A → List ℕ
 bytes_of action = action_text action ++ (joined (names_in (Some action)) ++ words_of (Some action))
 
-abbrev pub action_value : {A : Type 0} → Action A → Value output_layout
-action_value action = output_value (action_flat action) (bytes_of action)
+-- an output: its numbers, and what is read apart from them
+abbrev pub action_output : {A : Type 0} → Action A → Flat × List ℕ
+action_output action = (action_flat action, bytes_of action)
 
-abbrev pub news_value : TreeNews → Value output_layout
-news_value news = output_value (news_flat news) (news_text news)
+abbrev pub news_output : TreeNews → Flat × List ℕ
+news_output news = (news_flat news, news_text news)
 
 -- the outputs that wait to be told, in the order in which they are told one at a time
-abbrev pub waiting : {A : Type 0} → (said : List (Action A)) (read : ℕ) (news : List TreeNews) (its : ℕ) → List (Value output_layout)
-waiting said read news its = map action_value (drop read said) ++ map news_value (drop its news)
+abbrev pub waiting : {A : Type 0} → (said : List (Action A)) (read : ℕ) (news : List TreeNews) (its : ℕ) → List (Flat × List ℕ)
+waiting said read news its = map action_output (drop read said) ++ map news_output (drop its news)
 
 -- The bytes are these outputs, one after the other.
-pub record AreOutputs (outputs : List (Value output_layout)) (text : List ℕ) : Type 0 where
-  pub fits : AllByRecursion (Fits output_layout) outputs
-  pub is : text ≡ flat_map (spelling output_layout) outputs
+pub record AreOutputs (outputs : List (Flat × List ℕ)) (text : List ℕ) : Type 0 where
+  pub fits : AllByRecursion FitsOutput outputs
+  pub is : text ≡ flat_map output_bytes outputs
 
 -- Where there is room for all that wait, they are written, at the front, and told. Else nothing is. The count says how much room they want.
 pub record WritesOutputs (before : AgentDevice) (room written : List ℕ) (count : ℕ) (after : AgentDevice) : Type 0 where

@@ -1,11 +1,10 @@
 //! All that waits to be told, at once.
 
-ghost use Rattle.std.specs.Prelude.{◌≡◌, ◌++◌, IfOk, OnErr, OnOk, Some, map};
+ghost use Rattle.std.specs.Prelude.{◌≡◌, ◌++◌, IfOk, OnErr, OnOk, Some, drop, map};
 ghost use Rattle.std.specs.List.{flat_map, AllByRecursion};
-ghost use Rattle.zk_jute.specs.Spelling.{Fits, spelling};
 ghost use Rattle.ffi_agent_device.specs.Outputs.{names_in, words_of};
-ghost use Rattle.ffi_agent_device.specs.AtOnce.{action_value, bytes_of, joined, news_value, output_layout, output_value, waiting};
-ghost use Rattle.ffi_agent_device.specs.AtOnce.{AreOutputs, WritesOutputs};
+ghost use Rattle.ffi_agent_device.specs.AtOnce.{action_output, joined, news_output, output_bytes, spelled, waiting};
+ghost use Rattle.ffi_agent_device.specs.AtOnce.{AreOutputs, FitsOutput, IsSpelled, WritesOutputs};
 
 use crate::device::AgentDevice;
 use crate::flat::{action_flat, action_text, news_flat, news_text};
@@ -13,27 +12,44 @@ use crate::tree::TreeNews;
 use ffi_device::{Flat, copy_into, outcome_names};
 use std::alloc::{AllocError, Global};
 use zk_agent::Action;
-use zk_jute::{BytesRef, Record, Then};
+use zk_jute::{BytesRef, PutError, Record, Then};
 
-// Writes an output at the end of the text. An error says that memory ran out: what came in a frame is never too long.
-fn write_output(flat: &Flat, bytes: &[u8], text: &mut Vec<u8>) -> Result<(), AllocError>
-    ensures ok { OnOk result (text.new.items ≡ text.old.items ++ spelling output_layout (output_value flat.now bytes.now)) }
-    ensures fits { OnOk result (Fits output_layout (output_value flat.now bytes.now)) }
+// Writes an output, of which these are longs, at the end of the text.
+#[tactic(auto, unfolding(crate::specs::AtOnce::spelled, crate::specs::AtOnce::IsSpelled))]
+fn write_fields(
+    flat: &Flat,
+    ticket: i64,
+    size: i64,
+    names: i64,
+    bytes: &[u8],
+    text: &mut Vec<u8>,
+) -> Result<(), PutError>
+    ensures ok { OnOk result (text.new.items ≡ text.old.items ++ spelled flat.now ticket size names bytes.now) }
+    ensures fits { OnOk result (IsSpelled flat.now ticket size names bytes.now) }
 {
-    let stat = flat.stat;
+    let stat = &flat.stat;
     let counts = Then(stat.data_length, Then(stat.num_children, stat.pzxid));
     let owned = Then(stat.aversion, Then(stat.ephemeral_owner, counts));
     let versions = Then(stat.version, Then(stat.cversion, owned));
     let times = Then(stat.ctime, Then(stat.mtime, versions));
     let stat = Then(stat.czxid, Then(stat.mzxid, times));
     let flags = Then(flat.is_null, flat.has_stat);
-    let length = (flat.length as u64).cast_signed();
-    let names = (flat.names as u64).cast_signed();
-    let sizes = Then(flat.zxid, Then(length, Then(names, flags)));
-    let code = Then(flat.code, Then(flat.ticket.cast_signed(), sizes));
+    let sizes = Then(flat.zxid, Then(size, Then(names, flags)));
+    let code = Then(flat.code, Then(ticket, sizes));
     let numbers = Then(flat.kind, Then(flat.detail, Then(flat.result, code)));
     let bytes = BytesRef { bytes: Some(bytes) };
-    match Then(numbers, Then(stat, bytes)).write(text) {
+    Then(numbers, Then(stat, bytes)).write(text)
+}
+
+// Writes an output at the end of the text. An error says that memory ran out: what came in a frame is never too long.
+fn write_output(flat: &Flat, bytes: &[u8], text: &mut Vec<u8>) -> Result<(), AllocError>
+    ensures ok { OnOk result (text.new.items ≡ text.old.items ++ output_bytes (flat.now, bytes.now)) }
+    ensures fits { OnOk result (FitsOutput (flat.now, bytes.now)) }
+{
+    let ticket = flat.ticket.cast_signed();
+    let size = (flat.length as u64).cast_signed();
+    let names = (flat.names as u64).cast_signed();
+    match write_fields(flat, ticket, size, names, bytes, text) {
         Ok(()) => Ok(()),
         Err(_) => Err(AllocError),
     }
@@ -56,8 +72,8 @@ fn write_action(
     action: &Action<Global>,
     text: &mut Vec<u8>,
 ) -> Result<(), AllocError>
-    ensures ok { OnOk result (text.new.items ≡ text.old.items ++ spelling output_layout (action_value action.now)) }
-    ensures fits { OnOk result (Fits output_layout (action_value action.now)) }
+    ensures ok { OnOk result (text.new.items ≡ text.old.items ++ output_bytes (action_output action.now)) }
+    ensures fits { OnOk result (FitsOutput (action_output action.now)) }
 {
     let flat = action_flat(action);
     let mut rest = rest_of(alloc, action)?;
@@ -75,8 +91,8 @@ fn write_actions(
     actions: &[Action<Global>],
     text: &mut Vec<u8>,
 ) -> Result<(), AllocError>
-    ensures ok { OnOk result (text.new.items ≡ text.old.items ++ flat_map (spelling output_layout) (map action_value actions.now)) }
-    ensures fits { OnOk result (AllByRecursion (Fits output_layout) (map action_value actions.now)) }
+    ensures ok { OnOk result (text.new.items ≡ text.old.items ++ flat_map output_bytes (map action_output actions.now)) }
+    ensures fits { OnOk result (AllByRecursion FitsOutput (map action_output actions.now)) }
 {
     for action in actions {
         write_action(alloc, action, text)?;
@@ -86,8 +102,8 @@ fn write_actions(
 
 // Writes these news at the end of the text.
 fn write_news(all: &[TreeNews], text: &mut Vec<u8>) -> Result<(), AllocError>
-    ensures ok { OnOk result (text.new.items ≡ text.old.items ++ flat_map (spelling output_layout) (map news_value all.now)) }
-    ensures fits { OnOk result (AllByRecursion (Fits output_layout) (map news_value all.now)) }
+    ensures ok { OnOk result (text.new.items ≡ text.old.items ++ flat_map output_bytes (map news_output all.now)) }
+    ensures fits { OnOk result (AllByRecursion FitsOutput (map news_output all.now)) }
 {
     for news in all {
         write_output(&news_flat(news), news_text(news), text)?;
@@ -96,16 +112,31 @@ fn write_news(all: &[TreeNews], text: &mut Vec<u8>) -> Result<(), AllocError>
 }
 
 impl AgentDevice {
+    // The actions that were not told yet.
+    fn unread_actions(&self) -> &[Action<Global>]
+        ensures { result.now ≡ drop self.now.read self.now.said.items }
+    {
+        let said = self.said.as_slice();
+        &said[self.read.min(said.len())..]
+    }
+
+    // The news that were not told yet.
+    fn unread_news(&self) -> &[TreeNews]
+        ensures { result.now ≡ drop self.now.news_read self.now.news.items }
+    {
+        let news = self.news.as_slice();
+        &news[self.news_read.min(news.len())..]
+    }
+
     // All that waits to be told.
+    #[tactic(auto, using(crate::proofs::AtOnce::both))]
     fn outputs_text(&self, alloc: Global) -> Result<Vec<u8>, AllocError>
         ensures { IfOk result
             (λ text. AreOutputs (waiting self.now.said.items self.now.read self.now.news.items self.now.news_read) text.items) }
     {
-        let said = self.said.as_slice();
-        let news = self.news.as_slice();
         let mut text = Vec::new(alloc);
-        write_actions(alloc, &said[self.read.min(said.len())..], &mut text)?;
-        write_news(&news[self.news_read.min(news.len())..], &mut text)?;
+        write_actions(alloc, self.unread_actions(), &mut text)?;
+        write_news(self.unread_news(), &mut text)?;
         Ok(text)
     }
 
@@ -116,11 +147,13 @@ impl AgentDevice {
         ensures same { OnErr result ((room.new ≡ room.old) × (self.new ≡ self.old)) }
     {
         let text = self.outputs_text(alloc)?;
-        if text.len() <= room.len() {
-            copy_into(text.as_slice(), room);
-            self.read = self.said.len();
-            self.news_read = self.news.len();
+        let wanted = text.len();
+        if room.len() < wanted {
+            return Ok(wanted);
         }
-        Ok(text.len())
+        copy_into(text.as_slice(), room);
+        self.read = self.said.len();
+        self.news_read = self.news.len();
+        Ok(wanted)
     }
 }

@@ -162,8 +162,8 @@ pub extern "C" fn dw_session_outputs(
     let told = session.outputs(alloc, out);
     *handle = DwSession::of(session);
     match told {
-        Ok(length) => {
-            *count = length;
+        Ok(wanted) => {
+            *count = wanted;
             0
         }
         Err(_) => DeviceRefusal::Memory.code(),
