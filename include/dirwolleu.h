@@ -577,6 +577,15 @@ size_t dw_session_name(dw_session *handle, size_t index, char *out, size_t room)
 enum dw_result dw_session_names(dw_session *handle, uint8_t *out, size_t room, size_t *count);
 enum dw_result dw_session_words(dw_session *handle, char *out, size_t room, size_t *count);
 
+/* Writes all that waits to be told of the last step, in the order in which dw_session_next tells it, and how many bytes that is. It does so exactly
+ * where there is room for all of it, and then all is told. Else nothing is written or told, and the count is the room that it wants. Each output has
+ * the fields of dw_output in their order, as zookeeper.jute spells them, and then its bytes:
+ *     int kind, outcome, reply, code; long ticket, zxid, length, names; boolean is_null, has_stat; Stat stat; buffer bytes;
+ * The bytes are the text, of DW_REPLY_NAMES the names, as dw_session_names gives them, and of DW_KIND_DROP the code and after it the words. The length
+ * is that of the text. It takes memory for all of it, within the call. DW_OK, DW_NO_MEMORY, DW_CLOSED; unless it answers DW_OK, the count is 0, and
+ * nothing is written or told. */
+enum dw_result dw_session_outputs(dw_session *handle, uint8_t *out, size_t room, size_t *count);
+
 /* Look-ups of a session. They take no step and leave what it said, and tell what those of a client with their names do. */
 
 int32_t dw_session_state(dw_session *handle);

@@ -262,6 +262,9 @@ static void expect_closed_looks(dw_session *none)
     EXPECT_NUMBER(0, dw_session_name(none, 0, text, sizeof text));
     EXPECT_NUMBER(DW_CLOSED, dw_session_names(none, room, sizeof room, &count));
     EXPECT_NUMBER(DW_CLOSED, dw_session_words(none, text, sizeof text, &count));
+    EXPECT(count == 0);
+    count = 1;
+    EXPECT_NUMBER(DW_CLOSED, dw_session_outputs(none, room, sizeof room, &count));
     EXPECT_NUMBER(DW_CLOSED, dw_session_state(none));
     EXPECT_NUMBER(0, dw_session_revision(none));
     EXPECT_NUMBER(DW_CLOSED, dw_session_forget(none));

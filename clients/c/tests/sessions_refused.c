@@ -179,6 +179,19 @@ static void expect_halted(struct play *play)
     EXPECT_NUMBER(dw_session_last_zxid(&play->session), dw_session_last_zxid(&play->second));
 }
 
+/* What a step has told wants some room, and is told neither without it nor without memory. */
+static void want_room(struct play *play)
+{
+    size_t count = 1;
+    bool was_already = was_refused();
+    enum dw_result result = dw_session_outputs(&play->session, NULL, 0, &count);
+    if (result == DW_NO_MEMORY) {
+        EXPECT(count == 0 && !was_already && was_refused());
+        result = dw_session_outputs(&play->session, NULL, 0, &count);
+    }
+    EXPECT_NUMBER(DW_OK, result);
+}
+
 /* Makes a move, and once more where it was refused. Answers whether the session can go on. */
 static bool make(struct play *play, const struct move *move)
 {
@@ -195,6 +208,9 @@ static bool make(struct play *play, const struct move *move)
         return false;
     }
     EXPECT_NUMBER(DW_OK, result);
+    if ((move->kind & STEP) != 0) {
+        want_room(play);
+    }
     while ((move->kind & STEP) != 0 && dw_session_next(&play->session, &action) == DW_OK) {
         EXPECT(play->told_count < MOST_TOLD);
         play->told[play->told_count++] = action.kind;

@@ -279,6 +279,7 @@ _FUNCTIONS: dict[str, tuple[Any, tuple[Any, ...]]] = {
     "dw_session_name": (c_size_t, (_HANDLE, c_size_t, POINTER(c_char), c_size_t)),
     "dw_session_names": (c_int32, (_HANDLE, POINTER(c_char), c_size_t, POINTER(c_size_t))),
     "dw_session_words": (c_int32, (_HANDLE, POINTER(c_char), c_size_t, POINTER(c_size_t))),
+    "dw_session_outputs": (c_int32, (_HANDLE, POINTER(c_char), c_size_t, POINTER(c_size_t))),
     "dw_session_state": (c_int32, (_HANDLE,)),
     "dw_session_revision": (c_uint64, (_HANDLE,)),
     "dw_session_last_zxid": (c_int64, (_HANDLE,)),
@@ -683,15 +684,16 @@ Record = TypeVar("Record", Stat, DataStat)
 
 _fields_of_output, _fields_of_kept_data = _fields_of(_Output), _fields_of(_KeptData)
 _HEAD_OF_OUTPUT, _HEAD_OF_KEPT_DATA = len(_Output._fields_) - 1, len(_KeptData._fields_) - 1  # the last field is the Stat
-_LENGTH_OF_OUTPUT = [name for name, _ in _Output._fields_].index("length")
-_made = tuple.__new__  # it makes a record of its fields, and is quicker than the record's own name
+_LENGTH_OF_OUTPUT, _NAMES_OF_OUTPUT = map([name for name, _ in _Output._fields_].index, ("length", "names"))
+_FIELDS_OF_OUTPUT = _HEAD_OF_OUTPUT + len(_Stat._fields_)
+made = tuple.__new__  # it makes a record of its fields, and is quicker than the record's own name
 _data_stat_in = _record_of(_DataStat, DataStat, _HEAD_OF_KEPT_DATA)
 
 
-def _stat_in(fields: tuple[Any, ...]) -> Stat:
-    """The Stat of an output, of which it is the last field."""
+def _stat_in(fields: tuple[Any, ...]) -> tuple[Any, ...]:
+    """The Stat of an output, of which it is the last field, as the protocol has it."""
     czxid, mzxid, ctime, mtime, owner, pzxid, version, cversion, aversion, length, children = fields[_HEAD_OF_OUTPUT:]
-    return _made(Stat, (czxid, mzxid, ctime, mtime, version, cversion, aversion, owner, length, children, pzxid))
+    return czxid, mzxid, ctime, mtime, version, cversion, aversion, owner, length, children, pzxid
 
 
 _KINDS_OF_KEPT, _MARKS, _EVENTS, _SIDES = (
@@ -711,7 +713,8 @@ def functions(prefix: str) -> types.SimpleNamespace:
     """The functions of the library whose names begin so, without that."""
     names = [name for name in _FUNCTIONS if name.startswith(prefix)]
     found = types.SimpleNamespace(**{name[len(prefix) :]: getattr(_library, name) for name in names})
-    found.next = _library[f"{prefix}next"]  # another object, which does not look at its arguments: it is called most, by pointers
+    # These are called most, by pointers: other objects, which do not look at their arguments.
+    vars(found).update((name, _library[prefix + name]) for name in ("next", "outputs") if name in vars(found))
     return found
 
 
@@ -914,32 +917,37 @@ class LookUps(Generic[Said]):
         handle, output, take = self._handle_at, self._output_at, self._calls.next
         while take(handle, output) == OK:
             fields = _fields_of_output(self._output)
-            kind = fields[0]
-            if kind == SEND:
-                outputs.append(_made(Send, (self._text(fields[_LENGTH_OF_OUTPUT]),)))
-            elif kind == ANSWER:
-                outputs.append(self._answer(fields))
-            else:
-                outputs.append(self._read(fields))
+            outputs.append(self._read(fields[:_HEAD_OF_OUTPUT] + _stat_in(fields), self._bytes_of(fields)))
         return outputs
 
-    def _read(self, fields: tuple[Any, ...]) -> Said:
-        """What the library says, by the fields of an output that is neither a frame nor an answer."""
+    def _bytes_of(self, fields: tuple[Any, ...]) -> bytes:
+        """The bytes of the output that was told last: its text, and after it the names of a listing, or the words of a drop."""
+        length, names = fields[_LENGTH_OF_OUTPUT], fields[_NAMES_OF_OUTPUT]
+        if fields[0] == DROP:
+            return self._text(length) + self._words()
+        return self._names() if fields[0] == ANSWER and names else self._text(length)
+
+    def _read(self, fields: tuple[Any, ...], told: bytes) -> Said:
+        """What the library says, by the fields of an output, with its Stat as the protocol has it, and its bytes."""
         raise NotImplementedError
 
-    def _output_of(self, fields: tuple[Any, ...]) -> Output:
+    def _output_of(self, fields: tuple[Any, ...], told: bytes) -> Output:
         """The same of what clients say too."""
         kind, detail, result, _, _, _, length, _, _, _ = fields[:_HEAD_OF_OUTPUT]
+        if kind == SEND:
+            return made(Send, (told,))
+        if kind == ANSWER:
+            return self._answer(fields, told)
         if kind == REPORT:
             event, side = known("event", detail, _EVENTS), known("side", result, _SIDES)
-            return Report(event, side, self._root.read(self._text(length)))
+            return Report(event, side, self._root.read(told))
         if kind == STATE:
             return StateChange(known("state", detail, _STATES))
         known("output", kind, (DROP,))
-        return Drop(self._text(length).decode(), self._words())
+        return Drop(told[:length].decode(), told[length:].decode(errors="replace"))
 
-    def _answer(self, fields: tuple[Any, ...]) -> Answer:
-        _, lack, result, code, ticket, zxid, length, names, is_null, has_stat = fields[:_HEAD_OF_OUTPUT]
+    def _answer(self, fields: tuple[Any, ...], told: bytes) -> Answer:
+        _, lack, result, code, ticket, zxid, _, _, is_null, has_stat = fields[:_HEAD_OF_OUTPUT]
         if lack not in _OUTCOMES:
             known("outcome", lack, _OUTCOMES)
         if lack == REPLIED:
@@ -948,12 +956,15 @@ class LookUps(Generic[Said]):
         else:
             zxid = 0
         text: Optional[bytes] = None
+        names: list[str] = []
         if result == DATA:
-            text = None if is_null else self._text(length)
+            text = None if is_null else told
+        elif result == NAMES:
+            names = _texts_in(told)
         elif result == CREATED:
-            text = self._root.read(self._text(length)).encode()
-        listed = _texts_in(self._names()) if names else []
-        return _made(Answer, (ticket, lack, result, code, _stat_in(fields) if has_stat else None, text, listed, zxid))
+            text = self._root.read(told).encode()
+        stat = made(Stat, fields[_HEAD_OF_OUTPUT:_FIELDS_OF_OUTPUT]) if has_stat else None
+        return made(Answer, (ticket, lack, result, code, stat, text, names, zxid))
 
     def _text(self, length: int) -> bytes:
         room = self._room
@@ -965,5 +976,5 @@ class LookUps(Generic[Said]):
     def _names(self) -> bytes:
         return self._room.filled(lambda *room: self._calls.names(self._handle, *room))
 
-    def _words(self) -> str:
-        return self._room.filled(lambda *room: self._calls.words(self._handle, *room)).decode(errors="replace")
+    def _words(self) -> bytes:
+        return self._room.filled(lambda *room: self._calls.words(self._handle, *room))

@@ -24,8 +24,8 @@ class Machine(LookUps[Output]):
     def _free(self) -> None:
         self._calls.close(self._handle)
 
-    def _read(self, fields: tuple[Any, ...]) -> Output:
-        return self._output_of(fields)
+    def _read(self, fields: tuple[Any, ...], told: bytes) -> Output:
+        return self._output_of(fields, told)
 
     def renew(self, timeout_ms: int) -> None:
         """Begins a new session, which takes no server that is behind what the old one has seen. Nothing else is kept."""

@@ -8,11 +8,12 @@ any thread may look up what is kept. A ticket is the caller's number of a call o
 from __future__ import annotations
 
 import enum
-from ctypes import c_uint64
+import struct
+from ctypes import byref, c_size_t, c_uint64
 from typing import Any, NamedTuple, Optional, Union
 
 from dirwolleu import _library as library
-from dirwolleu._library import LookUps, checked, functions, known
+from dirwolleu._library import LookUps, checked, functions, known, made
 from dirwolleu._root import Root
 
 NO_LIMIT = 2**64 - 1
@@ -21,6 +22,8 @@ _REFUSALS = frozenset(
     (library.READ_CODE, library.READ_TOO_MANY_WATCHES, library.READ_TOO_LARGE, library.READ_CLOSED)
 )
 _SIDES = frozenset((library.DATA_SIDE, library.CHILDREN_SIDE))
+_output = struct.Struct(">iiiiQqQQ??qqqqiiiqiiqi")  # an output: its fields, its Stat, and how many bytes follow
+_output_at, _SIZE_OF_OUTPUT = _output.unpack_from, _output.size
 
 
 class Dial(NamedTuple):
@@ -107,6 +110,8 @@ class Session(LookUps[Action]):
         self, timeout_ms: int, seed: int, saved: Optional[bytes] = None, root: Root = Root(), addresses: int = 0
     ) -> None:
         super().__init__(root)
+        self._count = c_size_t()
+        self._place = self._found_place()
         if saved is None:
             checked(self._calls.open(self._handle, timeout_ms, addresses, seed))
         else:
@@ -212,10 +217,46 @@ class Session(LookUps[Action]):
 
     # What a step tells.
 
-    def _read(self, fields: tuple[Any, ...]) -> Action:
-        kind, detail, result, code, ticket, _, length, place, was_sent = fields[:9]
+    def _outputs(self, code: int, path: str = "") -> list[Action]:
+        if code < library.OK:
+            self._check(code, path)
+        outputs: list[Any] = []
+        at, end = 0, self._written()
+        view = self._room.view
+        while at < end:
+            fields = _output_at(view, at)
+            begin = at + _SIZE_OF_OUTPUT
+            at = begin + fields[-1]
+            told = view[begin:at].tobytes()
+            kind = fields[0]
+            if kind == library.SEND:
+                outputs.append(made(library.Send, (told,)))
+            elif kind == library.ANSWER:
+                outputs.append(self._answer(fields, told))
+            else:
+                outputs.append(self._read(fields, told))
+        return outputs
+
+    def _written(self) -> int:
+        """Has all that the step said written into the room, and tells how many bytes that is. Where there is no memory for it, it is lost."""
+        is_whole = False
+        while not is_whole:
+            code = self._calls.outputs(*self._place)
+            if code != library.OK:
+                checked(library.HALTED if code == library.NO_MEMORY else code)
+            is_whole = not self._room.widen(self._count.value)
+            if not is_whole:
+                self._place = self._found_place()
+        return self._count.value
+
+    def _found_place(self) -> tuple[Any, ...]:
+        """Where the library writes outputs: what is handed to a function that does not look at it."""
+        return self._handle_at, byref(self._room.bytes), c_size_t(self._room.size), byref(self._count)
+
+    def _read(self, fields: tuple[Any, ...], told: bytes) -> Action:
+        kind, detail, result, code, ticket, _, _, place, was_sent = fields[:9]
         if kind <= library.DROP:
-            return self._output_of(fields)
+            return self._output_of(fields, told)
         if kind == library.DIAL:
             return Dial(place, ticket)
         if kind == library.TIMED_OUT:
@@ -225,8 +266,7 @@ class Session(LookUps[Action]):
         if kind == library.REFUSED:
             return Refused(ticket, known("refusal", detail, _REFUSALS), code)
         if kind == library.TAKEN_ON:
-            side = known("side", result, _SIDES)
-            return TakenOn(place, ticket, side, self._root.read(self._text(length)))
+            return TakenOn(place, ticket, known("side", result, _SIDES), self._root.read(told))
         if kind == library.LET_GO:
             return LetGo(place, ticket)
         if kind == library.BOUNDED:

@@ -135,6 +135,7 @@ extern "C" {
     fn dw_session_name(handle: *mut Raw, index: usize, out: *mut u8, room: usize) -> usize;
     fn dw_session_names(handle: *mut Raw, out: *mut u8, room: usize, count: *mut usize) -> i32;
     fn dw_session_words(handle: *mut Raw, out: *mut u8, room: usize, count: *mut usize) -> i32;
+    fn dw_session_outputs(handle: *mut Raw, out: *mut u8, room: usize, count: *mut usize) -> i32;
     fn dw_session_state(handle: *mut Raw) -> i32;
     fn dw_session_revision(handle: *mut Raw) -> u64;
     fn dw_session_last_zxid(handle: *mut Raw) -> i64;

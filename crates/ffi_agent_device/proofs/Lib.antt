@@ -1,5 +1,6 @@
 -- Lemmas on an agent's device: it begins as a client's does, a refusal leaves it as it was, and each action tells what it tells. A step of
 -- it is put together from its parts, trees among them, and keeps what each part keeps.
+mod AtOnce
 pub mod Beginning
 mod Chains
 mod Finding

@@ -3,6 +3,7 @@
 //! input at this moment. What is kept is looked up in the agent's client.
 #![tactic(auto)]
 
+mod at_once;
 mod calls;
 mod device;
 mod flat;

@@ -31,9 +31,9 @@ use Rattle.ffi_agent_device.specs.Steps.{BeginsWith, Planted, Stepped, Uprooted}
 use Rattle.ffi_agent_device.proofs.Keeping.{all_keeps, each_followed, is_kept, plants_keep, so_followed, so_keeps, uproots_keep}
 use Rattle.ffi_agent_device.specs.declared.device.AgentDevice.{AgentDevice}
 use Rattle.ffi_c.specs.Held.{Holds}
-use Rattle.ffi_c.specs.Sessions.{Makes, Tells, ForgetsStale}
-use Rattle.ffi_c.specs.SessionLives.{Use, Opens, Resumes, Steps, Plants, Uproots, Reads, Forgets, Looks, Frees, Does, Used, held_after}
-use Rattle.ffi_c.specs.SessionLives.{IsLife, IsSound, RefusesHappening, SoundForLife}
+use Rattle.ffi_c.specs.Sessions.{Makes, Tells, TellsAll, ForgetsStale}
+use Rattle.ffi_c.specs.SessionLives.{Use, Opens, Resumes, Steps, Plants, Uproots, Reads, ReadsAll, Forgets, Looks, Frees, Does}
+use Rattle.ffi_c.specs.SessionLives.{Used, held_after, IsLife, IsSound, RefusesHappening, SoundForLife}
 
 -- the session of a handle, if it has one that goes on, is sound
 abbrev Sound : Option AgentDevice → Type 0
@@ -202,6 +202,17 @@ reads room told code (Some old) after sound does session is on =
     let tells = in_held (λ s. Tells old room code told s) session after does is in
     same_agent old session tells.agent (sound old refl (sym tells.over ∙ on))
 
+reads_all : (room written : List ℕ) (count : ℕ) (code : ℤ) (before after : Option AgentDevice)
+    → Sound before → Does before (ReadsAll room written count code) after → Sound after
+reads_all room written count code None after sound does session is on = empty_holds_none session after does.empty is
+reads_all room written count (pos zero) (Some old) after sound does session is on =
+    let tells = in_held (TellsAll old room written count (pos zero)) session after does is in
+    same_agent old session tells.agent (sound old refl (sym tells.over ∙ on))
+reads_all room written count (pos (suc n)) (Some old) after sound does session is on =
+    sound session (ap Some (sym (in_held (TellsAll old room written count (pos (suc n))) session after does is).3)) on
+reads_all room written count (negsuc n) (Some old) after sound does session is on =
+    sound session (ap Some (sym (in_held (TellsAll old room written count (negsuc n)) session after does is).3)) on
+
 forgets : (code : ℤ) (before after : Option AgentDevice) → Sound before → Does before (Forgets code) after → Sound after
 forgets code None after sound does session is on = empty_holds_none session after does.empty is
 forgets code (Some old) after sound does session is on =
@@ -223,6 +234,7 @@ one (Steps now what code) before after sound does = steps now what code before a
 one (Plants now ticket root most code) before after sound does = plants now ticket root most code before after sound does
 one (Uproots now ticket code) before after sound does = uproots now ticket code before after sound does
 one (Reads room told code) before after sound does = reads room told code before after sound does
+one (ReadsAll room written count code) before after sound does = reads_all room written count code before after sound does
 one (Forgets code) before after sound does = forgets code before after sound does
 one Looks before after sound does = λ session is on. sound session (sym does ∙ is) on
 one Frees before after sound does = λ session is on. empty_holds_none session after does is

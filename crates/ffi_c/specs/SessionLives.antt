@@ -18,11 +18,11 @@ use Rattle.ffi_agent_device.specs.Taking.{AreFollowed}
 use Rattle.ffi_agent_device.specs.declared.device.AgentDevice.{AgentDevice}
 use Rattle.ffi_c.specs.Held.{Holds, IsClosed}
 use Rattle.ffi_c.specs.Lives.{RefusesCall}
-use Rattle.ffi_c.specs.Sessions.{Makes, Tells, ForgetsStale}
+use Rattle.ffi_c.specs.Sessions.{Makes, Tells, TellsAll, ForgetsStale}
 
 -- A function that was called on a handle, with what was handed in, and the number that it answered. `Steps` is that of each input, call and
 -- subject, `Plants` that of dw_session_follow_tree and `Uproots` that of dw_session_unfollow_tree, `Reads` that of dw_session_next,
--- `Forgets` that of dw_session_forget; `Looks` is that of those that leave the handle as it is.
+-- `ReadsAll` that of dw_session_outputs, `Forgets` that of dw_session_forget; `Looks` is that of those that leave the handle as it is.
 pub data Use : Type 0 where
   Opens : (timeout code : ℤ) → Use
   Resumes : (timeout : ℤ) → (saved : List ℕ) → (code : ℤ) → Use
@@ -30,6 +30,7 @@ pub data Use : Type 0 where
   Plants : (now ticket : ℕ) → (root : Text) → (most : ℕ) → (code : ℤ) → Use
   Uproots : (now ticket : ℕ) → (code : ℤ) → Use
   Reads : (room told : Flat) → (code : ℤ) → Use
+  ReadsAll : (room written : List ℕ) → (count : ℕ) → (code : ℤ) → Use
   Forgets : (code : ℤ) → Use
   Looks Frees : Use
 
@@ -56,6 +57,7 @@ Does before (Steps now what code) after = Drives (step.Steps (RefusesHappening w
 Does before (Plants now ticket root most code) after = Drives (step.Plant (RefusesPath root) now ticket root most) before code after
 Does before (Uproots now ticket code) after = Drives (step.Uproot now ticket) before code after
 Does before (Reads room told code) after = Drives (λ session code. Tells session room code told) before code after
+Does before (ReadsAll room written count code) after = Drives (λ session. TellsAll session room written count) before code after
 Does before (Forgets code) after = Drives ForgetsStale before code after
 Does before Looks after = after ≡ before
 Does before Frees after = after ≡ None

@@ -1,12 +1,14 @@
 -- What the handle of a session holds after a call, and what is told of it.
-use Rattle.std.specs.Prelude.{◌≡◌, ◌<◌, ◌^◌, ℕ, zero, suc, ℤ, pos, [], Option, Some, None}
+use Rattle.std.specs.Prelude.{◌≡◌, ◌<◌, ◌^◌, ℕ, zero, suc, ℤ, pos, List, [], Option, Some, None}
 use Rattle.zk_turns.specs.Turns.{Start}
 use Rattle.zk_turns.specs.View.{view_at}
 use Rattle.zk_agent.specs.Agents.{NothingAt}
 use Rattle.ffi_agent_device.specs.declared.device.AgentDevice.{AgentDevice}
+use Rattle.ffi_agent_device.specs.AtOnce.{WritesOutputs}
 use Rattle.ffi_agent_device.specs.Outputs.{news_read_after, next_action, next_news, next_of}
 use Rattle.ffi_agent_device.specs.Steps.{BeginsWith, Forgot}
 use Rattle.ffi_device.specs.Outputs.{read_after}
+use Rattle.ffi_device.specs.Refused.{RefusesMemory}
 use Rattle.ffi_device.specs.declared.flat.Flat.{Flat}
 use Rattle.ffi_c.specs.Held.{Holds, TellsOf}
 
@@ -28,6 +30,12 @@ pub record Tells (before : AgentDevice) (room : Flat) (code : ℤ) (told : Flat)
       (next_news before.news.items before.news_read) before.news_read
   pub over : after.is_over ≡ before.is_over
   pub number : after.revision ≡ before.revision
+
+-- All that waits is told at once, with 0, where there is room for all; and where memory ran out, as the number says, nothing is written or
+-- told.
+abbrev pub TellsAll : (before : AgentDevice) (room written : List ℕ) (count : ℕ) (code : ℤ) (after : AgentDevice) → Type 0
+TellsAll before room written count (pos zero) after = WritesOutputs before room written count after
+TellsAll before room written count code after = RefusesMemory code × (written ≡ room) × (count ≡ 0) × (after ≡ before)
 
 -- The stale answers are gone, which is told by 0, and nothing else is another one.
 pub record ForgetsStale (before : AgentDevice) (code : ℤ) (after : AgentDevice) : Type 0 where

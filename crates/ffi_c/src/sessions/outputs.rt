@@ -7,7 +7,7 @@ ghost use Rattle.ffi_agent_device.specs.Outputs.{told_name, told_names, told_tex
 ghost use Rattle.ffi_device.specs.Refused.{RefusesMemory};
 ghost use Rattle.ffi_device.specs.Texts.{AreTexts};
 ghost use Rattle.ffi_c.specs.Held.{Holds, IsClosed, LeavesRoom, Writes};
-ghost use Rattle.ffi_c.specs.Sessions.{Tells};
+ghost use Rattle.ffi_c.specs.Sessions.{Tells, TellsAll};
 ghost use Rattle.ffi_c.specs.Kept.{FindsText};
 
 use crate::sessions::handle::DwSession;
@@ -136,6 +136,34 @@ pub extern "C" fn dw_session_words(
     match words {
         Ok(words) => {
             *count = copy_into(words.as_bytes(), out);
+            0
+        }
+        Err(_) => DeviceRefusal::Memory.code(),
+    }
+}
+
+/// Writes all that waits to be told, in the order in which [`dw_session_next`] tells it, where there is room for all; and how many bytes
+/// that is. Where there is less room, nothing is told.
+#[unsafe(no_mangle)]
+pub extern "C" fn dw_session_outputs(
+    alloc: Global,
+    handle: &mut DwSession,
+    out: &mut [u8],
+    count: &mut usize,
+) -> i32
+    ensures closed { handle.old.slot.held ≡ None → IsClosed result handle.new.slot.held × LeavesRoom result out.old out.new count.new }
+    ensures outputs { (d : AgentDevice) → handle.old.slot.held ≡ Some d
+        → Holds handle.new.slot.held (TellsAll d out.old out.new count.new result) }
+{
+    *count = 0;
+    let Some(mut session) = take_value(alloc, handle) else {
+        return CLOSED;
+    };
+    let told = session.outputs(alloc, out);
+    *handle = DwSession::of(session);
+    match told {
+        Ok(wanted) => {
+            *count = wanted;
             0
         }
         Err(_) => DeviceRefusal::Memory.code(),

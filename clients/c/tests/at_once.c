@@ -1,0 +1,216 @@
+/* Two sessions to which the same happens. Of the one each step is read action by action, and of the other at once: it is the same, each action spelled
+ * as the header says, and nothing is told where there is too little room. What happens has each kind of action. */
+#include "dirwolleu.h"
+#include "expect.h"
+#include "frames.h"
+
+#include <string.h>
+
+enum { ASKED_MS = 9000, ADDRESSES = 2, FOLLOWED = 1, TREE = 2, UNTOUCHED = 0xee };
+
+static const dw_stat STAT = {6, 6, 1000, 2000, -1, 7, 8, 9, 10, 2, 3};
+
+static dw_session sessions[2];
+static struct bytes wanted;
+static uint8_t room[sizeof wanted.at];
+static uint32_t kinds;
+
+static void put_boolean(struct bytes *bytes, bool is_so)
+{
+    bytes->at[bytes->length++] = is_so;
+}
+
+/* What is read apart from the numbers of an action: its text, and after it the names of a listing, or the words of a drop. */
+static void put_text(struct bytes *bytes, dw_session *session, const dw_output *action)
+{
+    char text[256];
+    size_t length = dw_session_copy(session, 0, text, sizeof text), more = 0;
+    EXPECT_NUMBER(action->length, length);
+    if (action->kind == DW_KIND_ANSWER && action->reply == DW_REPLY_NAMES) {
+        EXPECT_NUMBER(DW_OK, dw_session_names(session, (uint8_t *)text + length, sizeof text - length, &more));
+        EXPECT(more > 0);
+    } else if (action->kind == DW_KIND_DROP) {
+        EXPECT_NUMBER(DW_OK, dw_session_words(session, text + length, sizeof text - length, &more));
+        EXPECT(more > 0);
+    }
+    put_buffer(bytes, text, length + more);
+}
+
+static void put_action(struct bytes *bytes, dw_session *session, const dw_output *action)
+{
+    kinds |= UINT32_C(1) << action->kind;
+    put_int(bytes, (int32_t)action->kind);
+    put_int(bytes, (int32_t)action->outcome);
+    put_int(bytes, (int32_t)action->reply);
+    put_int(bytes, action->code);
+    put_long(bytes, (int64_t)action->ticket);
+    put_long(bytes, action->zxid);
+    put_long(bytes, (int64_t)action->length);
+    put_long(bytes, (int64_t)action->names);
+    put_boolean(bytes, action->is_null);
+    put_boolean(bytes, action->has_stat);
+    put_stat(bytes, &action->stat);
+    put_text(bytes, session, action);
+}
+
+/* Nothing of the room from this place on was written. */
+static void expect_untouched(size_t from)
+{
+    for (size_t i = from; i < sizeof room; i++) {
+        EXPECT_NUMBER(UNTOUCHED, room[i]);
+    }
+}
+
+/* With one byte less than all want, nothing is told. With as many, all is, and then nothing is left. */
+static void expect_told(dw_session *session)
+{
+    dw_output action;
+    size_t count = 1;
+    memset(room, UNTOUCHED, sizeof room);
+    if (wanted.length > 0) {
+        EXPECT_NUMBER(DW_OK, dw_session_outputs(session, room, wanted.length - 1, &count));
+        EXPECT_NUMBER(wanted.length, count);
+        expect_untouched(0);
+    }
+    EXPECT_NUMBER(DW_OK, dw_session_outputs(session, room, wanted.length, &count));
+    EXPECT_NUMBER(wanted.length, count);
+    EXPECT(memcmp(wanted.at, room, count) == 0);
+    expect_untouched(count);
+    EXPECT_NUMBER(DW_NONE, dw_session_next(session, &action));
+    EXPECT_NUMBER(DW_OK, dw_session_outputs(session, room, sizeof room, &count));
+    EXPECT_NUMBER(0, count);
+    expect_untouched(wanted.length);
+}
+
+/* The two tell the same. Whatever was read of the second one by one, the rest is told at once. */
+static void compare(size_t read)
+{
+    dw_output action;
+    wanted.length = 0;
+    for (size_t i = 0; dw_session_next(&sessions[0], &action) == DW_OK; i++) {
+        if (i < read) {
+            EXPECT_NUMBER(DW_OK, dw_session_next(&sessions[1], &action));
+        } else {
+            put_action(&wanted, &sessions[0], &action);
+        }
+    }
+    expect_told(&sessions[1]);
+}
+
+/* A step of each of the two, which is `s`. */
+#define EACH(step) \
+    do { \
+        for (size_t which = 0; which < 2; which++) { \
+            dw_session *s = &sessions[which]; \
+            EXPECT_NUMBER(DW_OK, step); \
+        } \
+    } while (0)
+
+static void hand_in(const struct bytes *came)
+{
+    EACH(dw_session_bytes(s, 40, came->at, came->length));
+    compare(0);
+}
+
+static void begin(uint64_t now_ms)
+{
+    EACH(dw_session_moment(s, now_ms));
+    compare(0);
+    EACH(dw_session_opened(s, now_ms));
+    compare(1);
+}
+
+/* The first read is that of the node that is followed. */
+static void connect_sessions(void)
+{
+    struct bytes came = {.length = 0};
+    EACH(dw_session_open(s, ASKED_MS, ADDRESSES, 1));
+    EACH(dw_session_follow_data(s, 0, FOLLOWED, "/config", 7));
+    compare(0);
+    begin(30);
+    add_connected(&came);
+    hand_in(&came);
+    came.length = 0;
+    add_data(&came, 1, 5, "", &STAT);
+    hand_in(&came);
+}
+
+/* Replies with each record, and a code. Three come in one step. */
+static void ask(void)
+{
+    struct bytes came = {.length = 0};
+    EACH(dw_session_get_children(s, 40, 10, UINT64_MAX, "/config", 7, false));
+    compare(0);
+    add_names(&came, 2, 6, "a", "first", &STAT);
+    hand_in(&came);
+    EACH(dw_session_create(s, 40, UINT64_MAX - 1, UINT64_MAX, "/a", 2, NULL, 0, true, DW_MODE_SEQUENTIAL));
+    compare(1);
+    EACH(dw_session_exists(s, 40, 12, UINT64_MAX, "/a", 2, false));
+    EACH(dw_session_delete(s, 40, 13, UINT64_MAX, "/a", 2, 3));
+    came.length = 0;
+    add_created(&came, 3, 7, "/a0000000002");
+    add_stat(&came, 4, 7, &STAT);
+    add_header(&came, 5, 8, CODE_BAD_VERSION);
+    hand_in(&came);
+    EACH(dw_session_get_data(s, 40, 14, UINT64_MAX, "/a", 2, false));
+    came.length = 0;
+    add_data(&came, 6, 8, "up", &STAT);
+    hand_in(&came);
+}
+
+/* What is followed is reported, and its read is refused. A tree has more nodes than its bound. One is no more, and the other is whole. */
+static void follow(void)
+{
+    struct bytes came = {.length = 0};
+    add_notice(&came, DW_EVENT_DATA_CHANGED, "/config");
+    hand_in(&came);
+    came.length = 0;
+    add_header(&came, 7, 8, -102);
+    hand_in(&came);
+    EACH(dw_session_follow_tree(s, 40, TREE, "/tree", 5, 1));
+    compare(0);
+    came.length = 0;
+    add_data(&came, 8, 9, "up", &STAT);
+    hand_in(&came);
+    came.length = 0;
+    add_names(&came, 9, 9, "b", "c", &STAT);
+    hand_in(&came);
+    EACH(dw_session_follow_tree(s, 40, 3, "/small", 6, 1));
+    compare(0);
+    came.length = 0;
+    add_data(&came, 10, 9, "up", &STAT);
+    hand_in(&came);
+    came.length = 0;
+    add_no_names(&came, 11, 9, &STAT);
+    hand_in(&came);
+    EACH(dw_session_unfollow_tree(s, 40, TREE));
+    compare(0);
+}
+
+/* A reply that was not asked for ends the connection. A call waits in vain, and in the end the session has expired. */
+static void end(void)
+{
+    struct bytes came = {.length = 0};
+    add_header(&came, 99, 9, 0);
+    hand_in(&came);
+    EACH(dw_session_cut(s, 50));
+    compare(0);
+    EACH(dw_session_set_data(s, 50, 15, 60, "/a", 2, NULL, 0, true, -1));
+    EACH(dw_session_moment(s, 60));
+    compare(0);
+    begin(2000);
+    came.length = 0;
+    add_expired(&came);
+    hand_in(&came);
+}
+
+int main(void)
+{
+    connect_sessions();
+    ask();
+    follow();
+    end();
+    EXPECT_NUMBER((UINT32_C(1) << (DW_KIND_WHOLE + 1)) - (UINT32_C(1) << DW_KIND_SEND), kinds);
+    EACH((dw_session_free(s), DW_OK));
+    return EXIT_SUCCESS;
+}
