@@ -14,6 +14,7 @@ sys.path[:0] = [str(HERE.parent / "python"), str(HERE.parent / "bench")]
 
 from dirwolleu import _library as library  # noqa: E402
 from dirwolleu._session import Dial, LetGo, Session, Shown, Sign, TakenOn, Whole  # noqa: E402
+from dirwolleu.types import DataStat  # noqa: E402
 
 bench: Any = importlib.import_module("library")
 
@@ -215,7 +216,7 @@ class Link:
             self.frames = self.frames[end:]
 
 
-def text_of(path: str, data: Optional[bytes], stat: library.DataStat) -> str:
+def text_of(path: str, data: Optional[bytes], stat: DataStat) -> str:
     """The line of a node. What follows from it is as the servers have it."""
     follows = 1000 * stat.czxid, 1000 * stat.mzxid, len(data or b""), 0
     if (stat.ctime, stat.mtime, stat.data_length, stat.ephemeral_owner) != follows:

@@ -1,4 +1,4 @@
-//! A machine at servers in memory that does the rows of `clients/cases/cuts.txt`: each 31st cut, or each Kth where `DIRWOLLEU_EVERY` is K. It wants
+//! A machine at servers in memory that does the rows of `clients/cases/cuts.txt`: each 61st cut, or each Kth where `DIRWOLLEU_EVERY` is K. It wants
 //! `libdirwolleu_bench.a` beside the library.
 
 use crate::bench::{Bench, Change};
@@ -10,7 +10,7 @@ use std::time::Duration;
 use std::{env, thread};
 
 const TABLE: &str = include_str!("../../../cases/cuts.txt");
-const EVERY: usize = 31;
+const EVERY: usize = 61;
 
 const TIMEOUT: Duration = Duration::from_secs(9);
 const ADDRESSES: usize = 2;
