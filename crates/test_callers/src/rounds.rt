@@ -3,11 +3,17 @@
 //! the standard input.
 //!
 //! As many rounds end well as a round has bytes if it is not cut, and 64 of pieces. What `stdout` says of them was added up by hand from
-//! the records of zookeeper.jute. The server sends, after a lost connection: the answer to the ConnectRequest, 40 bytes; the notices of
-//! `/t/a` and `/t`, 36 and 34; the reply to setWatches, 20; the data, whose number has three digits, 95; two names, 102; and after the
-//! delete a notice, 34, and one name, 97. That is 458. It takes a ConnectRequest, 49; setWatches, 46; getData, 21; and getChildren2 twice,
-//! 19 each. That is 154. After an expiry it sends two answers to ConnectRequests, 80, and no notice and no reply to setWatches before the
-//! reads: 408. It takes two ConnectRequests, 98, and no setWatches: 157.
+//! the records of zookeeper.jute. The names below `/t` are read twice each time, for who follows them and for the tree. After a lost
+//! connection the server sends: the answer to the ConnectRequest, 40 bytes; the notices of `/t/a` and `/t`, 36 and 34; the reply to
+//! setWatches, 20; the data of `/t/a`, whose number has three digits, 95; two names, 102 twice; the data and the names of `/t/b`, 95 and
+//! 92; and after the delete the notices of `/t/b` and `/t`, 36 and 34; one name, 97 twice; and four errors, 80, for each side of `/t/b` is
+//! read twice where there is no node. That is 960. From the second round of a session on there is a notice of `/t/b` more, whose making is
+//! watched still; but the round of this number is the first one of its session. The server takes a ConnectRequest, 49; setWatches, 68,
+//! with the data of `/t` and `/t/a`, the making of `/t/b`, and the names below `/t` and `/t/a`; getData of `/t/a`, 21; getChildren2 of
+//! `/t` twice, 19 each; both sides of `/t/b`, 21 each; `/t` twice again, and `/t/b` four times. That is 340. After an expiry the server
+//! sends two answers to ConnectRequests, 80, and no notice and no reply to setWatches before the reads, and of these the data of `/t`, 96,
+//! and the names below `/t/a`, 92, besides; the number of the round has four digits, and is sent with `/t/a` and `/t/b`: 1,100. It takes
+//! two ConnectRequests, 98, and no setWatches, and the reads of `/t` and `/t/a`, 19 and 21, besides: 361.
 
 mod kept;
 mod world;

@@ -18,6 +18,8 @@ mod server;
 
 #[cfg(dirwolleu_bench)]
 mod benches;
+#[cfg(dirwolleu_bench)]
+mod cuts;
 mod lane;
 mod locks;
 mod machines;

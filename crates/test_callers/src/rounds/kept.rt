@@ -5,6 +5,11 @@ use std::alloc::{AllocError, Global};
 use zk_bench::History;
 use zk_client::{Client, DataAnswer, Mark, Names, Path};
 
+/// A word, or the number of the round where that is meant.
+pub fn filled<'w>(word: &'w str, number: &'w str) -> &'w str {
+    if word == "%" { number } else { word }
+}
+
 /// Whether the data of a node are these, and are good.
 pub fn are_data(client: &Client<Global>, path: &Path<Global>, wanted: &str) -> bool {
     match client.peek_data(path) {
@@ -84,4 +89,27 @@ pub fn has_names(
         (Some((names, Mark::Good)), Some(held)) => are_same(names, held),
         _ => false,
     })
+}
+
+/// Whether these nodes of a tree, each of which is `PATH=DATA`, are good with the names below them, and all that the server has: so they are
+/// all of the tree.
+pub fn are_nodes(
+    alloc: Global,
+    client: &Client<Global>,
+    history: &History<Global>,
+    text: &str,
+    number: &str,
+) -> Result<bool> {
+    for word in text.split(' ') {
+        let (name, data) = word.split_once('=').unwrap_or((word, ""));
+        let path = Path::new(alloc, name)?;
+        let is_kept = are_data(client, &path, filled(data, number))
+            && has_data(client, history, &path)?
+            && has_names(client, history, &path)?;
+        drop(path);
+        if !is_kept {
+            return Ok(false);
+        }
+    }
+    Ok(true)
 }

@@ -2,7 +2,7 @@
 
 ghost use Rattle.std.specs.Prelude.{◌≤◌};
 
-use crate::rounds::kept::{are_data, are_names, has_data, has_names};
+use crate::rounds::kept::{are_data, are_names, are_nodes, filled, has_data, has_names};
 use anyhow::Result;
 use ffi_agent_device::AgentDevice;
 use ffi_device::DeviceRefusal;
@@ -13,10 +13,14 @@ use zk_client::Path;
 /// The timeout that is asked for, in milliseconds: that of the clients' programs.
 const TIMEOUT_MS: i32 = 10_000;
 
-/// The tickets of what is followed: the data of a node, and the names below one.
+/// The tickets of what is followed: the data of a node, the names below one, and a tree of so many nodes at most.
 const NODE: u64 = 1;
 
 const PARENT: u64 = 2;
+
+const TREE: u64 = 3;
+
+const MOST: u64 = 8;
 
 /// More actions than one step has, more requests than are sent at once, more steps than a row takes, and more bytes than a frame of the
 /// session has.
@@ -26,7 +30,7 @@ const REQUESTS: usize = 8;
 
 const STEPS: usize = 2_000;
 
-const ROOM: usize = 64;
+const ROOM: usize = 96;
 
 /// Where in the frame of a ConnectRequest the session's number begins and ends: after the frame's length, the version, the zxid and the
 /// timeout. It is 0 where a new session is asked for.
@@ -54,8 +58,7 @@ enum Link {
 enum Awaited {
     Data,
     Names,
-    /// A subtree, which no agent follows: its rows are left out.
-    Nothing,
+    Tree,
 }
 
 /// The device, its server and the connection, the moment, what the program follows and waits for, and what was shown and not looked up yet.
@@ -79,6 +82,7 @@ pub struct World<'t> {
     awaited: Awaited,
     is_node_shown: bool,
     is_parent_shown: bool,
+    is_tree_whole: bool,
 }
 
 /// How many of this many bytes pass, where that many more do. When fewer pass, the connection ends after them, and no other does.
@@ -97,11 +101,6 @@ fn pass(left: &mut usize, count: usize) -> usize
 /// A refusal is none of a server's: it ends the test.
 fn or_end(done: Result<(), DeviceRefusal>) -> Result<(), AllocError> {
     done.map_err(|_| AllocError)
-}
-
-/// A word, or the number of the round where that is meant.
-fn filled<'w>(word: &'w str, number: &'w str) -> &'w str {
-    if word == "%" { number } else { word }
 }
 
 /// Whether a ConnectRequest asks for a new session.
@@ -144,9 +143,10 @@ impl<'t> World<'t> {
             connections: 0,
             node: "",
             parent: "",
-            awaited: Awaited::Nothing,
+            awaited: Awaited::Data,
             is_node_shown: false,
             is_parent_shown: false,
+            is_tree_whole: false,
         })
     }
 
@@ -198,7 +198,8 @@ impl<'t> World<'t> {
                     self.link = Link::Apart;
                 }
                 10 if flat.ticket == NODE => self.is_node_shown = true,
-                10 => self.is_parent_shown = true,
+                10 if flat.ticket == PARENT => self.is_parent_shown = true,
+                15 => self.is_tree_whole = true,
                 _ => (),
             }
         }
@@ -272,7 +273,7 @@ impl<'t> World<'t> {
         match self.awaited {
             Awaited::Data => self.is_node_shown,
             Awaited::Names => self.is_parent_shown,
-            Awaited::Nothing => true,
+            Awaited::Tree => self.is_tree_whole,
         }
     }
 
@@ -322,6 +323,17 @@ impl<'t> World<'t> {
         Ok(true)
     }
 
+    /// What is waited for. Whether this is a word for it.
+    fn await_next(&mut self, word: &str) -> bool {
+        self.awaited = match word {
+            "next" => Awaited::Data,
+            "listed" => Awaited::Names,
+            "subtree" => Awaited::Tree,
+            _ => return false,
+        };
+        true
+    }
+
     /// A command for the program. Whether it is one.
     fn ask(&mut self, word: &str, path: &'t str) -> Result<bool, AllocError> {
         let (alloc, now) = (self.alloc, self.now);
@@ -336,19 +348,11 @@ impl<'t> World<'t> {
                 self.device
                     .follow_names_at(alloc, now, PARENT, path.as_bytes())
             }
-            "next" => {
-                self.awaited = Awaited::Data;
-                return Ok(true);
+            "tree" => {
+                self.device
+                    .follow_tree_at(alloc, now, TREE, path.as_bytes(), MOST)
             }
-            "listed" => {
-                self.awaited = Awaited::Names;
-                return Ok(true);
-            }
-            "tree" | "subtree" => {
-                self.awaited = Awaited::Nothing;
-                return Ok(true);
-            }
-            _ => return Ok(false),
+            word => return Ok(self.await_next(word)),
         };
         self.perform_actions(done)?;
         Ok(true)
@@ -361,7 +365,10 @@ impl<'t> World<'t> {
         }
         let client = self.device.agent.client();
         match self.awaited {
-            Awaited::Nothing => Ok(true),
+            Awaited::Tree => {
+                self.is_tree_whole = false;
+                are_nodes(self.alloc, client, self.bench.history(), text, number)
+            }
             Awaited::Data => {
                 self.is_node_shown = false;
                 let (_, data) = text.split_once(' ').unwrap_or((text, ""));
