@@ -27,8 +27,28 @@ abbrev pub output_layout : Layout
 output_layout = numbers_layout ⨾ (stat_layout ⨾ buffer)
 
 abbrev pub stat_value : FlatStat → Value stat_layout
-stat_value s = (s.czxid, (s.mzxid, (s.ctime, (s.mtime, (s.version, (s.cversion, (s.aversion,
-    (s.ephemeral_owner, (s.data_length, (s.num_children, s.pzxid))))))))))
+stat_value s = (
+  s.czxid,
+  (
+    s.mzxid,
+    (
+      s.ctime,
+      (
+        s.mtime,
+        (
+          s.version,
+          (
+            s.cversion,
+            (
+              s.aversion,
+              (s.ephemeral_owner, (s.data_length, (s.num_children, s.pzxid))),
+            ),
+          ),
+        ),
+      ),
+    ),
+  ),
+)
 
 abbrev pub output_value : Flat → (ticket size names : ℤ) → (bytes : List ℕ) → Value output_layout
 output_value f ticket size names bytes = (
