@@ -4,6 +4,7 @@ use Rattle.std.specs.Int.{w64, cast_signed}
 use Rattle.std.specs.List.{flat_map, AllByRecursion}
 use Rattle.zk_jute.specs.Layout.{Layout, Value, buffer, ustring, boolean, long, int, ◌⨾◌}
 use Rattle.zk_jute.specs.Spelling.{Fits, spelling}
+use Rattle.zk_nodes.specs.StatLayout.{stat}
 use Rattle.zk_agent.specs.declared.action.Action.{Action}
 use Rattle.ffi_device.specs.declared.flat.Flat.{Flat}
 use Rattle.ffi_device.specs.declared.flat.FlatStat.{FlatStat}
@@ -18,15 +19,11 @@ use Rattle.ffi_agent_device.specs.declared.tree.TreeNews.{TreeNews}
 abbrev pub numbers_layout : Layout
 numbers_layout = int ⨾ (int ⨾ (int ⨾ (int ⨾ (long ⨾ (long ⨾ (long ⨾ (long ⨾ (boolean ⨾ boolean))))))))
 
--- A Stat, as zookeeper.jute has it: czxid, mzxid, ctime, mtime, version, cversion, aversion, ephemeralOwner, dataLength, numChildren, pzxid.
-abbrev pub stat_layout : Layout
-stat_layout = long ⨾ (long ⨾ (long ⨾ (long ⨾ (int ⨾ (int ⨾ (int ⨾ (long ⨾ (int ⨾ (int ⨾ long)))))))))
-
 -- an output: its numbers; its Stat, zeros where it has none; and what is read apart from them
 abbrev pub output_layout : Layout
-output_layout = numbers_layout ⨾ (stat_layout ⨾ buffer)
+output_layout = numbers_layout ⨾ (stat ⨾ buffer)
 
-abbrev pub stat_value : FlatStat → Value stat_layout
+abbrev pub stat_value : FlatStat → Value stat
 stat_value s = (
   s.czxid,
   (
