@@ -4,11 +4,12 @@ from __future__ import annotations
 
 import struct
 import unittest
+from unittest import mock
 
 from test_library import CONNECT_REQUEST, CONNECT_RESPONSE, STAT, STAT_BYTES, buffer, frame, reply
 
 from dirwolleu import _library as library
-from dirwolleu._library import Answer, Drop, NoMemory, Report, Send, StateChange
+from dirwolleu._library import Answer, Drop, Halted, NoMemory, Report, Send, StateChange
 from dirwolleu._root import Root
 from dirwolleu._session import (
     NO_LIMIT,
@@ -75,6 +76,18 @@ class SessionTest(unittest.TestCase):
         for now in range(400, 100_000, 400):
             places += [action.place for action in session.failed(now) + session.moment(now) if isinstance(action, Dial)]
         self.assertEqual({len(set(places[begin : begin + 3])) for begin in range(0, len(places) - 2)}, {3})
+
+    def test_a_step_says_more_than_there_was_room_for(self) -> None:
+        session, data = self.connected(), bytes(10_000)
+        session.get_data(100, 1, NO_LIMIT, "/a", False)
+        told = session.received(100, reply(1, 5, body=buffer(data) + STAT_BYTES))
+        self.assertEqual(told, [Answer(1, library.REPLIED, library.DATA, 0, STAT, data, [], 5)])
+
+    def test_without_memory_for_what_a_step_says_it_halts(self) -> None:
+        session = self.connected()
+        with mock.patch.object(session._calls, "outputs", return_value=library.NO_MEMORY), self.assertRaises(Halted):
+            session.moment(200)
+        self.assertEqual(session.moment(200), [])
 
     def test_calls_wait_and_are_answered(self) -> None:
         session = self.session()
