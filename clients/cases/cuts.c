@@ -581,7 +581,7 @@ static void do_rows(const struct row *rows, size_t count)
     }
 }
 
-/* Plays the rows, where the connection ends after so many bytes that are sent or heard, and they come in pieces. */
+/* Plays the rows, where the connection ends after this many bytes that are sent or heard, and they come in pieces. */
 static void play(const struct play *one, size_t sent, size_t heard, size_t piece)
 {
     snprintf(what, sizeof what, "%s, cut after %zu bytes sent or %zu heard, in pieces of %zu", one->name, sent, heard, piece);
@@ -607,7 +607,7 @@ static void play_cut(const struct play *one, size_t sent, size_t heard, size_t p
     need(wire.connections <= one->connections + MORE_CONNECTIONS, "too many connections were made");
 }
 
-/* Without a cut so many bytes pass as the row says, or fewer in small pieces. */
+/* Without a cut as many bytes pass as the row says, or fewer in small pieces. */
 static void play_whole(const struct play *one, size_t piece)
 {
     play(one, 0, 0, piece);

@@ -81,7 +81,7 @@ def cases_in(text: str) -> dict[str, Case]:
 
 
 class Link:
-    """The connection and the servers behind it, and what its bytes say."""
+    """The connection, the servers, and what the bytes say."""
 
     def __init__(self, subjects: list[list[str]]) -> None:
         self.bench = bench.Bench(NUMBER)
@@ -376,7 +376,7 @@ def cuts_of(counts: Counts, size: int, every: int) -> Iterator[Cut]:
 
 
 def try_case(case: Case, every: int) -> None:
-    """Plays it in pieces of each size: without a cut, where so many bytes pass as the row says, or fewer in small pieces, and with each cut."""
+    """Plays it in pieces of each size: without a cut, where as many bytes pass as the row says, or fewer in small pieces, and with each cut."""
     wanted, cuts = case.counts[0], 0
     for size, piece in enumerate(PIECES):
         link = play(case, Cut(None, None, piece))

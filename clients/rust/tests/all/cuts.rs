@@ -196,7 +196,7 @@ enum Stage {
     Leaving,
 }
 
-/// The connection and the servers behind it, and what its bytes say.
+/// The connection, the servers, and what the bytes say.
 struct Link {
     bench: Bench,
     /// How many transactions each server has.
@@ -535,7 +535,7 @@ impl Play {
 }
 
 impl Case {
-    /// Plays the rows, where the connection ends after so many bytes that are sent or heard, and they come in pieces.
+    /// Plays the rows, where the connection ends after this many bytes that are sent or heard, and they come in pieces.
     fn play(&self, sent: Option<usize>, heard: Option<usize>, piece: usize) -> Link {
         let name = self.name;
         let _played = Played(format!("{name}: sent {sent:?}, heard {heard:?}, {piece}"));
@@ -563,7 +563,7 @@ impl Case {
         assert!(link.was_cut && link.connections <= most, "{}", self.name);
     }
 
-    /// Without a cut so many bytes pass as the row says, or fewer in small pieces.
+    /// Without a cut as many bytes pass as the row says, or fewer in small pieces.
     fn play_whole(&self, piece: usize) -> Counts {
         let (link, wanted) = (self.play(None, None, piece), self.counts);
         let counts = Counts {

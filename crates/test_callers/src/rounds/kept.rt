@@ -91,8 +91,8 @@ pub fn has_names(
     })
 }
 
-/// Whether these nodes of a tree, each of which is `PATH=DATA`, are good with the names below them, and all that the server has: so they are
-/// all of the tree.
+/// Whether these nodes of a tree, each of which is `PATH=DATA`, are good with the names below them, and are those that the server has: with
+/// these names they are all of the tree.
 pub fn are_nodes(
     alloc: Global,
     client: &Client<Global>,

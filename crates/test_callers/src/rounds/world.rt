@@ -13,7 +13,7 @@ use zk_client::Path;
 /// The timeout that is asked for, in milliseconds: that of the clients' programs.
 const TIMEOUT_MS: i32 = 10_000;
 
-/// The tickets of what is followed: the data of a node, the names below one, and a tree of so many nodes at most.
+/// The tickets of what is followed: the data of a node, the names below one, and a tree, which has at most `MOST` nodes.
 const NODE: u64 = 1;
 
 const PARENT: u64 = 2;
