@@ -3,7 +3,7 @@ use Rattle.std.specs.Prelude.{ℕ, Bool, List, Option}
 use Rattle.zk_nodes.specs.Path.{Text}
 use Rattle.zk_nodes.specs.declared.side.Side.{Side}
 use Rattle.zk_history.specs.HistoryView.{history_of, HistoryView}
-use Rattle.theory_shown.specs.BenchActs.{bench_end}
+use Rattle.zk_benches.specs.BenchActs.{bench_end}
 use Rattle.shell_watch.specs.declared.plan.Style.{Style}
 use Rattle.shell_watch.specs.Watching.{EndsFrom, IsBegun, PrintsFrom, Stand}
 use Rattle.theory_shown.specs.Watched.{AllCohere}
