@@ -1,11 +1,11 @@
 //! What dials servers in memory.
 
-ghost use Rattle.std.specs.Prelude.{◌≡◌, ◌++◌, ◌∷◌, [], All, OnOk};
+ghost use Rattle.std.specs.Prelude.{◌≡◌, All};
 ghost use Rattle.std.proofs.Props.{props};
 ghost use Rattle.zk_benches.specs.Lines.{IsOver};
 
 use crate::line::{Line, Past};
-use std::alloc::{AllocError, Allocator};
+use std::alloc::Allocator;
 use std::io::{self, ErrorKind};
 use std::marker::PhantomData;
 use zk_bench::Bench;
@@ -20,20 +20,15 @@ pub struct Benches<A: Allocator + Copy, K: Past> {
 }
 
 impl<A: Allocator + Copy, K: Past> Benches<A, K> {
-    /// None yet.
-    pub fn new(alloc: A) -> Benches<A, K> {
+    /// Over these, of which the last is dialled first.
+    pub fn of(benches: Vec<Bench<A>, A>) -> Benches<A, K>
+        requires { All (IsOver K.past) benches.items }
+        ensures { result.benches.items ≡ benches.items }
+    {
         Benches {
-            benches: Vec::new(alloc),
+            benches,
             of: PhantomData,
         }
-    }
-
-    /// One more, which is dialled before those that are there.
-    pub fn push(&mut self, bench: Bench<A>) -> Result<(), AllocError>
-        requires { IsOver K.past bench }
-        ensures { OnOk result (self.new.benches.items ≡ self.old.benches.items ++ bench ∷ []) }
-    {
-        self.benches.push(bench).map_err(From::from)
     }
 }
 

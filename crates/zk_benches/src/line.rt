@@ -2,20 +2,24 @@
 
 ghost use Rattle.std.specs.Prelude.{IfSome};
 ghost use Rattle.std.proofs.Props.{props};
-ghost use Rattle.zk_history.specs.HistoryView.{HistoryView};
+ghost use Rattle.zk_history.specs.HistoryView.{empty_kept, HistoryView};
 ghost use Rattle.zk_benches.specs.BenchActs.{bench_end};
 ghost use Rattle.zk_benches.specs.Lines.{IsOver};
 
 use crate::serve::{deliver, fetch};
 use std::alloc::Allocator;
 use std::io::{self, Read, Write};
-use std::marker::PhantomData;
+use std::marker::{Brand, PhantomData};
 use zk_bench::Bench;
 use zk_link::Stream;
 
 /// Which history the benches have. Whoever begins them picks it (`std::marker::Brand`).
 pub trait Past {
     ghost past: { HistoryView };
+}
+
+impl Past for Brand {
+    ghost past = { empty_kept };
 }
 
 /// A connection to a bench, or one that is over.
