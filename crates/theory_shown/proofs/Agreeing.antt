@@ -4,10 +4,10 @@ use Rattle.std.proofs.Common.{◌<◌, ◌^◌, ℕ, Bool, true, false, List, []
 use Rattle.zk_link.specs.FarEnds.{FarEnd}
 use Rattle.zk_nodes.specs.History.{IsHistory}
 use Rattle.zk_turns.specs.Turns.{new_start}
-use Rattle.zk_turns.specs.View.{View, view_at}
+use Rattle.zk_turns.specs.View.{View}
 use Rattle.zk_turns.specs.Rule.{Stands}
 use Rattle.zk_turns.proofs.Requested.{new_resumable}
-use Rattle.theory_serving.specs.Shown.{connected, Shown}
+use Rattle.theory_serving.specs.Shown.{Shown}
 use Rattle.zk_nodes.specs.Path.{Text}
 use Rattle.zk_history.specs.HistoryView.{history_of}
 use Rattle.zk_bench.specs.Served.{Served}

@@ -8,3 +8,4 @@ pub mod Starting
 pub mod Agreeing
 pub mod Waiting
 pub mod Linked
+pub mod Dialled

@@ -1,7 +1,7 @@
 -- Over streams at whose far end a bench is, the bench does beside each run what its clauses say: step after step, what the stream says of
 -- its far end is what the bench does. Its history stays, so each connection is one to a bench with the same history.
-use Rattle.std.proofs.Common.{◌≡◌, ◌++◌, ◌∙◌, ℕ, Bool, true, false, List, [], ◌∷◌, Option, Some, None, inl, inr, ap, append-nil, lit<}
-use Rattle.std.proofs.Common.{append_assoc, refl, sym, subst}
+use Rattle.std.proofs.Common.{◌≡◌, ◌++◌, ◌∙◌, ℕ, Bool, true, false, List, [], ◌∷◌, Option, Some, None, ap, append-nil, lit<}
+use Rattle.std.proofs.Common.{refl, sym, subst}
 use Rattle.std.specs.List.{flat_map, FoldsTo}
 use Rattle.zk_link.specs.FarEnds.{Begun, Goes, Reached, Trades}
 use Rattle.zk_nodes.specs.Path.{Text}
@@ -19,8 +19,9 @@ use Rattle.zk_driver.specs.Driving.{ChannelView, Looked, Noted, Written}
 use Rattle.zk_driver.specs.Noting.{is_come}
 use Rattle.zk_driver.specs.Flowing.{Asked, AreWithin, Carries, Deed, Flow, Made, Passes, Runs}
 use Rattle.zk_driver.proofs.Flowed.{goes_on, open_before}
-use Rattle.theory_drivers.specs.Acts.{given_in, taken_in, Act, Gives, Serves, Takes}
-use Rattle.theory_shown.specs.BenchActs.{bench_end, BenchBegins, BenchDoes, BenchGoes, LineDoes}
+use Rattle.theory_drivers.specs.Acts.{given_in, taken_in, Act, Takes}
+use Rattle.zk_benches.specs.BenchActs.{bench_end, BenchBegins, BenchDoes, BenchGoes, LineDoes}
+use Rattle.zk_benches.proofs.Acting.{goes_after, goes_first, goes_over}
 use Rattle.theory_drivers.specs.Worlds.{ByDriver}
 use Rattle.theory_drivers.proofs.Turned.{goes_nowhere}
 use Rattle.shell_watch.specs.declared.plan.Style.{Style}
@@ -34,27 +35,6 @@ use Rattle.theory_shown.proofs.Agreeing.{watch_agrees, watch_end_agrees}
 use Rattle.theory_shown.proofs.Waiting.{connected_ready}
 use Rattle.theory_shown.proofs.Watched.{ends_cohere, prints_cohere}
 
--- ---- acts
-
-acts_on : (acts more : List Act) (old between new : Served) → FoldsTo BenchDoes old acts between → FoldsTo BenchDoes between more new
-    → FoldsTo BenchDoes old (acts ++ more) new
-acts_on [] more old between new same rest = subst (λ (s : Served). FoldsTo BenchDoes s more new) (sym same) rest
-acts_on (act ∷ acts) more old between new does rest = (does.0, does.1, acts_on acts more does.0 between new does.2 rest)
-
-taken_on : (acts more : List Act) → taken_in (acts ++ more) ≡ taken_in acts ++ taken_in more
-taken_on [] more = refl
-taken_on (Takes bytes ∷ acts) more =
-    ap (λ l. bytes ++ l) (taken_on acts more) ∙ sym (append_assoc bytes (taken_in acts) (taken_in more))
-taken_on (Gives bytes ∷ acts) more = taken_on acts more
-taken_on (Serves ∷ acts) more = taken_on acts more
-
-given_on : (acts more : List Act) → given_in (acts ++ more) ≡ given_in acts ++ given_in more
-given_on [] more = refl
-given_on (Takes bytes ∷ acts) more = given_on acts more
-given_on (Gives bytes ∷ acts) more =
-    ap (λ l. bytes ++ l) (given_on acts more) ∙ sym (append_assoc bytes (given_in acts) (given_in more))
-given_on (Serves ∷ acts) more = given_on acts more
-
 -- ---- where a line is, a bench is
 
 -- The bench is the one at the far end; where the line is over, it has ended the connection.
@@ -67,29 +47,6 @@ record GoesAt (took gave : List ℕ) (end : Option Served) (before : Served) : T
   after : Served
   at : IsAt end after
   goes : BenchGoes before took gave after
-
-goes_first : (before : Served) → BenchGoes before [] [] before
-goes_first before = record { acts = []; does = refl; taken = refl; given = refl; history = refl }
-
-goes_after : (took gave more other : List ℕ) (old between new : Served)
-    → BenchGoes old took gave between → BenchGoes between more other new → BenchGoes old (took ++ more) (gave ++ other) new
-goes_after took gave more other old between new first rest = record {
-  acts = first.acts ++ rest.acts;
-  does = acts_on first.acts rest.acts old between new first.does rest.does;
-  taken = taken_on first.acts rest.acts ∙ ap (λ l. l ++ taken_in rest.acts) first.taken ∙ ap (λ l. took ++ l) rest.taken;
-  given = given_on first.acts rest.acts ∙ ap (λ l. l ++ given_in rest.acts) first.given ∙ ap (λ l. gave ++ l) rest.given;
-  history = rest.history ∙ first.history;
-}
-
--- it ends the connection
-goes_over : (old : Served) → BenchGoes old [] [] (ended old)
-goes_over old = record {
-  acts = Serves ∷ [];
-  does = (ended old, inr (inr (inl refl)), refl);
-  taken = refl;
-  given = refl;
-  history = refl;
-}
 
 -- what comes then is lost
 goes_lost : (took gave : List ℕ) (old : Served) → old.connection.phase ≡ Ended → gave ≡ [] → BenchGoes old took gave old

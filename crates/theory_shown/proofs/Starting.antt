@@ -19,10 +19,9 @@ use Rattle.script_words.specs.Pieces.{words_of}
 use Rattle.script_words.specs.Reads.{◌>>=◌, is_printed, number_read, time_at, zxid_read}
 use Rattle.script_words.specs.Said.{says_split, something, split_keyword}
 use Rattle.script_replay.specs.Reads.{below_zero, bytes_at, integer_of, password_at, password_read, session_at, timeout_at}
-use Rattle.script_replay.specs.ReplayLines.{begin_line_at, saved_at, BeginValue, ResumeLine, TimeoutLine}
-use Rattle.script_replay.specs.declared.begin_line.BeginKeyword.TheVariants as begin_keyword
+use Rattle.script_replay.specs.ReplayLines.{saved_at, BeginValue, ResumeLine, TimeoutLine}
 use Rattle.script_replay.specs.Played.{start_of}
-use Rattle.script_live.specs.Begins.{begun_by, begun_from, decided, Begins, Begun}
+use Rattle.script_live.specs.Begins.{begun_by, begun_from, decided, Begins}
 use Rattle.script_live.specs.LiveLines.{begins_at, fresh, resume_at}
 
 -- ---- numbers

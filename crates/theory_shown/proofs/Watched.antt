@@ -1,5 +1,5 @@
 -- What a watch prints is the history's: move by move the watch's client stays served, so what it shows is what the history has.
-use Rattle.std.proofs.Common.{ℕ, List, [], ◌∷◌, ap, sym, subst}
+use Rattle.std.proofs.Common.{List, [], ◌∷◌, ap, sym, subst}
 use Rattle.std.specs.List.{FoldsTo}
 use Rattle.zk_link.specs.FarEnds.{FarEnd}
 use Rattle.zk_nodes.specs.History.{History, IsHistory}

@@ -1,5 +1,4 @@
 -- What programs print over connections to servers of the model, or to a server in memory, is what the history has.
-pub mod BenchActs
 pub mod Watched
 pub mod Lived
 pub mod Benched

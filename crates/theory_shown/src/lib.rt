@@ -8,13 +8,21 @@ ghost use Rattle.zk_nodes.specs.History.{IsHistory};
 ghost use Rattle.theory_drivers.specs.Worlds.{ByDriver, ByStream};
 ghost use Rattle.theory_shown.specs.Agreeing.{LifeAgrees, LivesWait, WatchAgrees, WatchEndAgrees};
 ghost use Rattle.theory_shown.specs.Benched.{BenchesCohere, BenchesMeet, BenchesReceive, BenchesServe, BenchesWait};
-ghost use Rattle.theory_shown.specs.Linked.{LinkedEndAgrees, LinkedWatchAgrees};
+ghost use Rattle.std.specs.Prelude.{◌≡◌, ◌≢◌, All, ℕ, List, true, false};
+ghost use Rattle.std.specs.Io.KnownBytes.{Appends};
+ghost use Rattle.shell_watch.specs.Watching.{aims_of};
+ghost use Rattle.zk_benches.specs.Lines.{IsOver};
+ghost use Rattle.theory_shown.specs.Linked.{LinkedEndAgrees, LinkedWatchAgrees, PrintsPast, WatchesPast};
 ghost use Rattle.theory_shown.specs.Lived.{ByClient, ByKnown, LifeCoheres};
 ghost use Rattle.theory_shown.specs.Watched.{EndsCohere, PrintsCohere};
 
+use shell_watch::{WatchEnd, WatchPlan, watch};
 use std::alloc::Allocator;
-use zk_bench::Bench;
-use zk_link::Stream;
+use std::io::Write;
+use std::marker::Brand;
+use zk_bench::{Bench, History};
+use zk_benches::{Benches, Past};
+use zk_link::{Clock, Stream};
 
 /// Where what each connection took was what a server of the model had, and what it gave was what this server had sent: each good answer of
 /// the client of which a watch prints is the history's, at the last seen zxid that is printed with it. Over streams that know their bytes,
@@ -75,6 +83,56 @@ pub fn linked_watches_agree<A: Allocator, B: Allocator + Copy>(bench: &Bench<B>)
     ensures over { LinkedEndAgrees A bench.now.history }
 {
     known_of(bench);
+}
+
+// A watch over benches behind a dial.
+fn watch_past<A: Allocator + Copy, K: Past, C: Clock + Drop, O: Write>(
+    alloc: A,
+    history: &History<A>,
+    benches: Vec<Bench<A>, A>,
+    clock: C,
+    plan: WatchPlan<'_, A>,
+    out: &mut O,
+) -> WatchEnd
+    requires past { history.now ≡ K.past }
+    requires over { All (IsOver K.past) benches.items }
+    ensures over { result ≡ WatchEnd.Over → (text : List ℕ) × WatchesPast A K.past plan.entry.style
+        (aims_of plan.entry.subjects.items) plan.entry.trees.items plan.entry.most plan.entry.for_ms text true
+        × Appends (O.contents out.old) (O.contents out.new) text }
+    ensures never { result ≡ WatchEnd.NeverConnected → (text : List ℕ) × WatchesPast A K.past plan.entry.style
+        (aims_of plan.entry.subjects.items) plan.entry.trees.items plan.entry.most plan.entry.for_ms text false
+        × Appends (O.contents out.old) (O.contents out.new) text }
+    ensures printed { result ≢ WatchEnd.Stream → (text : List ℕ) × PrintsPast A K.past plan.entry.style
+        (aims_of plan.entry.subjects.items) plan.entry.trees.items plan.entry.most text
+        × Appends (O.contents out.old) (O.contents out.new) text }
+{
+    history.last_zxid();
+    let dial: Benches<A, K> = Benches::of(benches);
+    watch(alloc, dial, clock, plan, out)
+}
+
+/// `watch` over servers in memory behind a dial, all with this history: each good answer of the client of which it prints a line is what the
+/// history has at the last seen zxid in that line, wherever pieces and cuts fall. Nothing is premise of what they do beside it.
+pub fn watch_benches<A: Allocator + Copy, C: Clock + Drop, O: Write>(
+    alloc: A,
+    history: &History<A>,
+    benches: Vec<Bench<A>, A>,
+    clock: C,
+    plan: WatchPlan<'_, A>,
+    out: &mut O,
+) -> WatchEnd
+    requires { All (IsOver history.now) benches.items }
+    ensures over { result ≡ WatchEnd.Over → (text : List ℕ) × WatchesPast A history.now plan.entry.style
+        (aims_of plan.entry.subjects.items) plan.entry.trees.items plan.entry.most plan.entry.for_ms text true
+        × Appends (O.contents out.old) (O.contents out.new) text }
+    ensures never { result ≡ WatchEnd.NeverConnected → (text : List ℕ) × WatchesPast A history.now plan.entry.style
+        (aims_of plan.entry.subjects.items) plan.entry.trees.items plan.entry.most plan.entry.for_ms text false
+        × Appends (O.contents out.old) (O.contents out.new) text }
+    ensures printed { result ≢ WatchEnd.Stream → (text : List ℕ) × PrintsPast A history.now plan.entry.style
+        (aims_of plan.entry.subjects.items) plan.entry.trees.items plan.entry.most text
+        × Appends (O.contents out.old) (O.contents out.new) text }
+{
+    watch_past::<A, Brand, C, O>(alloc, history, benches, clock, plan, out)
 }
 
 /// And so does what `live` prints: it is what a list of deeds of its client prints, and each good answer that this has after each of them,

@@ -1,0 +1,3 @@
+-- Servers in memory behind a dial.
+pub mod BenchActs
+pub mod Lines
