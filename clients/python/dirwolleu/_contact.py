@@ -2,11 +2,9 @@
 
 from __future__ import annotations
 
-from dataclasses import dataclass
 from typing import Optional
 
 
-@dataclass
 class Contact:
     """What was heard of servers. Moments are milliseconds."""
 

@@ -13,7 +13,6 @@ import functools
 import logging
 import re
 import time
-import uuid
 from typing import TYPE_CHECKING, Any, Callable, Generic, NamedTuple, Optional, TypeVar
 
 from dirwolleu import _lane as lane
@@ -55,7 +54,7 @@ class Kind(NamedTuple):
 
     def tag(self, names: str) -> str:
         """The beginning of a name that no other node has."""
-        own, marker = uuid.uuid4(), self.marker(names)
+        own, marker = plans.new_tag(), self.marker(names)
         return f"_c_{own}{marker}" if names == "curator" else f"{own.hex}{marker}"
 
     def markers(self, names: str) -> tuple[str, ...]:

@@ -134,8 +134,9 @@ class Driver:
     def bring(self, data: bytes) -> None:
         """Bytes came."""
         self._has_brought = True
-        self._engine.received(self._noticed(), data)
-        self.act()
+        now = self._noticed()
+        self._engine.received(now, data)
+        self.act(now)
 
     def act_soon(self) -> None:
         """Acts at once where nothing waits for an answer, and else once after all that is asked in this turn of the event loop."""
@@ -147,7 +148,7 @@ class Driver:
             self._is_to_act = True
             self._loop.call_soon(self.act)
 
-    def act(self) -> None:
+    def act(self, now: Optional[int] = None) -> None:
         """Takes what was asked, does what comes out of the engine, and sees to it that it is woken."""
         if not self._is_started:
             return
@@ -155,7 +156,7 @@ class Driver:
         engine = self._engine
         if self._servers.hosts is not self._hosts:
             self._tell_hosts()
-        engine.take_handed(self._noticed())
+        engine.take_handed(self._noticed() if now is None else now)
         if self.is_stopped:
             return
         hangs_up, dial, frames = engine.take_orders()

@@ -96,6 +96,9 @@ class Orders(NamedTuple):
     frames: bytes
 
 
+_NO_ORDERS = Orders(False, None, b"")
+
+
 def _is_auth(asked: Asked) -> bool:
     return isinstance(asked.request, LaneRequest) and asked.request.operation is lane.Operation.AUTH
 
@@ -285,6 +288,8 @@ class Engine(Keeping):
 
     def take_orders(self) -> Orders:
         """What is to be done about the connection."""
+        if not self._frames and not self._hangs_up and self._dial is None:
+            return _NO_ORDERS
         orders = Orders(self._hangs_up, self._dial, b"".join(self._frames))
         self._frames.clear()
         self._hangs_up, self._dial = False, None

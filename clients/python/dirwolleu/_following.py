@@ -10,7 +10,6 @@ import logging
 import time
 from collections.abc import Iterator
 from contextlib import contextmanager
-from dataclasses import dataclass
 from typing import Any, Callable, Generic, Optional, TypeVar, Union
 
 from dirwolleu import _library as library
@@ -31,17 +30,23 @@ BETWEEN_REFUSED_READS = 1.0
 Told = TypeVar("Told", bound=Union[Kept, KeptChildren])
 
 
-@dataclass(frozen=True)
 class Subject(Generic[Told]):
-    """What is followed of a path."""
+    """What is followed of a path. It never changes."""
 
-    path: str
-    side: int
-    settled: Callable[[], Optional[Told]]
-    """What is good and whole of it now, or None."""
-    fields: Callable[[Told], Any]
-    """What makes an answer another one."""
-    read: Callable[[], Plan[Any]]
+    def __init__(
+        self,
+        path: str,
+        side: int,
+        settled: Callable[[], Optional[Told]],
+        fields: Callable[[Told], Any],
+        read: Callable[[], Plan[Any]],
+    ) -> None:
+        self.path, self.side = path, side
+        self.settled = settled
+        """What is good and whole of it now, or None."""
+        self.fields = fields
+        """What makes an answer another one."""
+        self.read = read
 
 
 def data_of(engine: Engine, path: str) -> Subject[Kept]:

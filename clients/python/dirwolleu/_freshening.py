@@ -2,8 +2,6 @@
 
 from __future__ import annotations
 
-import dataclasses
-
 from dirwolleu import _lane as lane
 from dirwolleu import _requests as requests
 from dirwolleu._engine import Engine
@@ -39,7 +37,9 @@ def _ordered() -> Plan[None]:
     """A transaction that changes nothing. Where it is refused, as for a root that is not there, it was ordered too."""
     transaction = Transaction(lambda *_: [])
     transaction.check("/", -1)
+    request = transaction.request()
+    request.is_repeatable = True
     try:
-        yield dataclasses.replace(transaction.request(), is_repeatable=True)
+        yield request
     except TransactionFailedError:
         pass

@@ -4,7 +4,6 @@ from __future__ import annotations
 
 import os
 import socket
-import uuid
 from typing import Generic, Optional
 
 from dirwolleu import _plans as plans
@@ -67,7 +66,7 @@ class BaseDoubleBarrier(Generic[AnyClient]):
             raise ValueError("a double barrier is for one client at least")
         self._client, self._path, self._count = client, path, num_clients
         self._data = (identifier or f"{socket.getfqdn()}-{os.getpid()}").encode()
-        self._name = uuid.uuid4().hex
+        self._name = plans.new_tag().hex
         self._own, self._ready = plans.child_of(path, self._name), plans.child_of(path, _READY)
 
     def _entering(self, news: News, timeout: Optional[float]) -> Steps[bool]:

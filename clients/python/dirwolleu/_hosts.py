@@ -3,7 +3,6 @@
 from __future__ import annotations
 
 import contextlib
-import ipaddress
 import random
 from typing import TYPE_CHECKING, NamedTuple
 
@@ -113,8 +112,10 @@ class Servers:
 
     async def _look_up(self, host: str, port: int) -> list[str]:
         """The addresses of a host."""
+        import ipaddress  # here, so that no import of the package loads this and asyncio
+
         with contextlib.suppress(ValueError):
             return [str(ipaddress.ip_address(host))]
-        from dirwolleu import _lookups  # here, so that no import of the package loads asyncio
+        from dirwolleu import _lookups
 
         return await _lookups.shared(self._lookups, host, port)

@@ -11,7 +11,6 @@ import enum
 import itertools
 import struct
 from collections.abc import Sequence
-from dataclasses import dataclass
 from typing import Any, Callable, Generic, NamedTuple, Optional, TypeVar
 
 from dirwolleu import _jute as jute
@@ -51,17 +50,23 @@ class Created(NamedTuple):
     stat: Stat
 
 
-@dataclass(eq=False)
 class LaneRequest(Generic[Result]):
-    """A request of the lane, whose answer brings a result of this type. It never changes."""
+    """A request of the lane, whose answer brings a result of this type. Once it is asked it does not change."""
 
-    operation: Operation
-    paths: Sequence[str]
-    """The paths that it names, which have to be paths of nodes."""
-    body: Callable[[Root], bytes]
-    read: Callable[[Reader, Root], Result]
-    is_repeatable: bool = False
-    """Whether it does no harm to ask it again where it may have happened."""
+    def __init__(
+        self,
+        operation: Operation,
+        paths: Sequence[str],
+        body: Callable[[Root], bytes],
+        read: Callable[[Reader, Root], Result],
+        is_repeatable: bool = False,
+    ) -> None:
+        self.operation = operation
+        self.paths = paths
+        """The paths that it names, which have to be paths of nodes."""
+        self.body, self.read = body, read
+        self.is_repeatable = is_repeatable
+        """Whether it does no harm to ask it again where it may have happened."""
 
     @property
     def path(self) -> Optional[str]:

@@ -6,7 +6,6 @@ checks the lock's node: so a holder that was overtaken makes none, and at no zxi
 
 from __future__ import annotations
 
-import uuid
 from typing import Any, Callable, Optional
 
 from dirwolleu import _lane as lane
@@ -95,7 +94,7 @@ class Lessee:
 
     def _within(self, lock_path: str, on_told: Callable[[Any], object]) -> Steps[Optional[Taken]]:
         """Takes a lease within the lock, and releases that. None where the lock was lost."""
-        lease = plans.child_of(self._path, uuid.uuid4().hex)
+        lease = plans.child_of(self._path, plans.new_tag().hex)
         self._may_be_there = False
         try:
             found = yield from self._wait_for_room(lock_path, lease, on_told)

@@ -9,11 +9,8 @@ and no thread that is interrupted keeps a lock.
 from __future__ import annotations
 
 import ctypes
-import ctypes.util
 import itertools
 import os
-import pathlib
-import platform
 import struct
 import sys
 import types
@@ -332,7 +329,7 @@ _RESULT_WORDS = {
 }
 # end of what is made
 
-_HERE = pathlib.Path(__file__).resolve().parent
+_HERE = os.path.dirname(os.path.realpath(__file__))
 
 
 def _find() -> str:
@@ -341,20 +338,28 @@ def _find() -> str:
     named = os.environ.get("DIRWOLLEU_LIBRARY")
     if named:
         return named
-    checkout = _HERE.parents[2]
-    places = (_HERE, checkout / "clients" / "out", checkout / "prebuilt" / "x86_64-linux")
-    built = next((place for place in places if (place / "libdirwolleu.so").exists()), None)
-    found = str(built / "libdirwolleu.so") if built else ctypes.util.find_library("dirwolleu")
+    checkout = os.path.dirname(os.path.dirname(os.path.dirname(_HERE)))
+    places = (_HERE, os.path.join(checkout, "clients", "out"), os.path.join(checkout, "prebuilt", "x86_64-linux"))
+    files = (os.path.join(place, "libdirwolleu.so") for place in places)
+    found = next(filter(os.path.exists, files), None) or _installed()
     if found is None:
         raise ImportError("libdirwolleu.so is not found: install the package again, or name the file by DIRWOLLEU_LIBRARY")
     return found
 
 
+def _installed() -> Optional[str]:
+    """What the system has."""
+    from ctypes.util import find_library  # here, since it takes a tenth of the time of the whole import
+
+    return find_library("dirwolleu")
+
+
 def _check_machine() -> None:
     """Fails in words where the library can't run."""
-    machine, system = platform.machine(), platform.system()
-    if (machine.lower(), system) not in (("x86_64", "Linux"), ("amd64", "Linux")):
-        raise ImportError(f"dirwolleu runs on Linux on x86-64 alone, and this is {system} on {machine}")
+    system = os.uname() if hasattr(os, "uname") else None
+    machine, name = (system.machine, system.sysname) if system else ("another machine", sys.platform)
+    if (machine.lower(), name) not in (("x86_64", "Linux"), ("amd64", "Linux")):
+        raise ImportError(f"dirwolleu runs on Linux on x86-64 alone, and this is {name} on {machine}")
     if not getattr(sys, "_is_gil_enabled", lambda: True)():
         raise ImportError("dirwolleu wants an interpreter with its global lock (GIL)")
 
@@ -620,17 +625,18 @@ class _Room:
     """Where the library writes bytes. It grows."""
 
     def __init__(self) -> None:
-        self.size = 4096
-        self.bytes = ctypes.create_string_buffer(self.size)
-        self.view = memoryview(self.bytes)
+        self._make(4096)
+
+    def _make(self, size: int) -> None:
+        self.bytes = ctypes.create_string_buffer(size)
+        self.at, self.view = byref(self.bytes), memoryview(self.bytes)
+        self.size = size  # last: wherever this is interrupted, there is as much as it says
 
     def widen(self, length: int) -> bool:
         """Makes room for this many bytes. Answers whether there was too little."""
         is_short = length > self.size
         if is_short:
-            self.size = length
-            self.bytes = ctypes.create_string_buffer(length)
-            self.view = memoryview(self.bytes)
+            self._make(length)
         return is_short
 
     def first(self, length: int) -> bytes:
@@ -686,6 +692,7 @@ _fields_of_output, _fields_of_kept_data = _fields_of(_Output), _fields_of(_KeptD
 _HEAD_OF_OUTPUT, _HEAD_OF_KEPT_DATA = len(_Output._fields_) - 1, len(_KeptData._fields_) - 1  # the last field is the Stat
 _LENGTH_OF_OUTPUT, _NAMES_OF_OUTPUT = map([name for name, _ in _Output._fields_].index, ("length", "names"))
 _FIELDS_OF_OUTPUT = _HEAD_OF_OUTPUT + len(_Stat._fields_)
+_START = c_size_t(0)
 made = tuple.__new__  # it makes a record of its fields, and is quicker than the record's own name
 _data_stat_in = _record_of(_DataStat, DataStat, _HEAD_OF_KEPT_DATA)
 
@@ -713,8 +720,8 @@ def functions(prefix: str) -> types.SimpleNamespace:
     """The functions of the library whose names begin so, without that."""
     names = [name for name in _FUNCTIONS if name.startswith(prefix)]
     found = types.SimpleNamespace(**{name[len(prefix) :]: getattr(_library, name) for name in names})
-    # These are called most, by pointers: other objects, which do not look at their arguments.
-    vars(found).update((name, _library[prefix + name]) for name in ("next", "outputs") if name in vars(found))
+    # These are called most, by pointers and sizes of C: other objects, which do not look at their arguments.
+    vars(found).update((name, _library[prefix + name]) for name in ("next", "copy", "outputs") if name in vars(found))
     return found
 
 
@@ -970,7 +977,7 @@ class LookUps(Generic[Said]):
         room = self._room
         if length > room.size:
             room.widen(length)
-        self._calls.copy(self._handle, 0, room.bytes, length)
+        self._calls.copy(self._handle_at, _START, room.at, c_size_t(length))
         return room.view[:length].tobytes()
 
     def _names(self) -> bytes:

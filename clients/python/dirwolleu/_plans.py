@@ -2,9 +2,8 @@
 
 from __future__ import annotations
 
-import dataclasses
 from collections.abc import Generator, Sequence
-from typing import Any, Optional, Union
+from typing import TYPE_CHECKING, Any, Optional, Union
 
 from dirwolleu import _lane as lane
 from dirwolleu import _requests as requests
@@ -12,6 +11,9 @@ from dirwolleu._lane import LaneRequest
 from dirwolleu._requests import Request, Result
 from dirwolleu.exceptions import NodeExistsError, NoNodeError, NotEmptyError
 from dirwolleu.security import ACL
+
+if TYPE_CHECKING:
+    from uuid import UUID
 
 AnyRequest = Union[Request[Result], LaneRequest[Result]]
 Plan = Generator[Union[Request[Any], LaneRequest[Any]], Any, Result]
@@ -24,6 +26,13 @@ def parent_of(path: str) -> str:
 
 def child_of(path: str, name: str) -> str:
     return f"/{name}" if path == "/" else f"{path}/{name}"
+
+
+def new_tag() -> UUID:
+    """What is in no other name."""
+    import uuid  # here, since few programs make such names, and it takes its time
+
+    return uuid.uuid4()
 
 
 def create_request(path: str, value: Optional[bytes], acl: Acls, ephemeral: bool, sequence: bool) -> AnyRequest[str]:
@@ -43,7 +52,9 @@ def ensure_path(path: str, acl: Acls) -> Plan[None]:
         path = parent_of(path)
     for path in reversed(missing):
         try:
-            yield dataclasses.replace(create_request(path, b"", acl, False, False), is_repeatable=True)
+            request = create_request(path, b"", acl, False, False)
+            request.is_repeatable = True
+            yield request
         except NodeExistsError:
             pass
 
@@ -71,7 +82,9 @@ def delete(path: str, version: int, recursive: bool) -> Plan[None]:
 def _delete_all(path: str, version: int) -> Plan[None]:
     while True:
         try:
-            yield dataclasses.replace(requests.delete(path, version), is_repeatable=version == -1)
+            request = requests.delete(path, version)
+            request.is_repeatable = version == -1
+            yield request
             return
         except NoNodeError:
             return

@@ -3,7 +3,6 @@
 from __future__ import annotations
 
 import re
-import uuid
 from typing import Generic, Optional
 
 from dirwolleu import _lane as lane
@@ -40,7 +39,7 @@ class BaseQueue(Generic[AnyClient]):
         """Makes an entry, and answers its path. One whose answer was lost is looked for by its tag."""
         if not 0 <= priority <= _MOST_PRIORITY:
             raise ValueError(f"a priority is 0 to {_MOST_PRIORITY}")
-        tag = f"entry-{priority:03d}-{uuid.uuid4().hex}-"
+        tag = f"entry-{priority:03d}-{plans.new_tag().hex}-"
         while True:
             try:
                 yield from plans.ensure_path(self._path, None)

@@ -2,7 +2,6 @@
 
 from __future__ import annotations
 
-from dataclasses import dataclass
 from typing import Any, Callable, Generic, NamedTuple, Optional, TypeVar
 
 from dirwolleu import _library as library
@@ -53,18 +52,27 @@ class Watcher(NamedTuple):
     function: Callable[[WatchedEvent], object]
 
 
-@dataclass(eq=False)
 class Request(Generic[Result]):
-    """A call of a session, at a moment, with a ticket and a limit, whose answer brings a result of this type. It never changes."""
+    """A call of a session, at a moment, with a ticket and a limit, whose answer brings a result of this type.
 
-    call: Callable[[Session, int, int, int], list[Action]]
-    path: Optional[str] = None
-    """The path of the node that it is about."""
-    is_repeatable: bool = False
-    """Whether it does no harm to ask it again where it may have happened."""
-    is_exists: bool = False
-    is_create: bool = False
-    watcher: Optional[Watcher] = None
+    Once it is asked it does not change.
+    """
+
+    def __init__(
+        self,
+        call: Callable[[Session, int, int, int], list[Action]],
+        path: Optional[str] = None,
+        is_repeatable: bool = False,
+        is_exists: bool = False,
+        is_create: bool = False,
+        watcher: Optional[Watcher] = None,
+    ) -> None:
+        self.call = call
+        self.path = path
+        """The path of the node that it is about."""
+        self.is_repeatable = is_repeatable
+        """Whether it does no harm to ask it again where it may have happened."""
+        self.is_exists, self.is_create, self.watcher = is_exists, is_create, watcher
 
     def leaves_watch(self, answer: Answer) -> bool:
         """Whether a watch that was asked for is left: where there is no node, `exists` alone leaves one."""

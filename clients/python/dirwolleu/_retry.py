@@ -6,8 +6,7 @@ import itertools
 import random
 import time
 from collections.abc import Iterator
-from dataclasses import dataclass
-from typing import Optional
+from typing import NamedTuple, Optional
 
 from dirwolleu.exceptions import (
     ConnectionClosedError,
@@ -27,8 +26,26 @@ def is_passing(error: ZookeeperError) -> bool:
     return not isinstance(error, ConnectionClosedError) and error.code in _PASSING
 
 
-@dataclass(frozen=True)
-class Retry:
+class _Bounds(NamedTuple):
+    """What a policy is made of."""
+
+    tries: Optional[int]
+    """How often a call is asked at most; None is no bound."""
+
+    deadline: Optional[float]
+    """For how many seconds tries begin; None is no bound."""
+
+    pause: float
+    """The first pause in seconds. Each one is twice the one before."""
+
+    chance: float
+    """Which part of a pause is left to chance, from 0 to 1, so that many clients do not come back at one moment."""
+
+    longest_pause: float
+    """The longest pause, in seconds."""
+
+
+class Retry(_Bounds):
     """A policy: how often a call is asked, and how long it pauses between two tries.
 
     A call is asked again where its connection or its session went, or the server was busy, and only where that can't
@@ -41,26 +58,21 @@ class Retry:
         stat = client.retry(client.exists, "/config")            # or for these alone
     """
 
-    tries: Optional[int] = 5
-    """How often a call is asked at most; None is no bound."""
+    __slots__ = ()
 
-    deadline: Optional[float] = None
-    """For how many seconds tries begin; None is no bound."""
-
-    pause: float = 0.1
-    """The first pause in seconds. Each one is twice the one before."""
-
-    chance: float = 0.5
-    """Which part of a pause is left to chance, from 0 to 1, so that many clients do not come back at one moment."""
-
-    longest_pause: float = 10.0
-    """The longest pause, in seconds."""
-
-    def __post_init__(self) -> None:
-        if self.tries is not None and self.tries < 1:
+    def __new__(
+        cls,
+        tries: Optional[int] = 5,
+        deadline: Optional[float] = None,
+        pause: float = 0.1,
+        chance: float = 0.5,
+        longest_pause: float = 10.0,
+    ) -> Retry:
+        if tries is not None and tries < 1:
             raise ValueError("a call is asked once at least")
-        if not 0 <= self.chance <= 1 or self.pause < 0 or self.longest_pause < 0:
+        if not 0 <= chance <= 1 or pause < 0 or longest_pause < 0:
             raise ValueError("pauses are not below 0, and the part that is left to chance is 0 to 1")
+        return super().__new__(cls, tries, deadline, pause, chance, longest_pause)
 
     def attempts(self) -> Attempts:
         """The tries of one call, which begin now."""

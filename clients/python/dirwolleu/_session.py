@@ -251,7 +251,7 @@ class Session(LookUps[Action]):
 
     def _found_place(self) -> tuple[Any, ...]:
         """Where the library writes outputs: what is handed to a function that does not look at it."""
-        return self._handle_at, byref(self._room.bytes), c_size_t(self._room.size), byref(self._count)
+        return self._handle_at, self._room.at, c_size_t(self._room.size), byref(self._count)
 
     def _read(self, fields: tuple[Any, ...], told: bytes) -> Action:
         kind, detail, result, code, ticket, _, _, place, was_sent = fields[:9]

@@ -4,45 +4,62 @@ from __future__ import annotations
 
 import asyncio
 import contextlib
+import io
+import os
 import selectors
-import socket
+import sys
 import threading
 from typing import Callable, Optional
 
 from dirwolleu._driver import Driver
 from dirwolleu._engine import Engine
 from dirwolleu._process import this_process
-from dirwolleu._waiting import Callbacks, Fate, ends_within
+from dirwolleu._waiting import Callbacks, Fate, Sleepers, ends_within
 from dirwolleu.exceptions import ConnectionClosedError
 
 LONGEST_END = 5.0
 """How long `stop` waits for its own threads, in seconds: they end at once, unless the process is held up."""
 
+_ONE = (1).to_bytes(8, sys.byteorder)
+"""What rings a bell: an eventfd adds it, and a pipe carries it."""
+
+
+def _bell() -> tuple[io.FileIO, io.FileIO]:
+    """Where a thread writes, and another one sees that it did. It is one eventfd, or before Python 3.10 the ends of a pipe."""
+    if hasattr(os, "eventfd"):
+        both = io.FileIO(os.eventfd(0), "r+")
+        ends = both, both
+    else:
+        reads, writes = os.pipe()
+        ends = io.FileIO(writes, "w"), io.FileIO(reads)
+    for end in ends:
+        os.set_blocking(end.fileno(), False)
+    return ends
+
 
 class _Waiting(selectors.DefaultSelector):
     """How the event loop of a client waits: not where something was asked since it has looked last.
 
-    Whoever asks writes to a socket only where the loop waits already. No lock is taken, and it does not matter where a
-    thread that asks is interrupted.
+    Whoever asks rings a bell only where the loop waits already. No lock is taken, and it does not matter where a
+    thread that asks is interrupted. Each turn of the loop ends here, the last one too: then `wake` is called.
     """
 
-    def __init__(self, act: Callable[[], object]) -> None:
+    def __init__(self, act: Callable[[], object], wake: Callable[[], object]) -> None:
         super().__init__()
-        self._act = act
+        self._act, self._wake = act, wake
         self._is_asked = self._waits = False
-        self._writes, self._reads = socket.socketpair()
-        for end in (self._writes, self._reads):
-            end.setblocking(False)
+        self._writes, self._reads = _bell()
         self.register(self._reads, selectors.EVENT_READ)
 
     def ask(self) -> None:
         """Has the loop act. Any thread may say so, and what is asked is to be there before."""
         self._is_asked = True
         if self._waits:
-            with contextlib.suppress(OSError):  # it is full, so the loop wakes; or closed
-                self._writes.send(b"\0")
+            with contextlib.suppress(OSError, ValueError):  # it is closed
+                self._writes.write(_ONE)  # nothing where it is full, so that the loop wakes
 
     def select(self, timeout: Optional[float] = None) -> list[tuple[selectors.SelectorKey, int]]:
+        self._wake()
         self._waits = True  # before it looks whether something is asked
         found = super().select(0 if self._is_asked else timeout)
         self._waits = False
@@ -51,12 +68,13 @@ class _Waiting(selectors.DefaultSelector):
             self._act()
         for one in found:
             if one[0].fileobj is self._reads:
-                self._reads.recv(4096)
+                self._reads.read(64)
                 found.remove(one)
                 break
         return found
 
     def close(self) -> None:
+        self._wake()
         super().close()
         self._writes.close()
         self._reads.close()
@@ -69,13 +87,18 @@ class Loop(threading.Thread):
     """
 
     def __init__(
-        self, driver: Driver, begin: Callable[[], None], end: Callable[[], None], ended: Callable[[], None]
+        self,
+        driver: Driver,
+        sleepers: Sleepers,
+        begin: Callable[[], None],
+        end: Callable[[], None],
+        ended: Callable[[], None],
     ) -> None:
         super().__init__(name="dirwolleu", daemon=True)
         self._driver, self._begin, self._end, self._ended = driver, begin, end, ended
         self._fate = Fate()
         self.is_stopped = self._is_over = False
-        self._waiting = _Waiting(self._act)
+        self._waiting = _Waiting(self._act, sleepers.wake)
         try:
             self._loop = asyncio.SelectorEventLoop(self._waiting)
         except BaseException:
@@ -151,11 +174,11 @@ class Loop(threading.Thread):
 class Threads:
     """The threads of a client that is started, from then until it is stopped, in one process."""
 
-    def __init__(self, driver: Driver, engine: Engine, begun: Callable[[], None]) -> None:
+    def __init__(self, driver: Driver, engine: Engine, sleepers: Sleepers, begun: Callable[[], None]) -> None:
         """`begun` is called once the engine has begun."""
         self._engine, self._begun = engine, begun
         self.callbacks = Callbacks()
-        self.loop = Loop(driver, self._begin, engine.end, self._ended)
+        self.loop = Loop(driver, sleepers, self._begin, engine.end, self._ended)
         self.have_begun = False
         self.later: dict[str, Optional[Threads]] = {}
         """Those of the client after these, once these are over."""

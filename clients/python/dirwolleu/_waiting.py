@@ -2,16 +2,19 @@
 
 from __future__ import annotations
 
+import collections
 import concurrent.futures
 import contextlib
 import logging
 import queue
 import threading
+import time
 from collections.abc import Generator
-from typing import Any, Callable, Optional, Protocol
+from typing import Any, Callable, Optional, Protocol, Union
 
 from dirwolleu._lane import LaneRequest
 from dirwolleu._requests import Request
+from dirwolleu._semaphore import Semaphore, has_system_threads
 from dirwolleu._steps import Ask, Call, Step, Steps, Wait
 
 logger = logging.getLogger("dirwolleu")
@@ -44,13 +47,38 @@ class News:
         return self._lack.acquire(timeout=-1 if timeout is None else min(max(timeout, 0), threading.TIMEOUT_MAX))
 
 
-class Waiter(News):
-    """One thread that waits for an answer. What is said of `News` holds here too."""
+class Sleepers:
+    """The threads whose answers have come in a turn of the event loop. They go on at its end.
+
+    So what they do next meets all that the turn had to tell.
+    """
 
     def __init__(self) -> None:
-        super().__init__()
+        self._waiters: collections.deque[Waiter] = collections.deque()
+
+    def add(self, waiter: Waiter) -> None:
+        self._waiters.append(waiter)
+
+    def wake(self) -> None:
+        """Has them go on. Any thread may say so, and it does not matter where it is interrupted: none is forgotten before it goes on."""
+        waiters = self._waiters
+        while waiters:
+            try:
+                waiter = waiters[0]
+                waiter.wake()
+                waiters.remove(waiter)
+            except (IndexError, ValueError):  # another thread was first
+                pass
+
+
+class Waiter:
+    """One thread that waits for an answer. The thread that answers waits for no lock."""
+
+    def __init__(self, sleepers: Sleepers) -> None:
+        self._sleepers = sleepers
+        self._news: Union[Semaphore, News] = Semaphore() if has_system_threads() else News()
         self._answer: Optional[tuple[Any, Optional[BaseException]]] = None
-        self._is_given_up = False
+        self._is_given_up = self._is_awake = False
 
     def begin(self) -> bool:
         return not self.done()
@@ -64,16 +92,25 @@ class Waiter(News):
 
     def set_result(self, result: Any) -> None:
         self._answer = result, None
-        self.set()
+        self._sleepers.add(self)
 
     def set_exception(self, error: BaseException) -> None:
         self._answer = None, error
-        self.set()
+        self._sleepers.add(self)
+
+    def wake(self) -> None:
+        """Has the thread go on, which has its answer."""
+        self._is_awake = True
+        self._news.set()
 
     def result(self, timeout: Optional[float]) -> Any:
-        self.wait(timeout)
-        if self._answer is None:
-            raise TimeoutError
+        until = None if timeout is None else time.monotonic() + timeout
+        while not self._is_awake:
+            left = None if until is None else until - time.monotonic()
+            if left is not None and left <= 0:
+                raise TimeoutError
+            self._news.wait(left)
+        assert self._answer is not None
         result, error = self._answer
         if error is not None:
             raise error

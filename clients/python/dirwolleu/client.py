@@ -29,7 +29,7 @@ from dirwolleu._retry import Retry
 from dirwolleu._shown import AuthData, Shown, credential_of, parts_of
 from dirwolleu._steps import Ask, Call, Step, Steps, Wait
 from dirwolleu._trees import MOST_NODES, Tree
-from dirwolleu._waiting import Future, News, Task, Waiter
+from dirwolleu._waiting import Future, News, Sleepers, Task, Waiter
 from dirwolleu.exceptions import ConnectionClosedError, ZookeeperError
 from dirwolleu.security import ACL
 from dirwolleu.transaction import Transaction
@@ -66,7 +66,9 @@ class Client(Shown):
     where that is safe; without it none is.
 
     A call waits for a server and for its answer within a bound: its own `timeout` in seconds, which counts all tries,
-    or that of the session. Where its connection is lost, a read is asked again, and a write is not.
+    or that of the session. Where its connection is lost, a read is asked again, and a write is not. By the time that it
+    returns or raises, all that came with its answer is taken in, and functions are told of it: `state` and the next
+    call meet that.
 
     What all calls may raise: `ConnectionLoss` where the connection ended before the reply to a write;
     `NotConnectedError`, which is one, where a call without a `timeout` could not be sent in time; `CallTimeoutError`
@@ -105,6 +107,7 @@ class Client(Shown):
 
     def _hold_threads(self) -> None:
         """Makes what holds the threads. A dict's functions are single steps of the interpreter: no lock is taken."""
+        self._sleepers = Sleepers()
         self._running: dict[str, Optional[Threads]] = {}
         """The threads that were started last, and None once it is closed. Later ones are in `later` of those."""
         self._past: Optional[Threads] = None
@@ -164,7 +167,10 @@ class Client(Shown):
             threads.stop(self._engine.close)
             if not threads.are_over():
                 return  # the process is held up: they close it when they go on
-        self._engine.close()
+        try:
+            self._engine.close()
+        finally:
+            self._sleepers.wake()
 
     def exists(self, path: str, watch: Watch = None, *, timeout: Optional[float] = None) -> Optional[Stat]:
         """What is known of a node, or None where there is none. A watch is left also where there is none."""
@@ -471,7 +477,7 @@ class Client(Shown):
     def _ask(
         self, request: AnyRequest[Result], patience: Optional[float] = None, timeout: Optional[float] = None
     ) -> Result:
-        waiter = Waiter()
+        waiter = Waiter(self._sleepers)
         try:
             self._hand_in(request, waiter, timeout)
             result: Result = waiter.result(patience)
@@ -492,8 +498,7 @@ class Client(Shown):
         return future
 
     def _hand_in(self, request: AnyRequest[Any], waiter: AnyWaiter, timeout: Optional[float] = None) -> None:
-        self._check_process()
-        self._engine.ask(moment(), request, waiter, timeout)
+        self._engine.ask(moment(), request, waiter, timeout)  # it also looks which process this is
         self._act()
 
     def _act(self) -> None:
@@ -604,7 +609,7 @@ class Client(Shown):
         """Starts threads, and answers them: None where somebody else was first. A stop may come at any moment of it."""
         from dirwolleu._threads import Threads  # here, so that no import of the package loads asyncio
 
-        made = Threads(self._driver(), self._engine, self._begin_tasks)
+        made = Threads(self._driver(), self._engine, self._sleepers, self._begin_tasks)
         threads = self._running.setdefault("threads", made)
         if threads is made:
             _started.add(self)

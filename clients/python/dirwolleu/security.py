@@ -2,8 +2,6 @@
 
 from __future__ import annotations
 
-import base64
-import hashlib
 from typing import NamedTuple
 
 from dirwolleu.exceptions import ZookeeperError
@@ -80,6 +78,9 @@ def make_digest_acl_credential(username: str, password: str) -> str:
     >>> make_digest_acl_credential("super", "test")
     'super:D/InIHSb7yEEbrWz8b9l71RjZJU='
     """
+    import base64  # here, since few programs want these, and they take their time
+    import hashlib
+
     spelled = f"{username}:{password}".encode()
     return f"{username}:{base64.b64encode(hashlib.sha1(spelled).digest()).decode()}"
 

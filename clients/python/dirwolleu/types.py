@@ -4,7 +4,6 @@ from __future__ import annotations
 
 import enum
 from collections.abc import Mapping
-from dataclasses import dataclass
 from typing import Callable, NamedTuple, Optional, Union
 
 __all__ = ["DataStat", "EventType", "Kept", "KeptChildren", "Mark", "Snapshot", "Stat", "State", "Stats", "Watch", "WatchedEvent"]
@@ -120,8 +119,7 @@ class Stats(NamedTuple):
     """How long answers to calls and pings take of late, in seconds, or None where none came yet."""
 
 
-@dataclass(frozen=True)
-class Kept:
+class Kept(NamedTuple):
     """What a client keeps of a node that was read with a watch."""
 
     path: str
@@ -148,8 +146,7 @@ class Kept:
         return self.stat is not None
 
 
-@dataclass(frozen=True)
-class Snapshot:
+class Snapshot(NamedTuple):
     """What is kept of several nodes, all of it good, and of one moment: what `client.snapshot` gives."""
 
     zxid: int
@@ -162,8 +159,7 @@ class Snapshot:
     """What is kept of the names below the parents, by path."""
 
 
-@dataclass(frozen=True)
-class KeptChildren:
+class KeptChildren(NamedTuple):
     """What a client keeps of the children of a node that were read with a watch."""
 
     path: str

@@ -229,8 +229,8 @@ class EndTest(ClientCase):
         program = """
             import sys, threading; sys.path.insert(0, sys.argv[2])
             import dirwolleu
-            client = dirwolleu.Client(sys.argv[1])
-            client.start()
+            client = dirwolleu.Client(sys.argv[1], 60.0)  # also on a busy machine
+            client.start(60.0)
             told = threading.Event()
             client.DataWatch("/a", lambda *_: told.set())
             dirwolleu.Registration(client, "/one").wait()
@@ -245,7 +245,8 @@ class EndTest(ClientCase):
         words = [sys.executable, "-c", textwrap.dedent(program), self.partner().host, str(CLIENTS / "python")]
         process = subprocess.Popen(words, stdout=subprocess.PIPE, stderr=subprocess.PIPE, text=True)
         assert process.stdout is not None
-        self.assertEqual(process.stdout.readline(), "ends\n")
+        if process.stdout.readline() != "ends\n":
+            self.fail(process.communicate(timeout=3 * WAIT)[1])
         began = time.monotonic()
         self.assertEqual(process.communicate(timeout=3 * WAIT), ("", ""))
         self.assertEqual(process.returncode, 0)

@@ -128,10 +128,10 @@ class FindTest(unittest.TestCase):
         with mock.patch.dict(os.environ, {"DIRWOLLEU_LIBRARY": ""}), mock.patch("ctypes.util.find_library") as find:
             find.return_value = "libdirwolleu.so.0"
             for missing, wanted in [((), own), ((own,), built), ((own, built), prebuilt), ((own, built, prebuilt), find.return_value)]:
-                with mock.patch("pathlib.Path.exists", lambda place, missing=missing: str(place) not in missing):
+                with mock.patch("os.path.exists", lambda place, missing=missing: place not in missing):
                     self.assertEqual(library._find(), wanted)
             find.return_value = None
-            with mock.patch("pathlib.Path.exists", return_value=False):
+            with mock.patch("os.path.exists", return_value=False):
                 self.assertRaises(ImportError, library._find)
 
 

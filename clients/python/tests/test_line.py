@@ -5,10 +5,12 @@ from __future__ import annotations
 import unittest
 from typing import Optional
 
+import support  # noqa: F401  # for the place of the package
+
 from dirwolleu import _requests as requests
 from dirwolleu._asked import Asked
 from dirwolleu._line import Line
-from dirwolleu._waiting import Waiter
+from dirwolleu._waiting import Sleepers, Waiter
 
 
 class LineTest(unittest.TestCase):
@@ -16,7 +18,7 @@ class LineTest(unittest.TestCase):
         self.line = Line()
 
     def asked(self, until: int, ends_at: Optional[int] = None) -> Asked:
-        asked = Asked(requests.get("/a", None), Waiter(), until, ends_at)
+        asked = Asked(requests.get("/a", None), Waiter(Sleepers()), until, ends_at)
         self.line.add(asked)
         return asked
 

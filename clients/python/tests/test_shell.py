@@ -25,7 +25,7 @@ class ShellTest(PartnerCase):
 
     def begin(self, partner: Partner, *words: str) -> subprocess.Popen[str]:
         environment = {**os.environ, "PYTHONPATH": str(CLIENTS / "python"), "DIRWOLLEU_HOSTS": partner.host}
-        command = [sys.executable, "-m", "dirwolleu", *words]
+        command = [sys.executable, "-m", "dirwolleu", "--timeout", str(WAIT), *words]
         return subprocess.Popen(command, stdout=subprocess.PIPE, stderr=subprocess.PIPE, text=True, env=environment)
 
     def run_words(self, partner: Partner, *words: str) -> tuple[int, str, str]:
@@ -114,7 +114,7 @@ class ShellTest(PartnerCase):
         data = bytes(range(256))
 
         def piped(*words: str, given: bytes = b"") -> bytes:
-            command = [sys.executable, "-m", "dirwolleu", *words]
+            command = [sys.executable, "-m", "dirwolleu", "--timeout", str(WAIT), *words]
             return subprocess.run(command, input=given, stdout=subprocess.PIPE, env=environment, check=True, timeout=3 * WAIT).stdout
 
         self.assertEqual(piped("create", "/a", "--file", "-", given=data), b"/a\n")

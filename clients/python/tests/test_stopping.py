@@ -9,15 +9,16 @@ import threading
 import time
 import unittest
 from collections.abc import Iterator
-from typing import Any
+from typing import Any, Callable
 from unittest import mock
 
 from both import in_thread
 from support import WAIT, PartnerCase, within
 
-from dirwolleu import Client, ConnectionClosedError, State
+from dirwolleu import Client, ConnectionClosedError, NoNodeError, SessionExpiredError, State, ZookeeperError
+from dirwolleu import _requests as requests
 from dirwolleu._threads import Threads
-from dirwolleu._waiting import Callbacks
+from dirwolleu._waiting import Callbacks, Waiter
 
 ROUNDS, LONGEST = 60, 0.4
 
@@ -54,9 +55,9 @@ def held_at_start(thread: Any) -> Iterator[None]:
 
 
 class StoppingCase(PartnerCase):
-    def client(self, host: str = "127.0.0.1:1") -> Client:
+    def client(self, host: str = "127.0.0.1:1", timeout: float = 10.0) -> Client:
         """A client, which finds no server unless it is told of one."""
-        client = Client(host)
+        client = Client(host, timeout)
         self.addCleanup(client.close)
         self.addCleanup(client.stop)
         return client
@@ -70,7 +71,7 @@ class ThreadsTest(StoppingCase):
 
     def setUp(self) -> None:
         self.stopped = self.client()
-        self.threads = Threads(self.stopped._driver(), self.stopped._engine, lambda: None)
+        self.threads = Threads(self.stopped._driver(), self.stopped._engine, self.stopped._sleepers, lambda: None)
         self.addCleanup(self.threads.stop, lambda: None)
 
     def check_over(self, life: int) -> None:
@@ -210,10 +211,11 @@ class ClientTest(StoppingCase):
 
     def test_a_start_after_an_interrupted_stop(self) -> None:
         """The server has ended the session, and the stop did not come to its end."""
-        client = self.client(self.shared_partner().host)
+        client = self.client(self.shared_partner().host, 3 * WAIT)
         client.start(WAIT)
         with mock.patch.object(Threads, "stop", side_effect=KeyboardInterrupt), self.assertRaises(KeyboardInterrupt):
-            client.stop()
+            with mock.patch("dirwolleu.client.LONGEST_FAREWELL", WAIT):  # also on a busy machine
+                client.stop()
         client.start(WAIT)
         self.assertEqual(client.get_children("/"), [])
 
@@ -250,6 +252,105 @@ class ClientTest(StoppingCase):
         client.close()
         with self.raises(ConnectionClosedError, None):
             client.start()
+
+
+class TurnTest(StoppingCase):
+    """A call goes on when the turn in which its answer came is over, however that ends."""
+
+    def setUp(self) -> None:
+        self.started = self.client(self.shared_partner().host)
+        self.started.start(WAIT)
+        self.engine = self.started._engine
+
+    @contextlib.contextmanager
+    def held_up_after(self, name: str) -> Iterator[None]:
+        """Within it, each step of the engine by this name is over late, once it has answered."""
+        step = getattr(self.engine, name)
+
+        def late(*words: Any) -> None:
+            step(*words)
+            time.sleep(0.1)
+            self.is_over = True
+
+        self.is_over = False
+        with mock.patch.object(self.engine, name, late):
+            yield
+
+    def check_over(self) -> None:
+        """The turn is, and has told what came."""
+        self.assertEqual((self.is_over, self.started.state), (True, State.LOST))
+
+    def test_what_comes_after_an_answer_is_there_when_the_call_goes_on(self) -> None:
+        with self.held_up_after("received"):
+            self.assertEqual(self.started.get_children("/"), [])
+            self.assertTrue(self.is_over)
+
+    def test_an_error_is_told_when_the_turn_is_over(self) -> None:
+        with self.held_up_after("received"):
+            with self.raises(NoNodeError, -101):
+                self.started.get("/none")
+            self.assertTrue(self.is_over)
+
+    def test_the_end_of_a_session_is_told_before_its_answer(self) -> None:
+        with self.held_up_after("_forget_callers"):
+            self.started._ask(requests.close_session())
+            self.check_over()
+
+    def test_an_expiry_is_told_with_its_state(self) -> None:
+        partner = self.partner()
+        client = self.started = self.client(partner.host)
+        client.start(WAIT)
+        self.engine = client._engine
+        partner.do("mute")
+        waits = in_thread(lambda: self.outcome(lambda: client.get("/")))
+        within(lambda: self.engine._sent)
+        with self.held_up_after("_forget_callers"):
+            partner.do("expire", "unmute")
+            error, is_over, state = waits.get(timeout=WAIT)
+        self.assertEqual((error, is_over), (SessionExpiredError, True))
+        self.assertIn(state, (State.LOST, State.CONNECTED))  # the next session may have begun meanwhile
+
+    def test_a_stop_is_told_with_its_state(self) -> None:
+        partner = self.partner()
+        client = self.started = self.client(partner.host)
+        client.start(WAIT)
+        self.engine = client._engine
+        partner.do("mute")
+        waits = [in_thread(lambda: self.outcome(lambda: client.get("/"))) for _ in range(3)]
+        within(lambda: len(self.engine._sent) == 3)
+        with self.held_up_after("end"):
+            client.stop()
+            for one in waits:
+                self.assertEqual(one.get(timeout=WAIT), (ConnectionClosedError, True, State.LOST))
+
+    def outcome(self, call: Callable[[], object]) -> tuple[Any, bool, State]:
+        """What a call raises, whether the turn is over by then, and the state."""
+        try:
+            return call(), self.is_over, self.started.state
+        except ZookeeperError as error:
+            return type(error), self.is_over, self.started.state
+
+    def test_an_answer_is_had_where_its_turn_fails(self) -> None:
+        answers, take = self.engine.contact.answers, self.engine.take_orders
+        failures = [RuntimeError("the turn fails")]
+
+        def fail_once() -> Any:
+            if failures and self.engine.contact.answers > answers:
+                raise failures.pop()
+            return take()
+
+        with self.assertLogs("asyncio", "ERROR"), mock.patch.object(self.engine, "take_orders", fail_once):
+            self.assertEqual(self.started.get_children("/"), [])
+        self.assertEqual(failures, [])
+        self.assertEqual(self.started.get_children("/"), [])
+
+    def test_a_close_wakes_who_waits(self) -> None:
+        """Where no thread is left to do so."""
+        waiter = Waiter(self.started._sleepers)
+        self.started.stop()
+        waiter.set_result("one")
+        self.started.close()
+        self.assertEqual(waiter.result(WAIT), "one")
 
 
 if __name__ == "__main__":

@@ -7,7 +7,9 @@ import os
 import threading
 import time
 import unittest
+from types import SimpleNamespace
 from typing import Any
+from unittest import mock
 
 import support  # noqa: F401  # for the place of the package
 
@@ -22,7 +24,7 @@ class WaitingTest(unittest.TestCase):
     def setUp(self) -> None:
         self.handed = collections.deque[int]()
         self.taken = list[int]()
-        self.waiting = _Waiting(self.take)
+        self.waiting = _Waiting(self.take, lambda: None)
         self.addCleanup(self.waiting.close)
 
     def take(self) -> None:
@@ -73,6 +75,16 @@ class WaitingTest(unittest.TestCase):
         self.waiting._waits = True
         self.ask(1)
         self.assertEqual(self.taken, [])
+
+
+class PipeTest(WaitingTest):
+    """The same before Python 3.10, which has no eventfd."""
+
+    def setUp(self) -> None:
+        without = SimpleNamespace(pipe=os.pipe, set_blocking=os.set_blocking)
+        with mock.patch("dirwolleu._threads.os", without):
+            super().setUp()
+        self.assertIsNot(self.waiting._reads, self.waiting._writes)
 
 
 class WatchersTest(unittest.TestCase):

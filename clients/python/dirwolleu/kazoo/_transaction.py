@@ -2,7 +2,6 @@
 
 from __future__ import annotations
 
-import dataclasses
 import functools
 from collections.abc import Sequence
 from types import TracebackType
@@ -110,7 +109,8 @@ def _request_of(operations: Sequence[Operation]) -> LaneRequest[Any]:
         else:
             asked.check(one.path, one.version)
     request: LaneRequest[Any] = asked.request()
-    return dataclasses.replace(request, read=functools.partial(_results, len(operations)))
+    request.read = functools.partial(_results, len(operations))
+    return request
 
 
 def _results(count: int, reader: Reader, root: Root) -> list[Any]:

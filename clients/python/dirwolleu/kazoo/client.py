@@ -2,7 +2,6 @@
 
 from __future__ import annotations
 
-import dataclasses
 import functools
 import inspect
 import logging
@@ -630,7 +629,7 @@ class KazooClient:
         check_flags(include_data=include_data)
         request: AnyRequest[Any] = requests.get_children(checked_path(path), self._told(watch))
         if include_data:
-            request = _Children(**{field.name: getattr(request, field.name) for field in dataclasses.fields(request)})
+            request = _Children(**vars(request))
         return self._send(request)
 
     def create(

@@ -1,0 +1,56 @@
+"""What a thread waits for, and another one sets while it does not have the lock of the interpreter.
+
+Who releases a lock of `threading` has the interpreter's lock then. So the thread that this wakes waits again at once, for that one. The
+semaphores of the C library are reached by ctypes, which lets the interpreter's lock go for the time of a call.
+"""
+
+from __future__ import annotations
+
+import ctypes
+import threading
+import time
+from typing import Optional
+
+_library = ctypes.CDLL(None)
+_init, _post, _wait = _library.sem_init, _library.sem_post, _library.sem_wait
+_wait_by_clock = getattr(_library, "sem_clockwait", None)  # not before glibc 2.30
+_wait_by_calendar = _library.sem_timedwait
+_Room = ctypes.c_int64 * 4  # a sem_t of Linux on x86-64
+
+
+def has_system_threads() -> bool:
+    """Whether threads are those of the system. gevent and eventlet put their own into `threading`, and none of these may wait here."""
+    return threading.Lock.__module__ == "_thread"
+
+
+class _Moment(ctypes.Structure):
+    """A timespec."""
+
+    _fields_ = [("seconds", ctypes.c_int64), ("nanoseconds", ctypes.c_int64)]
+
+    @classmethod
+    def of(cls, seconds: float) -> _Moment:
+        return cls(int(seconds), int(seconds % 1 * 1_000_000_000))
+
+
+class Semaphore:
+    """An event for one thread that waits, as `News` is. It does not matter where that is interrupted."""
+
+    __slots__ = ("_room",)
+
+    def __init__(self) -> None:
+        self._room = _Room()
+        _init(self._room, 0, 0)
+
+    def set(self) -> None:
+        """Ends one wait: that of a thread that waits, or the next."""
+        _post(self._room)
+
+    def wait(self, timeout: Optional[float]) -> None:
+        """Waits until it is set, and clears it, for at most this many seconds. It ends at a signal too, so that its handler is called."""
+        if timeout is None:
+            _wait(self._room)
+        elif _wait_by_clock is not None:
+            _wait_by_clock(self._room, time.CLOCK_MONOTONIC, ctypes.byref(_Moment.of(time.monotonic() + timeout)))
+        else:
+            _wait_by_calendar(self._room, ctypes.byref(_Moment.of(time.time() + timeout)))

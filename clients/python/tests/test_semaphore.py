@@ -1,0 +1,137 @@
+"""What a thread waits for that another one sets."""
+
+from __future__ import annotations
+
+import signal
+import threading
+import time
+import unittest
+from types import FrameType
+from typing import Optional
+from unittest import mock
+
+import support  # noqa: F401  # for the place of the package
+
+from dirwolleu import _semaphore
+from dirwolleu._semaphore import Semaphore
+from dirwolleu._waiting import News, Sleepers, Waiter
+
+LONGEST = 30.0
+"""How long what is awaited may take, in seconds."""
+
+
+class SemaphoreTest(unittest.TestCase):
+    def test_each_set_ends_one_wait_before_it_or_after(self) -> None:
+        semaphore, ended = Semaphore(), threading.Semaphore(0)
+
+        def wait() -> None:
+            semaphore.wait(None)
+            ended.release()
+
+        semaphore.set()
+        semaphore.wait(None)
+        threads = [threading.Thread(target=wait, daemon=True) for _ in range(3)]
+        for thread in threads:
+            thread.start()
+        for _ in threads:
+            self.assertFalse(ended.acquire(timeout=0.02))
+            semaphore.set()
+            self.assertTrue(ended.acquire(timeout=LONGEST))
+
+    def test_a_wait_has_a_bound(self) -> None:
+        for clock in (_semaphore._wait_by_clock, None):
+            with mock.patch.object(_semaphore, "_wait_by_clock", clock):
+                begun, semaphore = time.monotonic(), Semaphore()
+                semaphore.wait(0.05)
+                self.assertGreaterEqual(time.monotonic() - begun, 0.04)
+                semaphore.set()
+                semaphore.wait(LONGEST)
+                self.assertLess(time.monotonic() - begun, LONGEST)
+
+
+class WaiterTest(unittest.TestCase):
+    def setUp(self) -> None:
+        self.sleepers = Sleepers()
+
+    def test_an_answer_may_come_before_the_wait_or_in_it(self) -> None:
+        waiter = Waiter(self.sleepers)
+        waiter.set_result("one")
+        self.sleepers.wake()
+        self.assertEqual(waiter.result(None), "one")
+        waiter = Waiter(self.sleepers)
+        waiter.set_exception(KeyError("two"))
+        threading.Timer(0.05, self.sleepers.wake).start()
+        self.assertRaises(KeyError, waiter.result, LONGEST)
+
+    def test_an_answer_is_had_at_the_end_of_a_turn(self) -> None:
+        waiters = [Waiter(self.sleepers) for _ in range(3)]
+        for number, waiter in enumerate(waiters):
+            self.assertTrue(waiter.begin())
+            waiter.set_result(number)
+            self.assertTrue(waiter.done())
+            self.assertRaises(TimeoutError, waiter.result, 0.01)
+        self.sleepers.wake()
+        self.assertEqual([waiter.result(None) for waiter in waiters], [0, 1, 2])
+
+    def test_who_was_not_woken_is_woken_by_the_next_one(self) -> None:
+        waiters = [Waiter(self.sleepers) for _ in range(3)]
+        for waiter in waiters:
+            waiter.set_result("one")
+        with mock.patch.object(Waiter, "wake", side_effect=KeyboardInterrupt):
+            self.assertRaises(KeyboardInterrupt, self.sleepers.wake)
+        self.sleepers.wake()
+        self.assertEqual([waiter.result(LONGEST) for waiter in waiters], ["one"] * 3)
+
+    def test_several_threads_may_wake_at_once(self) -> None:
+        waiters, is_over = [Waiter(self.sleepers) for _ in range(500)], threading.Event()
+
+        def wake() -> None:
+            while not is_over.is_set():
+                self.sleepers.wake()
+
+        threads = [threading.Thread(target=wake) for _ in range(3)]
+        for thread in threads:
+            thread.start()
+        self.addCleanup(is_over.set)
+        for number, waiter in enumerate(waiters):
+            waiter.set_result(number)
+        self.assertEqual([waiter.result(LONGEST) for waiter in waiters], [*range(500)])
+        is_over.set()
+        for thread in threads:
+            thread.join()
+
+    def test_no_answer_in_time_is_an_error(self) -> None:
+        for timeout in (0.0, 0.01):
+            self.assertRaises(TimeoutError, Waiter(self.sleepers).result, timeout)
+
+    def test_threads_that_are_not_of_the_system_wait_in_their_own_way(self) -> None:
+        class Lock:
+            """A lock of gevent, by what is looked at."""
+
+        self.assertIsInstance(Waiter(self.sleepers)._news, Semaphore)
+        with mock.patch("threading.Lock", Lock), mock.patch.object(News, "__init__", lambda _: None):
+            self.assertIsInstance(Waiter(self.sleepers)._news, News)
+
+    def test_a_signal_has_its_handler_called_in_a_wait(self) -> None:
+        waiter, handled = Waiter(self.sleepers), list[int]()
+
+        def handle(number: int, frame: Optional[FrameType]) -> None:
+            handled.append(number)
+            if len(handled) == 2:
+                raise InterruptedError
+
+        self.addCleanup(signal.signal, signal.SIGALRM, signal.signal(signal.SIGALRM, handle))
+        self.addCleanup(signal.setitimer, signal.ITIMER_REAL, 0)
+        for timeout in (None, LONGEST):
+            handled.clear()
+            signal.setitimer(signal.ITIMER_REAL, 0.02, 0.02)
+            self.assertRaises(InterruptedError, waiter.result, timeout)
+            signal.setitimer(signal.ITIMER_REAL, 0)
+            self.assertEqual(len(handled), 2)
+        waiter.set_result("late")
+        self.sleepers.wake()
+        self.assertEqual(waiter.result(None), "late")
+
+
+if __name__ == "__main__":
+    unittest.main()
