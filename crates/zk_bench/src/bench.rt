@@ -61,7 +61,7 @@ const PONG: i32 = -2;
 /// Eight servers over one history, and the connection to one of them.
 ///
 /// `AllocError` says that the allocator refused a request, and comes for no other reason. After [`take`](Bench::take) or
-/// [`process`](Bench::process) has answered it, no server is connected; a write that was refused so may have left a transaction in the history.
+/// [`process`](Bench::process) has answered it, no server is connected; a write that was refused so may be in the history.
 #[derive(Drop)]
 pub struct Bench<A: Allocator + Copy> {
     alloc: A,
