@@ -1,4 +1,4 @@
--- A whole frame is its payload's frame, and what follows: each of its bytes is below 256 (`frame-whole` of `zk_frames`).
+-- A whole frame is its payload's frame, and what follows: each of its bytes is below 256 (`frame-whole`, a lemma on frames).
 use Rattle.std.proofs.Common.{◌≡◌, ◌+◌, ◌<◌, ◌++◌, ℕ, List, get_or, take, drop}
 use Rattle.zk_frames.specs.Frame.{frame}
 use Rattle.zk_frames.proofs.Frames.{bytes-take, frame-whole}

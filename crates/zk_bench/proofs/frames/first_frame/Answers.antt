@@ -1,4 +1,4 @@
--- A whole frame is taken apart as `frame-whole` of `zk_frames` says: each byte of a slice is below 256.
+-- A whole frame is taken apart as the lemma `framed` says: each byte of a slice is below 256.
 use Rattle.std.proofs.Common.{arith}
 use Rattle.zk_bench.proofs.Framing.{framed}
 use Rattle.zk_bench.proofs.frames.first_frame.Goals as goal
