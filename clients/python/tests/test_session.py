@@ -213,9 +213,9 @@ class SessionTest(unittest.TestCase):
         with self.assertRaises(NoMemory):
             library.checked(library.NO_MEMORY)
         with self.assertRaises(library.UnknownNumber):
-            session._read(library._fields_of_output(library._Output(kind=99)))
+            session._read(library._fields_of_output(library._Output(kind=99)), b"")
         with self.assertRaises(library.UnknownNumber):
-            session._read(library._fields_of_output(library._Output(kind=library.REFUSED, detail=99)))
+            session._read(library._fields_of_output(library._Output(kind=library.REFUSED, detail=99)), b"")
 
 
 if __name__ == "__main__":
