@@ -13,13 +13,11 @@ ghost use Rattle.zk_laws.specs.Server.{zxid_held, tree_held, is_sequential};
 ghost use Rattle.zk_laws.specs.ServerSteps.{Serving};
 ghost use Rattle.zk_laws.specs.Messages.{Request as Wanted, Connect, Ask, Ping};
 ghost use Rattle.zk_conversation.specs.Calls.{SetData, Create, Close};
-ghost use Rattle.zk_laws.specs.Parsed.{IsRecord};
-ghost use Rattle.zk_records.specs.Layouts.{connect_request};
-ghost use Rattle.zk_bench.specs.Stepping.{IsReady, TakesSome, ProcessesFirst, AnswersFirst};
+ghost use Rattle.zk_laws.specs.Parsed.{IsReadAs, IsRecord};
+ghost use Rattle.zk_records.specs.Layouts.{connect_request, create_response};
+ghost use Rattle.zk_bench.specs.Stepping.{shown_of, stage_of, zxid_of, IsReady, TakesSome, ProcessesFirst, AnswersFirst};
 ghost use Rattle.zk_bench.specs.inner.Stepping.{HasClient, ProcessesOne, AnswersOne, Declines};
 ghost use Rattle.zk_bench.specs.inner.Stepping.{IsSending, HasAll, HasWritten, LeavesUnmade, SendsStat, LeavesUnsent};
-ghost use Rattle.zk_bench.specs.Stepping.{zxid_of, stage_of};
-ghost use Rattle.zk_bench.specs.Stepping.{shown_of};
 ghost use Rattle.zk_bench.specs.Answerable.{IsAnswerable};
 ghost use Rattle.zk_bench.specs.Writing.{appended};
 ghost use Rattle.zk_bench.specs.inner.Writing.{mode_of as mode_told, tree_of};
@@ -30,10 +28,8 @@ ghost use Rattle.zk_records.specs.Request.{operation_of, body_of};
 ghost use Rattle.zk_history.specs.Made.{change_of};
 ghost use Rattle.zk_nodes.specs.PathFault.{IsPath};
 ghost use Rattle.zk_records.specs.declared.request.Request.TheVariants as requests;
-ghost use Rattle.zk_records.specs.Layouts.{create_response};
 ghost use Rattle.zk_bench.specs.inner.Asking.{Asks, IsLook};
 ghost use Rattle.zk_bench.specs.inner.Serving.{Sends, SendsHeader};
-ghost use Rattle.zk_laws.specs.Parsed.{IsReadAs};
 ghost use Rattle.theory_serving.specs.Wires.{IsFit, IsFor, StandsFirst};
 ghost use Rattle.zk_bench.specs.Served.{started, linked, connected, disconnected, ended, is_open, advanced, with_requests, without_output};
 ghost use Rattle.zk_bench.specs.Served.{Continues};
@@ -64,9 +60,8 @@ const PONG: i32 = -2;
 
 /// Eight servers over one history, and the connection to one of them.
 ///
-/// `AllocError` says that the allocator refused a request, and comes for no other reason. After [`take`](Bench::take)
-/// or [`process`](Bench::process) has answered it, no server is connected; a write that was refused so may have left a
-/// transaction in the history.
+/// `AllocError` says that the allocator refused a request, and comes for no other reason. After [`take`](Bench::take) or
+/// [`process`](Bench::process) has answered it, no server is connected; a write that was refused so may be in the history.
 #[derive(Drop)]
 pub struct Bench<A: Allocator + Copy> {
     alloc: A,
@@ -259,11 +254,10 @@ impl<A: Allocator + Copy> Bench<A> {
 
     /// The connected server processes the next whole request, if there is one.
     ///
-    /// The first is a ConnectRequest: a server that is after its zxid ends the connection without an answer. Reads and
-    /// setWatches are answered at the server's place in the history. A write first takes all transactions that are left;
-    /// one that is accepted is appended to the history, and taken before the reply. A frame that is none of these
-    /// requests ends the connection without an answer, and so do a create with flags other than 0 to 3 and a reply of
-    /// more than 2,147,483,647 bytes. Each other request is answered.
+    /// The first is a ConnectRequest: a server that is after its zxid ends the connection without an answer. Reads and setWatches are
+    /// answered at the server's place in the history. A write first takes all transactions that are left; one that is accepted is appended
+    /// to the history, and taken before the reply. A frame that is none of these requests ends the connection without an answer, and so do
+    /// a create with flags other than 0 to 3 and a reply of more than 2,147,483,647 bytes. Each other request is answered.
     #[tactic(auto, using(crate::proofs::Continuing::same_goes_on))]
     pub fn process(&mut self) -> Result<(), AllocError>
         ensures idle { is_open self.old.connection.phase ≡ false → self.new ≡ self.old }

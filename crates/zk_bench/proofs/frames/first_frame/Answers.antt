@@ -5,4 +5,5 @@ use Rattle.zk_bench.proofs.frames.first_frame.Goals as goal
 
 pub returns-clause-framed : goal.returns-clause-framed
 returns-clause-framed c =
-    framed c.args.bytes.now _ (λ i. omega (arith, c.type_inv.bytes i)) (record { there = omega arith; is = grind arith; small = grind arith })
+    framed c.args.bytes.now _ (λ i. omega (arith, c.type_inv.bytes i))
+    (record { there = omega arith; is = grind arith; small = grind arith })
