@@ -85,7 +85,7 @@ class SessionTest(unittest.TestCase):
 
     def test_without_memory_for_what_a_step_says_it_halts(self) -> None:
         session = self.connected()
-        with mock.patch.object(session._calls, "outputs", return_value=library.NO_MEMORY), self.assertRaises(Halted):
+        with mock.patch.object(session, "_take_all", return_value=library.NO_MEMORY), self.assertRaises(Halted):
             session.moment(200)
         self.assertEqual(session.moment(200), [])
 
