@@ -24,6 +24,7 @@ _REFUSALS = frozenset(
 _SIDES = frozenset((library.DATA_SIDE, library.CHILDREN_SIDE))
 _output = struct.Struct(">iiiiQqQQ??qqqqiiiqiiqi")  # an output: its fields, its Stat, and how many bytes follow
 _output_at, _SIZE_OF_OUTPUT = _output.unpack_from, _output.size
+_SEND, _ANSWER, _Send = library.SEND, library.ANSWER, library.Send
 
 
 class Dial(NamedTuple):
@@ -110,7 +111,7 @@ class Session(LookUps[Action]):
         self, timeout_ms: int, seed: int, saved: Optional[bytes] = None, root: Root = Root(), addresses: int = 0
     ) -> None:
         super().__init__(root)
-        self._count = c_size_t()
+        self._count, self._take_all = c_size_t(), self._calls.outputs
         self._place = self._found_place()
         if saved is None:
             checked(self._calls.open(self._handle, timeout_ms, addresses, seed))
@@ -221,33 +222,32 @@ class Session(LookUps[Action]):
         if code < library.OK:
             self._check(code, path)
         outputs: list[Any] = []
-        at, end = 0, self._written()
-        view = self._room.view
+        if self._take_all(*self._place) != library.OK or self._count.value > self._room.size:
+            self._take_again()
+        at, end, view = 0, self._count.value, self._room.view
         while at < end:
             fields = _output_at(view, at)
             begin = at + _SIZE_OF_OUTPUT
             at = begin + fields[-1]
             told = view[begin:at].tobytes()
             kind = fields[0]
-            if kind == library.SEND:
-                outputs.append(made(library.Send, (told,)))
-            elif kind == library.ANSWER:
+            if kind == _SEND:
+                outputs.append(made(_Send, (told,)))
+            elif kind == _ANSWER:
                 outputs.append(self._answer(fields, told))
             else:
                 outputs.append(self._read(fields, told))
         return outputs
 
-    def _written(self) -> int:
-        """Has all that the step said written into the room, and tells how many bytes that is. Where there is no memory for it, it is lost."""
+    def _take_again(self) -> None:
+        """The same where there was too little room. Where there is no memory for what a step says, it is lost."""
         is_whole = False
         while not is_whole:
-            code = self._calls.outputs(*self._place)
+            code = self._take_all(*self._place)
             if code != library.OK:
                 checked(library.HALTED if code == library.NO_MEMORY else code)
             is_whole = not self._room.widen(self._count.value)
-            if not is_whole:
-                self._place = self._found_place()
-        return self._count.value
+            self._place = self._found_place()
 
     def _found_place(self) -> tuple[Any, ...]:
         """Where the library writes outputs: what is handed to a function that does not look at it."""

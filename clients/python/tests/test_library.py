@@ -100,7 +100,7 @@ class NumberTest(unittest.TestCase):
             output = library._Output(kind=library.STATE)
             setattr(output, field, 99)
             with self.assertRaises(library.UnknownNumber) as raised:
-                machine._read(library._fields_of_output(output))
+                machine._read(library._fields_of_output(output), b"")
             self.assertEqual(str(raised.exception), wanted.format(what))
         with self.assertRaises(library.UnknownNumber):
             library.checked(-99)

@@ -85,7 +85,7 @@ class SessionTest(unittest.TestCase):
 
     def test_without_memory_for_what_a_step_says_it_halts(self) -> None:
         session = self.connected()
-        with mock.patch.object(session._calls, "outputs", return_value=library.NO_MEMORY), self.assertRaises(Halted):
+        with mock.patch.object(session, "_take_all", return_value=library.NO_MEMORY), self.assertRaises(Halted):
             session.moment(200)
         self.assertEqual(session.moment(200), [])
 
@@ -213,9 +213,9 @@ class SessionTest(unittest.TestCase):
         with self.assertRaises(NoMemory):
             library.checked(library.NO_MEMORY)
         with self.assertRaises(library.UnknownNumber):
-            session._read(library._fields_of_output(library._Output(kind=99)))
+            session._read(library._fields_of_output(library._Output(kind=99)), b"")
         with self.assertRaises(library.UnknownNumber):
-            session._read(library._fields_of_output(library._Output(kind=library.REFUSED, detail=99)))
+            session._read(library._fields_of_output(library._Output(kind=library.REFUSED, detail=99)), b"")
 
 
 if __name__ == "__main__":
