@@ -1,5 +1,5 @@
--- Acts of a bench, one after the other: what it does is put together, and so are the bytes that the stream takes and gives. And what a bench
--- does by one call of it: nothing, the end of the connection, bytes in, bytes out, a request.
+-- Acts of a bench, one after the other: what it does is put together, and so are the bytes that the stream takes and gives. And what a
+-- bench does by one call of it: nothing, the end of the connection, bytes in, bytes out, a request.
 use Rattle.std.proofs.Common.{◌≡◌, ◌++◌, ◌∙◌, ℕ, Bool, true, false, List, [], ◌∷◌, inl, inr, ap, append-nil, refl, sym, subst}
 use Rattle.std.proofs.Common.{append_assoc, take}
 use Rattle.std.specs.List.{FoldsTo}

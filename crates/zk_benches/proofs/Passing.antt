@@ -1,6 +1,7 @@
 -- Bytes that pass between a line and its bench: what is given is what the bench had sent first, and what is taken the bench has. It stays
 -- ready, over the same history.
-use Rattle.std.proofs.Common.{◌≡◌, ◌++◌, ◌∙◌, ℕ, ℤ, pos, Bool, true, false, List, [], length, take, ap, ap₂, refl, sym, subst, arith, nat_eq, of_z, w64}
+use Rattle.std.proofs.Common.{◌≡◌, ◌++◌, ◌∙◌, ℕ, ℤ, pos, Bool, true, false, List, [], length, take, ap, ap₂, refl, sym, subst, arith}
+use Rattle.std.proofs.Common.{nat_eq, of_z, w64}
 use Rattle.std.proofs.Common.{append-nil, take_all, Some, None}
 use Rattle.std.proofs.Math.Seq.{take-append_seam}
 use Rattle.std.proofs.lemmas.Bool.Decides.{nat_tests}

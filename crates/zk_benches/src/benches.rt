@@ -4,7 +4,7 @@ ghost use Rattle.std.specs.Prelude.{◌≡◌, All};
 ghost use Rattle.std.proofs.Props.{props};
 ghost use Rattle.zk_benches.specs.Lines.{IsOver};
 
-use crate::line::{BenchLine, Past};
+use crate::line::{BenchStream, Past};
 use std::alloc::Allocator;
 use std::io::{self, ErrorKind};
 use std::marker::PhantomData;
@@ -33,15 +33,15 @@ impl<A: Allocator + Copy, K: Past> Benches<A, K> {
 }
 
 impl<A: Allocator + Copy, K: Past> Dial for Benches<A, K> {
-    type Stream = BenchLine<A, K>;
+    type Stream = BenchStream<A, K>;
 
     /// Connects to the first server of the next bench.
-    fn dial(&mut self, _address: &str, _within_ms: u64) -> io::Result<BenchLine<A, K>> {
+    fn dial(&mut self, _address: &str, _within_ms: u64) -> io::Result<BenchStream<A, K>> {
         let Some(mut bench) = self.benches.pop() else {
             return Err(ErrorKind::ConnectionRefused.into());
         };
         bench.connect(1);
-        Ok(BenchLine {
+        Ok(BenchStream {
             bench: Some(bench),
             of: PhantomData,
         })

@@ -9,4 +9,4 @@ mod line;
 mod serve;
 
 pub use benches::Benches;
-pub use line::{BenchLine, Past};
+pub use line::{BenchStream, Past};

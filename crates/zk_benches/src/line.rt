@@ -24,19 +24,19 @@ impl Past for Brand {
 
 /// A connection to a bench, or one that is over.
 #[derive(Drop)]
-pub struct BenchLine<A: Allocator + Copy, K: Past> {
+pub struct BenchStream<A: Allocator + Copy, K: Past> {
     pub(crate) bench: Option<Bench<A>>,
     pub(crate) of: PhantomData<K>,
     ghost is: { IfSome bench (IsOver K.past) } by { Prim.hlevel props },
 }
 
-impl<A: Allocator + Copy, K: Past> Read for BenchLine<A, K> {
+impl<A: Allocator + Copy, K: Past> Read for BenchStream<A, K> {
     fn read(&mut self, buf: &mut [u8]) -> io::Result<usize> {
         fetch(&mut self.bench, buf)
     }
 }
 
-impl<A: Allocator + Copy, K: Past> Write for BenchLine<A, K> {
+impl<A: Allocator + Copy, K: Past> Write for BenchStream<A, K> {
     fn write(&mut self, buf: &[u8]) -> io::Result<usize> {
         deliver(&mut self.bench, buf)
     }
@@ -46,7 +46,7 @@ impl<A: Allocator + Copy, K: Past> Write for BenchLine<A, K> {
     }
 }
 
-impl<A: Allocator + Copy, K: Past> Stream for BenchLine<A, K> {
+impl<A: Allocator + Copy, K: Past> Stream for BenchStream<A, K> {
     ghost far = { bench_end K.past };
 
     ghost state = { λ line. line.bench };

@@ -20,7 +20,8 @@ returns-clause-does g c =
       | else-is_empty-via-then-is_empty+else-is_open w ↦ w.line-is
       | else-is_empty-via-else-is_empty w ↦ w.line-is
     ] in
-    subst (λ (o : Option Served). LineDoes o [] (take c.len-count.result (c.copy_from_slice.new.self ++ drop c.len-count.result c.args.buf.now))
+    subst (λ (o : Option Served).
+    LineDoes o [] (take c.len-count.result (c.copy_from_slice.new.self ++ drop c.len-count.result c.args.buf.now))
     c.else-is_empty.line) (sym c.in-Some.is)
     (subst (λ (o : Option Served). LineDoes (Some c.in-Some.bench) []
     (take c.len-count.result (c.copy_from_slice.new.self ++ drop c.len-count.result c.args.buf.now)) o) (sym line)
