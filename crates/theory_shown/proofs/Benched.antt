@@ -21,7 +21,7 @@ use Rattle.theory_drivers.specs.Worlds.{Befalls, ByDriver, ByStream, Meanwhile}
 use Rattle.theory_drivers.proofs.Benched.{bench_advances, bench_connects, bench_ends, bench_gives, bench_processes, bench_takes}
 use Rattle.theory_drivers.proofs.Served.{bytes_serve, streams_cohere, streams_serve}
 use Rattle.theory_shown.specs.Benched.{BenchesReceive}
-use Rattle.zk_benches.specs.BenchActs.{BenchDoes}
+use Rattle.zk_bench_dial.specs.BenchActs.{BenchDoes}
 use Rattle.theory_shown.specs.Benched.{BefallsBench, BenchesCohere, BenchesMeet, BenchesServe, DrivesBench, MeanwhileBench}
 
 -- ---- acts

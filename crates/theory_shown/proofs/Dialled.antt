@@ -5,7 +5,7 @@ use Rattle.zk_nodes.specs.Path.{Text}
 use Rattle.zk_nodes.specs.History.{IsHistory}
 use Rattle.zk_nodes.specs.declared.side.Side.{Side}
 use Rattle.zk_history.specs.HistoryView.{history_of, HistoryView}
-use Rattle.zk_benches.specs.BenchActs.{bench_end}
+use Rattle.zk_bench_dial.specs.BenchActs.{bench_end}
 use Rattle.shell_watch.specs.declared.plan.Style.{Style}
 use Rattle.shell_watch.specs.Watching.{IsPrinted, IsWatched}
 use Rattle.zk_trees.specs.Trees.{roots_aims}

@@ -20,8 +20,8 @@ use Rattle.zk_driver.specs.Noting.{is_come}
 use Rattle.zk_driver.specs.Flowing.{Asked, AreWithin, Carries, Deed, Flow, Made, Passes, Runs}
 use Rattle.zk_driver.proofs.Flowed.{goes_on, open_before}
 use Rattle.theory_drivers.specs.Acts.{given_in, taken_in, Act, Takes}
-use Rattle.zk_benches.specs.BenchActs.{bench_end, BenchBegins, BenchDoes, BenchGoes, LineDoes}
-use Rattle.zk_benches.proofs.Acting.{goes_after, goes_first, goes_over}
+use Rattle.zk_bench_dial.specs.BenchActs.{bench_end, BenchBegins, BenchDoes, BenchGoes, LineDoes}
+use Rattle.zk_bench_dial.proofs.Acting.{goes_after, goes_first, goes_over}
 use Rattle.theory_drivers.specs.Worlds.{ByDriver}
 use Rattle.theory_drivers.proofs.Turned.{goes_nowhere}
 use Rattle.shell_watch.specs.declared.plan.Style.{Style}

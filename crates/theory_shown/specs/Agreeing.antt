@@ -19,7 +19,7 @@ use Rattle.script_live.specs.Lives.{Lives}
 use Rattle.script_live.specs.Printed as lived
 use Rattle.shell_watch.specs.declared.plan.Style.{Style}
 use Rattle.shell_watch.specs.Watching.{flow_in, EndsFrom, IsBegun, PrintsFrom, Stand}
-use Rattle.zk_benches.specs.BenchActs.{BenchDoes}
+use Rattle.zk_bench_dial.specs.BenchActs.{BenchDoes}
 use Rattle.theory_shown.specs.Benched.{MeetsBench}
 use Rattle.theory_shown.specs.Lived.{ByClient, DeedsMeet}
 use Rattle.theory_shown.specs.Lived as lived_so

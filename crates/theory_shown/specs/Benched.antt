@@ -15,7 +15,7 @@ use Rattle.zk_agent.specs.declared.input.AgentInput.TheVariants as happens
 use Rattle.zk_driver.specs.Driving.{Looked, Noted, Written}
 use Rattle.zk_driver.specs.Flowing.{Deed, Flow, Made, Passes, Runs}
 use Rattle.theory_drivers.specs.Acts.{given_in, taken_in, Act}
-use Rattle.zk_benches.specs.BenchActs.{BenchDoes}
+use Rattle.zk_bench_dial.specs.BenchActs.{BenchDoes}
 use Rattle.theory_drivers.specs.ServedDrivers.{Begins}
 use Rattle.theory_drivers.specs.Worlds.{ByDriver, Meets}
 

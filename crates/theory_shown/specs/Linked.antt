@@ -3,7 +3,7 @@ use Rattle.std.specs.Prelude.{◌≡◌, ◌⊎◌, ◌++◌, ℕ, Bool, List, [
 use Rattle.zk_nodes.specs.Path.{Text}
 use Rattle.zk_nodes.specs.declared.side.Side.{Side}
 use Rattle.zk_history.specs.HistoryView.{history_of, HistoryView}
-use Rattle.zk_benches.specs.BenchActs.{bench_end}
+use Rattle.zk_bench_dial.specs.BenchActs.{bench_end}
 use Rattle.shell_watch.specs.declared.plan.Style.{Style}
 use Rattle.shell_watch.specs.Watching.{EndsFrom, IsBegun, IsStood, IsWatched, PrintsFrom, Stand}
 use Rattle.zk_trees.specs.Trees.{roots_aims}

@@ -11,7 +11,7 @@ ghost use Rattle.theory_shown.specs.Benched.{BenchesCohere, BenchesMeet, Benches
 ghost use Rattle.std.specs.Prelude.{◌≡◌, ◌≢◌, All, ℕ, List, true, false};
 ghost use Rattle.std.specs.Io.KnownBytes.{Appends};
 ghost use Rattle.shell_watch.specs.Watching.{aims_of};
-ghost use Rattle.zk_benches.specs.Lines.{IsOver};
+ghost use Rattle.zk_bench_dial.specs.Lines.{IsOver};
 ghost use Rattle.theory_shown.specs.Linked.{LinkedEndAgrees, LinkedWatchAgrees, PrintsPast, WatchesPast};
 ghost use Rattle.theory_shown.specs.Lived.{ByClient, ByKnown, LifeCoheres};
 ghost use Rattle.theory_shown.specs.Watched.{EndsCohere, PrintsCohere};
@@ -21,7 +21,7 @@ use std::alloc::Allocator;
 use std::io::Write;
 use std::marker::Brand;
 use zk_bench::{Bench, History};
-use zk_benches::{Benches, Past};
+use zk_bench_dial::{Benches, Past};
 use zk_link::{Clock, Stream};
 
 /// Where what each connection took was what a server of the model had, and what it gave was what this server had sent: each good answer of

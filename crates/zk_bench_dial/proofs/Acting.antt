@@ -5,7 +5,7 @@ use Rattle.std.proofs.Common.{append_assoc, take}
 use Rattle.std.specs.List.{FoldsTo}
 use Rattle.zk_bench.specs.Served.{ended, is_open, without_output, Served}
 use Rattle.theory_drivers.specs.Acts.{given_in, taken_in, Act, Gives, Serves, Takes}
-use Rattle.zk_benches.specs.BenchActs.{BenchDoes, BenchGoes, ProcessesNext}
+use Rattle.zk_bench_dial.specs.BenchActs.{BenchDoes, BenchGoes, ProcessesNext}
 
 -- ---- one after the other
 

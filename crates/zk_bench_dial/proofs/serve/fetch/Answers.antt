@@ -1,11 +1,11 @@
 -- What comes is what the bench had sent first (`fetched`), and it is over the same history still (`over_still`), whether it is open or not.
 use Rattle.std.proofs.Common.{◌≡◌, ◌∙◌, ◌++◌, [], sym, subst, IfSome, Option, Some, length, take, drop, arith}
 use Rattle.zk_bench.specs.Served.{Served}
-use Rattle.zk_benches.specs.BenchActs.{LineDoes}
-use Rattle.zk_benches.specs.Lines.{IsOver}
-use Rattle.zk_benches.proofs.Passing.{fetched, over_still}
-use Rattle.zk_benches.proofs.serve.fetch.Goals as goal
-use Rattle.zk_benches.proofs.serve.fetch.Goals.{else-is_empty-via-then-is_empty+else-is_open, else-is_empty-via-else-is_empty}
+use Rattle.zk_bench_dial.specs.BenchActs.{LineDoes}
+use Rattle.zk_bench_dial.specs.Lines.{IsOver}
+use Rattle.zk_bench_dial.proofs.Passing.{fetched, over_still}
+use Rattle.zk_bench_dial.proofs.serve.fetch.Goals as goal
+use Rattle.zk_bench_dial.proofs.serve.fetch.Goals.{else-is_empty-via-then-is_empty+else-is_open, else-is_empty-via-else-is_empty}
 
 pub returns-then-is_open-clause-over : goal.returns-then-is_open-clause-over
 returns-then-is_open-clause-over g c = λ past over.

@@ -9,9 +9,9 @@ use Rattle.zk_history.specs.HistoryView.{HistoryView}
 use Rattle.zk_bench.specs.Served.{is_open, without_output, Served}
 use Rattle.zk_bench.specs.Stepping.{IsReady}
 use Rattle.theory_drivers.specs.Acts.{Takes}
-use Rattle.zk_benches.specs.BenchActs.{BenchDoes, BenchGoes, LineDoes}
-use Rattle.zk_benches.specs.Lines.{IsOver}
-use Rattle.zk_benches.proofs.Acting.{goes_after, goes_giving, goes_taking}
+use Rattle.zk_bench_dial.specs.BenchActs.{BenchDoes, BenchGoes, LineDoes}
+use Rattle.zk_bench_dial.specs.Lines.{IsOver}
+use Rattle.zk_bench_dial.proofs.Acting.{goes_after, goes_giving, goes_taking}
 
 -- two zxids that are compared as machine numbers
 pub same_zxid : (r s : ℤ) (m n : ℕ) → r ≡ pos m → s ≡ pos n → nat_eq (of_z w64 r) (of_z w64 s) ≡ true → m ≡ n

@@ -2,7 +2,7 @@
 
 ghost use Rattle.std.specs.Prelude.{◌≡◌, All};
 ghost use Rattle.std.proofs.Props.{props};
-ghost use Rattle.zk_benches.specs.Lines.{IsOver};
+ghost use Rattle.zk_bench_dial.specs.Lines.{IsOver};
 
 use crate::line::{BenchStream, Past};
 use std::alloc::Allocator;

@@ -2,9 +2,9 @@
 use Rattle.std.proofs.Common.{◌∙◌, [], sym, subst, IfSome, Option, Some, length, take}
 use Rattle.zk_bench.specs.Served.{Served}
 use Rattle.zk_bench.specs.Stepping.{IsReady}
-use Rattle.zk_benches.specs.BenchActs.{LineDoes}
-use Rattle.zk_benches.proofs.Passing.{delivered, lost, ready_still}
-use Rattle.zk_benches.proofs.serve.deliver.Goals as goal
+use Rattle.zk_bench_dial.specs.BenchActs.{LineDoes}
+use Rattle.zk_bench_dial.proofs.Passing.{delivered, lost, ready_still}
+use Rattle.zk_bench_dial.proofs.serve.deliver.Goals as goal
 
 pub serve-requires : goal.serve-requires
 serve-requires g c =

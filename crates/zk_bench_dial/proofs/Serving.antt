@@ -13,9 +13,9 @@ use Rattle.zk_bench.specs.Front.{IsFramed, IsFront, IsShort, IsWhole}
 use Rattle.zk_bench.specs.Served.{ended, is_open, Continues, Served}
 use Rattle.zk_bench.specs.Stepping.{shown_of, IsReady, ProcessesFirst}
 use Rattle.zk_bench.proofs.Stepped.{continues_so}
-use Rattle.zk_benches.specs.BenchActs.{BenchGoes, ProcessesNext}
-use Rattle.zk_benches.proofs.Acting.{goes_next, goes_nowhere, goes_over}
-use Rattle.zk_benches.proofs.Staying.{stays}
+use Rattle.zk_bench_dial.specs.BenchActs.{BenchGoes, ProcessesNext}
+use Rattle.zk_bench_dial.proofs.Acting.{goes_next, goes_nowhere, goes_over}
+use Rattle.zk_bench_dial.proofs.Staying.{stays}
 
 -- What the clauses of `Bench::process` say of a call that memory sufficed for.
 pub record Processed (old new : Served) : Type 0 where

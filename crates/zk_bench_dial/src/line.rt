@@ -3,8 +3,8 @@
 ghost use Rattle.std.specs.Prelude.{IfSome};
 ghost use Rattle.std.proofs.Props.{props};
 ghost use Rattle.zk_history.specs.HistoryView.{empty_kept, HistoryView};
-ghost use Rattle.zk_benches.specs.BenchActs.{bench_end};
-ghost use Rattle.zk_benches.specs.Lines.{IsOver};
+ghost use Rattle.zk_bench_dial.specs.BenchActs.{bench_end};
+ghost use Rattle.zk_bench_dial.specs.Lines.{IsOver};
 
 use crate::serve::{deliver, fetch};
 use std::alloc::Allocator;

@@ -5,8 +5,8 @@ ghost use Rattle.std.specs.Io.{ReadsAtMost, WritesAtMost};
 ghost use Rattle.zk_bench.specs.Stepping.{IsReady};
 ghost use Rattle.zk_link.specs.FarEnds.{front_by};
 ghost use Rattle.zk_history.specs.HistoryView.{HistoryView};
-ghost use Rattle.zk_benches.specs.BenchActs.{BenchGoes, LineDoes};
-ghost use Rattle.zk_benches.specs.Lines.{IsOver};
+ghost use Rattle.zk_bench_dial.specs.BenchActs.{BenchGoes, LineDoes};
+ghost use Rattle.zk_bench_dial.specs.Lines.{IsOver};
 
 use std::alloc::Allocator;
 use std::io::{self, ErrorKind};

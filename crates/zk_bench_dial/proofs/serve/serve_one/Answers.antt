@@ -2,9 +2,9 @@
 use Rattle.std.proofs.Common.{◌≡◌, ◌∙◌, ap, sym, subst}
 use Rattle.zk_nodes.specs.History.{newest, IsHistory}
 use Rattle.zk_history.specs.HistoryView.{history_of, HistoryView}
-use Rattle.zk_benches.proofs.Passing.{same_zxid}
-use Rattle.zk_benches.proofs.Serving.{served}
-use Rattle.zk_benches.proofs.serve.serve_one.Goals as goal
+use Rattle.zk_bench_dial.proofs.Passing.{same_zxid}
+use Rattle.zk_bench_dial.proofs.Serving.{served}
+use Rattle.zk_bench_dial.proofs.serve.serve_one.Goals as goal
 
 pub returns-clause-goes : goal.returns-clause-goes
 returns-clause-goes g c = λ same.
