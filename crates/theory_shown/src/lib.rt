@@ -111,8 +111,8 @@ fn watch_past<A: Allocator + Copy, K: Past, C: Clock + Drop, O: Write>(
     watch(alloc, dial, clock, plan, out)
 }
 
-/// `watch` over servers in memory behind a dial, all with this history: each good answer of the client of which it prints a line is what the
-/// history has at the last seen zxid in that line, wherever pieces and cuts fall. Nothing is premise of what they do beside it.
+/// `watch` over servers in memory behind a dial, all with this history: each good answer of the client of which it prints a line is what
+/// the history has at the last seen zxid in that line, wherever pieces and cuts fall. Nothing is premise of what they do beside it.
 pub fn watch_benches<A: Allocator + Copy, C: Clock + Drop, O: Write>(
     alloc: A,
     history: &History<A>,
