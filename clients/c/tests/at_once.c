@@ -158,7 +158,7 @@ static void ask(void)
     hand_in(&came);
 }
 
-/* What is followed is reported, and its read is refused. A tree has more nodes than its bound. One is no more, and the other is whole. */
+/* What is followed is reported, and its read is refused. A tree has more nodes than its bound. One is gone, and the other is whole. */
 static void follow(void)
 {
     struct bytes came = {.length = 0};

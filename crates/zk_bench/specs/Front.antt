@@ -15,7 +15,7 @@ pub record IsWhole (bytes : List ℕ) (count : ℕ) : Type 0 where
   pub is : length_field bytes ≡ count
   pub small : count < 2 ^ 31
 
--- what stands there
+-- what is at the front of some bytes
 abbrev pub IsFront : List ℕ → Front → Type 0
 IsFront bytes Unfinished = IsShort bytes
 IsFront bytes Negative = IsNegative bytes

@@ -1,3 +1,3 @@
--- Servers in memory behind a dial.
+-- Servers in memory behind a `Dial`.
 pub mod BenchActs
 pub mod Lines
