@@ -1,4 +1,4 @@
--- What `watch` says of itself over benches behind a `Dial` agrees with their history: it is what `linked_watch_agrees` and
+-- What `watch` says of itself over benches that it dials agrees with their history: it is what `linked_watch_agrees` and
 -- `linked_end_agrees` speak of.
 use Rattle.std.proofs.Common.{ℕ, Bool, List, Option, ◌++◌, inl, inr}
 use Rattle.zk_nodes.specs.Path.{Text}

@@ -85,7 +85,7 @@ pub fn linked_watches_agree<A: Allocator, B: Allocator + Copy>(bench: &Bench<B>)
     known_of(bench);
 }
 
-// A watch over benches behind a `Dial`.
+// A watch over benches that it dials.
 fn watch_past<A: Allocator + Copy, K: Past, C: Clock + Drop, O: Write>(
     alloc: A,
     history: &History<A>,
@@ -111,7 +111,7 @@ fn watch_past<A: Allocator + Copy, K: Past, C: Clock + Drop, O: Write>(
     watch(alloc, dial, clock, plan, out)
 }
 
-/// `watch` over servers in memory behind a `Dial`, all with this history: each good answer of the client of which it prints a line is what
+/// `watch` over servers in memory that it dials, all with this history: each good answer of the client of which it prints a line is what
 /// the history has at the last seen zxid in that line, wherever pieces and cuts fall. Nothing is premise of what they do beside it.
 pub fn watch_benches<A: Allocator + Copy, C: Clock + Drop, O: Write>(
     alloc: A,

@@ -1,3 +1,3 @@
--- Servers in memory behind a `Dial`.
+-- Servers in memory at the far end of connections.
 pub mod BenchActs
 pub mod Lines
