@@ -9,12 +9,12 @@ use crate::fault::Halt;
 use crate::input::Input;
 use crate::machine::Core;
 use crate::output::Output;
-use crate::turn::{known_of_input, turn};
+use crate::turn::{known_of_input, notice_moment, turn};
 use std::alloc::{AllocError, Allocator, Global};
 use zk_cache::{Cache, DataAnswer, Mark};
 use zk_conversation::Conversation;
 use zk_frames::FrameReader;
-use zk_nodes::{Names, Path};
+use zk_nodes::{Names, Path, Side};
 use zk_session::{Saved, Session, State};
 use zk_turns::{first_view, one_forget, one_turn};
 use zk_watches::Registry;
@@ -37,7 +37,8 @@ impl<A: Allocator + Copy> Client<A> {
     ghost use Rattle.zk_session.specs.Fields.{Saves};
     ghost use Rattle.zk_limits.specs.declared.limits.TheConstants.{LONGEST_PASSWORD};
     ghost use Rattle.zk_cache.specs.Contents.{answer_of, names_in};
-    ghost use Rattle.zk_turns.specs.Turns.{Start, Item, Turned, Forgets, new_start};
+    ghost use Rattle.zk_watches.specs.Lists.{side_has};
+    ghost use Rattle.zk_turns.specs.Turns.{Start, Item, Turned, Forgets, Now, new_start};
     ghost use Rattle.zk_turns.specs.View.{view_at};
     ghost use Rattle.zk_turns.specs.Taken.{NothingIsDue};
     ghost use Rattle.zk_turns.specs.Rule.{Rule, RuleAt, Stands, StandsAt, HaltsAs, HaltsAt, forgotten};
@@ -202,8 +203,29 @@ impl<A: Allocator + Copy> Client<A> {
     {
         one_turn();
         known_of_input(&input);
-        self.apply_input(Input::Now(now), outputs)?;
+        self.tell_moment(now, outputs)?;
         self.apply_input(input, outputs)?;
+        Ok(())
+    }
+
+    /// Takes the moment, and adds the outputs that it makes due, as [`apply_input`](Client::apply_input) does of [`Input::Now`].
+    fn tell_moment(&mut self, now: u64, outputs: &mut Vec<Output<A>, A>) -> Result<(), Halt>
+        ensures rule { OnOk result (Adds (view_of self.old) (Now now) (said outputs.old.items) (said outputs.new.items) (view_of self.new)) }
+        ensures quiet { IsQuiet (view_of self.old) (Now now) → IsOk result }
+        ensures halt { OnErr result (HaltsAs (view_of self.old) (view_of self.new)) }
+        ensures halted { (view_of self.old).standing.halted ≡ true → IsErr result }
+    {
+        let state = self.core.session.state();
+        let last = self.core.session.last_zxid();
+        self.core.earlier = None;
+        if self.core.halted {
+            self.core.halt(state, last);
+            return Err(Halt);
+        }
+        let Ok(()) = notice_moment(&mut self.core, &mut self.reader, now, outputs) else {
+            self.core.halt(state, last);
+            return Err(Halt);
+        };
         Ok(())
     }
 
@@ -287,6 +309,13 @@ impl<A: Allocator + Copy> Client<A> {
             ≡ (view_of self.now).cache.children text.now }
     {
         self.core.cache.peek_children(text)
+    }
+
+    /// Whether this side of a path is watched: a report of it is to come before it changes. It takes no memory.
+    pub fn is_watched(&self, side: Side, path: &Path<A>) -> bool
+        ensures { result ≡ side_has (view_of self.now).lists side path.now }
+    {
+        self.core.registry.contains(side, path.as_str())
     }
 
     /// The greatest zxid seen: of the replies, and of the saved session.

@@ -58,7 +58,7 @@ pub(crate) fn turn<A: Allocator + Copy>(
         Input::Opened => opened(core, reader, outputs),
         Input::Bytes(piece) => receive_bytes(core, reader, piece, outputs),
         Input::Cut => cut(core, reader, outputs),
-        Input::Now(moment) => now(core, reader, moment, outputs),
+        Input::Now(moment) => notice_moment(core, reader, moment, outputs),
         Input::Call(ticket, call) => core.ask(ticket, call, outputs),
     }
 }
@@ -118,8 +118,8 @@ fn cut<A: Allocator + Copy>(
     core.lose(outputs)
 }
 
-// The moment is told. Where nothing is due, no memory is taken.
-fn now<A: Allocator + Copy>(
+/// The moment is told. Where nothing is due, no memory is taken.
+pub(crate) fn notice_moment<A: Allocator + Copy>(
     core: &mut Core<A>,
     reader: &mut FrameReader<A>,
     moment: u64,

@@ -8,7 +8,7 @@ use Rattle.zk_turns.specs.Past.{Pinged, Dropped}
 use Rattle.zk_client.specs.Views.{said}
 use Rattle.zk_client.specs.Seen.{view_with}
 use Rattle.zk_client.proofs.Turning.{one-says, tick-view, tick-says}
-use Rattle.zk_client.proofs.turn.now.Goals as goal
+use Rattle.zk_client.proofs.turn.notice_moment.Goals as goal
 
 pub returns-in-Ping-clause-next : goal.returns-in-Ping-clause-next
 returns-in-Ping-clause-next g c =
