@@ -7,7 +7,7 @@ use Rattle.std.proofs.lemmas.List.Elements.{filter-append}
 use Rattle.std.proofs.lemmas.List.Folds.{list_any-append}
 use Rattle.std.specs.List.{list_any}
 use Rattle.std.proofs.lemmas.Bool.Decides.{nat_tests}
-use Rattle.std.specs.Prelude.{Result, Ok, Err, OnOk, nat_le, nat_lt, length, filter, ◌||◌}
+use Rattle.std.specs.Prelude.{nat_le, nat_lt, length, filter, ◌||◌}
 use Rattle.zk_session.specs.declared.states.State.TheVariants.{Connected}
 use Rattle.zk_frames.specs.Frame.{frame}
 use Rattle.zk_conversation.specs.Calls.{Call as Asked_call, call_payload}
@@ -142,7 +142,7 @@ module _ {A : Type 0} (view after : View) (asks : Asks view after) where
   others_followed now subject (inr (inr (inr (inr refused)))) = inr (inr (inr (inr refused)))
 
 pub no_calls : (view : View) → Asks view view
-no_calls view = record { standing = refl; cache = refl; more = []; pending = sym (append-nil view.pending) }
+no_calls view = record { standing = refl; cache = refl; lists = refl; more = []; pending = sym (append-nil view.pending) }
 
 -- ---- its own read
 
@@ -176,6 +176,7 @@ module _ {A : Type 0} (now : ℕ) (fits : now < 2 ^ 64) (subject : Subject A) (r
       asks = record {
         standing = ap (λ v. v.standing) sent.1;
         cache = ap (λ v. v.cache) sent.1;
+        lists = ap (λ v. v.lists) sent.1;
         more = call_made ∷ [];
         pending = pending;
       }
@@ -237,17 +238,16 @@ not_due now view subject ahead read goes_on counted = by subject.progress refl
 pub nothing_more : (given : List Output) → given ≡ given ++ []
 nothing_more given = sym (append-nil given)
 
-pub visited : {X E A : Type 0} (result : Result X E) (now : ℕ) (view : View) (given : List Output) (subject heard : Subject A)
+pub asked_visits : {A : Type 0} (now : ℕ) (view : View) (given : List Output) (subject heard : Subject A)
     (after : View) (given_after : List Output) (new : Subject A)
     (call : Asked_call) → subject ≡ heard → question_of call ≡ read_of subject.side subject.is_missing subject.path
-    → OnOk result ((outputs : List Output) × Rule view (record { input = Call subject.ticket call; outputs = outputs }) after
-    × (new ≡ heard_all now (record subject { progress = Reading }) outputs) × (given_after ≡ given ++ outputs))
-    → OnOk result (VisitsAnd now view given heard after given_after new)
-visited (Ok x) now view given subject heard after given_after new call same read asked =
+    → (outputs : List Output) × Rule view (record { input = Call subject.ticket call; outputs = outputs }) after
+    × (new ≡ heard_all now (record subject { progress = Reading }) outputs) × (given_after ≡ given ++ outputs)
+    → VisitsAnd now view given heard after given_after new
+asked_visits now view given subject heard after given_after new call same read asked =
     let turn : Turn = record { input = Call subject.ticket call; outputs = asked.0 } in
     subst (λ before. VisitsAnd now view given before after given_after new) same
     (turn ∷ [], inr (turn, refl, (call, refl, read), asked.1, asked.2), asked.3 ∙ ap (λ outputs. given ++ outputs) (nothing_more asked.0))
-visited (Err e) now view given subject heard after given_after new call same read asked = tt
 
 -- ---- a subject that rests
 

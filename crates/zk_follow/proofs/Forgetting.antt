@@ -12,6 +12,7 @@ use Rattle.zk_turns.specs.View.{View, Cache}
 use Rattle.zk_turns.specs.Rule.{forgotten}
 use Rattle.zk_follow.specs.declared.subject.Subject.{Subject}
 use Rattle.zk_follow.specs.Following.{is_kept, is_shown, is_whole, says_none, IsCounted, IsFollowed}
+use Rattle.zk_follow.specs.inner.Resting.{holds}
 
 by_mark : (test : Answer → Bool) (answer : Answer) (mark : Mark)
     → is_kept test (if_good answer mark) ≡ (if is_good mark then test answer else false)
@@ -35,6 +36,10 @@ shown_still cache Data path = kept_still is_whole (cache.nodes path)
 shown_still cache Child path =
     ap (λ (is : Bool). is || is_kept says_none ((forgotten cache).nodes path)) (names_still (cache.children path))
     ∙ ap (λ (is : Bool). is_marked_good (cache.children path) || is) (kept_still says_none (cache.nodes path))
+
+pub holds_still : (cache : Cache) (side : Side) (path : Text) → holds (forgotten cache) side path ≡ holds cache side path
+holds_still cache Data path = kept_still is_whole (cache.nodes path)
+holds_still cache Child path = names_still (cache.children path)
 
 abbrev pub after_forgetting : View → View
 after_forgetting view = record view { cache = forgotten view.cache }

@@ -1,9 +1,11 @@
 -- Lemmas on subjects: a read is a call that waits until it is answered, and subjects are visited one after the other, each
 -- changed in place.
 pub mod Waiting
+pub mod Staying
 pub mod Reading
 pub mod Hearing
 pub mod Asking
 pub mod Visiting
 pub mod Telling
 pub mod Forgetting
+pub mod Resting

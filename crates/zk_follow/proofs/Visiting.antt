@@ -32,6 +32,7 @@ pub asks_on : (view between after : View) → Asks view between → Asks between
 asks_on view between after first second = record {
   standing = second.standing ∙ first.standing;
   cache = second.cache ∙ first.cache;
+  lists = second.lists ∙ first.lists;
   more = first.more ++ second.more;
   pending = second.pending ∙ ap (λ ps. ps ++ second.more) first.pending ∙ append_assoc view.pending first.more second.more;
 }

@@ -98,7 +98,7 @@ other_part ticket question last same = let e : false ≡ true = ap is_part same 
 -- ---- happenings
 
 -- a reply that is taken is the reply to what waits first, and the client does not halt
-abbrev FitsReply : Happening → View → Type 0
+abbrev pub FitsReply : Happening → View → Type 0
 FitsReply (Took (Replies ticket question zxid result)) view = First (Call_waits ticket question) view.pending
 FitsReply (Took (Watches_set last zxid)) view = First (Part_waits last) view.pending
 FitsReply Halted view = ⊥
@@ -169,7 +169,7 @@ reading_fits state last payload view =
     result_fits (phase_of state) last (arriving (phase_of state) view.pending payload) view
     (of_arriving (phase_of state) view.pending payload)
 
-abbrev AllFit : View → List Happening → Type 0
+abbrev pub AllFit : View → List Happening → Type 0
 AllFit view [] = Unit {0}
 AllFit view (happening ∷ more) = FitsReply happening view × AllFit (next view happening) more
 
@@ -189,7 +189,7 @@ opens_fit view Connected = (tt, (tt, tt))
 opens_fit view _ = tt
 
 -- what an input is: neither forgetting nor a halt
-abbrev IsGiven : Signal → Type 0
+abbrev pub IsGiven : Signal → Type 0
 IsGiven Forget = ⊥
 IsGiven Halt = ⊥
 IsGiven _ = Unit {0}
@@ -208,7 +208,7 @@ caused_fit view (Calls ticket call) given = call_fits view ticket call (refusal 
 caused_fit view Forget given = absurd given
 caused_fit view Halt given = absurd given
 
-all_fit : (view : View) (signal : Signal) → IsGiven signal → AllFit view (happenings view signal)
+pub all_fit : (view : View) (signal : Signal) → IsGiven signal → AllFit view (happenings view signal)
 all_fit view Forget given = absurd given
 all_fit view Halt given = absurd given
 all_fit view Opens given = by_cond (AllFit view) view.standing.halted [] (caused view Opens) tt (caused_fit view Opens given)
@@ -220,7 +220,7 @@ all_fit view (Ticks moment) given =
 all_fit view (Calls ticket call) given =
     by_cond (AllFit view) view.standing.halted [] (caused view (Calls ticket call)) tt (caused_fit view (Calls ticket call) given)
 
-abbrev AllGiven : List Signal → Type 0
+abbrev pub AllGiven : List Signal → Type 0
 AllGiven [] = Unit {0}
 AllGiven (signal ∷ more) = IsGiven signal × AllGiven more
 
@@ -228,7 +228,7 @@ bytes_given : (bytes : List ℕ) → AllGiven (map Comes bytes)
 bytes_given [] = tt
 bytes_given (byte ∷ bytes) = (tt, bytes_given bytes)
 
-all_given : (input : Input) → AllGiven (signals_of input)
+pub all_given : (input : Input) → AllGiven (signals_of input)
 all_given Opened = (tt, tt)
 all_given (Bytes bytes) = bytes_given bytes
 all_given Cut = (tt, tt)

@@ -1,6 +1,6 @@
 //! A client with the subjects that its program follows.
 
-ghost use Rattle.std.specs.Prelude.{◌≡◌, ◌++◌, ◌∷◌, ◌<ℤ◌, ◌==◌, ℕ, List, false, not, pos, map, [], None, IfOk, OnOk, OnErr, All};
+ghost use Rattle.std.specs.Prelude.{◌≡◌, ◌++◌, ◌∷◌, ◌<ℤ◌, ◌==◌, ℕ, List, false, true, length, not, pos, map, [], None, IfOk, OnOk, OnErr, All, slice_index_or};
 ghost use Rattle.std.specs.List.{flat_map};
 ghost use Rattle.std.proofs.Props.{props};
 ghost use Rattle.zk_turns.specs.Turns.{Forgets, Item, Start};
@@ -11,7 +11,9 @@ ghost use Rattle.zk_client.specs.Views.{input_view, said};
 ghost use Rattle.zk_follow.specs.Following.{due_again, first_again, first_of, again_at, heard_all, news_in, told_of, unfollowed};
 ghost use Rattle.zk_follow.specs.Following.{AreVisited, IsAhead, IsCounted, IsFollowed, Steps};
 ghost use Rattle.zk_follow.specs.inner.Following.{Reads};
+ghost use Rattle.zk_follow.specs.inner.Resting.{AreCovered, AreResting, AreRestingBut};
 
+use crate::about::About;
 use crate::news::{News, tell_all};
 use crate::progress::Progress;
 use crate::stop::FollowerStop;
@@ -27,28 +29,54 @@ pub struct Follower<A: Allocator + Copy = Global> {
     alloc: A,
     pub(crate) client: Client<A>,
     pub(crate) subjects: Vec<Subject<A>, A>,
+    /// Which of the subjects rest, by their places: a place that it does not have, and one that is false, may be of one that rests.
+    resting: Vec<bool, A>,
     ghost counted: { All (IsCounted (view_of client)) subjects.items } by { Prim.hlevel props },
+    ghost rest: { AreResting (view_of client) subjects.items resting.items } by { Prim.hlevel props },
+}
+
+/// As many marks as there are subjects. Those that are new are false.
+fn fit_marks<A: Allocator>(marks: &mut Vec<bool, A>, count: usize) -> Result<(), FollowerStop>
+    ensures size { OnOk result (length marks.new.items ≡ count) }
+    ensures marks { OnOk result
+        ((k : ℕ) → slice_index_or marks.new.items k false ≡ true → slice_index_or marks.old.items k false ≡ true) }
+{
+    match marks.resize(count, false) {
+        Ok(()) => Ok(()),
+        Err(_) => Err(FollowerStop::Memory),
+    }
 }
 
 /// Each subject takes what the client has said, and is read where it is to be read.
 fn visit_all<A: Allocator + Copy>(
     alloc: A,
     subjects: &mut [Subject<A>],
+    resting: &mut [bool],
     client: &mut Client<A>,
     now: u64,
+    about: &About<A>,
     outputs: &[Output<A>],
     made: &mut Vec<Output<A>, A>,
 ) -> Result<(), FollowerStop>
     requires counted { All (λ subject. IsCounted (view_of client.old) (heard_all now subject (said outputs.now))) subjects.old }
     requires goes_on { (view_of client.old).standing.halted ≡ false }
+    requires covered { AreCovered about.now (said outputs.now) }
+    requires places { length resting.old ≡ length subjects.old }
+    requires rest { AreRestingBut (said outputs.now) (view_of client.old) subjects.old resting.old }
     ensures followed { OnOk result (All (IsFollowed now (view_of client.new)) subjects.new) }
     ensures counted { OnOk result (All (IsCounted (view_of client.new)) subjects.new) }
+    ensures rest { OnOk result (AreResting (view_of client.new) subjects.new resting.new) }
     ensures reads { OnOk result (Reads subjects.old (view_of client.old) (said made.old.items) (view_of client.new) (said made.new.items)) }
     ensures visited { OnOk result (AreVisited now (said outputs.now) subjects.old subjects.new) }
 {
     let mut is_full = false;
     for index in 0..subjects.len() {
-        is_full = subjects[index].visit(alloc, client, now, is_full, outputs, made)?;
+        let rests = resting[index];
+        let visit = subjects[index].visit_where(
+            alloc, client, now, is_full, rests, about, outputs, made,
+        )?;
+        is_full = visit.is_full;
+        resting[index] = visit.rests;
     }
     Ok(())
 }
@@ -57,13 +85,17 @@ fn visit_all<A: Allocator + Copy>(
 fn advance<A: Allocator + Copy>(
     alloc: A,
     subjects: &mut [Subject<A>],
+    resting: &mut [bool],
     client: &mut Client<A>,
     now: u64,
     input: Input<A>,
 ) -> Result<Vec<Output<A>, A>, FollowerStop>
-    requires { All (IsCounted (view_of client.old)) subjects.old }
+    requires counted { All (IsCounted (view_of client.old)) subjects.old }
+    requires places { length resting.old ≡ length subjects.old }
+    requires rest { AreResting (view_of client.old) subjects.old resting.old }
     ensures followed { OnOk result (All (IsFollowed now (view_of client.new)) subjects.new) }
     ensures counted { OnOk result (All (IsCounted (view_of client.new)) subjects.new) }
+    ensures rest { OnOk result (AreResting (view_of client.new) subjects.new resting.new) }
     ensures ahead { OnOk result (All (λ subject. IsAhead now subject.progress) subjects.new) }
     ensures steps { IfOk result
         (λ outputs. Steps now (view_of client.old) (input_view input) subjects.old (view_of client.new) (said outputs.items) subjects.new) }
@@ -71,8 +103,20 @@ fn advance<A: Allocator + Copy>(
     let Ok(mut outputs) = client.step_at(now, input) else {
         return Err(FollowerStop::Halted);
     };
+    let Ok(about) = About::of(alloc, outputs.as_slice()) else {
+        return Err(FollowerStop::Memory);
+    };
     let mut made = Vec::new(alloc);
-    visit_all(alloc, subjects, client, now, outputs.as_slice(), &mut made)?;
+    visit_all(
+        alloc,
+        subjects,
+        resting,
+        client,
+        now,
+        &about,
+        outputs.as_slice(),
+        &mut made,
+    )?;
     match outputs.append(&mut made) {
         Ok(()) => Ok(outputs),
         Err(_) => Err(FollowerStop::Memory),
@@ -156,6 +200,7 @@ impl<A: Allocator + Copy> Follower<A> {
             alloc,
             client,
             subjects: Vec::new(alloc),
+            resting: Vec::new(alloc),
         }
     }
 
@@ -177,8 +222,13 @@ impl<A: Allocator + Copy> Follower<A> {
             (view_of self.new.client) (said outputs.items) self.new.subjects.items) }
         ensures err { OnErr result (self.new.subjects.items ≡ []) }
     {
+        if let Err(stop) = fit_marks(&mut self.resting, self.subjects.len()) {
+            self.subjects.clear();
+            return Err(stop);
+        }
         let subjects = self.subjects.as_mut_slice();
-        match advance(self.alloc, subjects, &mut self.client, now, input) {
+        let resting = self.resting.as_mut_slice();
+        match advance(self.alloc, subjects, resting, &mut self.client, now, input) {
             Ok(outputs) => Ok(outputs),
             Err(stop) => {
                 self.subjects.clear();
@@ -202,6 +252,7 @@ impl<A: Allocator + Copy> Follower<A> {
         } ∷ []) }
         ensures same { OnErr result (self.new.subjects.items ≡ self.old.subjects.items) }
     {
+        self.resting.truncate(self.subjects.len());
         match self.subjects.push(Subject::new(ticket, side, path)) {
             Ok(()) => Ok(()),
             Err(_) => Err(AllocError),
@@ -213,6 +264,7 @@ impl<A: Allocator + Copy> Follower<A> {
         ensures client { self.new.client ≡ self.old.client }
         ensures subjects { self.new.subjects.items ≡ unfollowed ticket self.old.subjects.items }
     {
+        self.resting.clear();
         remove(&mut self.subjects, ticket);
     }
 
@@ -249,7 +301,13 @@ impl<A: Allocator + Copy> Follower<A> {
         ensures err { OnErr result (self.new.subjects.items ≡ []) }
     {
         let subjects = self.subjects.as_mut_slice();
-        match tell_all(subjects, &self.client, outputs, all) {
+        match tell_all(
+            subjects,
+            self.resting.as_slice(),
+            &self.client,
+            outputs,
+            all,
+        ) {
             Ok(()) => Ok(()),
             Err(fault) => {
                 self.subjects.truncate(0);
@@ -270,6 +328,7 @@ impl<A: Allocator + Copy> Follower<A> {
         ensures same_subjects { OnErr result (self.new.subjects ≡ self.old.subjects) }
     {
         begin_client(self.alloc, &mut self.client, timeout_ms)?;
+        self.resting.clear();
         let subjects = self.subjects.as_mut_slice();
         begin_all(subjects);
         Ok(())

@@ -5,6 +5,7 @@
 //! whether there is one, with a watch, so that its making is reported.
 #![tactic(auto)]
 
+mod about;
 mod follower;
 mod kept;
 mod news;

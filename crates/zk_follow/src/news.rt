@@ -1,11 +1,13 @@
 //! What there is to tell of a subject.
 
-ghost use Rattle.std.specs.Prelude.{◌≡◌, ◌++◌, map, OnOk};
-ghost use Rattle.std.specs.List.{flat_map};
+ghost use Rattle.std.specs.Prelude.{◌≡◌, ◌++◌, map, false, true, OnOk, slice_index_or};
+ghost use Rattle.std.specs.List.{flat_map, list_any};
+ghost use Rattle.zk_nodes.specs.Path.{Text};
 ghost use Rattle.zk_client.specs.Clients.{view_of};
 ghost use Rattle.zk_client.specs.Views.{output_view, said};
 ghost use Rattle.zk_follow.specs.Following.{is_report_of, is_reported, is_same, news_about, news_in, news_list, told_after, told_of};
 ghost use Rattle.zk_follow.specs.Following.{was_refused, was_shown};
+ghost use Rattle.zk_follow.specs.inner.Resting.{is_report, is_resting, AreResting};
 
 use crate::kept::is_shown;
 use crate::progress::{Progress, Refusal};
@@ -107,10 +109,34 @@ fn is_report_of<A: Allocator>(path: &Path<A>, output: &Output<A>) -> bool
 }
 
 /// Whether the client has reported a path.
-fn is_reported<A: Allocator>(path: &Path<A>, outputs: &[Output<A>]) -> bool
+pub(crate) fn is_reported<A: Allocator>(path: &Path<A>, outputs: &[Output<A>]) -> bool
     ensures { result ≡ is_reported path.now (said outputs.now) }
 {
     outputs.iter().any(|output| is_report_of(path, output))
+}
+
+/// Whether an output is a report.
+fn is_report<A: Allocator>(output: &Output<A>) -> bool
+    ensures { result ≡ is_report (output_view output.now) }
+{
+    matches!(output, Output::Report { .. })
+}
+
+/// Whether one of these outputs is a report.
+fn has_report<A: Allocator>(outputs: &[Output<A>]) -> bool
+    ensures { result ≡ list_any is_report (said outputs.now) }
+{
+    outputs.iter().any(|output| is_report(output))
+}
+
+/// Whether the mark at a place is true.
+fn is_marked(marks: &[bool], index: usize) -> bool
+    ensures { result ≡ slice_index_or marks.now index false }
+{
+    match marks.get(index) {
+        Some(mark) => *mark,
+        None => false,
+    }
 }
 
 /// Adds what there is to tell, if there is something, with the ticket of the subject.
@@ -144,20 +170,60 @@ impl<A: Allocator + Copy> Subject<A> {
         self.told = told_after(is_good, self.progress, self.told);
         add_news(all, self.ticket, news)
     }
+
+    /// Whether it was told last that what is kept is good, and no output reports the path.
+    fn is_told(&self, has_report: bool, outputs: &[Output<A>]) -> bool
+        requires { has_report ≡ list_any is_report (said outputs.now) }
+        ensures shown { result ≡ true → was_shown self.now.told ≡ true }
+        ensures unreported { result ≡ true → is_reported self.now.path (said outputs.now) ≡ false }
+    {
+        if !was_shown(self.told) {
+            return false;
+        }
+        if !has_report {
+            return true;
+        }
+        !is_reported(&self.path, outputs)
+    }
+
+    /// Reports the subject; but of one that rests, and of which that was told, there is nothing to tell.
+    fn report_where(
+        &mut self,
+        rests: bool,
+        client: &Client<A>,
+        has_report: bool,
+        outputs: &[Output<A>],
+        all: &mut Vec<(u64, News), A>,
+    ) -> Result<(), AllocError>
+        requires rests { rests ≡ true → is_resting (view_of client.now) self.old ≡ true }
+        requires has_report { has_report ≡ list_any is_report (said outputs.now) }
+        ensures news { OnOk result (all.new.items ≡ all.old.items ++ news_in (view_of client.now) (said outputs.now) self.old) }
+        ensures told { self.new ≡ told_of (view_of client.now) self.old }
+    {
+        if rests && self.is_told(has_report, outputs) {
+            return Ok(());
+        }
+        self.report(client, outputs, all)
+    }
 }
 
-/// Adds what there is to tell of each, with its ticket, in order. These outputs were made since the call before this one.
+/// Adds what there is to tell of each, with its ticket, in order. These outputs were made since the call before this one. Where it is
+/// marked so, a subject rests.
 pub(crate) fn tell_all<A: Allocator + Copy>(
     subjects: &mut [Subject<A>],
+    resting: &[bool],
     client: &Client<A>,
     outputs: &[Output<A>],
     all: &mut Vec<(u64, News), A>,
 ) -> Result<(), AllocError>
+    requires { AreResting (view_of client.now) subjects.old resting.now }
     ensures news { OnOk result (all.new.items ≡ all.old.items ++ flat_map (news_in (view_of client.now) (said outputs.now)) subjects.old) }
     ensures told { OnOk result (subjects.new ≡ map (told_of (view_of client.now)) subjects.old) }
 {
-    for subject in subjects.iter_mut() {
-        subject.report(client, outputs, all)?;
+    let has_report = has_report(outputs);
+    for index in 0..subjects.len() {
+        let rests = is_marked(resting, index);
+        subjects[index].report_where(rests, client, has_report, outputs, all)?;
     }
     Ok(())
 }

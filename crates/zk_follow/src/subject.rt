@@ -1,6 +1,7 @@
 //! One subject that is followed.
 
 ghost use Rattle.std.specs.Prelude.{◌≡◌, ◌≢◌, ◌++◌, true, false, Bool, List, None, IfOk, OnOk};
+ghost use Rattle.std.specs.List.{list_any};
 ghost use Rattle.zk_session.specs.declared.states.State.TheVariants.{Connected};
 ghost use Rattle.zk_conversation.specs.Questions.{question_of};
 ghost use Rattle.zk_conversation.specs.Views.{call_view};
@@ -12,8 +13,10 @@ ghost use Rattle.zk_follow.specs.Following.{heard, heard_all, read_of, rested, t
 ghost use Rattle.zk_follow.specs.inner.Following.{Asks};
 ghost use Rattle.zk_follow.specs.Following.{IsFull};
 ghost use Rattle.zk_follow.specs.inner.Following.{VisitsAnd};
+ghost use Rattle.zk_follow.specs.inner.Resting.{is_about, is_resting, AreCovered};
 
-use crate::kept::is_shown;
+use crate::about::About;
+use crate::kept::{holds, is_shown};
 use crate::news::News;
 use crate::progress::{Progress, missing_after, progress_after, there_after};
 use crate::reads::read_of;
@@ -31,6 +34,24 @@ pub struct Subject<A: Allocator> {
     pub(crate) is_missing: bool,
     pub(crate) is_there: bool,
     pub(crate) told: Option<News>,
+}
+
+/// What a visit has led to: whether as many calls wait for their replies as may, and whether the subject rests.
+#[derive(Clone, Copy)]
+pub(crate) struct Visit {
+    pub(crate) is_full: bool,
+    pub(crate) rests: bool,
+}
+
+/// A visit of a subject that does not rest.
+fn awake(is_full: bool) -> Visit
+    ensures full { result.is_full ≡ is_full }
+    ensures rests { result.rests ≡ false }
+{
+    Visit {
+        is_full,
+        rests: false,
+    }
 }
 
 /// Whether a server has accepted the connection.
@@ -174,9 +195,19 @@ impl<A: Allocator + Copy> Subject<A> {
         }
     }
 
-    /// Takes what the client has said at this moment, and reads the subject where it is to be read and fewer calls wait than may. The
-    /// answer is whether as many calls wait for their replies as may.
-    pub(crate) fn visit(
+    /// Whether the subject rests, which is sure only where it says so.
+    fn is_at_rest(&self, client: &Client<A>) -> bool
+        ensures { result ≡ true → is_resting (view_of client.now) self.now ≡ true }
+    {
+        self.is_unread()
+            && !self.is_missing
+            && !self.is_there
+            && client.is_watched(self.side, &self.path)
+            && holds(client, self.side, &self.path)
+    }
+
+    /// Takes what the client has said at this moment, and reads the subject where it is to be read and fewer calls wait than may.
+    fn visit(
         &mut self,
         alloc: A,
         client: &mut Client<A>,
@@ -184,34 +215,68 @@ impl<A: Allocator + Copy> Subject<A> {
         is_full: bool,
         outputs: &[Output<A>],
         made: &mut Vec<Output<A>, A>,
-    ) -> Result<bool, FollowerStop>
+    ) -> Result<Visit, FollowerStop>
         requires counted { IsCounted (view_of client.old) (heard_all now self.old (said outputs.now)) }
         requires goes_on { (view_of client.old).standing.halted ≡ false }
         requires full { is_full ≡ true → IsFull (view_of client.old) }
         ensures followed { OnOk result (IsFollowed now (view_of client.new) self.new) }
         ensures counted { OnOk result (IsCounted (view_of client.new) self.new) }
         ensures asks { OnOk result (Asks (view_of client.old) (view_of client.new)) }
-        ensures full { IfOk result (λ is_full. is_full ≡ true → IsFull (view_of client.new)) }
+        ensures full { IfOk result (λ visit. visit.is_full ≡ true → IsFull (view_of client.new)) }
         ensures visits { OnOk result (VisitsAnd now (view_of client.old) (said made.old.items) (taken now (said outputs.now) self.old)
             (view_of client.new) (said made.new.items) self.new) }
+        ensures rests { IfOk result (λ visit. visit.rests ≡ true → is_resting (view_of client.new) self.new ≡ true) }
     {
         self.pass_moment(now, outputs);
         if is_shown(client, self.side, &self.path) {
             self.rest();
-            return Ok(is_full);
+            let rests = self.is_at_rest(client);
+            return Ok(Visit { is_full, rests });
         }
         if is_full {
-            return Ok(true);
+            return Ok(awake(true));
         }
         if !is_connected(client) {
-            return Ok(false);
+            return Ok(awake(false));
         }
         if !self.is_unread() {
-            return Ok(false);
+            return Ok(awake(false));
         }
         match read_of(alloc, self.side, self.is_missing, &self.path) {
-            Ok(call) => self.ask(client, now, call, made),
+            Ok(call) => Ok(awake(self.ask(client, now, call, made)?)),
             Err(_) => Err(FollowerStop::Memory),
         }
+    }
+
+    /// Visits the subject; but one that rests, and that none of the outputs is about, stays as it is, as it would by a visit.
+    pub(crate) fn visit_where(
+        &mut self,
+        alloc: A,
+        client: &mut Client<A>,
+        now: u64,
+        is_full: bool,
+        rests: bool,
+        about: &About<A>,
+        outputs: &[Output<A>],
+        made: &mut Vec<Output<A>, A>,
+    ) -> Result<Visit, FollowerStop>
+        requires counted { IsCounted (view_of client.old) (heard_all now self.old (said outputs.now)) }
+        requires goes_on { (view_of client.old).standing.halted ≡ false }
+        requires full { is_full ≡ true → IsFull (view_of client.old) }
+        requires covered { AreCovered about.now (said outputs.now) }
+        requires rests { rests ≡ true → list_any (is_about self.old.ticket self.old.path) (said outputs.now) ≡ false
+            → is_resting (view_of client.old) self.old ≡ true }
+        ensures followed { OnOk result (IsFollowed now (view_of client.new) self.new) }
+        ensures counted { OnOk result (IsCounted (view_of client.new) self.new) }
+        ensures asks { OnOk result (Asks (view_of client.old) (view_of client.new)) }
+        ensures full { IfOk result (λ visit. visit.is_full ≡ true → IsFull (view_of client.new)) }
+        ensures visits { OnOk result (VisitsAnd now (view_of client.old) (said made.old.items) (taken now (said outputs.now) self.old)
+            (view_of client.new) (said made.new.items) self.new) }
+        ensures rests { IfOk result (λ visit. visit.rests ≡ true → is_resting (view_of client.new) self.new ≡ true) }
+    {
+        if rests && about.leaves(self.ticket, &self.path, outputs) {
+            return Ok(Visit { is_full, rests });
+        }
+        self.visit(alloc, client, now, is_full, outputs, made)
     }
 }

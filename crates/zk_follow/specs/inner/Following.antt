@@ -13,6 +13,7 @@ use Rattle.zk_follow.specs.Following.{reads, Visits, outputs_in, AreReads}
 pub record Asks (view after : View) : Type 0 where
   pub standing : after.standing ≡ view.standing
   pub cache : after.cache ≡ view.cache
+  pub lists : after.lists ≡ view.lists
   pub more : List Pending
   pub pending : after.pending ≡ view.pending ++ more
 

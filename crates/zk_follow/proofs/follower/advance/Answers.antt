@@ -6,20 +6,33 @@ use Rattle.zk_client.specs.Clients.{view_of}
 use Rattle.zk_client.specs.Views.{input_view, output_view, said, turn_of}
 use Rattle.zk_follow.specs.Following.{heard_all, AreVisited, IsCounted}
 use Rattle.zk_follow.specs.inner.Following.{Reads}
+use Rattle.zk_follow.specs.inner.Resting.{AreCovered, AreRestingBut}
 use Rattle.zk_follow.proofs.Visiting.{all_ahead, all_counted, going_at, steps}
+use Rattle.zk_follow.proofs.Resting.{resting_but}
 use Rattle.zk_follow.proofs.follower.advance.Goals as goal
 
 pub visit_all-requires-clause-counted : goal.visit_all-requires-clause-counted
 visit_all-requires-clause-counted g c =
     subst (λ outputs. All (λ subject. IsCounted (view_of c.step_at.new.self) (heard_all c.args.now subject (said outputs)))
-    c.args.subjects.now) (sym c.as_slice.ensures.value)
+    c.args.subjects.now) (sym c.as_slice-2.ensures.value)
     (all_counted c.args.now c.args.now (view_of c.args.client.now) (turn_of c.args.input c.in-Ok.outputs.items)
-    (view_of c.step_at.new.self) c.in-Ok.ensures.rule c.args.subjects.now c.requires)
+    (view_of c.step_at.new.self) c.in-Ok.ensures.rule c.args.subjects.now c.requires.counted)
 
 pub visit_all-requires-clause-goes_on : goal.visit_all-requires-clause-goes_on
 visit_all-requires-clause-goes_on g c =
     going_at c.args.now (view_of c.args.client.now) (turn_of c.args.input c.in-Ok.outputs.items)
     (view_of c.step_at.new.self) c.in-Ok.ensures.rule
+
+pub visit_all-requires-clause-covered : goal.visit_all-requires-clause-covered
+visit_all-requires-clause-covered g c =
+    subst (λ outputs. AreCovered c.in-Ok-of.about (said outputs)) (c.as_slice.ensures.value ∙ sym c.as_slice-2.ensures.value) c.in-Ok-of.ensures
+
+pub visit_all-requires-clause-rest : goal.visit_all-requires-clause-rest
+visit_all-requires-clause-rest g c =
+    subst (λ outputs. AreRestingBut (said outputs) (view_of c.step_at.new.self) c.args.subjects.now c.args.resting.now)
+    (sym c.as_slice-2.ensures.value)
+    (resting_but c.args.now (view_of c.args.client.now) (turn_of c.args.input c.in-Ok.outputs.items)
+    (view_of c.step_at.new.self) c.in-Ok.ensures.rule c.args.subjects.now c.args.resting.now c.requires.rest)
 
 pub returns-in-Ok-append-clause-steps : goal.returns-in-Ok-append-clause-steps
 returns-in-Ok-append-clause-steps g c =
@@ -28,7 +41,7 @@ returns-in-Ok-append-clause-steps g c =
     (said c.visit_all.new.made.items) (said c.append.new.self.items) c.visit_all.new.subjects c.in-Ok.ensures.rule
     (subst (λ given. Reads c.args.subjects.now (view_of c.step_at.new.self) given (view_of c.visit_all.new.client)
     (said c.visit_all.new.made.items)) (ap said c.new-made.ensures.items) c.in_ok-visit_all.ensures.reads)
-    (subst (λ outputs. AreVisited c.args.now (said outputs) c.args.subjects.now c.visit_all.new.subjects) c.as_slice.ensures.value
+    (subst (λ outputs. AreVisited c.args.now (said outputs) c.args.subjects.now c.visit_all.new.subjects) c.as_slice-2.ensures.value
     c.in_ok-visit_all.ensures.visited)
     (ap said c.in-Ok-append.ensures.items ∙ map-append output_view c.in-Ok.outputs.items c.visit_all.new.made.items)
 
@@ -36,5 +49,5 @@ pub returns-in-Ok-append-clause-ahead : goal.returns-in-Ok-append-clause-ahead
 returns-in-Ok-append-clause-ahead g c =
     all_ahead c.args.now c.ranges.now.fits
     (said c.in-Ok.outputs.items) c.args.subjects.now c.visit_all.new.subjects c.visit_all.auto.subjects
-    (subst (λ outputs. AreVisited c.args.now (said outputs) c.args.subjects.now c.visit_all.new.subjects) c.as_slice.ensures.value
+    (subst (λ outputs. AreVisited c.args.now (said outputs) c.args.subjects.now c.visit_all.new.subjects) c.as_slice-2.ensures.value
     c.in_ok-visit_all.ensures.visited)

@@ -5,6 +5,8 @@ use Rattle.zk_client.specs.Clients.{view_of}
 use Rattle.zk_follow.specs.Following.{told_of, IsCounted}
 use Rattle.zk_follow.proofs.Telling.{All_changed}
 use Rattle.zk_follow.proofs.Visiting.{whole_written}
+use Rattle.zk_follow.specs.inner.Resting.{AreResting}
+use Rattle.zk_follow.proofs.Resting.{told_resting}
 use Rattle.zk_follow.proofs.follower.Follower.report_all.Goals as goal
 
 pub invariant_of-self : goal.invariant_of-self
@@ -19,4 +21,6 @@ invariant_of-self g c =
     record {
       counted = subst (All (IsCounted view)) (sym written)
           (All_changed (IsCounted view) (told_of view) c.args.self.now.subjects.items (λ subject counted. counted) c.args.self.now.counted);
+      rest = subst (λ subjects. AreResting view subjects c.args.self.now.resting.items) (sym written)
+          (told_resting view c.args.self.now.subjects.items c.args.self.now.resting.items c.args.self.now.rest);
     }

@@ -4,6 +4,7 @@ use Rattle.std.specs.Prelude.{All}
 use Rattle.std.proofs.lemmas.List.Elements.{All-filter}
 use Rattle.zk_client.specs.Clients.{view_of}
 use Rattle.zk_follow.specs.Following.{IsCounted}
+use Rattle.zk_follow.proofs.Resting.{none_marked}
 use Rattle.zk_follow.proofs.follower.Follower.unfollow.Goals as goal
 
 pub invariant_of-self : goal.invariant_of-self
@@ -13,4 +14,5 @@ invariant_of-self g c =
       counted = subst (All (IsCounted view)) (sym c.remove.ensures)
           (All-filter (λ subject. not (subject.ticket == c.args.ticket))
           (IsCounted view) c.args.self.now.subjects.items c.args.self.now.counted);
+      rest = none_marked view _ _ c.clear.ensures.items;
     }

@@ -4,7 +4,7 @@ use Rattle.zk_client.specs.Clients.{view_of}
 use Rattle.zk_client.specs.Views.{said}
 use Rattle.zk_conversation.specs.Views.{call_view}
 use Rattle.zk_follow.specs.Following.{heard_all, rested, IsAhead, IsCounted}
-use Rattle.zk_follow.proofs.Asking.{not_due, nothing_more, rest_counted, visited, woken_ahead, woken_counted}
+use Rattle.zk_follow.proofs.Asking.{not_due, nothing_more, rest_counted, asked_visits, woken_ahead, woken_counted}
 use Rattle.zk_follow.proofs.subject.Subject.visit.Goals as goal
 
 pub returns-then-not-is_connected-clause-followed : goal.returns-then-not-is_connected-clause-followed
@@ -41,12 +41,15 @@ returns-then-not-is_connected-clause-visits g c =
 pub returns-then-not-is_unread-clause-visits : goal.returns-then-not-is_unread-clause-visits
 returns-then-not-is_unread-clause-visits g c = ([], inl (refl, refl, inl c.pass_moment.ensures), nothing_more (said c.args.made.now.items))
 
-pub returns-in-Ok-clause-visits : goal.returns-in-Ok-clause-visits
-returns-in-Ok-clause-visits g c =
+pub returns-in_ok-ask-in-Ok-clause-visits : goal.returns-in_ok-ask-in-Ok-clause-visits
+returns-in_ok-ask-in-Ok-clause-visits g c =
     let old = view_of c.args.client.now in
     let new = view_of c.ask.new.client in
-    visited c.ask.result c.args.now old (said c.args.made.now.items) c.pass_moment.new.self _ new (said c.ask.new.made.items) c.ask.new.self
-    (call_view c.in-Ok.call) c.pass_moment.ensures c.in-Ok.ensures c.ask.ensures.asked
+    asked_visits c.args.now old (said c.args.made.now.items) c.pass_moment.new.self _ new (said c.ask.new.made.items) c.ask.new.self
+    (call_view c.in-Ok.call) c.pass_moment.ensures c.in-Ok.ensures c.in_ok-ask-in-Ok.ensures.asked
+
+pub returns-in_ok-ask-in-Ok-clause-full : goal.returns-in_ok-ask-in-Ok-clause-full
+returns-in_ok-ask-in-Ok-clause-full g c = λ full. c.in_ok-ask-in-Ok.ensures.full (sym c.awake-in-Ok.ensures.full ∙ full)
 
 pub returns-then-is_shown-clause-counted : goal.returns-then-is_shown-clause-counted
 returns-then-is_shown-clause-counted g c =

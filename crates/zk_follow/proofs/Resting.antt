@@ -1,0 +1,322 @@
+-- A subject that rests stays as it is by a visit, where outputs say nothing of it, and there is nothing more to tell of it.
+use Rattle.std.proofs.Common.{◌≡◌, ◌≢◌, ◌<◌, ◌≤◌, ◌+◌, ◌++◌, suc, map, ℕ, Bool, true, false, not, cond, ◌&&◌, ◌||◌, List, [], ◌∷◌, Option, Some, None}
+use Rattle.std.proofs.Common.{inl, inr, length, get_or, set, take, refl, sym, ap, subst, ◌∙◌, arith}
+use Rattle.std.proofs.lemmas.List.{append-nil, get_or_default, get_or-map, get_or-set_same, get_or-set_other, length-map}
+use Rattle.std.proofs.lemmas.Bool.Decides.{Decides-eqb}
+use Rattle.std.specs.Prelude.{◌==◌, bytes_eq}
+use Rattle.std.specs.List.{list_any}
+use Rattle.zk_nodes.specs.Path.{Text}
+use Rattle.zk_nodes.specs.declared.side.Side.{Side}
+use Rattle.zk_nodes.specs.declared.side.Side.TheVariants.{Data, Child}
+use Rattle.zk_watches.specs.Lists.{side_has}
+use Rattle.zk_cache.specs.Kept.{is_marked_good}
+use Rattle.zk_turns.specs.Turns.{Output, Answer, Enters, Report, Turn}
+use Rattle.zk_turns.specs.View.{View, Cache}
+use Rattle.zk_turns.specs.Rule.{RuleAt}
+use Rattle.zk_client.specs.declared.output.Output.{Output as Made}
+use Rattle.zk_client.specs.Views.{output_view, said}
+use Rattle.zk_follow.specs.declared.about.About.{About}
+use Rattle.zk_follow.specs.declared.news.News.{News}
+use Rattle.zk_follow.specs.declared.news.News.TheVariants.{Shown, Refused as Denied}
+use Rattle.zk_follow.specs.declared.progress.Progress.{Progress}
+use Rattle.zk_follow.specs.declared.progress.Progress.TheVariants.{Due, Reading, Refused}
+use Rattle.zk_follow.specs.declared.subject.Subject.{Subject}
+use Rattle.zk_follow.specs.Following.{answered, heard, heard_all, is_kept, is_report_of, is_reported, is_shown, news_about, news_in, says_none, taken}
+use Rattle.zk_follow.specs.Following.{told_after, told_of, was_shown, woken, woken_progress, IsCounted, IsFollowed}
+use Rattle.zk_follow.specs.inner.Following.{Asks, VisitsAnd}
+use Rattle.zk_follow.specs.inner.Resting.{covers, holds, is_about, is_due, is_marked, is_report, is_resting, tells_fields, AreCovered}
+use Rattle.zk_follow.specs.inner.Resting.{AreResting, AreRestingBut}
+use Rattle.zk_follow.proofs.Asking.{nothing_more}
+use Rattle.zk_follow.proofs.Forgetting.{after_forgetting, holds_still}
+use Rattle.zk_follow.proofs.Staying.{or_false, Stays, stays_at}
+
+-- ---- what rests
+
+and_parts : (a b : Bool) → (a && b) ≡ true → (a ≡ true) × (b ≡ true)
+and_parts true b e = (refl, e)
+and_parts false b e = absurd cc
+
+pub not_parts : (a : Bool) → not a ≡ true → a ≡ false
+not_parts true e = absurd cc
+not_parts false e = refl
+
+pub and_false : (a b : Bool) → b ≡ false → (a && b) ≡ false
+and_false true b e = e
+and_false false b e = refl
+
+pub record Rested {A : Type 0} (view : View) (subject : Subject A) : Type 0 where
+  pub due : is_due subject.progress ≡ true
+  pub missing : subject.is_missing ≡ false
+  pub there : subject.is_there ≡ false
+  pub stays : Stays subject.side subject.path view
+
+pub parts_of : {A : Type 0} (view : View) (subject : Subject A) → is_resting view subject ≡ true → Rested view subject
+parts_of view subject e =
+    let watched = side_has view.lists subject.side subject.path in
+    let good = holds view.cache subject.side subject.path in
+    let one = and_parts (is_due subject.progress) (not subject.is_missing && (not subject.is_there && (watched && good))) e in
+    let two = and_parts (not subject.is_missing) (not subject.is_there && (watched && good)) one.1 in
+    let three = and_parts (not subject.is_there) (watched && good) two.1 in
+    record {
+      due = one.0;
+      missing = not_parts subject.is_missing two.0;
+      there = not_parts subject.is_there three.0;
+      stays = and_parts watched good three.1;
+    }
+
+pub rests_by : {A : Type 0} (view : View) (subject : Subject A) → Rested view subject → is_resting view subject ≡ true
+rests_by view subject parts =
+    ap (λ b. b && (not subject.is_missing && (not subject.is_there && (side_has view.lists subject.side subject.path
+    && holds view.cache subject.side subject.path)))) parts.due
+    ∙ ap (λ b. not b && (not subject.is_there && (side_has view.lists subject.side subject.path
+    && holds view.cache subject.side subject.path))) parts.missing
+    ∙ ap (λ b. not b && (side_has view.lists subject.side subject.path && holds view.cache subject.side subject.path)) parts.there
+    ∙ ap (λ b. b && holds view.cache subject.side subject.path) parts.stays.0
+    ∙ parts.stays.1
+
+due_is : (progress : Progress) → is_due progress ≡ true → progress ≡ Due
+due_is Due e = refl
+due_is Reading e = absurd cc
+due_is (Refused why until) e = absurd cc
+
+shown_by : (cache : Cache) (side : Side) (path : Text) → holds cache side path ≡ true → is_shown cache side path ≡ true
+shown_by cache Data path e = e
+shown_by cache Child path e = ap (λ b. b || is_kept says_none (cache.nodes path)) e
+
+module _ {A : Type 0} (now : ℕ) (view : View) (subject : Subject A) (rest : is_resting view subject ≡ true) where
+  pub rest_shown : is_shown view.cache subject.side subject.path ≡ true
+  rest_shown = shown_by view.cache subject.side subject.path (parts_of view subject rest).stays.1
+
+  pub rest_followed : IsFollowed now view subject
+  rest_followed = inl rest_shown
+
+  pub rest_counted_as : IsCounted view subject
+  rest_counted_as going reads =
+      absurd (let e : Due ≡ Reading = sym (due_is subject.progress (parts_of view subject rest).due) ∙ reads in cc)
+
+  heard_same : (output : Output) → is_about subject.ticket subject.path output ≡ false → heard now subject output ≡ subject
+  heard_same (Answer ticket outcome) e =
+      ap (λ b. cond b (answered now outcome subject) subject) (or_false (subject.ticket == ticket) (tells_fields outcome) e).0
+  heard_same (Report at side event) e = ap (λ b. cond b (record subject { is_there = false }) subject) e
+  heard_same (Enters state) e = absurd cc
+  heard_same _ e = refl
+
+  all_heard_same : (outputs : List Output) → list_any (is_about subject.ticket subject.path) outputs ≡ false
+      → heard_all now subject outputs ≡ subject
+  all_heard_same [] e = refl
+  all_heard_same (output ∷ outputs) e =
+      let parts = or_false (is_about subject.ticket subject.path output)
+      (list_any (is_about subject.ticket subject.path) outputs) e in
+      ap (λ (s : Subject A). heard_all now s outputs) (heard_same output parts.0) ∙ all_heard_same outputs parts.1
+
+  woken_same : woken now subject ≡ subject
+  woken_same =
+      let due = due_is subject.progress (parts_of view subject rest).due in
+      ap (λ (p : Progress). record subject { progress = woken_progress now p }) due
+      ∙ ap (λ (p : Progress). record subject { progress = p }) (sym due)
+
+  module _ (outputs : List Output) (silent : list_any (is_about subject.ticket subject.path) outputs ≡ false) where
+    taken_same : taken now outputs subject ≡ subject
+    taken_same = ap (λ (s : Subject A). woken now s) (all_heard_same outputs silent) ∙ woken_same
+
+    -- A visit leaves it as it is.
+    pub rest_visits : (given : List Output) → VisitsAnd now view given (taken now outputs subject) view given subject
+    rest_visits given = ([], inl (refl, refl, inl (sym taken_same)), nothing_more given)
+
+-- ---- from view to view
+
+rested_at : {A : Type 0} (view after : View) (subject : Subject A)
+    → Rested view subject → Stays subject.side subject.path after → Rested after subject
+rested_at view after subject parts stays =
+    record { due = parts.due; missing = parts.missing; there = parts.there; stays = stays }
+
+pub rests_at : {A : Type 0} (moment : ℕ) (view : View) (turn : Turn) (after : View) → RuleAt moment view turn after → (subject : Subject A)
+    → list_any (is_about subject.ticket subject.path) turn.outputs ≡ false → is_resting view subject ≡ true → is_resting after subject ≡ true
+rests_at moment view turn after rule subject silent e =
+    let parts = parts_of view subject e in
+    rests_by after subject (rested_at view after subject parts
+    (stays_at subject.ticket subject.path subject.side moment view turn after rule silent parts.stays))
+
+pub resting_but : {A : Type 0} (moment : ℕ) (view : View) (turn : Turn) (after : View) → RuleAt moment view turn after
+    → (subjects : List (Subject A)) (resting : List Bool)
+    → AreResting view subjects resting → AreRestingBut turn.outputs after subjects resting
+resting_but moment view turn after rule subjects resting rest k d within marked silent =
+    rests_at moment view turn after rule (get_or subjects k d) silent (rest k d within marked)
+
+rests_on : {A : Type 0} (view after : View) → Asks view after → (subject : Subject A)
+    → is_resting view subject ≡ true → is_resting after subject ≡ true
+rests_on view after asks subject e =
+    let parts = parts_of view subject e in
+    rests_by after subject (rested_at view after subject parts (
+      ap (λ lists. side_has lists subject.side subject.path) asks.lists ∙ parts.stays.0,
+      ap (λ cache. holds cache subject.side subject.path) asks.cache ∙ parts.stays.1,
+    ))
+
+pub resting_still : {A : Type 0} (view : View) (subjects : List (Subject A)) (resting : List Bool)
+    → AreResting view subjects resting → AreResting (after_forgetting view) subjects resting
+resting_still {A} view subjects resting rest k d within marked =
+    let subject : Subject A = get_or subjects k d in
+    let parts = parts_of view subject (rest k d within marked) in
+    rests_by (after_forgetting view) subject (rested_at view (after_forgetting view) subject parts
+    (parts.stays.0, holds_still view.cache subject.side subject.path ∙ parts.stays.1))
+
+-- ---- subjects one after the other
+
+-- of the first so many
+abbrev pub RestBefore : {A : Type 0} → ℕ → View → List (Subject A) → List Bool → Type 0
+RestBefore {A} count view subjects resting =
+    (k : ℕ) (d : Subject A) → k < count → get_or resting k false ≡ true → is_resting view (get_or subjects k d) ≡ true
+
+module _ {A : Type 0} (view after : View) (asks : Asks view after) where
+  -- the one that is visited next, where it is marked so
+  pub next_rests : (subjects first : List (Subject A)) (resting marks : List Bool) (index : ℕ) (element : Subject A) (outputs : List Output)
+      → index < length first → element ≡ get_or first index element
+      → AreRestingBut outputs view first marks → get_or resting index false ≡ get_or marks index false
+      → get_or resting index false ≡ true
+      → list_any (is_about element.ticket element.path) outputs ≡ false → is_resting after element ≡ true
+  next_rests subjects first resting marks index element outputs within is rest same marked silent =
+      rests_on view after asks element
+      (subst (λ (s : Subject A). is_resting view s ≡ true) (sym is)
+      (rest index element within (sym same ∙ marked)
+      (subst (λ (s : Subject A). list_any (is_about s.ticket s.path) outputs ≡ false) is silent)))
+
+  pub more_rest : (subjects : List (Subject A)) (resting : List Bool) (index : ℕ) (visited : Subject A) (mark : Bool)
+      → index < length subjects → index < length resting → (mark ≡ true → is_resting after visited ≡ true)
+      → RestBefore index view subjects resting → RestBefore (index + 1) after (set subjects index visited) (set resting index mark)
+  more_rest subjects resting index visited mark within fits rest before k d below marked = by (k == index) refl
+    where
+      by : (same : Bool) → (k == index) ≡ same → is_resting after (get_or (set subjects index visited) k d) ≡ true
+      by true e =
+          let is : k ≡ index = (Decides-eqb k index).0 e in
+          let new : get_or (set subjects index visited) k d ≡ visited =
+          ap (λ n. get_or (set subjects index visited) n d) is ∙ get_or-set_same subjects index visited d within in
+          let its : get_or (set resting index mark) k false ≡ mark =
+          ap (λ n. get_or (set resting index mark) n false) is ∙ get_or-set_same resting index mark false fits in
+          ap (λ (s : Subject A). is_resting after s) new ∙ rest (sym its ∙ marked)
+      by false e =
+          let other : k ≢ index = λ same. let t : (k == index) ≡ true = (Decides-eqb k index).1 same in cc in
+          let earlier : k < index = omega arith in
+          ap (λ (s : Subject A). is_resting after s) (get_or-set_other subjects index k visited d other)
+          ∙ rests_on view after asks (get_or subjects k d)
+          (before k d earlier (sym (get_or-set_other resting index k mark false other) ∙ marked))
+
+-- ---- what there is to tell
+
+shown_is : (told : Option News) → was_shown told ≡ true → told ≡ Some Shown
+shown_is None e = absurd cc
+shown_is (Some Shown) e = refl
+shown_is (Some (Denied why)) e = absurd cc
+
+-- where there is no report, no path is reported
+pub unreported_where : (path : Text) (outputs : List Output) → list_any is_report outputs ≡ false → is_reported path outputs ≡ false
+unreported_where path [] e = refl
+unreported_where path (output ∷ outputs) e =
+    let parts = or_false (is_report output) (list_any is_report outputs) e in
+    by output parts.0 (unreported_where path outputs parts.1)
+  where
+    by : (output : Output) → is_report output ≡ false → is_reported path outputs ≡ false → is_reported path (output ∷ outputs) ≡ false
+    by (Report at side event) is rest = absurd cc
+    by _ is rest = rest
+
+module _ {A : Type 0} (view : View) (subject : Subject A) (rest : is_resting view subject ≡ true) (was : was_shown subject.told ≡ true) where
+  pub nothing_told : (outputs : List Output) → is_reported subject.path outputs ≡ false → news_in view outputs subject ≡ []
+  nothing_told outputs unreported =
+      ap (λ told. news_about_list told) (all_about outputs unreported)
+    where
+      news_about_list : Option News → List (ℕ × News)
+      news_about_list None = []
+      news_about_list (Some what) = (subject.ticket, what) ∷ []
+
+      all_about : (outputs : List Output) → is_reported subject.path outputs ≡ false
+          → news_about (is_shown view.cache subject.side subject.path) (is_reported subject.path outputs) subject.progress subject.told ≡ None
+      all_about outputs unreported =
+          ap (λ is. news_about is (is_reported subject.path outputs) subject.progress subject.told) (rest_shown 0 view subject rest)
+          ∙ ap (λ is. cond (was_shown subject.told && not is) None (Some Shown)) unreported
+          ∙ ap (λ was. cond (was && true) None (Some Shown)) was
+
+  pub told_same : told_of view subject ≡ subject
+  told_same =
+      ap (λ is. record subject { told = told_after is subject.progress subject.told }) (rest_shown 0 view subject rest)
+      ∙ ap (λ (told : Option News). record subject { told = told }) (sym (shown_is subject.told was))
+
+-- Being told of changes nothing of how it rests.
+pub told_rests : {A : Type 0} (view : View) (subject : Subject A) → is_resting view (told_of view subject) ≡ is_resting view subject
+told_rests view subject = refl
+
+-- ---- marks
+
+-- where none is marked
+pub none_marked : {A : Type 0} (view : View) (subjects : List (Subject A)) (resting : List Bool)
+    → resting ≡ [] → AreResting view subjects resting
+none_marked view subjects resting empty k d within marked =
+    absurd (let e : false ≡ true = sym (ap (λ marks. get_or marks k false) empty) ∙ marked in cc)
+
+pub marks_fit : {A : Type 0} (view : View) (subjects : List (Subject A)) (old new : List Bool)
+    → ((k : ℕ) → get_or new k false ≡ true → get_or old k false ≡ true)
+    → AreResting view subjects old → AreResting view subjects new
+marks_fit view subjects old new fit rest k d within marked = rest k d within (fit k marked)
+
+pub told_resting : {A : Type 0} (view : View) (subjects : List (Subject A)) (resting : List Bool)
+    → AreResting view subjects resting → AreResting view (map (told_of view) subjects) resting
+told_resting {A} view subjects resting rest k d within marked =
+    let fits : k < length subjects = omega (arith, within, length-map subjects (told_of view)) in
+    ap (λ (s : Subject A). is_resting view s) (get_or-map (told_of view) subjects k d d fits) ∙ rest k d fits marked
+
+-- ---- what outputs are about
+
+pub covered_more : {A : Type 0} (old new : About A) (outputs : List (Made A)) (index : ℕ) (item : Made A)
+    → ((other : Output) → covers old other ≡ true → covers new other ≡ true) → covers new (output_view item) ≡ true
+    → index < length outputs → item ≡ get_or outputs index item
+    → ((k : ℕ) (d : Made A) → k < index → covers old (output_view (get_or outputs k d)) ≡ true)
+    → (k : ℕ) (d : Made A) → k < index + 1 → covers new (output_view (get_or outputs k d)) ≡ true
+covered_more {A} old new outputs index item kept more fits is covered k d below = by (k == index) refl
+  where
+    by : (same : Bool) → (k == index) ≡ same → covers new (output_view (get_or outputs k d)) ≡ true
+    by true e =
+        let here : k ≡ index = (Decides-eqb k index).0 e in
+        ap (λ n. covers new (output_view (get_or outputs n d))) here
+        ∙ ap (λ (o : Made A). covers new (output_view o)) (get_or_default outputs index d item fits ∙ sym is) ∙ more
+    by false e =
+        let other : k ≢ index = λ same. let t : (k == index) ≡ true = (Decides-eqb k index).1 same in cc in
+        kept (output_view (get_or outputs k d)) (covered k d (omega arith))
+
+pub all_covered : {A : Type 0} (about : About A) (outputs : List (Made A))
+    → ((k : ℕ) (d : Made A) → k < length outputs → covers about (output_view (get_or outputs k d)) ≡ true) → AreCovered about (said outputs)
+all_covered about [] covered = tt
+all_covered about (output ∷ outputs) covered =
+    (covered 0 output (omega arith), all_covered about outputs (λ k d within. covered (suc k) d (omega (arith, within))))
+
+none_about_one : {A : Type 0} (about : About A) (ticket : ℕ) (path : Text) (output : Output)
+    → covers about output ≡ true → about.is_each ≡ false → is_marked about.answered.items ticket ≡ false
+    → (about.has_report && is_report_of path output) ≡ false → is_about ticket path output ≡ false
+none_about_one about ticket path (Answer its outcome) covered each unmarked unreported =
+    let parts = and_parts (is_marked about.answered.items its) (not (tells_fields outcome) || about.is_each) covered in
+    ap (λ b. b || tells_fields outcome) (by (ticket == its) refl parts.0) ∙ fields (tells_fields outcome) parts.1
+  where
+    by : (same : Bool) → (ticket == its) ≡ same → is_marked about.answered.items its ≡ true → same ≡ false
+    by true e marked =
+        let is : ticket ≡ its = (Decides-eqb ticket its).0 e in
+        sym marked ∙ ap (is_marked about.answered.items) (sym is) ∙ unmarked
+    by false e marked = refl
+
+    fields : (told : Bool) → (not told || about.is_each) ≡ true → told ≡ false
+    fields true e = sym e ∙ each
+    fields false e = refl
+none_about_one about ticket path (Report at side event) covered each unmarked unreported =
+    sym (ap (λ b. b && bytes_eq at path) covered) ∙ unreported
+none_about_one about ticket path (Enters state) covered each unmarked unreported = absurd (let e : true ≡ false = sym covered ∙ each in cc)
+none_about_one about ticket path _ covered each unmarked unreported = refl
+
+pub none_about : {A : Type 0} (about : About A) (ticket : ℕ) (path : Text) (outputs : List Output)
+    → AreCovered about outputs → about.is_each ≡ false → is_marked about.answered.items ticket ≡ false
+    → (about.has_report && is_reported path outputs) ≡ false → list_any (is_about ticket path) outputs ≡ false
+none_about about ticket path [] covered each unmarked unreported = refl
+none_about about ticket path (output ∷ outputs) covered each unmarked unreported =
+    let parts = both about.has_report (is_report_of path output) (is_reported path outputs) unreported in
+    ap (λ b. b || list_any (is_about ticket path) outputs) (none_about_one about ticket path output covered.0 each unmarked parts.0)
+    ∙ none_about about ticket path outputs covered.1 each unmarked parts.1
+  where
+    both : (h a b : Bool) → (h && (a || b)) ≡ false → ((h && a) ≡ false) × ((h && b) ≡ false)
+    both true true b e = absurd cc
+    both true false b e = (refl, e)
+    both false a b e = (refl, refl)

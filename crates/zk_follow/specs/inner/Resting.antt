@@ -1,0 +1,82 @@
+-- What contracts of private functions say of subjects that rest: nobody has to believe it.
+use Rattle.std.specs.Prelude.{◌≡◌, ◌<◌, ◌+◌, ◌-◌, ◌*◌, ◌^◌, ◌%◌, ◌==◌, ◌&&◌, ◌||◌, not, min, ℕ, Bool, true, false, List, length}
+use Rattle.std.specs.Prelude.{slice_index_or, bytes_eq}
+use Rattle.std.specs.List.{list_any, AllByRecursion}
+use Rattle.zk_nodes.specs.Path.{Text}
+use Rattle.zk_nodes.specs.declared.side.Side.{Side}
+use Rattle.zk_nodes.specs.declared.side.Side.TheVariants.{Data, Child}
+use Rattle.zk_watches.specs.Lists.{side_has}
+use Rattle.zk_conversation.specs.Results.{Found}
+use Rattle.zk_cache.specs.Kept.{is_marked_good}
+use Rattle.zk_turns.specs.Turns.{Outcome, Replied, Enters, Output}
+use Rattle.zk_turns.specs.Turns as turns
+use Rattle.zk_turns.specs.View.{View, Cache}
+use Rattle.zk_follow.specs.declared.about.About.{About}
+use Rattle.zk_follow.specs.declared.progress.Progress.{Progress}
+use Rattle.zk_follow.specs.declared.progress.Progress.TheVariants.{Due}
+use Rattle.zk_follow.specs.declared.subject.Subject.{Subject}
+use Rattle.zk_follow.specs.Following.{is_kept, is_whole}
+
+-- ---- what rests
+
+-- what is kept of a side of a path is good of itself, and not since there is no node
+abbrev pub holds : Cache → Side → Text → Bool
+holds cache Data path = is_kept is_whole (cache.nodes path)
+holds cache Child path = is_marked_good (cache.children path)
+
+abbrev pub is_due : Progress → Bool
+is_due Due = true
+is_due _ = false
+
+-- A subject rests where what is kept of it is good and its path is watched, and nothing is noted of its reading.
+abbrev pub is_resting : {A : Type 0} → View → Subject A → Bool
+is_resting view subject =
+    is_due subject.progress && (not subject.is_missing && (not subject.is_there && (side_has view.lists subject.side subject.path
+    && holds view.cache subject.side subject.path)))
+
+-- Subjects rest where it is marked so.
+abbrev pub AreResting : {A : Type 0} → View → List (Subject A) → List Bool → Type 0
+AreResting {A} view subjects resting =
+    (k : ℕ) (d : Subject A) → k < length subjects → slice_index_or resting k false ≡ true
+    → is_resting view (slice_index_or subjects k d) ≡ true
+
+-- ---- what outputs are about
+
+abbrev pub tells_fields : Outcome → Bool
+tells_fields (Replied zxid (Found stat)) = true
+tells_fields _ = false
+
+-- whether an output may be about a subject of this ticket and this path
+abbrev pub is_about : ℕ → Text → Output → Bool
+is_about ticket path (turns.Answer its outcome) = ticket == its || tells_fields outcome
+is_about ticket path (turns.Report at side event) = bytes_eq at path
+is_about ticket path (Enters state) = true
+is_about ticket path _ = false
+
+-- They rest where it is marked so, but for those that outputs are about.
+abbrev pub AreRestingBut : {A : Type 0} → List Output → View → List (Subject A) → List Bool → Type 0
+AreRestingBut {A} outputs view subjects resting =
+    (k : ℕ) (d : Subject A) → k < length subjects → slice_index_or resting k false ≡ true
+    → list_any (is_about (slice_index_or subjects k d).ticket (slice_index_or subjects k d).path) outputs ≡ false
+    → is_resting view (slice_index_or subjects k d) ≡ true
+
+abbrev pub is_report : Output → Bool
+is_report (turns.Report at side event) = true
+is_report _ = false
+
+-- how many remainders are told apart for so many outputs
+abbrev pub slots : ℕ → ℕ
+slots outputs = min (min (outputs * 8) (2 ^ 64 - 1) + 1) (2 ^ 64 - 1)
+
+abbrev pub is_marked : List Bool → ℕ → Bool
+is_marked marks ticket = slice_index_or marks (ticket % length marks) false
+
+-- whether it is noted that an output may be about subjects
+abbrev pub covers : {A : Type 0} → About A → Output → Bool
+covers about (turns.Answer ticket outcome) = is_marked about.answered.items ticket && (not (tells_fields outcome) || about.is_each)
+covers about (turns.Report at side event) = about.has_report
+covers about (Enters state) = about.is_each
+covers about _ = true
+
+abbrev pub AreCovered : {A : Type 0} → About A → List Output → Type 0
+AreCovered about outputs = AllByRecursion (λ output. covers about output ≡ true) outputs
