@@ -75,13 +75,13 @@ abbrev pub PlantsAndTends : (now ticket : ℕ) → Text → (most : ℕ) → (ol
     → (old new : Voice) → Type 0
 PlantsAndTends now ticket root most olds at news old new =
     (tree : Tree) × (seeded : Voice) × Plants ticket root most old (bed_of seeded tree)
-    × (between : Voice) × StepsOn now input.Moment seeded between × (at ≡ between.number)
+    × (between : Voice) × StepsOn now input.Moment seeded between × (at ≡ between.changes)
     × TendsAll now (olds ++ tree ∷ []) news between new
 
 pub ok_plants : {X E : Type 0} (result : Result X E) (now ticket : ℕ) (root : Text) (most : ℕ) (olds all : List Tree) (at : ℕ)
     (news : List Tree) (tree : Tree) (old seeded between new : Voice)
     → Plants ticket root most old (bed_of seeded tree) → StepsOn now input.Moment seeded between → all ≡ olds ++ tree ∷ []
-    → OnOk result (TendsAll now all news between new) → OnOk result (at ≡ between.number)
+    → OnOk result (TendsAll now all news between new) → OnOk result (at ≡ between.changes)
     → OnOk result (PlantsAndTends now ticket root most olds at news old new)
 ok_plants (Ok x) now ticket root most olds all at news tree old seeded between new planted steps are each tended =
     (tree, seeded, planted, between, steps, tended, subst (λ (ts : List Tree). TendsAll now ts news between new) are each)

@@ -73,7 +73,7 @@ module _ (first : List Tree) (index : ℕ) (here : List Tree) (old between : Voi
 pub whole_written : (count : ℕ) (written rest : List Tree) → count ≡ length written → take count (written ++ rest) ≡ written
 whole_written count written rest size = ap (λ n. take n (written ++ rest)) size ∙ take-append_seam written rest
 
--- ---- where the revision is not the one of when they were tended last
+-- ---- where trees may have become other ones since they were tended last
 
 pub rests : (is_tended : Bool) (now was : ℕ) (all : List Tree) (here : Voice)
     → is_tended ≡ true → TendsWhere is_tended now was all was all here here
@@ -82,7 +82,7 @@ rests false now was all here so = absurd cc
 
 pub ok_tends_so : {X E : Type 0} (result : Result X E) (is_tended : Bool) (now was : ℕ) (olds : List Tree) (at : ℕ) (news : List Tree)
     (old new : Voice) → is_tended ≡ false
-    → OnOk result (TendsAll now olds news old new) → OnOk result (at ≡ old.number)
+    → OnOk result (TendsAll now olds news old new) → OnOk result (at ≡ old.changes)
     → OnOk result (TendsWhere is_tended now was olds at news old new)
 ok_tends_so (Ok x) true now was olds at news old new so all tended = absurd cc
 ok_tends_so (Ok x) false now was olds at news old new so all tended = (tended, all)

@@ -73,7 +73,7 @@ pub record Planted (now ticket : ℕ) (root : Text) (most : ℕ) (before after :
   pub plants : Plants ticket root most (begun (voice_of before)) (bed_of planted tree)
   pub between : Voice
   pub steps : StepsOn now input.Moment planted between
-  pub tended : after.trees.tended ≡ between.number
+  pub tended : after.trees.tended ≡ between.changes
   pub tends : TendsAll now (before.trees.all.items ++ tree ∷ []) after.trees.all.items between (voice_of after)
 
 -- That by the number that is told, as of a step.
@@ -123,6 +123,7 @@ pub record Forgot (before after : AgentDevice) : Type 0 where
   pub news_read : after.news_read ≡ before.news_read
   pub over : after.is_over ≡ before.is_over
   pub number : after.revision ≡ before.revision
+  pub changes : after.changes ≡ before.changes
 
 -- Nothing was asked, followed, heard or said yet, and the client is this one. The revision is 1.
 pub record BeginsWith (view : View) (device : AgentDevice) : Type 0 where
@@ -139,6 +140,7 @@ pub record BeginsWith (view : View) (device : AgentDevice) : Type 0 where
   pub tended : device.trees.tended ≡ 0
   pub goes_on : device.is_over ≡ false
   pub number : device.revision.number ≡ 1
+  pub changes : device.changes.number ≡ 1
 
 -- a device that has begun so, or a refusal for a reason that its number has
 abbrev pub Begins : (Refuses : ℤ → Type 0) → Start → Result AgentDevice DeviceRefusal → Type 0

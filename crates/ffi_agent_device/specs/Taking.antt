@@ -12,7 +12,7 @@ use Rattle.zk_agent.specs.Agents.{given_of, heard_after, how_many_asked, how_man
 use Rattle.zk_agent.specs.Calls.{how_many, IsInTime, IsServed}
 use Rattle.zk_agent.specs.Telling.{told_by}
 use Rattle.ffi_agent_device.specs.Happenings.{happening, is_bytes}
-use Rattle.ffi_agent_device.specs.Revisions.{revised}
+use Rattle.ffi_agent_device.specs.Revisions.{counted, revised}
 use Rattle.ffi_agent_device.specs.declared.device.AgentDevice.{AgentDevice}
 use Rattle.ffi_agent_device.specs.declared.tree.TreeNews.{TreeNews}
 
@@ -44,13 +44,15 @@ pub record AgentMoved (move : Move) (before after : Agent Global) : Type 0 where
 
 -- ---- where a device stands within a step
 
--- The agent, what was said and told since the step began, the ticket of the next node, and the revision.
+-- The agent, what was said and told since the step began, the ticket of the next node, the revision, and how often trees may have become
+-- other ones.
 pub record Voice : Type 0 where
   pub agent : Agent Global
   pub said : List (Action Global)
   pub told : List TreeNews
   pub next : ℕ
   pub number : ℕ
+  pub changes : ℕ
 
 abbrev pub voice_of : AgentDevice → Voice
 voice_of device = record {
@@ -59,6 +61,7 @@ voice_of device = record {
   told = device.news.items;
   next = device.trees.next;
   number = device.revision.number;
+  changes = device.changes.number;
 }
 
 -- a step begins: nothing was said or told yet
@@ -69,8 +72,12 @@ begun voice = record voice { said = []; told = [] }
 pub record StepsOn (now : ℕ) (given : AgentInput Global) (old new : Voice) : Type 0 where
   pub actions : List (Action Global)
   pub took : AgentTook now given old.agent new.agent actions
-  pub says : new ≡ record old
-      { agent = new.agent; said = old.said ++ actions; number = revised (is_bytes (happening given)) (told_by actions) old.number }
+  pub says : new ≡ record old {
+    agent = new.agent;
+    said = old.said ++ actions;
+    number = revised (is_bytes (happening given)) (told_by actions) old.number;
+    changes = counted actions old.changes;
+  }
 
 -- One move of the agent, and no step.
 pub record MovesOn (move : Move) (old new : Voice) : Type 0 where

@@ -167,14 +167,14 @@ pub record TendsAll (now : ℕ) (olds news : List Tree) (old new : Voice) : Type
   pub each : TendsEach olds news old last
   pub reads : ReadsWhere (old.next == last.next) now last new
 
--- Trees are tended where the revision is not the one of when they were tended last: else nothing that is kept and good has changed since,
--- and they are as they were.
+-- Trees are tended where, since they were tended last, it was said that what is kept of a subject is good, or a path was reported; else they
+-- are as they were.
 abbrev pub TendsWhere : (is_tended : Bool) → (now was : ℕ) → (olds : List Tree) → (is : ℕ) → (news : List Tree) → (old new : Voice) → Type 0
 TendsWhere true now was olds is news old new = (is ≡ was) × (news ≡ olds) × (new ≡ old)
-TendsWhere false now was olds is news old new = (is ≡ old.number) × TendsAll now olds news old new
+TendsWhere false now was olds is news old new = (is ≡ old.changes) × TendsAll now olds news old new
 
 abbrev pub TendsSo : (now was : ℕ) → (olds : List Tree) → (is : ℕ) → (news : List Tree) → (old new : Voice) → Type 0
-TendsSo now was olds is news old new = TendsWhere (was == old.number) now was olds is news old new
+TendsSo now was olds is news old new = TendsWhere (was == old.changes) now was olds is news old new
 
 -- ---- a new tree
 

@@ -17,7 +17,7 @@ ghost use Rattle.ffi_agent_device.specs.Taking.{begun, voice_of, MovesOn, StepsO
 ghost use Rattle.ffi_agent_device.specs.Tending.{TendsSo};
 ghost use Rattle.ffi_agent_device.specs.Steps.{Dials, Forgot, Begins, BeginsWith, Stepped, Steps, Stopped};
 
-use crate::revisions::{is_bytes, revise};
+use crate::revisions::{count, is_bytes, revise};
 use crate::tree::{TreeNews, Trees};
 use ffi_device::{Device, DeviceRefusal};
 use std::alloc::Global;
@@ -27,8 +27,8 @@ use zk_conclusions::Revision;
 use zk_follow::FollowerStop;
 
 /// An agent, what it said at its last step, how much of that was read, whether it goes on no further, since memory ran out within a step,
-/// and a number that rises where what its client shows may change; and the trees that are followed, with what is told of them after what
-/// the agent said, and how much of that was read. Its methods stand by what they are about: calls in `calls`, what is followed in
+/// and a number that rises where what its client shows may change; how often trees may have become other ones, the trees that are followed,
+/// with what is told of them after what the agent said, and how much of that was read. Its methods stand by what they are about: calls in `calls`, what is followed in
 /// `subjects`, trees in `planting` and `tending`, what was said in `outputs`, and here what comes from a connection. What is kept is looked
 /// up by functions of `ffi_device` over the agent's client.
 #[derive(Drop)]
@@ -38,6 +38,7 @@ pub struct AgentDevice {
     pub read: usize,
     pub is_over: bool,
     pub revision: Revision,
+    pub changes: Revision,
     pub trees: Trees,
     pub news: Vec<TreeNews, Global>,
     pub news_read: usize,
@@ -118,6 +119,7 @@ impl AgentDevice {
                 read: 0,
                 is_over: false,
                 revision: Revision::new(),
+                changes: Revision::new(),
                 trees: Trees::new(alloc),
                 news: Vec::new(alloc),
                 news_read: 0,
@@ -178,6 +180,7 @@ impl AgentDevice {
         let is_bytes = is_bytes(&input);
         let mut said = self.agent.step(now, input)?;
         revise(&mut self.revision, is_bytes, said.as_slice());
+        count(&mut self.changes, said.as_slice());
         if self.said.append(&mut said).is_err() {
             return Err(FollowerStop::Memory);
         }

@@ -296,9 +296,9 @@ impl AgentDevice {
         trees: Vec<Tree, Global>,
     ) -> Result<(), FollowerStop>
         ensures tends { OnOk result (TendsAll now trees.items self.new.trees.all.items (voice_of self.old) (voice_of self.new)) }
-        ensures tended { OnOk result (self.new.trees.tended ≡ self.old.revision.number) }
+        ensures tended { OnOk result (self.new.trees.tended ≡ self.old.changes.number) }
     {
-        let number = self.revision.number();
+        let number = self.changes.number();
         let next = self.trees.next;
         let mut all = trees;
         self.tend_each(all.as_mut_slice())?;
@@ -307,14 +307,14 @@ impl AgentDevice {
         self.read_new(now, next)
     }
 
-    /// Whether trees were tended at this revision.
+    /// Whether trees were tended since they may have become other ones.
     fn is_tended(&self) -> bool
-        ensures { result ≡ (self.now.trees.tended == self.now.revision.number) }
+        ensures { result ≡ (self.now.trees.tended == self.now.changes.number) }
     {
-        self.trees.tended == self.revision.number()
+        self.trees.tended == self.changes.number()
     }
 
-    /// Tends each tree, where the revision is not the one of when they were tended last.
+    /// Tends each tree, where trees may have become other ones since they were tended last.
     pub(crate) fn tend(&mut self, now: u64) -> Result<(), FollowerStop>
         ensures { OnOk result (TendsSo now self.old.trees.tended self.old.trees.all.items self.new.trees.tended self.new.trees.all.items
             (voice_of self.old) (voice_of self.new)) }

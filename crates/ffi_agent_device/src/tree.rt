@@ -47,7 +47,7 @@ pub struct Tree {
     pub members: Vec<Member<Global, ()>, Global>,
 }
 
-/// All trees, the ticket by which the next node is followed, and the revision at which they were tended last.
+/// All trees, the ticket by which the next node is followed, and how often they may have become other ones until they were tended last.
 #[derive(Drop)]
 pub struct Trees {
     pub alloc: Global,

@@ -112,7 +112,7 @@ stepped now what old session sound does =
     let took = does.took in
     let stood = stands_of old (sound old refl took.went_on) in
     let between = keeps now does.given (taking.begun (voice_of old)) took.between took.steps stood in
-    let is_tended = old.trees.tended == took.between.number in
+    let is_tended = old.trees.tended == took.between.changes in
     sound_of session (so_keeps IsUpright comes goes now (keeps now input.Moment) is_tended old.trees.tended old.trees.all.items
     session.trees.tended session.trees.all.items took.between (voice_of session) took.tends between)
     (so_followed is_tended now old.trees.tended old.trees.all.items session.trees.tended session.trees.all.items took.between
@@ -136,7 +136,7 @@ uprooted now ticket old session sound does =
     let bare = uproots_keep (λ (v : Voice). IsUpright v.agent) (is_kept IsUpright comes goes) (found ticket old.trees.all.items)
     (taking.begun (voice_of old)) does.bare does.uproots stood in
     let between = keeps now input.Moment does.bare does.between does.steps bare in
-    let is_tended = old.trees.tended == does.between.number in
+    let is_tended = old.trees.tended == does.between.changes in
     let olds = left ticket old.trees.all.items in
     sound_of session (so_keeps IsUpright comes goes now (keeps now input.Moment) is_tended old.trees.tended olds
     session.trees.tended session.trees.all.items does.between (voice_of session) does.tends between)

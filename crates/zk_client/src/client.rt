@@ -210,7 +210,8 @@ impl<A: Allocator + Copy> Client<A> {
 
     /// Takes the moment, and adds the outputs that it makes due, as [`apply_input`](Client::apply_input) does of [`Input::Now`].
     fn tell_moment(&mut self, now: u64, outputs: &mut Vec<Output<A>, A>) -> Result<(), Halt>
-        ensures rule { OnOk result (Adds (view_of self.old) (Now now) (said outputs.old.items) (said outputs.new.items) (view_of self.new)) }
+        ensures rule { OnOk result
+            (Adds (view_of self.old) (Now now) (said outputs.old.items) (said outputs.new.items) (view_of self.new)) }
         ensures quiet { IsQuiet (view_of self.old) (Now now) → IsOk result }
         ensures halt { OnErr result (HaltsAs (view_of self.old) (view_of self.new)) }
         ensures halted { (view_of self.old).standing.halted ≡ true → IsErr result }

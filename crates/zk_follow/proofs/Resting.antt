@@ -1,5 +1,6 @@
 -- A subject that rests stays as it is by a visit, where outputs say nothing of it, and there is nothing more to tell of it.
-use Rattle.std.proofs.Common.{◌≡◌, ◌≢◌, ◌<◌, ◌≤◌, ◌+◌, ◌++◌, suc, map, ℕ, Bool, true, false, not, cond, ◌&&◌, ◌||◌, List, [], ◌∷◌, Option, Some, None}
+use Rattle.std.proofs.Common.{◌≡◌, ◌≢◌, ◌<◌, ◌≤◌, ◌+◌, ◌++◌, suc, map, ℕ, Bool, true, false, not, cond, ◌&&◌, ◌||◌, List, [], ◌∷◌, Option}
+use Rattle.std.proofs.Common.{Some, None}
 use Rattle.std.proofs.Common.{inl, inr, length, get_or, set, take, refl, sym, ap, subst, ◌∙◌, arith}
 use Rattle.std.proofs.lemmas.List.{append-nil, get_or_default, get_or-map, get_or-set_same, get_or-set_other, length-map}
 use Rattle.std.proofs.lemmas.Bool.Decides.{Decides-eqb}
@@ -21,7 +22,8 @@ use Rattle.zk_follow.specs.declared.news.News.TheVariants.{Shown, Refused as Den
 use Rattle.zk_follow.specs.declared.progress.Progress.{Progress}
 use Rattle.zk_follow.specs.declared.progress.Progress.TheVariants.{Due, Reading, Refused}
 use Rattle.zk_follow.specs.declared.subject.Subject.{Subject}
-use Rattle.zk_follow.specs.Following.{answered, heard, heard_all, is_kept, is_report_of, is_reported, is_shown, news_about, news_in, says_none, taken}
+use Rattle.zk_follow.specs.Following.{answered, heard, heard_all, is_kept, is_report_of, is_reported, is_shown, news_about, news_in}
+use Rattle.zk_follow.specs.Following.{says_none, taken}
 use Rattle.zk_follow.specs.Following.{told_after, told_of, was_shown, woken, woken_progress, IsCounted, IsFollowed}
 use Rattle.zk_follow.specs.inner.Following.{Asks, VisitsAnd}
 use Rattle.zk_follow.specs.inner.Resting.{covers, holds, is_about, is_due, is_marked, is_report, is_resting, tells_fields, AreCovered}
@@ -131,7 +133,8 @@ rested_at view after subject parts stays =
     record { due = parts.due; missing = parts.missing; there = parts.there; stays = stays }
 
 pub rests_at : {A : Type 0} (moment : ℕ) (view : View) (turn : Turn) (after : View) → RuleAt moment view turn after → (subject : Subject A)
-    → list_any (is_about subject.ticket subject.path) turn.outputs ≡ false → is_resting view subject ≡ true → is_resting after subject ≡ true
+    → list_any (is_about subject.ticket subject.path) turn.outputs ≡ false → is_resting view subject ≡ true
+    → is_resting after subject ≡ true
 rests_at moment view turn after rule subject silent e =
     let parts = parts_of view subject e in
     rests_by after subject (rested_at view after subject parts
@@ -218,7 +221,8 @@ unreported_where path (output ∷ outputs) e =
     by (Report at side event) is rest = absurd cc
     by _ is rest = rest
 
-module _ {A : Type 0} (view : View) (subject : Subject A) (rest : is_resting view subject ≡ true) (was : was_shown subject.told ≡ true) where
+module _ {A : Type 0} (view : View) (subject : Subject A) (rest : is_resting view subject ≡ true)
+    (was : was_shown subject.told ≡ true) where
   pub nothing_told : (outputs : List Output) → is_reported subject.path outputs ≡ false → news_in view outputs subject ≡ []
   nothing_told outputs unreported =
       ap (λ told. news_about_list told) (all_about outputs unreported)
@@ -228,7 +232,8 @@ module _ {A : Type 0} (view : View) (subject : Subject A) (rest : is_resting vie
       news_about_list (Some what) = (subject.ticket, what) ∷ []
 
       all_about : (outputs : List Output) → is_reported subject.path outputs ≡ false
-          → news_about (is_shown view.cache subject.side subject.path) (is_reported subject.path outputs) subject.progress subject.told ≡ None
+          → news_about (is_shown view.cache subject.side subject.path) (is_reported subject.path outputs) subject.progress subject.told
+          ≡ None
       all_about outputs unreported =
           ap (λ is. news_about is (is_reported subject.path outputs) subject.progress subject.told) (rest_shown 0 view subject rest)
           ∙ ap (λ is. cond (was_shown subject.told && not is) None (Some Shown)) unreported

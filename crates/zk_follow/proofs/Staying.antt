@@ -1,5 +1,5 @@
--- What is watched and good on a side of a path stays so, turn by turn, unless an output says something of it: happening by happening, as each
--- that ends it is said.
+-- What is watched and good on a side of a path stays so, turn by turn, unless an output says something of it: happening by happening, as
+-- each that ends it is said.
 use Rattle.std.proofs.Common.{◌≡◌, ◌++◌, ℕ, ℤ, Bool, true, false, not, cond, ◌&&◌, ◌||◌, List, [], ◌∷◌, Option, Some, None, refl, sym, ap}
 use Rattle.std.proofs.Common.{subst, ◌∙◌}
 use Rattle.std.specs.Prelude.{bytes_eq, ◌==◌, if◌then◌else◌}

@@ -1,6 +1,7 @@
 //! A client with the subjects that its program follows.
 
-ghost use Rattle.std.specs.Prelude.{◌≡◌, ◌++◌, ◌∷◌, ◌<ℤ◌, ◌==◌, ℕ, List, false, true, length, not, pos, map, [], None, IfOk, OnOk, OnErr, All, slice_index_or};
+ghost use Rattle.std.specs.Prelude.{◌≡◌, ◌++◌, ◌∷◌, ◌<ℤ◌, ◌==◌, ℕ, List, false, true, length, not, pos, map, [], None, IfOk, OnOk, OnErr};
+ghost use Rattle.std.specs.Prelude.{All, slice_index_or};
 ghost use Rattle.std.specs.List.{flat_map};
 ghost use Rattle.std.proofs.Props.{props};
 ghost use Rattle.zk_turns.specs.Turns.{Forgets, Item, Start};

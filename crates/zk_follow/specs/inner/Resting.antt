@@ -53,7 +53,7 @@ is_about ticket path (turns.Report at side event) = bytes_eq at path
 is_about ticket path (Enters state) = true
 is_about ticket path _ = false
 
--- They rest where it is marked so, but for those that outputs are about.
+-- They rest where it is marked so, unless outputs are about them.
 abbrev pub AreRestingBut : {A : Type 0} → List Output → View → List (Subject A) → List Bool → Type 0
 AreRestingBut {A} outputs view subjects resting =
     (k : ℕ) (d : Subject A) → k < length subjects → slice_index_or resting k false ≡ true
@@ -64,7 +64,7 @@ abbrev pub is_report : Output → Bool
 is_report (turns.Report at side event) = true
 is_report _ = false
 
--- how many remainders are told apart for so many outputs
+-- how many remainders are told apart for a number of outputs
 abbrev pub slots : ℕ → ℕ
 slots outputs = min (min (outputs * 8) (2 ^ 64 - 1) + 1) (2 ^ 64 - 1)
 

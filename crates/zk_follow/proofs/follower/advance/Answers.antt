@@ -25,7 +25,8 @@ visit_all-requires-clause-goes_on g c =
 
 pub visit_all-requires-clause-covered : goal.visit_all-requires-clause-covered
 visit_all-requires-clause-covered g c =
-    subst (λ outputs. AreCovered c.in-Ok-of.about (said outputs)) (c.as_slice.ensures.value ∙ sym c.as_slice-2.ensures.value) c.in-Ok-of.ensures
+    subst (λ outputs. AreCovered c.in-Ok-of.about (said outputs))
+    (c.as_slice.ensures.value ∙ sym c.as_slice-2.ensures.value) c.in-Ok-of.ensures
 
 pub visit_all-requires-clause-rest : goal.visit_all-requires-clause-rest
 visit_all-requires-clause-rest g c =

@@ -27,4 +27,5 @@ returns g =
       news_read = refl;
       over = refl;
       number = refl;
+      changes = refl;
     }

@@ -1,10 +1,10 @@
--- What the agent's step promises, with its actions after those said before, and the revision that `revise` makes of them.
+-- What the agent's step promises, with its actions after those said before, and the numbers that `revise` and `count` make of them.
 use Rattle.std.proofs.Common.{◌≡◌, ◌++◌, ◌∙◌, List, ap, rules}
 use Rattle.std.specs.declared.alloc.Global.{Global}
 use Rattle.zk_agent.specs.declared.action.Action.{Action}
 use Rattle.zk_agent.specs.Telling.{told_by}
 use Rattle.ffi_agent_device.specs.Happenings.{happening, is_bytes}
-use Rattle.ffi_agent_device.specs.Revisions.{revised}
+use Rattle.ffi_agent_device.specs.Revisions.{counted, revised}
 use Rattle.ffi_agent_device.specs.Taking.{voice_of}
 use Rattle.ffi_agent_device.proofs.device.AgentDevice.step_on.Goals as goal
 
@@ -15,8 +15,11 @@ returns-clause-steps c =
     let promised = c.in_ok-said.ensures in
     let agent = c.step.new.self in
     let more : c.append.new.self.items ≡ old.said.items ++ said = search rules in
-    let number : c.revise.new.revision.number ≡ revised (is_bytes (happening c.args.input))
-    (told_by said) old.revision.number = search rules in
+    let all = old.said.items ++ said in
+    let number_now = c.revise.new.revision.number in
+    let number : number_now ≡ revised (is_bytes (happening c.args.input)) (told_by said) old.revision.number = search rules in
+    let changes_now = c.count.new.changes.number in
+    let changes : changes_now ≡ counted said old.changes.number = search rules in
     record {
       actions = said;
       took = record {
@@ -33,6 +36,9 @@ returns-clause-steps c =
         heard = promised.heard;
       };
       says =
-          ap (λ (l : List (Action Global)). record (voice_of old) { agent = agent; said = l; number = c.revise.new.revision.number }) more
-          ∙ ap (λ n. record (voice_of old) { agent = agent; said = old.said.items ++ said; number = n }) number;
+          ap (λ (l : List (Action Global)). record (voice_of old) { agent = agent; said = l; number = number_now; changes = changes_now }) more
+          ∙ ap (λ n. record (voice_of old) { agent = agent; said = all; number = n; changes = changes_now }) number
+          ∙ ap (λ n. record (voice_of old)
+          { agent = agent; said = all; number = revised (is_bytes (happening c.args.input)) (told_by said) old.revision.number; changes = n })
+          changes;
     }

@@ -1,4 +1,4 @@
--- By the test of the revision: trees that were tended at it rest (`rests`), else `tend_all` tends each (`ok_tends_so`).
+-- By the count of changes: trees that were tended at it rest (`rests`), else `tend_all` tends each (`ok_tends_so`).
 use Rattle.std.proofs.Common.{◌∙◌, List, ap, sym, subst}
 use Rattle.std.specs.Prelude.{◌==◌, OnOk}
 use Rattle.ffi_agent_device.specs.declared.tree.Tree.{Tree}
@@ -10,14 +10,14 @@ use Rattle.ffi_agent_device.proofs.device.AgentDevice.tend.Goals as goal
 pub returns-then-is_tended : goal.returns-then-is_tended
 returns-then-is_tended c =
     let old = c.args.self.now in
-    rests (old.trees.tended == old.revision.number) c.args.now old.trees.tended old.trees.all.items (voice_of old)
+    rests (old.trees.tended == old.changes.number) c.args.now old.trees.tended old.trees.all.items (voice_of old)
     (sym c.is_tended.ensures ∙ c.if-is_tended.true)
 
 pub returns : goal.returns
 returns c =
     let old = c.args.self.now in
     let new = c.tend_all.new.self in
-    ok_tends_so c.tend_all.result (old.trees.tended == old.revision.number) c.args.now old.trees.tended old.trees.all.items new.trees.tended
+    ok_tends_so c.tend_all.result (old.trees.tended == old.changes.number) c.args.now old.trees.tended old.trees.all.items new.trees.tended
     new.trees.all.items (voice_of old) (voice_of new)
     (sym c.is_tended.ensures ∙ c.if-is_tended.false)
     (subst (λ (ts : List Tree). OnOk c.tend_all.result (TendsAll c.args.now ts new.trees.all.items (voice_of old) (voice_of new)))

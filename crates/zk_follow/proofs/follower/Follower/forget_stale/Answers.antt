@@ -1,5 +1,5 @@
--- Each subject is counted and followed after stale answers go, as before: `all_counted_still`, `all_followed_still` and `resting_still`, at the view that
--- the client's `forget_stale` ensures.
+-- Each subject is counted and followed after stale answers go, as before: `all_counted_still`, `all_followed_still` and `resting_still`, at
+-- the view that the client's `forget_stale` ensures.
 use Rattle.std.proofs.Common.{subst, sym}
 use Rattle.std.specs.Prelude.{All}
 use Rattle.zk_client.specs.Clients.{view_of}

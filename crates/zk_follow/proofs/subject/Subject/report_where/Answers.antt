@@ -17,4 +17,5 @@ returns-then-is_told-clause-news g c =
 
 pub returns-then-is_told-clause-told : goal.returns-then-is_told-clause-told
 returns-then-is_told-clause-told g c =
-    sym (told_same (view_of c.args.client.now) c.args.self.now (c.requires.rests c.if-rests.true) (c.is_told.ensures.shown c.if-is_told.true))
+    sym (told_same (view_of c.args.client.now) c.args.self.now (c.requires.rests c.if-rests.true)
+    (c.is_told.ensures.shown c.if-is_told.true))

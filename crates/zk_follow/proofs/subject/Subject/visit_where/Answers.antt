@@ -1,5 +1,5 @@
--- A subject that rests is followed (`rest_followed`), counts as one that is not being read (`rest_counted_as`), and a visit would leave it as
--- it is (`rest_visits`).
+-- A subject that rests is followed (`rest_followed`), counts as one that is not being read (`rest_counted_as`), and a visit would leave it
+-- as it is (`rest_visits`).
 use Rattle.zk_client.specs.Clients.{view_of}
 use Rattle.zk_client.specs.Views.{said}
 use Rattle.zk_follow.proofs.Resting.{rest_counted_as, rest_followed, rest_visits}
