@@ -216,8 +216,7 @@ enum dw_code DW_AS_INT32 {
  *   DW_KIND_BOUNDED   whether the tree with this ticket has more nodes than its bound is another than before: is_bounded. While it has, no more of
  *                     it is taken on.
  *   DW_KIND_WHOLE     nothing is lacking of the tree with this ticket, and it may be another one than when that was told last: look it up by
- *                     dw_session_subtree, which judges whether it is of one moment. What was good before the tree was followed has no
- *                     ticket of it: look after a report of a node below the root too. */
+ *                     dw_session_subtree, which judges whether it is of one moment. */
 typedef struct dw_output {
   enum dw_kind kind;
   union {
@@ -554,12 +553,12 @@ enum dw_result dw_session_follow_names(dw_session *handle, uint64_t now_ms, uint
 /* The subject of this ticket is followed no more. */
 enum dw_result dw_session_unfollow(dw_session *handle, uint64_t now_ms, uint64_t ticket);
 
-/* A tree is followed: all nodes at and below a path, the root, of which no more are taken on where there are more than `most`. After each step in
- * which the revision has risen, each side of a node that good names lead to from the root on, and that lacks a good answer, is followed, unless it
- * is known that there is no such node; a node below the root of which that is known is let go. The data of the root have the ticket of the tree.
- * All else has tickets from 2^63 on, which a program uses for nothing else. That there is no root is shown by DW_KIND_SHOWN of its ticket, and its
- * making is waited for. The root is read in the same step. Each step to which bytes come goes over all of the tree, at some half a millisecond for
- * each thousand nodes. DW_OK, or what dw_session_follow_data answers. */
+/* A tree is followed: all nodes at and below a path, the root, of which no more are taken on where there are more than `most`. Trees are tended in a
+ * step in which something was shown or reported, or after it: then each side of a node that good names lead to from the root on, and that lacks a
+ * good answer, is followed, unless it is known that there is no such node; a node below the root of which that is known is let go. Then trees rest
+ * for a millisecond for each two hundred sides that are followed, since tending goes over all of them, and dw_session_deadline counts that. The data
+ * of the root have the ticket of the tree. All else has tickets from 2^63 on, which a program uses for nothing else. That there is no root is shown
+ * by DW_KIND_SHOWN of its ticket, and its making is waited for. The root is read in the same step. DW_OK, or what dw_session_follow_data answers. */
 enum dw_result dw_session_follow_tree(dw_session *handle, uint64_t now_ms, uint64_t ticket, const char *path, size_t path_length,
                                       size_t most);
 
@@ -596,7 +595,7 @@ uint64_t dw_session_revision(dw_session *handle);
 int64_t dw_session_last_zxid(dw_session *handle);
 int64_t dw_session_timeout_ms(dw_session *handle);
 
-/* Writes the first moment at which something is due: a ping, the end of an attempt, a dial, a read, a limit. */
+/* Writes the first moment at which something is due: a ping, the end of an attempt, a dial, a read, a limit, a tree that is to be tended. */
 enum dw_result dw_session_deadline(dw_session *handle, uint64_t *first_ms);
 
 /* Writes the moment at which the server was heard last, on any connection. What is kept and good was so at some moment from then on, or was

@@ -13,18 +13,19 @@ use Rattle.ffi_device.specs.declared.refusal.DeviceRefusal.{DeviceRefusal}
 use Rattle.ffi_device.specs.declared.refusal.DeviceRefusal.TheVariants.{Halted}
 use Rattle.ffi_agent_device.specs.Steps.{Planted, Stepped, Stopped, Uprooted}
 use Rattle.ffi_agent_device.specs.Taking.{begun, voice_of, StepsOn, Voice}
-use Rattle.ffi_agent_device.specs.Tending.{bed_of, found, left, seed_of, Bed, Joins, Plants, TendsAll, TendsSo, UprootsSo}
+use Rattle.ffi_agent_device.specs.Tending.{bed_of, found, left, paced, seed_of, Bed, Joins, Plants, TendsAll, TendsSo, UprootsSo}
 use Rattle.ffi_agent_device.specs.declared.device.AgentDevice.{AgentDevice}
+use Rattle.ffi_agent_device.specs.declared.tree.Pace.{Pace}
 use Rattle.ffi_agent_device.specs.declared.tree.Tree.{Tree}
 
 -- ---- a chain of steps
 
 -- One step of the agent, and what becomes of trees after it.
-abbrev pub Advances : (now : ℕ) → AgentInput Global → (was : ℕ) → (olds : List Tree) → (at : ℕ) → (news : List Tree)
+abbrev pub Advances : (now : ℕ) → AgentInput Global → (was : Pace) → (olds : List Tree) → (at : Pace) → (news : List Tree)
     → (old new : Voice) → Type 0
 Advances now given was olds at news old new = (between : Voice) × StepsOn now given old between × TendsSo now was olds at news between new
 
-pub ok_advances : {X E : Type 0} (result : Result X E) (now : ℕ) (given : AgentInput Global) (was : ℕ) (olds : List Tree) (at : ℕ)
+pub ok_advances : {X E : Type 0} (result : Result X E) (now : ℕ) (given : AgentInput Global) (was : Pace) (olds : List Tree) (at : Pace)
     (news : List Tree) (old between new : Voice) → StepsOn now given old between
     → OnOk result (TendsSo now was olds at news between new) → OnOk result (Advances now given was olds at news old new)
 ok_advances (Ok x) now given was olds at news old between new steps tends = (between, steps, tends)
@@ -33,7 +34,7 @@ ok_advances (Err e) now given was olds at news old between new steps tends = tt
 -- A step: its device was begun so, and has ended so.
 pub stepped : (now : ℕ) (given : AgentInput Global) (old new : AgentDevice) (last : Voice)
     → old.is_over ≡ false → new.is_over ≡ false → new.read ≡ 0 → new.news_read ≡ 0 → voice_of new ≡ last
-    → Advances now given old.trees.tended old.trees.all.items new.trees.tended new.trees.all.items (begun (voice_of old)) last
+    → Advances now given old.trees.pace old.trees.all.items new.trees.pace new.trees.all.items (begun (voice_of old)) last
     → Stepped now (happening given) old new
 stepped now given old new last went goes read its same advances = record {
   given = given;
@@ -45,7 +46,7 @@ stepped now given old new last went goes read its same advances = record {
     news_unread = its;
     between = advances.0;
     steps = advances.1;
-    tends = subst (λ (v : Voice). TendsSo now old.trees.tended old.trees.all.items new.trees.tended new.trees.all.items advances.0 v)
+    tends = subst (λ (v : Voice). TendsSo now old.trees.pace old.trees.all.items new.trees.pace new.trees.all.items advances.0 v)
         (sym same) advances.2;
   };
 }
@@ -71,25 +72,25 @@ plants ticket root most next old first with_data new after is one other = record
 }
 
 -- It is planted, the moment is noticed, and each tree is tended.
-abbrev pub PlantsAndTends : (now ticket : ℕ) → Text → (most : ℕ) → (olds : List Tree) → (at : ℕ) → (news : List Tree)
+abbrev pub PlantsAndTends : (now ticket : ℕ) → Text → (most : ℕ) → (olds : List Tree) → (at : Pace) → (news : List Tree)
     → (old new : Voice) → Type 0
 PlantsAndTends now ticket root most olds at news old new =
     (tree : Tree) × (seeded : Voice) × Plants ticket root most old (bed_of seeded tree)
-    × (between : Voice) × StepsOn now input.Moment seeded between × (at ≡ between.changes)
+    × (between : Voice) × StepsOn now input.Moment seeded between × (at ≡ paced now news between.changes)
     × TendsAll now (olds ++ tree ∷ []) news between new
 
-pub ok_plants : {X E : Type 0} (result : Result X E) (now ticket : ℕ) (root : Text) (most : ℕ) (olds all : List Tree) (at : ℕ)
+pub ok_plants : {X E : Type 0} (result : Result X E) (now ticket : ℕ) (root : Text) (most : ℕ) (olds all : List Tree) (at : Pace)
     (news : List Tree) (tree : Tree) (old seeded between new : Voice)
     → Plants ticket root most old (bed_of seeded tree) → StepsOn now input.Moment seeded between → all ≡ olds ++ tree ∷ []
-    → OnOk result (TendsAll now all news between new) → OnOk result (at ≡ between.changes)
+    → OnOk result (TendsAll now all news between new) → OnOk result (at ≡ paced now news between.changes)
     → OnOk result (PlantsAndTends now ticket root most olds at news old new)
-ok_plants (Ok x) now ticket root most olds all at news tree old seeded between new planted steps are each tended =
-    (tree, seeded, planted, between, steps, tended, subst (λ (ts : List Tree). TendsAll now ts news between new) are each)
-ok_plants (Err e) now ticket root most olds all at news tree old seeded between new planted steps are each tended = tt
+ok_plants (Ok x) now ticket root most olds all at news tree old seeded between new planted steps are each pace =
+    (tree, seeded, planted, between, steps, pace, subst (λ (ts : List Tree). TendsAll now ts news between new) are each)
+ok_plants (Err e) now ticket root most olds all at news tree old seeded between new planted steps are each pace = tt
 
 pub planted : (now ticket : ℕ) (root : Text) (most : ℕ) (old new : AgentDevice) (last : Voice)
     → old.is_over ≡ false → new.is_over ≡ false → new.read ≡ 0 → new.news_read ≡ 0 → voice_of new ≡ last
-    → PlantsAndTends now ticket root most old.trees.all.items new.trees.tended new.trees.all.items (begun (voice_of old)) last
+    → PlantsAndTends now ticket root most old.trees.all.items new.trees.pace new.trees.all.items (begun (voice_of old)) last
     → Planted now ticket root most old new
 planted now ticket root most old new last went goes read its same does = record {
   went_on = went;
@@ -101,19 +102,19 @@ planted now ticket root most old new last went goes read its same does = record 
   plants = does.2;
   between = does.3;
   steps = does.4;
-  tended = does.5;
+  pace = does.5;
   tends = subst (λ (v : Voice). TendsAll now (old.trees.all.items ++ does.0 ∷ []) new.trees.all.items does.3 v) (sym same) does.6;
 }
 
 -- ---- a tree that ends
 
 -- It ends, the moment is noticed, and trees are tended.
-abbrev pub UprootsAndTends : (now ticket was : ℕ) → (olds : List Tree) → (at : ℕ) → (news : List Tree) → (old new : Voice) → Type 0
+abbrev pub UprootsAndTends : (now ticket : ℕ) → (was : Pace) → (olds : List Tree) → (at : Pace) → (news : List Tree) → (old new : Voice) → Type 0
 UprootsAndTends now ticket was olds at news old new =
     (bare : Voice) × UprootsSo (found ticket olds) old bare × (between : Voice) × StepsOn now input.Moment bare between
     × TendsSo now was (left ticket olds) at news between new
 
-pub ok_uproots : {X E : Type 0} (result : Result X E) (now ticket was : ℕ) (olds : List Tree) (at : ℕ) (news : List Tree)
+pub ok_uproots : {X E : Type 0} (result : Result X E) (now ticket : ℕ) (was : Pace) (olds : List Tree) (at : Pace) (news : List Tree)
     (old bare between new : Voice) → UprootsSo (found ticket olds) old bare
     → StepsOn now input.Moment bare between → OnOk result (TendsSo now was (left ticket olds) at news between new)
     → OnOk result (UprootsAndTends now ticket was olds at news old new)
@@ -122,7 +123,7 @@ ok_uproots (Err e) now ticket was olds at news old bare between new uproots step
 
 pub uprooted : (now ticket : ℕ) (old new : AgentDevice) (last : Voice)
     → old.is_over ≡ false → new.is_over ≡ false → new.read ≡ 0 → new.news_read ≡ 0 → voice_of new ≡ last
-    → UprootsAndTends now ticket old.trees.tended old.trees.all.items new.trees.tended new.trees.all.items (begun (voice_of old)) last
+    → UprootsAndTends now ticket old.trees.pace old.trees.all.items new.trees.pace new.trees.all.items (begun (voice_of old)) last
     → Uprooted now ticket old new
 uprooted now ticket old new last went goes read its same does = record {
   went_on = went;
@@ -134,5 +135,5 @@ uprooted now ticket old new last went goes read its same does = record {
   between = does.2;
   steps = does.3;
   tends = subst (λ (v : Voice).
-      TendsSo now old.trees.tended (left ticket old.trees.all.items) new.trees.tended new.trees.all.items does.2 v) (sym same) does.4;
+      TendsSo now old.trees.pace (left ticket old.trees.all.items) new.trees.pace new.trees.all.items does.2 v) (sym same) does.4;
 }

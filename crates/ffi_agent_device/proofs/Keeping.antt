@@ -23,6 +23,7 @@ use Rattle.ffi_agent_device.specs.Taking.{AgentMoved, AreFollowed, MovesOn, Step
 use Rattle.ffi_agent_device.specs.Tending.{bed_of, is_moved, lacks_nothing, seed_of, tells, view_in, Bed, Grows, Joins, LetsGo}
 use Rattle.ffi_agent_device.specs.Tending.{NotesBoundWhere, NotesWholeWhere, Plants, ReadsWhere, Shifts, TakesAllOn, TakesOnWhere, TendsAll}
 use Rattle.ffi_agent_device.specs.Tending.{TendsEach, TendsTree, TendsWhere, UprootsSo}
+use Rattle.ffi_agent_device.specs.declared.tree.Pace.{Pace}
 use Rattle.ffi_agent_device.specs.declared.tree.Tree.{Tree}
 use Rattle.ffi_agent_device.specs.declared.tree.TreeNews.{TreeNews}
 use Rattle.ffi_agent_device.specs.declared.tree.TreeNews.TheVariants as news
@@ -147,8 +148,8 @@ module _ (P : Agent Global → Type 0)
       by false reads held = steps tends.last new reads held
 
   pub so_keeps : (now : ℕ) (steps : (old new : Voice) → StepsOn now input.Moment old new → P old.agent → P new.agent)
-      (is_tended : Bool) (was : ℕ) (olds : List Tree) (at : ℕ) (news : List Tree) (old new : Voice)
-      → TendsWhere is_tended now was olds at news old new → P old.agent → P new.agent
+      (is_rest : Bool) (was : Pace) (olds : List Tree) (at : Pace) (news : List Tree) (old new : Voice)
+      → TendsWhere is_rest now was olds at news old new → P old.agent → P new.agent
   so_keeps now steps true was olds at news old new tends is = subst (λ (v : Voice). P v.agent) (sym tends.2) is
   so_keeps now steps false was olds at news old new tends is = all_keeps now steps olds news old new tends.1 is
 
@@ -197,7 +198,7 @@ each_followed now olds news old new tends all =
     by true none same = subst (λ (v : Voice). AreFollowed v.agent) (sym same) (last.1 (sym (eqb-true old.next tends.last.next none)))
     by false some reads = reads.took.followed
 
-pub so_followed : (is_tended : Bool) (now was : ℕ) (olds : List Tree) (at : ℕ) (news : List Tree) (old new : Voice)
-    → TendsWhere is_tended now was olds at news old new → AreFollowed old.agent → AreFollowed new.agent
+pub so_followed : (is_rest : Bool) (now : ℕ) (was : Pace) (olds : List Tree) (at : Pace) (news : List Tree) (old new : Voice)
+    → TendsWhere is_rest now was olds at news old new → AreFollowed old.agent → AreFollowed new.agent
 so_followed true now was olds at news old new tends all = subst (λ (v : Voice). AreFollowed v.agent) (sym tends.2) all
 so_followed false now was olds at news old new tends all = each_followed now olds news old new tends.1 all

@@ -6,6 +6,7 @@ mod Chains
 mod Finding
 mod Growing
 mod Moving
+mod Pacing
 pub mod Keeping
 pub mod Refusing
 mod Tended

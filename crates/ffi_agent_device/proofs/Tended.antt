@@ -6,7 +6,8 @@ use Rattle.std.proofs.lemmas.List.{drop_more, get_or_at, set_at, take_more, take
 use Rattle.std.proofs.Math.Seq.{take-append_seam}
 use Rattle.zk_agent.specs.declared.input.AgentInput.TheVariants as input
 use Rattle.ffi_agent_device.specs.Taking.{StepsOn, Voice}
-use Rattle.ffi_agent_device.specs.Tending.{bed_of, ReadsWhere, TendsAll, TendsEach, TendsTree, TendsWhere}
+use Rattle.ffi_agent_device.specs.Tending.{bed_of, noted, paced, ReadsWhere, TendsAll, TendsEach, TendsTree, TendsWhere}
+use Rattle.ffi_agent_device.specs.declared.tree.Pace.{Pace}
 use Rattle.ffi_agent_device.specs.declared.tree.Tree.{Tree}
 
 as_many : (olds news : List Tree) (old new : Voice) → TendsEach olds news old new → length news ≡ length olds
@@ -73,20 +74,20 @@ module _ (first : List Tree) (index : ℕ) (here : List Tree) (old between : Voi
 pub whole_written : (count : ℕ) (written rest : List Tree) → count ≡ length written → take count (written ++ rest) ≡ written
 whole_written count written rest size = ap (λ n. take n (written ++ rest)) size ∙ take-append_seam written rest
 
--- ---- where trees may have become other ones since they were tended last
+-- ---- where trees rest, and where not
 
-pub rests : (is_tended : Bool) (now was : ℕ) (all : List Tree) (here : Voice)
-    → is_tended ≡ true → TendsWhere is_tended now was all was all here here
-rests true now was all here so = (refl, refl, refl)
-rests false now was all here so = absurd cc
+pub rests : (is_rest : Bool) (now : ℕ) (was at : Pace) (olds news : List Tree) (old new : Voice)
+    → is_rest ≡ true → at ≡ was → news ≡ map (noted old.said) olds → new ≡ old → TendsWhere is_rest now was olds at news old new
+rests true now was at olds news old new so pace notes same = (pace, notes, same)
+rests false now was at olds news old new so pace notes same = absurd cc
 
-pub ok_tends_so : {X E : Type 0} (result : Result X E) (is_tended : Bool) (now was : ℕ) (olds : List Tree) (at : ℕ) (news : List Tree)
-    (old new : Voice) → is_tended ≡ false
-    → OnOk result (TendsAll now olds news old new) → OnOk result (at ≡ old.changes)
-    → OnOk result (TendsWhere is_tended now was olds at news old new)
-ok_tends_so (Ok x) true now was olds at news old new so all tended = absurd cc
-ok_tends_so (Ok x) false now was olds at news old new so all tended = (tended, all)
-ok_tends_so (Err e) is_tended now was olds at news old new so all tended = tt
+pub ok_tends_so : {X E : Type 0} (result : Result X E) (is_rest : Bool) (now : ℕ) (was : Pace) (olds : List Tree) (at : Pace)
+    (news : List Tree) (old new : Voice) → is_rest ≡ false
+    → OnOk result (TendsAll now olds news old new) → OnOk result (at ≡ paced now news old.changes)
+    → OnOk result (TendsWhere is_rest now was olds at news old new)
+ok_tends_so (Ok x) true now was olds at news old new so all pace = absurd cc
+ok_tends_so (Ok x) false now was olds at news old new so all pace = (pace, all)
+ok_tends_so (Err e) is_rest now was olds at news old new so all pace = tt
 
 -- ---- what was taken on is read
 

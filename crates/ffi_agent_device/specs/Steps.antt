@@ -22,7 +22,7 @@ pub use Rattle.ffi_agent_device.specs.Happenings.{Happening, Opened, Failed, Cut
 pub use Rattle.ffi_agent_device.specs.Happenings.{happening, is_bytes, limit_of}
 pub use Rattle.ffi_agent_device.specs.Taking.{AgentTook, AreFollowed}
 use Rattle.ffi_agent_device.specs.Taking.{begun, voice_of, StepsOn, Voice}
-use Rattle.ffi_agent_device.specs.Tending.{bed_of, found, left, Plants, TendsAll, TendsSo, UprootsSo}
+use Rattle.ffi_agent_device.specs.Tending.{bed_of, found, left, paced, Plants, TendsAll, TendsSo, UprootsSo}
 use Rattle.ffi_agent_device.specs.declared.device.AgentDevice.{AgentDevice}
 use Rattle.ffi_agent_device.specs.declared.tree.Tree.{Tree}
 
@@ -37,7 +37,7 @@ pub record Took (now : ℕ) (given : AgentInput Global) (before after : AgentDev
   pub news_unread : after.news_read ≡ 0
   pub between : Voice
   pub steps : StepsOn now given (begun (voice_of before)) between
-  pub tends : TendsSo now before.trees.tended before.trees.all.items after.trees.tended after.trees.all.items between (voice_of after)
+  pub tends : TendsSo now before.trees.pace before.trees.all.items after.trees.pace after.trees.all.items between (voice_of after)
 
 -- The same of an input that is this.
 pub record Stepped (now : ℕ) (what : Happening) (before after : AgentDevice) : Type 0 where
@@ -73,7 +73,7 @@ pub record Planted (now ticket : ℕ) (root : Text) (most : ℕ) (before after :
   pub plants : Plants ticket root most (begun (voice_of before)) (bed_of planted tree)
   pub between : Voice
   pub steps : StepsOn now input.Moment planted between
-  pub tended : after.trees.tended ≡ between.changes
+  pub pace : after.trees.pace ≡ paced now after.trees.all.items between.changes
   pub tends : TendsAll now (before.trees.all.items ++ tree ∷ []) after.trees.all.items between (voice_of after)
 
 -- That by the number that is told, as of a step.
@@ -93,8 +93,8 @@ pub record Uprooted (now ticket : ℕ) (before after : AgentDevice) : Type 0 whe
   pub uproots : UprootsSo (found ticket before.trees.all.items) (begun (voice_of before)) bare
   pub between : Voice
   pub steps : StepsOn now input.Moment bare between
-  pub tends : TendsSo now before.trees.tended
-      (left ticket before.trees.all.items) after.trees.tended after.trees.all.items between (voice_of after)
+  pub tends : TendsSo now before.trees.pace
+      (left ticket before.trees.all.items) after.trees.pace after.trees.all.items between (voice_of after)
 
 -- That by the number that is told: 0, or -1 where the agent goes on no further.
 abbrev pub Uproot : (now ticket : ℕ) → (before : AgentDevice) → (code : ℤ) → (after : AgentDevice) → Type 0
@@ -137,7 +137,7 @@ pub record BeginsWith (view : View) (device : AgentDevice) : Type 0 where
   pub untold : device.news.items ≡ []
   pub trees : device.trees.all.items ≡ []
   pub next : device.trees.next ≡ 2 ^ 63
-  pub tended : device.trees.tended ≡ 0
+  pub pace : device.trees.pace ≡ record { tended = 0; due = 0 }
   pub goes_on : device.is_over ≡ false
   pub number : device.revision.number ≡ 1
   pub changes : device.changes.number ≡ 1

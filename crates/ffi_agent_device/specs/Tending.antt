@@ -1,7 +1,7 @@
 -- What becomes of a device's trees within a step.
 use Rattle.std.specs.Prelude.{◌≡◌, ◌+◌, ◌++◌, ◌∷◌, ◌&&◌, ◌||◌, not, ⊤, ℕ, Bool, true, false, ◌==◌, List, [], map, Option, Some, None}
-use Rattle.std.specs.Prelude.{if◌then◌else◌}
-use Rattle.std.specs.List.{filter, list_any, FoldsTo}
+use Rattle.std.specs.Prelude.{◌/◌, ◌^◌, ◌-◌, min, fold, length, nat_eq, nat_lt, string_bytes, if◌then◌else◌}
+use Rattle.std.specs.List.{filter, list_any, starts_with, FoldsTo}
 use Rattle.std.specs.declared.alloc.Global.{Global}
 use Rattle.zk_nodes.specs.Path.{Text}
 use Rattle.zk_nodes.specs.declared.side.Side.{Side}
@@ -11,12 +11,14 @@ use Rattle.zk_client.specs.Clients.{view_of}
 use Rattle.zk_agent.specs.declared.action.Action.{Action}
 use Rattle.zk_agent.specs.declared.action.Action.TheVariants as action
 use Rattle.zk_agent.specs.Calls.{is_same}
-use Rattle.zk_agent.specs.Agents.{Move, Follows, Unfollows}
+use Rattle.zk_agent.specs.Agents.{Move, Follows, NothingAt, Unfollows}
 use Rattle.zk_agent.specs.declared.input.AgentInput.TheVariants as input
 use Rattle.zk_trees.specs.Trees.{is_settled, stays, tickets_gone, AreWanted, Wants}
 use Rattle.zk_trees.specs.Trees as trees
 use Rattle.zk_trees.specs.declared.member.Member.{Member}
 use Rattle.ffi_agent_device.specs.Taking.{MovesOn, StepsOn, Voice}
+use Rattle.ffi_agent_device.specs.declared.device.AgentDevice.{AgentDevice}
+use Rattle.ffi_agent_device.specs.declared.tree.Pace.{Pace}
 use Rattle.ffi_agent_device.specs.declared.tree.Tree.{Tree}
 use Rattle.ffi_agent_device.specs.declared.tree.TreeNews.{TreeNews}
 use Rattle.ffi_agent_device.specs.declared.tree.TreeNews.TheVariants as news
@@ -99,9 +101,18 @@ is_shown_of members _ = false
 abbrev pub is_any_shown : List (Member Global ⊤) → List (Action Global) → Bool
 is_any_shown members said = list_any (is_shown_of members) said
 
--- whether a tree that lacks nothing is another one than when that was told last: something was lacking since, or that of a member was said
+-- whether the report of a path that begins with the root's text is said
+abbrev pub is_report_of : (root : Text) → Action Global → Bool
+is_report_of root (action.Report path side event) = starts_with nat_eq (string_bytes path) root
+is_report_of root _ = false
+
+-- whether a tree may be another one by what was said: what is kept of a member is good, or a path was reported
+abbrev pub is_touched : (root : Text) → List (Member Global ⊤) → List (Action Global) → Bool
+is_touched root members said = is_any_shown members said || list_any (is_report_of root) said
+
+-- whether a tree that lacks nothing is another one than when that was told last: something was lacking since, or the like was said
 abbrev pub is_moved : Bed → Bool
-is_moved bed = not bed.is_whole || is_any_shown bed.members bed.voice.said
+is_moved bed = not bed.is_whole || is_touched bed.root bed.members bed.voice.said
 
 -- Whether nothing is lacking is noted, and told where it is so of another tree.
 abbrev pub NotesWholeWhere : (is_news is_whole : Bool) → (old new : Bed) → Type 0
@@ -167,14 +178,38 @@ pub record TendsAll (now : ℕ) (olds news : List Tree) (old new : Voice) : Type
   pub each : TendsEach olds news old last
   pub reads : ReadsWhere (old.next == last.next) now last new
 
--- Trees are tended where, since they were tended last, it was said that what is kept of a subject is good, or a path was reported; else they
--- are as they were.
-abbrev pub TendsWhere : (is_tended : Bool) → (now was : ℕ) → (olds : List Tree) → (is : ℕ) → (news : List Tree) → (old new : Voice) → Type 0
-TendsWhere true now was olds is news old new = (is ≡ was) × (news ≡ olds) × (new ≡ old)
-TendsWhere false now was olds is news old new = (is ≡ old.changes) × TendsAll now olds news old new
+-- ---- when
 
-abbrev pub TendsSo : (now was : ℕ) → (olds : List Tree) → (is : ℕ) → (news : List Tree) → (old new : Voice) → Type 0
-TendsSo now was olds is news old new = TendsWhere (was == old.changes) now was olds is news old new
+-- how many sides of nodes trees have, of what 64 bits tell apart
+abbrev pub sides_in : List Tree → ℕ
+sides_in trees = fold (λ count tree. min (count + length tree.members.items) (2 ^ 64 - 1)) 0 trees
+
+-- Tended at this moment, by this count of changes: it is due again a millisecond later for each two hundred sides, since tending takes the
+-- longer the more there are.
+abbrev pub paced : (now : ℕ) → List Tree → (changes : ℕ) → Pace
+paced now trees changes = record { tended = changes; due = min (now + sides_in trees / 200) (2 ^ 64 - 1) }
+
+-- Trees rest where nothing was said since they were tended last that may make them other ones, and until it is due again.
+abbrev pub are_at_rest : (now : ℕ) → Pace → (changes : ℕ) → Bool
+are_at_rest now pace changes = pace.tended == changes || nat_lt now pace.due
+
+-- A tree that rests and may be another one by what was said counts as one that lacks something: it is told once it lacks nothing.
+abbrev pub noted : List (Action Global) → Tree → Tree
+noted said tree = if is_touched tree.root tree.members.items said then record tree { is_whole = false } else tree
+
+-- Trees are noted where they rest, else they are tended.
+abbrev pub TendsWhere : (is_rest : Bool) → (now : ℕ) → (was : Pace) → (olds : List Tree) → (is : Pace) → (news : List Tree)
+    → (old new : Voice) → Type 0
+TendsWhere true now was olds is news old new = (is ≡ was) × (news ≡ map (noted old.said) olds) × (new ≡ old)
+TendsWhere false now was olds is news old new = (is ≡ paced now news old.changes) × TendsAll now olds news old new
+
+abbrev pub TendsSo : (now : ℕ) → (was : Pace) → (olds : List Tree) → (is : Pace) → (news : List Tree) → (old new : Voice) → Type 0
+TendsSo now was olds is news old new = TendsWhere (are_at_rest now was old.changes) now was olds is news old new
+
+-- At a moment neither a step of the agent is due, nor are trees to be tended.
+abbrev pub NothingDue : AgentDevice → (moment : ℕ) → Type 0
+NothingDue device moment =
+    NothingAt device.agent moment × (are_at_rest moment device.trees.pace device.changes.number ≡ true)
 
 -- ---- a new tree
 

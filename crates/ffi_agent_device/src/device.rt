@@ -27,10 +27,10 @@ use zk_conclusions::Revision;
 use zk_follow::FollowerStop;
 
 /// An agent, what it said at its last step, how much of that was read, whether it goes on no further, since memory ran out within a step,
-/// and a number that rises where what its client shows may change; how often trees may have become other ones, the trees that are followed,
-/// with what is told of them after what the agent said, and how much of that was read. Its methods stand by what they are about: calls in `calls`, what is followed in
-/// `subjects`, trees in `planting` and `tending`, what was said in `outputs`, and here what comes from a connection. What is kept is looked
-/// up by functions of `ffi_device` over the agent's client.
+/// and a number that rises where what its client shows may change; a count of the steps after which trees may be other ones, the trees that
+/// are followed, with what is told of them after what the agent said, and how much of that was read. Its methods stand by what they are
+/// about: calls in `calls`, what is followed in `subjects`, trees in `planting`, `tending` and `pacing`, what was said in `outputs`, and here
+/// what comes from a connection. What is kept is looked up by functions of `ffi_device` over the agent's client.
 #[derive(Drop)]
 pub struct AgentDevice {
     pub agent: Agent<Global>,
@@ -214,7 +214,7 @@ impl AgentDevice {
     // One step of the agent, and then trees are tended.
     fn advance(&mut self, now: u64, input: AgentInput<Global>) -> Result<(), FollowerStop>
         ensures { OnOk result ((between : Voice) × StepsOn now input (voice_of self.old) between
-            × TendsSo now self.old.trees.tended self.old.trees.all.items self.new.trees.tended self.new.trees.all.items
+            × TendsSo now self.old.trees.pace self.old.trees.all.items self.new.trees.pace self.new.trees.all.items
             between (voice_of self.new)) }
     {
         self.step_on(now, input)?;

@@ -8,6 +8,7 @@ mod calls;
 mod device;
 mod flat;
 mod outputs;
+mod pacing;
 mod planting;
 mod revisions;
 mod subjects;

@@ -8,7 +8,7 @@ ghost use Rattle.ffi_device.specs.declared.refusal.DeviceRefusal.TheVariants as 
 ghost use Rattle.ffi_agent_device.specs.declared.tree.Tree.{Tree};
 ghost use Rattle.ffi_agent_device.specs.Steps.{Plant, Planted, Stopped, Uproot, Uprooted};
 ghost use Rattle.ffi_agent_device.specs.Taking.{begun, voice_of, StepsOn, Voice};
-ghost use Rattle.ffi_agent_device.specs.Tending.{bed_of, found, left, Plants, TendsAll, TendsSo, Uproots, UprootsSo};
+ghost use Rattle.ffi_agent_device.specs.Tending.{bed_of, found, left, paced, Plants, TendsAll, TendsSo, Uproots, UprootsSo};
 
 use crate::device::AgentDevice;
 use crate::tree::Tree;
@@ -47,7 +47,7 @@ impl AgentDevice {
         most: u64,
     ) -> Result<(), FollowerStop>
         ensures { OnOk result ((tree : Tree) × (planted : Voice) × Plants ticket root.now most (voice_of self.old) (bed_of planted tree)
-            × (between : Voice) × StepsOn now Moment planted between × (self.new.trees.tended ≡ between.changes)
+            × (between : Voice) × StepsOn now Moment planted between × (self.new.trees.pace ≡ paced now self.new.trees.all.items between.changes)
             × TendsAll now (self.old.trees.all.items ++ tree ∷ []) self.new.trees.all.items between (voice_of self.new)) }
     {
         let mut all = std::mem::replace(&mut self.trees.all, Vec::new(self.trees.alloc));
@@ -116,7 +116,7 @@ impl AgentDevice {
     fn uproot_first(&mut self, ticket: u64) -> Result<(), FollowerStop>
         ensures uprooted { OnOk result (UprootsSo (found ticket self.old.trees.all.items) (voice_of self.old) (voice_of self.new)) }
         ensures left { self.new.trees.all.items ≡ left ticket self.old.trees.all.items }
-        ensures tended { self.new.trees.tended ≡ self.old.trees.tended }
+        ensures pace { self.new.trees.pace ≡ self.old.trees.pace }
     {
         match self.trees.take_out(ticket) {
             Some(tree) => self.uproot(&tree),
@@ -128,8 +128,8 @@ impl AgentDevice {
     fn uproot_and_tend(&mut self, now: u64, ticket: u64) -> Result<(), FollowerStop>
         ensures { OnOk result ((bare : Voice) × UprootsSo (found ticket self.old.trees.all.items) (voice_of self.old) bare
             × (between : Voice) × StepsOn now Moment bare between
-            × TendsSo now self.old.trees.tended
-            (left ticket self.old.trees.all.items) self.new.trees.tended self.new.trees.all.items between (voice_of self.new)) }
+            × TendsSo now self.old.trees.pace
+            (left ticket self.old.trees.all.items) self.new.trees.pace self.new.trees.all.items between (voice_of self.new)) }
     {
         self.uproot_first(ticket)?;
         self.step_on(now, AgentInput::Moment)?;

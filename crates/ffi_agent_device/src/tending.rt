@@ -9,11 +9,12 @@ ghost use Rattle.zk_trees.specs.Trees.{aim_of, aims_of, wants_of};
 ghost use Rattle.ffi_agent_device.specs.declared.tree.TreeNews.TheVariants.{LetGo, TakenOn};
 ghost use Rattle.zk_trees.specs.Trees.{IsIndexOf};
 ghost use Rattle.ffi_agent_device.specs.Taking.{voice_of};
-ghost use Rattle.ffi_agent_device.specs.Tending.{bed_of, is_any_shown, is_moved, is_none, is_shown_of, lacks_nothing, tells, Grows, Joins};
+ghost use Rattle.ffi_agent_device.specs.Tending.{bed_of, is_any_shown, is_moved, is_none, is_shown_of, lacks_nothing, paced, tells, Grows, Joins};
 ghost use Rattle.ffi_agent_device.specs.Tending.{LetsAllGo, NotesBound, NotesWhole, ReadsWhere, Shifts, TakesAllOn, TakesOn, TendsAll};
 ghost use Rattle.ffi_agent_device.specs.Tending.{TendsEach, TendsSo, TendsTree};
 
 use crate::device::AgentDevice;
+use crate::pacing::{is_touched, paced};
 use crate::tree::{Tree, TreeNews, member_of};
 use std::alloc::Global;
 use zk_agent::{Action, AgentInput};
@@ -47,7 +48,7 @@ fn is_shown_of(members: &[Member<Global, ()>], action: &Action<Global>) -> bool
     }
 }
 
-fn is_any_shown(members: &[Member<Global, ()>], said: &[Action<Global>]) -> bool
+pub(crate) fn is_any_shown(members: &[Member<Global, ()>], said: &[Action<Global>]) -> bool
     ensures { result ≡ is_any_shown members.now said.now }
 {
     said.iter().any(|action| is_shown_of(members, action))
@@ -203,7 +204,7 @@ impl AgentDevice {
     fn is_moved(&self, tree: &Tree) -> bool
         ensures { result ≡ is_moved (bed_of (voice_of self.now) tree.now) }
     {
-        !tree.is_whole || is_any_shown(tree.members.as_slice(), self.said.as_slice())
+        !tree.is_whole || is_touched(&tree.root, tree.members.as_slice(), self.said.as_slice())
     }
 
     /// Notes whether nothing is lacking of a tree, and tells it where that is so of another one.
@@ -296,30 +297,24 @@ impl AgentDevice {
         trees: Vec<Tree, Global>,
     ) -> Result<(), FollowerStop>
         ensures tends { OnOk result (TendsAll now trees.items self.new.trees.all.items (voice_of self.old) (voice_of self.new)) }
-        ensures tended { OnOk result (self.new.trees.tended ≡ self.old.changes.number) }
+        ensures pace { OnOk result (self.new.trees.pace ≡ paced now self.new.trees.all.items self.old.changes.number) }
     {
-        let number = self.changes.number();
+        let changes = self.changes.number();
         let next = self.trees.next;
         let mut all = trees;
         self.tend_each(all.as_mut_slice())?;
+        self.trees.pace = paced(now, all.as_slice(), changes);
         self.trees.all = all;
-        self.trees.tended = number;
         self.read_new(now, next)
     }
 
-    /// Whether trees were tended since they may have become other ones.
-    fn is_tended(&self) -> bool
-        ensures { result ≡ (self.now.trees.tended == self.now.changes.number) }
-    {
-        self.trees.tended == self.changes.number()
-    }
-
-    /// Tends each tree, where trees may have become other ones since they were tended last.
+    /// Tends each tree, or notes what was said of them where they rest.
     pub(crate) fn tend(&mut self, now: u64) -> Result<(), FollowerStop>
-        ensures { OnOk result (TendsSo now self.old.trees.tended self.old.trees.all.items self.new.trees.tended self.new.trees.all.items
+        ensures { OnOk result (TendsSo now self.old.trees.pace self.old.trees.all.items self.new.trees.pace self.new.trees.all.items
             (voice_of self.old) (voice_of self.new)) }
     {
-        if self.is_tended() {
+        if self.are_at_rest(now) {
+            self.note_each();
             return Ok(());
         }
         let all = std::mem::replace(&mut self.trees.all, Vec::new(self.trees.alloc));

@@ -47,13 +47,20 @@ pub struct Tree {
     pub members: Vec<Member<Global, ()>, Global>,
 }
 
-/// All trees, the ticket by which the next node is followed, and how often they may have become other ones until they were tended last.
+/// When trees were tended last: how often they may have become other ones until then; and the moment from which on they are tended again.
+#[derive(Drop)]
+pub struct Pace {
+    pub tended: u64,
+    pub due: u64,
+}
+
+/// All trees, the ticket by which the next node is followed, and when they were tended last.
 #[derive(Drop)]
 pub struct Trees {
     pub alloc: Global,
     pub all: Vec<Tree, Global>,
     pub next: u64,
-    pub tended: u64,
+    pub pace: Pace,
 }
 
 /// The first ticket of a node: those below are the program's.
@@ -106,13 +113,13 @@ impl Trees {
     pub(crate) fn new(alloc: Global) -> Trees
         ensures all { result.all.items ≡ [] }
         ensures next { result.next ≡ 2 ^ 63 }
-        ensures tended { result.tended ≡ 0 }
+        ensures pace { result.pace ≡ record { tended = 0; due = 0 } }
     {
         Trees {
             alloc,
             all: Vec::new(alloc),
             next: FIRST,
-            tended: 0,
+            pace: Pace { tended: 0, due: 0 },
         }
     }
 
@@ -121,7 +128,7 @@ impl Trees {
         ensures found { result ≡ found ticket self.old.all.items }
         ensures left { self.new.all.items ≡ left ticket self.old.all.items }
         ensures next { self.new.next ≡ self.old.next }
-        ensures tended { self.new.tended ≡ self.old.tended }
+        ensures pace { self.new.pace ≡ self.old.pace }
     {
         for index in 0..self.all.len() {
             let is_it = self.all[index].ticket == ticket;

@@ -25,7 +25,7 @@ use Rattle.ffi_device.specs.declared.flat.Flat.{Flat}
 use Rattle.ffi_agent_device.specs.Happenings.{Happening}
 use Rattle.ffi_agent_device.specs.Taking as taking
 use Rattle.ffi_agent_device.specs.Taking.{voice_of, AgentMoved, AreFollowed, StepsOn, Voice}
-use Rattle.ffi_agent_device.specs.Tending.{bed_of, found, left}
+use Rattle.ffi_agent_device.specs.Tending.{are_at_rest, bed_of, found, left}
 use Rattle.ffi_agent_device.specs.Steps as step
 use Rattle.ffi_agent_device.specs.Steps.{BeginsWith, Planted, Stepped, Uprooted}
 use Rattle.ffi_agent_device.proofs.Keeping.{all_keeps, each_followed, is_kept, plants_keep, so_followed, so_keeps, uproots_keep}
@@ -112,10 +112,10 @@ stepped now what old session sound does =
     let took = does.took in
     let stood = stands_of old (sound old refl took.went_on) in
     let between = keeps now does.given (taking.begun (voice_of old)) took.between took.steps stood in
-    let is_tended = old.trees.tended == took.between.changes in
-    sound_of session (so_keeps IsUpright comes goes now (keeps now input.Moment) is_tended old.trees.tended old.trees.all.items
-    session.trees.tended session.trees.all.items took.between (voice_of session) took.tends between)
-    (so_followed is_tended now old.trees.tended old.trees.all.items session.trees.tended session.trees.all.items took.between
+    let is_rest = are_at_rest now old.trees.pace took.between.changes in
+    sound_of session (so_keeps IsUpright comes goes now (keeps now input.Moment) is_rest old.trees.pace old.trees.all.items
+    session.trees.pace session.trees.all.items took.between (voice_of session) took.tends between)
+    (so_followed is_rest now old.trees.pace old.trees.all.items session.trees.pace session.trees.all.items took.between
     (voice_of session) took.tends took.steps.took.followed)
 
 planted : (now ticket : ℕ) (root : Text) (most : ℕ) (old session : AgentDevice) → Sound (Some old)
@@ -136,11 +136,11 @@ uprooted now ticket old session sound does =
     let bare = uproots_keep (λ (v : Voice). IsUpright v.agent) (is_kept IsUpright comes goes) (found ticket old.trees.all.items)
     (taking.begun (voice_of old)) does.bare does.uproots stood in
     let between = keeps now input.Moment does.bare does.between does.steps bare in
-    let is_tended = old.trees.tended == does.between.changes in
+    let is_rest = are_at_rest now old.trees.pace does.between.changes in
     let olds = left ticket old.trees.all.items in
-    sound_of session (so_keeps IsUpright comes goes now (keeps now input.Moment) is_tended old.trees.tended olds
-    session.trees.tended session.trees.all.items does.between (voice_of session) does.tends between)
-    (so_followed is_tended now old.trees.tended olds session.trees.tended session.trees.all.items does.between (voice_of session)
+    sound_of session (so_keeps IsUpright comes goes now (keeps now input.Moment) is_rest old.trees.pace olds
+    session.trees.pace session.trees.all.items does.between (voice_of session) does.tends between)
+    (so_followed is_rest now old.trees.pace olds session.trees.pace session.trees.all.items does.between (voice_of session)
     does.tends does.steps.took.followed)
 
 over_goes_on : {P : Type 0} (is_over : Bool) → is_over ≡ true → is_over ≡ false → P

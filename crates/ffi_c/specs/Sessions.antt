@@ -2,11 +2,11 @@
 use Rattle.std.specs.Prelude.{◌≡◌, ◌<◌, ◌^◌, ℕ, zero, suc, ℤ, pos, List, [], Option, Some, None}
 use Rattle.zk_turns.specs.Turns.{Start}
 use Rattle.zk_turns.specs.View.{view_at}
-use Rattle.zk_agent.specs.Agents.{NothingAt}
 use Rattle.ffi_agent_device.specs.declared.device.AgentDevice.{AgentDevice}
 use Rattle.ffi_agent_device.specs.AtOnce.{WritesOutputs}
 use Rattle.ffi_agent_device.specs.Outputs.{news_read_after, next_action, next_news, next_of}
 use Rattle.ffi_agent_device.specs.Steps.{BeginsWith, Forgot}
+use Rattle.ffi_agent_device.specs.Tending.{NothingDue}
 use Rattle.ffi_device.specs.Outputs.{read_after}
 use Rattle.ffi_device.specs.Refused.{RefusesMemory}
 use Rattle.ffi_device.specs.declared.flat.Flat.{Flat}
@@ -45,8 +45,8 @@ pub record ForgetsStale (before : AgentDevice) (code : ℤ) (after : AgentDevice
 -- The first moment at which something is due, with 0; or that nothing will be due, with 1.
 abbrev pub FirstDue : AgentDevice → ℤ → ℕ → Type 0
 FirstDue session (pos zero) first =
-    ((moment : ℕ) → moment < 2 ^ 64 → moment < first → NothingAt session.agent moment) × ¬ (NothingAt session.agent first)
-FirstDue session (pos (suc zero)) first = (moment : ℕ) → moment < 2 ^ 64 → NothingAt session.agent moment
+    ((moment : ℕ) → moment < 2 ^ 64 → moment < first → NothingDue session moment) × ¬ (NothingDue session first)
+FirstDue session (pos (suc zero)) first = (moment : ℕ) → moment < 2 ^ 64 → NothingDue session moment
 FirstDue session code first = ⊥
 
 -- A moment, with 0; or that there is none, with 1, and then 0 is written.

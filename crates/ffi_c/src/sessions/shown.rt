@@ -93,7 +93,7 @@ pub extern "C" fn dw_session_deadline(
     let Some(session) = take_value(alloc, handle) else {
         return CLOSED;
     };
-    let deadline = session.agent.deadline();
+    let deadline = session.deadline();
     *handle = DwSession::of(session);
     match deadline {
         Some(first) => {

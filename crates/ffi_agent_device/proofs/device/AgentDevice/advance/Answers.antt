@@ -12,8 +12,8 @@ returns c =
     let old = c.args.self.now in
     let between = c.step_on.new.self in
     let new = c.tend.new.self in
-    ok_advances c.tend.result c.args.now c.args.input old.trees.tended old.trees.all.items new.trees.tended new.trees.all.items
+    ok_advances c.tend.result c.args.now c.args.input old.trees.pace old.trees.all.items new.trees.pace new.trees.all.items
     (voice_of old) (voice_of between) (voice_of new)
     c.in_ok-step_on.ensures.steps
-    (subst (λ (t : Trees). OnOk c.tend.result (TendsSo c.args.now t.tended t.all.items new.trees.tended new.trees.all.items
+    (subst (λ (t : Trees). OnOk c.tend.result (TendsSo c.args.now t.pace t.all.items new.trees.pace new.trees.all.items
     (voice_of between) (voice_of new))) c.step_on.ensures.trees c.tend.ensures)

@@ -13,6 +13,6 @@ returns c =
     let tree = c.in_ok-tree.tree in
     let more : c.push.new.self.items ≡ c.replace-all.result.items ++ tree ∷ [] = search rules in
     ok_plants c.tend_all.result c.args.now c.args.ticket c.args.root.now c.args.most old.trees.all.items c.push.new.self.items
-    new.trees.tended new.trees.all.items tree
+    new.trees.pace new.trees.all.items tree
     (voice_of old) (voice_of planted) (voice_of between) (voice_of new) c.in_ok-tree.ensures c.in_ok-step_on.ensures.steps
-    (more ∙ ap (λ v. v.items ++ tree ∷ []) c.replace-all.ensures.value) c.tend_all.ensures.tends c.tend_all.ensures.tended
+    (more ∙ ap (λ v. v.items ++ tree ∷ []) c.replace-all.ensures.value) c.tend_all.ensures.tends c.tend_all.ensures.pace

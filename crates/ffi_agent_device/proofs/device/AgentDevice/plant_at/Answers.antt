@@ -13,11 +13,11 @@ returns-in-Ok-clause-planted c =
     let new = c.end_step.new.self in
     planted c.args.now c.args.ticket c.args.root.now c.args.most old new (voice_of last) c.if-self.false c.end_step.ensures.over
     c.end_step.ensures.read c.end_step.ensures.news_read c.end_step.ensures.voice
-    (subst (λ (t : Trees). PlantsAndTends c.args.now c.args.ticket c.args.root.now c.args.most old.trees.all.items t.tended t.all.items
+    (subst (λ (t : Trees). PlantsAndTends c.args.now c.args.ticket c.args.root.now c.args.most old.trees.all.items t.pace t.all.items
     (begun (voice_of old)) (voice_of last)) (sym c.end_step.ensures.trees)
-    (subst (λ (v : Voice). PlantsAndTends c.args.now c.args.ticket c.args.root.now c.args.most old.trees.all.items last.trees.tended
+    (subst (λ (v : Voice). PlantsAndTends c.args.now c.args.ticket c.args.root.now c.args.most old.trees.all.items last.trees.pace
     last.trees.all.items v (voice_of last)) c.begin_step.ensures.voice
-    (subst (λ (t : Trees). PlantsAndTends c.args.now c.args.ticket c.args.root.now c.args.most t.all.items last.trees.tended
+    (subst (λ (t : Trees). PlantsAndTends c.args.now c.args.ticket c.args.root.now c.args.most t.all.items last.trees.pace
     last.trees.all.items (voice_of begins) (voice_of last)) c.begin_step.ensures.trees c.in-Ok.ensures)))
 
 pub returns-then-self-clause-stopped : goal.returns-then-self-clause-stopped

@@ -13,11 +13,11 @@ returns-in-Ok-clause-stepped c =
     let new = c.end_step.new.self in
     stepped c.args.now c.args.input old new (voice_of last) c.if-self.false c.end_step.ensures.over c.end_step.ensures.read
     c.end_step.ensures.news_read c.end_step.ensures.voice
-    (subst (λ (t : Trees). Advances c.args.now c.args.input old.trees.tended old.trees.all.items t.tended t.all.items (begun (voice_of old))
+    (subst (λ (t : Trees). Advances c.args.now c.args.input old.trees.pace old.trees.all.items t.pace t.all.items (begun (voice_of old))
     (voice_of last)) (sym c.end_step.ensures.trees)
-    (subst (λ (v : Voice). Advances c.args.now c.args.input old.trees.tended old.trees.all.items last.trees.tended last.trees.all.items v
+    (subst (λ (v : Voice). Advances c.args.now c.args.input old.trees.pace old.trees.all.items last.trees.pace last.trees.all.items v
     (voice_of last)) c.begin_step.ensures.voice
-    (subst (λ (t : Trees). Advances c.args.now c.args.input t.tended t.all.items last.trees.tended last.trees.all.items (voice_of begins)
+    (subst (λ (t : Trees). Advances c.args.now c.args.input t.pace t.all.items last.trees.pace last.trees.all.items (voice_of begins)
     (voice_of last)) c.begin_step.ensures.trees c.in-Ok.ensures)))
 
 pub returns-then-self-clause-stopped : goal.returns-then-self-clause-stopped

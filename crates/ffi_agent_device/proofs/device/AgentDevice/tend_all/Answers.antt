@@ -5,7 +5,7 @@ use Rattle.std.specs.Prelude.{OnOk}
 use Rattle.ffi_agent_device.specs.declared.tree.Tree.{Tree}
 use Rattle.ffi_agent_device.specs.declared.tree.Trees.{Trees}
 use Rattle.ffi_agent_device.specs.Taking.{voice_of}
-use Rattle.ffi_agent_device.specs.Tending.{TendsAll, TendsEach}
+use Rattle.ffi_agent_device.specs.Tending.{paced, TendsAll, TendsEach}
 use Rattle.ffi_agent_device.proofs.Growing.{ok_is}
 use Rattle.ffi_agent_device.proofs.Tended.{ok_all, whole_written}
 use Rattle.ffi_agent_device.proofs.device.AgentDevice.tend_all.Goals as goal
@@ -24,5 +24,11 @@ returns-clause-tends c =
     subst (λ (t : Trees). OnOk c.read_new.result (TendsAll c.args.now olds t.all.items old (voice_of new))) (sym c.read_new.ensures.trees)
     (ok_all c.read_new.result c.args.now olds _ old last (voice_of new) each c.read_new.ensures.reads)
 
-pub returns-clause-tended : goal.returns-clause-tended
-returns-clause-tended c = ok_is c.read_new.result (ap (λ (t : Trees). t.tended) c.read_new.ensures.trees ∙ c.number-number.ensures.number)
+pub returns-clause-pace : goal.returns-clause-pace
+returns-clause-pace c =
+    let changes = c.args.self.now.changes.number in
+    ok_is c.read_new.result
+    (ap (λ (t : Trees). t.pace) c.read_new.ensures.trees ∙ c.paced.ensures
+    ∙ ap (λ (ts : List Tree). paced c.args.now ts c.number-changes.result) c.as_slice.ensures.value
+    ∙ ap (paced c.args.now _) c.number-changes.ensures.number
+    ∙ sym (ap (λ (t : Trees). paced c.args.now t.all.items changes) c.read_new.ensures.trees))

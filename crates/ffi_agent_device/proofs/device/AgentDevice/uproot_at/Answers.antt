@@ -13,11 +13,11 @@ returns-in-Ok-clause-uprooted c =
     let new = c.end_step.new.self in
     uprooted c.args.now c.args.ticket old new (voice_of last) c.if-self.false c.end_step.ensures.over c.end_step.ensures.read
     c.end_step.ensures.news_read c.end_step.ensures.voice
-    (subst (λ (t : Trees). UprootsAndTends c.args.now c.args.ticket old.trees.tended old.trees.all.items t.tended t.all.items
+    (subst (λ (t : Trees). UprootsAndTends c.args.now c.args.ticket old.trees.pace old.trees.all.items t.pace t.all.items
     (begun (voice_of old)) (voice_of last)) (sym c.end_step.ensures.trees)
-    (subst (λ (v : Voice). UprootsAndTends c.args.now c.args.ticket old.trees.tended old.trees.all.items last.trees.tended
+    (subst (λ (v : Voice). UprootsAndTends c.args.now c.args.ticket old.trees.pace old.trees.all.items last.trees.pace
     last.trees.all.items v (voice_of last)) c.begin_step.ensures.voice
-    (subst (λ (t : Trees). UprootsAndTends c.args.now c.args.ticket t.tended t.all.items last.trees.tended last.trees.all.items
+    (subst (λ (t : Trees). UprootsAndTends c.args.now c.args.ticket t.pace t.all.items last.trees.pace last.trees.all.items
     (voice_of begins) (voice_of last)) c.begin_step.ensures.trees c.in-Ok.ensures)))
 
 pub returns-then-self-clause-stopped : goal.returns-then-self-clause-stopped

@@ -25,5 +25,5 @@ returns-in-None-clause-uprooted c =
 pub returns-in-Some-clause-left : goal.returns-in-Some-clause-left
 returns-in-Some-clause-left c = ap (λ (t : Trees). t.all.items) c.uproot.ensures.trees ∙ c.take_out.ensures.left
 
-pub returns-in-Some-clause-tended : goal.returns-in-Some-clause-tended
-returns-in-Some-clause-tended c = ap (λ (t : Trees). t.tended) c.uproot.ensures.trees ∙ c.take_out.ensures.tended
+pub returns-in-Some-clause-pace : goal.returns-in-Some-clause-pace
+returns-in-Some-clause-pace c = ap (λ (t : Trees). t.pace) c.uproot.ensures.trees ∙ c.take_out.ensures.pace

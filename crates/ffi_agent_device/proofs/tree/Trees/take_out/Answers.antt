@@ -73,11 +73,11 @@ returns-clause-left c =
 pub returns-then-is_it-clause-next : goal.returns-then-is_it-clause-next
 returns-then-is_it-clause-next c = ap (λ (t : Trees). t.next) c.loop-index.invariant.same
 
-pub returns-then-is_it-clause-tended : goal.returns-then-is_it-clause-tended
-returns-then-is_it-clause-tended c = ap (λ (t : Trees). t.tended) c.loop-index.invariant.same
+pub returns-then-is_it-clause-pace : goal.returns-then-is_it-clause-pace
+returns-then-is_it-clause-pace c = ap (λ (t : Trees). t.pace) c.loop-index.invariant.same
 
 pub returns-clause-next : goal.returns-clause-next
 returns-clause-next c = ap (λ (t : Trees). t.next) c.loop-index.invariant.same
 
-pub returns-clause-tended : goal.returns-clause-tended
-returns-clause-tended c = ap (λ (t : Trees). t.tended) c.loop-index.invariant.same
+pub returns-clause-pace : goal.returns-clause-pace
+returns-clause-pace c = ap (λ (t : Trees). t.pace) c.loop-index.invariant.same
