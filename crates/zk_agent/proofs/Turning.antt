@@ -126,6 +126,7 @@ call_asks : (view : View) (ticket : ℕ) (call : Asked_call) (after : View) → 
 call_asks view ticket call after is = record {
   standing = ap (λ v. v.standing) is;
   cache = ap (λ v. v.cache) is;
+  lists = ap (λ v. v.lists) is;
   more = call_waits view.xid ticket call ∷ [];
   pending = ap (λ v. v.pending) is;
 }
