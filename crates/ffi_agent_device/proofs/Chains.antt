@@ -109,7 +109,8 @@ planted now ticket root most old new last went goes read its same does = record 
 -- ---- a tree that ends
 
 -- It ends, the moment is noticed, and trees are tended.
-abbrev pub UprootsAndTends : (now ticket : ℕ) → (was : Pace) → (olds : List Tree) → (at : Pace) → (news : List Tree) → (old new : Voice) → Type 0
+abbrev pub UprootsAndTends : (now ticket : ℕ) → (was : Pace) → (olds : List Tree) → (at : Pace) → (news : List Tree)
+    → (old new : Voice) → Type 0
 UprootsAndTends now ticket was olds at news old new =
     (bare : Voice) × UprootsSo (found ticket olds) old bare × (between : Voice) × StepsOn now input.Moment bare between
     × TendsSo now was (left ticket olds) at news between new

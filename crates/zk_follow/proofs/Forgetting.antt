@@ -12,7 +12,7 @@ use Rattle.zk_turns.specs.View.{View, Cache}
 use Rattle.zk_turns.specs.Rule.{forgotten}
 use Rattle.zk_follow.specs.declared.subject.Subject.{Subject}
 use Rattle.zk_follow.specs.Following.{is_kept, is_shown, is_whole, says_none, IsCounted, IsFollowed}
-use Rattle.zk_follow.specs.inner.Resting.{holds}
+use Rattle.zk_follow.specs.Following.{holds}
 
 by_mark : (test : Answer → Bool) (answer : Answer) (mark : Mark)
     → is_kept test (if_good answer mark) ≡ (if is_good mark then test answer else false)

@@ -26,8 +26,10 @@ use Rattle.zk_follow.specs.Following.{answered, heard, heard_all, is_kept, is_re
 use Rattle.zk_follow.specs.Following.{says_none, taken}
 use Rattle.zk_follow.specs.Following.{told_after, told_of, was_shown, woken, woken_progress, IsCounted, IsFollowed}
 use Rattle.zk_follow.specs.inner.Following.{Asks, VisitsAnd}
-use Rattle.zk_follow.specs.inner.Resting.{covers, holds, is_about, is_due, is_marked, is_report, is_resting, tells_fields, AreCovered}
-use Rattle.zk_follow.specs.inner.Resting.{AreResting, AreRestingBut}
+use Rattle.zk_follow.specs.Following.{holds, is_due, is_resting}
+use Rattle.zk_follow.specs.inner.Resting.{covers, is_about, is_marked, is_report, tells_fields, AreCovered}
+use Rattle.zk_follow.specs.Following.{AreResting}
+use Rattle.zk_follow.specs.inner.Resting.{AreRestingBut}
 use Rattle.zk_follow.proofs.Asking.{nothing_more}
 use Rattle.zk_follow.proofs.Forgetting.{after_forgetting, holds_still}
 use Rattle.zk_follow.proofs.Staying.{or_false, Stays, stays_at}

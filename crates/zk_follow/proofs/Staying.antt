@@ -23,7 +23,8 @@ use Rattle.zk_turns.specs.Rule.{says_there, with_node, with_children, keep_node,
 use Rattle.zk_turns.specs.Rule.{after_signals, says_signals, Rule, RuleAt}
 use Rattle.zk_turns.proofs.Lists.{same_text}
 use Rattle.zk_follow.specs.Following.{is_kept, is_whole}
-use Rattle.zk_follow.specs.inner.Resting.{holds, is_about, tells_fields}
+use Rattle.zk_follow.specs.Following.{holds}
+use Rattle.zk_follow.specs.inner.Resting.{is_about, tells_fields}
 use Rattle.zk_follow.proofs.Forgetting.{holds_still}
 use Rattle.zk_follow.proofs.Waiting.{FitsReply, AllFit, AllGiven, all_fit, all_given}
 

@@ -9,6 +9,7 @@ use Rattle.zk_nodes.specs.declared.side.Side.TheVariants.{Data, Child}
 use Rattle.zk_limits.specs.declared.limits.TheConstants.{MOST_PENDING}
 use Rattle.zk_conversation.specs.Pending.{Pending, Part_waits, Call_waits, calls_pending}
 use Rattle.zk_conversation.specs.Calls.{Call}
+use Rattle.zk_watches.specs.Lists.{side_has}
 use Rattle.zk_conversation.specs.Questions.{question_of, Question, Exists, GetData, GetChildren}
 use Rattle.zk_conversation.specs.Results.{Result, NoNode, Refused as Refused_by}
 use Rattle.zk_cache.specs.declared.held.Kept.{Kept}
@@ -165,6 +166,27 @@ abbrev pub IsFollowed : {A : Type 0} → (now : ℕ) → View → Subject A → 
 IsFollowed now view subject =
     (is_shown view.cache subject.side subject.path ≡ true) ⊎ (IsBeingRead view subject.ticket subject.side subject.path
     ⊎ (IsFull view ⊎ ((view.standing.state ≢ Connected) ⊎ IsRefused now subject.progress)))
+
+-- what is kept of a side of a path is good of itself, and not since there is no node
+abbrev pub holds : Cache → Side → Text → Bool
+holds cache Data path = is_kept is_whole (cache.nodes path)
+holds cache Child path = is_marked_good (cache.children path)
+
+abbrev pub is_due : Progress → Bool
+is_due Due = true
+is_due _ = false
+
+-- A subject rests where what is kept of it is good and its path is watched, and nothing is noted of its reading.
+abbrev pub is_resting : {A : Type 0} → View → Subject A → Bool
+is_resting view subject =
+    is_due subject.progress && (not subject.is_missing && (not subject.is_there && (side_has view.lists subject.side subject.path
+    && holds view.cache subject.side subject.path)))
+
+-- Subjects rest where it is marked so.
+abbrev pub AreResting : {A : Type 0} → View → List (Subject A) → List Bool → Type 0
+AreResting {A} view subjects resting =
+    (k : ℕ) (d : Subject A) → k < length subjects → slice_index_or resting k false ≡ true
+    → is_resting view (slice_index_or subjects k d) ≡ true
 
 -- what becomes of a subject of which what is kept is good
 abbrev pub rested_progress : Progress → Progress

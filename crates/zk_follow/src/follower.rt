@@ -12,7 +12,8 @@ ghost use Rattle.zk_client.specs.Views.{input_view, said};
 ghost use Rattle.zk_follow.specs.Following.{due_again, first_again, first_of, again_at, heard_all, news_in, told_of, unfollowed};
 ghost use Rattle.zk_follow.specs.Following.{AreVisited, IsAhead, IsCounted, IsFollowed, Steps};
 ghost use Rattle.zk_follow.specs.inner.Following.{Reads};
-ghost use Rattle.zk_follow.specs.inner.Resting.{AreCovered, AreResting, AreRestingBut};
+ghost use Rattle.zk_follow.specs.Following.{AreResting};
+ghost use Rattle.zk_follow.specs.inner.Resting.{AreCovered, AreRestingBut};
 
 use crate::about::About;
 use crate::news::{News, tell_all};

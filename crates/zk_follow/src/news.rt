@@ -7,7 +7,8 @@ ghost use Rattle.zk_client.specs.Clients.{view_of};
 ghost use Rattle.zk_client.specs.Views.{output_view, said};
 ghost use Rattle.zk_follow.specs.Following.{is_report_of, is_reported, is_same, news_about, news_in, news_list, told_after, told_of};
 ghost use Rattle.zk_follow.specs.Following.{was_refused, was_shown};
-ghost use Rattle.zk_follow.specs.inner.Resting.{is_report, is_resting, AreResting};
+ghost use Rattle.zk_follow.specs.Following.{is_resting, AreResting};
+ghost use Rattle.zk_follow.specs.inner.Resting.{is_report};
 
 use crate::kept::is_shown;
 use crate::progress::{Progress, Refusal};

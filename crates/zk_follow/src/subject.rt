@@ -13,7 +13,8 @@ ghost use Rattle.zk_follow.specs.Following.{heard, heard_all, read_of, rested, t
 ghost use Rattle.zk_follow.specs.inner.Following.{Asks};
 ghost use Rattle.zk_follow.specs.Following.{IsFull};
 ghost use Rattle.zk_follow.specs.inner.Following.{VisitsAnd};
-ghost use Rattle.zk_follow.specs.inner.Resting.{is_about, is_resting, AreCovered};
+ghost use Rattle.zk_follow.specs.Following.{is_resting};
+ghost use Rattle.zk_follow.specs.inner.Resting.{is_about, AreCovered};
 
 use crate::about::About;
 use crate::kept::{holds, is_shown};

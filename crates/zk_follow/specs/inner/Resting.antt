@@ -3,42 +3,13 @@ use Rattle.std.specs.Prelude.{◌≡◌, ◌<◌, ◌+◌, ◌-◌, ◌*◌, ◌
 use Rattle.std.specs.Prelude.{slice_index_or, bytes_eq}
 use Rattle.std.specs.List.{list_any, AllByRecursion}
 use Rattle.zk_nodes.specs.Path.{Text}
-use Rattle.zk_nodes.specs.declared.side.Side.{Side}
-use Rattle.zk_nodes.specs.declared.side.Side.TheVariants.{Data, Child}
-use Rattle.zk_watches.specs.Lists.{side_has}
 use Rattle.zk_conversation.specs.Results.{Found}
-use Rattle.zk_cache.specs.Kept.{is_marked_good}
 use Rattle.zk_turns.specs.Turns.{Outcome, Replied, Enters, Output}
 use Rattle.zk_turns.specs.Turns as turns
-use Rattle.zk_turns.specs.View.{View, Cache}
+use Rattle.zk_turns.specs.View.{View}
 use Rattle.zk_follow.specs.declared.about.About.{About}
-use Rattle.zk_follow.specs.declared.progress.Progress.{Progress}
-use Rattle.zk_follow.specs.declared.progress.Progress.TheVariants.{Due}
 use Rattle.zk_follow.specs.declared.subject.Subject.{Subject}
-use Rattle.zk_follow.specs.Following.{is_kept, is_whole}
-
--- ---- what rests
-
--- what is kept of a side of a path is good of itself, and not since there is no node
-abbrev pub holds : Cache → Side → Text → Bool
-holds cache Data path = is_kept is_whole (cache.nodes path)
-holds cache Child path = is_marked_good (cache.children path)
-
-abbrev pub is_due : Progress → Bool
-is_due Due = true
-is_due _ = false
-
--- A subject rests where what is kept of it is good and its path is watched, and nothing is noted of its reading.
-abbrev pub is_resting : {A : Type 0} → View → Subject A → Bool
-is_resting view subject =
-    is_due subject.progress && (not subject.is_missing && (not subject.is_there && (side_has view.lists subject.side subject.path
-    && holds view.cache subject.side subject.path)))
-
--- Subjects rest where it is marked so.
-abbrev pub AreResting : {A : Type 0} → View → List (Subject A) → List Bool → Type 0
-AreResting {A} view subjects resting =
-    (k : ℕ) (d : Subject A) → k < length subjects → slice_index_or resting k false ≡ true
-    → is_resting view (slice_index_or subjects k d) ≡ true
+use Rattle.zk_follow.specs.Following.{is_resting}
 
 -- ---- what outputs are about
 

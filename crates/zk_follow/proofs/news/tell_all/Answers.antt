@@ -7,7 +7,7 @@ use Rattle.std.proofs.lemmas.List.Edits.{map_over_more}
 use Rattle.zk_client.specs.Clients.{view_of}
 use Rattle.zk_client.specs.Views.{said}
 use Rattle.zk_follow.specs.Following.{news_in, told_of}
-use Rattle.zk_follow.specs.inner.Resting.{is_resting}
+use Rattle.zk_follow.specs.Following.{is_resting}
 use Rattle.zk_follow.proofs.Telling.{at_seam, flat_more, whole_mapped}
 use Rattle.zk_follow.proofs.news.tell_all.Goals as goal
 

@@ -36,9 +36,14 @@ returns-clause-steps c =
         heard = promised.heard;
       };
       says =
-          ap (λ (l : List (Action Global)). record (voice_of old) { agent = agent; said = l; number = number_now; changes = changes_now }) more
+          ap (λ (l : List (Action Global)). record (voice_of old) { agent = agent; said = l; number = number_now; changes = changes_now })
+          more
           ∙ ap (λ n. record (voice_of old) { agent = agent; said = all; number = n; changes = changes_now }) number
-          ∙ ap (λ n. record (voice_of old)
-          { agent = agent; said = all; number = revised (is_bytes (happening c.args.input)) (told_by said) old.revision.number; changes = n })
+          ∙ ap (λ n. record (voice_of old) {
+            agent = agent;
+            said = all;
+            number = revised (is_bytes (happening c.args.input)) (told_by said) old.revision.number;
+            changes = n;
+          })
           changes;
     }

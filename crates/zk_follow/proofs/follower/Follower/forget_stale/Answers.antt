@@ -4,7 +4,7 @@ use Rattle.std.proofs.Common.{subst, sym}
 use Rattle.std.specs.Prelude.{All}
 use Rattle.zk_client.specs.Clients.{view_of}
 use Rattle.zk_follow.specs.Following.{IsCounted, IsFollowed}
-use Rattle.zk_follow.specs.inner.Resting.{AreResting}
+use Rattle.zk_follow.specs.Following.{AreResting}
 use Rattle.zk_follow.proofs.Forgetting.{all_counted_still, all_followed_still}
 use Rattle.zk_follow.proofs.Resting.{resting_still}
 use Rattle.zk_follow.proofs.follower.Follower.forget_stale.Goals as goal

@@ -5,7 +5,7 @@ use Rattle.zk_client.specs.Clients.{view_of}
 use Rattle.zk_follow.specs.Following.{told_of, IsCounted}
 use Rattle.zk_follow.proofs.Telling.{All_changed}
 use Rattle.zk_follow.proofs.Visiting.{whole_written}
-use Rattle.zk_follow.specs.inner.Resting.{AreResting}
+use Rattle.zk_follow.specs.Following.{AreResting}
 use Rattle.zk_follow.proofs.Resting.{told_resting}
 use Rattle.zk_follow.proofs.follower.Follower.report_all.Goals as goal
 

@@ -3,7 +3,7 @@ use Rattle.std.proofs.Common.{◌≡◌, ◌++◌, arith, drop, length, sym, sub
 use Rattle.zk_client.specs.Clients.{view_of}
 use Rattle.zk_client.specs.Views.{input_view, said}
 use Rattle.zk_follow.specs.Following.{IsAhead, IsCounted, IsFollowed, Steps}
-use Rattle.zk_follow.specs.inner.Resting.{AreResting}
+use Rattle.zk_follow.specs.Following.{AreResting}
 use Rattle.zk_follow.proofs.Visiting.{whole_written, written_back}
 use Rattle.zk_follow.proofs.follower.Follower.step.Goals as goal
 
