@@ -29,8 +29,8 @@ use zk_follow::FollowerStop;
 /// An agent, what it said at its last step, how much of that was read, whether it goes on no further, since memory ran out within a step,
 /// and a number that rises where what its client shows may change; a count of the steps after which trees may be other ones, the trees that
 /// are followed, with what is told of them after what the agent said, and how much of that was read. Its methods stand by what they are
-/// about: calls in `calls`, what is followed in `subjects`, trees in `planting`, `tending` and `pacing`, what was said in `outputs`, and here
-/// what comes from a connection. What is kept is looked up by functions of `ffi_device` over the agent's client.
+/// about: calls in `calls`, what is followed in `subjects`, trees in `planting`, `tending` and `pacing`, what was said in `outputs`, and
+/// here what comes from a connection. What is kept is looked up by functions of `ffi_device` over the agent's client.
 #[derive(Drop)]
 pub struct AgentDevice {
     pub agent: Agent<Global>,

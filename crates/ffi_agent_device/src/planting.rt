@@ -47,7 +47,8 @@ impl AgentDevice {
         most: u64,
     ) -> Result<(), FollowerStop>
         ensures { OnOk result ((tree : Tree) × (planted : Voice) × Plants ticket root.now most (voice_of self.old) (bed_of planted tree)
-            × (between : Voice) × StepsOn now Moment planted between × (self.new.trees.pace ≡ paced now self.new.trees.all.items between.changes)
+            × (between : Voice) × StepsOn now Moment planted between
+            × (self.new.trees.pace ≡ paced now self.new.trees.all.items between.changes)
             × TendsAll now (self.old.trees.all.items ++ tree ∷ []) self.new.trees.all.items between (voice_of self.new)) }
     {
         let mut all = std::mem::replace(&mut self.trees.all, Vec::new(self.trees.alloc));

@@ -9,9 +9,9 @@ ghost use Rattle.zk_trees.specs.Trees.{aim_of, aims_of, wants_of};
 ghost use Rattle.ffi_agent_device.specs.declared.tree.TreeNews.TheVariants.{LetGo, TakenOn};
 ghost use Rattle.zk_trees.specs.Trees.{IsIndexOf};
 ghost use Rattle.ffi_agent_device.specs.Taking.{voice_of};
-ghost use Rattle.ffi_agent_device.specs.Tending.{bed_of, is_any_shown, is_moved, is_none, is_shown_of, lacks_nothing, paced, tells, Grows, Joins};
+ghost use Rattle.ffi_agent_device.specs.Tending.{bed_of, is_any_shown, is_moved, is_none, is_shown_of, lacks_nothing, paced, tells};
 ghost use Rattle.ffi_agent_device.specs.Tending.{LetsAllGo, NotesBound, NotesWhole, ReadsWhere, Shifts, TakesAllOn, TakesOn, TendsAll};
-ghost use Rattle.ffi_agent_device.specs.Tending.{TendsEach, TendsSo, TendsTree};
+ghost use Rattle.ffi_agent_device.specs.Tending.{Grows, Joins, TendsEach, TendsSo, TendsTree};
 
 use crate::device::AgentDevice;
 use crate::pacing::{is_touched, paced};
