@@ -6,7 +6,7 @@ mod Chains
 mod Finding
 mod Growing
 mod Moving
-mod Pacing
+mod Resting
 pub mod Keeping
 pub mod Refusing
 mod Tended

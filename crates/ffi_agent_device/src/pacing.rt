@@ -1,6 +1,6 @@
 //! When trees are tended, and what is noted of them until then.
 
-ghost use Rattle.std.specs.Prelude.{◌≡◌, ◌<◌, ◌^◌, ◌==◌, ⊤, ℕ, None, map, not, IfSome};
+ghost use Rattle.std.specs.Prelude.{◌≡◌, ◌<◌, ◌^◌, ◌==◌, ⊤, ℕ, None, map, IfSome};
 ghost use Rattle.std.specs.List.{list_any};
 ghost use Rattle.ffi_agent_device.specs.Taking.{voice_of};
 ghost use Rattle.ffi_agent_device.specs.Tending.{are_at_rest, is_report_of, is_touched, noted, paced, sides_in, NothingDue};
@@ -87,14 +87,14 @@ impl AgentDevice {
     pub(crate) fn are_at_rest(&self, now: u64) -> bool
         ensures { result ≡ are_at_rest now self.now.trees.pace self.now.changes.number }
     {
-        !self.has_changes() || now < self.trees.pace.due
+        self.is_tended() || now < self.trees.pace.due
     }
 
-    /// Whether trees may have become other ones since they were tended last.
-    fn has_changes(&self) -> bool
-        ensures { result ≡ not (self.now.trees.pace.tended == self.now.changes.number) }
+    /// Whether trees were tended since they may have become other ones.
+    fn is_tended(&self) -> bool
+        ensures { result ≡ (self.now.trees.pace.tended == self.now.changes.number) }
     {
-        self.trees.pace.tended != self.changes.number()
+        self.trees.pace.tended == self.changes.number()
     }
 
     /// Notes of each tree whether it may be another one by what was said.
@@ -115,7 +115,7 @@ impl AgentDevice {
         ensures never { result ≡ None → (moment : ℕ) → moment < 2 ^ 64 → NothingDue self.now moment }
     {
         let first = self.agent.deadline();
-        if !self.has_changes() {
+        if self.is_tended() {
             return first;
         }
         let due = self.trees.pace.due;
