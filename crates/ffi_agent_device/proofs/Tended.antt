@@ -1,6 +1,6 @@
 -- Trees are tended one after the other: those before a place were (`Tended`), and the one at it joins them, by induction over their list.
 use Rattle.std.specs.Prelude.{◌==◌, Result, Ok, Err, OnOk}
-use Rattle.std.proofs.Common.{suc, Bool, true, false, ◌≡◌, ◌≤◌, ◌<◌, ◌+◌, ◌++◌, ◌∙◌, ℕ, List, [], ◌∷◌, length, get_or, drop, take, set}
+use Rattle.std.proofs.Common.{map, suc, Bool, true, false, ◌≡◌, ◌≤◌, ◌<◌, ◌+◌, ◌++◌, ◌∙◌, ℕ, List, [], ◌∷◌, length, get_or, drop, take, set}
 use Rattle.std.proofs.Common.{refl, sym, ap, subst, arith, append_assoc, append-nil, length-take}
 use Rattle.std.proofs.lemmas.List.{drop_more, get_or_at, set_at, take_more, take_all, drop_all}
 use Rattle.std.proofs.Math.Seq.{take-append_seam}
