@@ -556,7 +556,7 @@ enum dw_result dw_session_unfollow(dw_session *handle, uint64_t now_ms, uint64_t
 /* A tree is followed: all nodes at and below a path, the root, of which no more are taken on where there are more than `most`. Trees are tended in a
  * step in which something was shown or reported, or after it: then each side of a node that good names lead to from the root on, and that lacks a
  * good answer, is followed, unless it is known that there is no such node; a node below the root of which that is known is let go. Then trees rest
- * for a millisecond for each two hundred sides that are followed, since tending goes over all of them, and dw_session_deadline counts that. The data
+ * for a millisecond for each thousand sides that are followed, since tending goes over all of them, and dw_session_deadline counts that. The data
  * of the root have the ticket of the tree. All else has tickets from 2^63 on, which a program uses for nothing else. That there is no root is shown
  * by DW_KIND_SHOWN of its ticket, and its making is waited for. The root is read in the same step. DW_OK, or what dw_session_follow_data answers. */
 enum dw_result dw_session_follow_tree(dw_session *handle, uint64_t now_ms, uint64_t ticket, const char *path, size_t path_length,

@@ -184,10 +184,10 @@ pub record TendsAll (now : ℕ) (olds news : List Tree) (old new : Voice) : Type
 abbrev pub sides_in : List Tree → ℕ
 sides_in trees = fold (λ count tree. min (count + length tree.members.items) (2 ^ 64 - 1)) 0 trees
 
--- Tended at this moment, by this count of changes: it is due again a millisecond later for each two hundred sides, since tending takes the
+-- Tended at this moment, by this count of changes: it is due again a millisecond later for each thousand sides, since tending takes the
 -- longer the more there are.
 abbrev pub paced : (now : ℕ) → List Tree → (changes : ℕ) → Pace
-paced now trees changes = record { tended = changes; due = min (now + sides_in trees / 200) (2 ^ 64 - 1) }
+paced now trees changes = record { tended = changes; due = min (now + sides_in trees / 1000) (2 ^ 64 - 1) }
 
 -- Trees rest where nothing was said since they were tended last that may make them other ones, and until it is due again.
 abbrev pub are_at_rest : (now : ℕ) → Pace → (changes : ℕ) → Bool

@@ -14,7 +14,7 @@ use zk_client::Path;
 use zk_trees::Member;
 
 /// How many sides of nodes a millisecond is for, from when trees were tended to when they are again.
-const SIDES_EACH_MS: u64 = 200;
+const SIDES_EACH_MS: u64 = 1_000;
 
 /// Whether an action is the report of a path that begins with the text of a root.
 fn is_report_of(root: &Path<Global>, action: &Action<Global>) -> bool
