@@ -1,7 +1,7 @@
 /* A session over POSIX sockets, for loops by poll and for small programs that wait: connection strings, calls, nodes and trees that are followed.
- * It is built on dw_session of dirwolleu.h, which is proved and says whom to dial and when, what becomes of calls, and what is kept good. What is here
- * is tested: look-ups of names, sockets, callbacks, trees. It is one file, of C11 and C++11, that wants dirwolleu.h alone. Define _POSIX_C_SOURCE as
- * 200809L before it.
+ * It is built on dw_session of dirwolleu.h, which is proved and says whom to dial and when, what becomes of calls, what is read, and what is kept
+ * good. What is here is tested: look-ups of names, sockets, callbacks. It is one file, of C11 and C++11, that wants dirwolleu.h alone. Define
+ * _POSIX_C_SOURCE as 200809L before it.
  *
  *     static void show(dws_session *session, dws_subject *node)
  *     {
@@ -54,20 +54,18 @@ extern "C" {
 #endif
 
 enum {
-    DWS_TIMEOUT_MS = 10000,      /* of a session, where options name none */
-    DWS_CLOSE_MS = 1000,         /* the longest wait for the server's word that the session is closed */
-    DWS_BETWEEN_READS_MS = 1000, /* from a read of a tree that was refused to the next one */
-    DWS_MOST_ASKED = 1024,       /* calls that the library has at once, as many as it sends before an answer comes; more of them wait here */
-    DWS_MOST_PIECES = 64,        /* that are read before the moment is told */
-    DWS_PIECE = 65536,           /* the most bytes that are read at once */
-    DWS_LONGEST_HOST = 256,      /* the most bytes of a host's name */
-    DWS_LONGEST_SAVED = 256,     /* the most bytes of a session that is taken up after memory ran out */
-    DWS_LONGEST_LINE = 5120,     /* the most bytes of a message with a path */
-    DWS_MOST_NODES = 65536,      /* the most nodes of a tree, where a program says nothing else: as many as the library watches */
-    DWS_MOST_READS = 256,        /* reads of one tree that are on their way at once */
-    DWS_SHARE = 10,              /* a look at a whole tree takes at most this part of the time: after one that took long, the next one waits */
-    DWS_LATE = 99,               /* why a call was not answered: its limit has come after it was sent, and it may have happened, or may yet */
-    DWS_REFUSED = 100            /* why a call was not asked: DWS_REFUSED less what the library answered, which is below 0 */
+    DWS_TIMEOUT_MS = 10000,  /* of a session, where options name none */
+    DWS_CLOSE_MS = 1000,     /* the longest wait for the server's word that the session is closed */
+    DWS_MOST_ASKED = 1024,   /* calls that the library has at once, as many as it sends before an answer comes; more of them wait here */
+    DWS_MOST_PIECES = 64,    /* that are read before the moment is told */
+    DWS_PIECE = 65536,       /* the most bytes that are read at once */
+    DWS_LONGEST_HOST = 256,  /* the most bytes of a host's name */
+    DWS_LONGEST_SAVED = 256, /* the most bytes of a session that is taken up after memory ran out */
+    DWS_LONGEST_LINE = 5120, /* the most bytes of a message with a path */
+    DWS_MOST_NODES = 65536,  /* the most nodes of a tree, where a program says nothing else: as many as the library watches */
+    DWS_SHARE = 10,          /* a look at a whole tree takes at most this part of the time: after one that took long, the next one waits */
+    DWS_LATE = 99,           /* why a call was not answered: its limit has come after it was sent, and it may have happened, or may yet */
+    DWS_REFUSED = 100        /* why a call was not asked: DWS_REFUSED less what the library answered, which is below 0 */
 };
 
 typedef struct dws_session dws_session;
@@ -174,7 +172,18 @@ typedef struct dws_node {
 /* Records of a tree, which are the session's own. */
 struct dws_texts {
     uint8_t *bytes;
-    size_t length, room, at;
+    size_t length, room;
+};
+
+/* The sides of nodes that the library follows for a tree, by tickets that rise. One that was let go has no path. */
+struct dws_member {
+    uint64_t ticket;
+    char *path;
+    int32_t why; /* why its read was refused, or that there is no root, as of a call, or 0 */
+};
+struct dws_members {
+    struct dws_member *all;
+    size_t count, left, room; /* of these `left` were let go */
 };
 
 /* All nodes at and below a path, of one moment, which are read again after each change. What is shown of it stays until the next `shown`: */
@@ -188,13 +197,13 @@ struct dws_tree {
     /* The session's own. */
     void (*shown)(dws_session *session, dws_tree *tree);
     char *path, *trouble;     /* the root, and the path for which there are no newer ones */
-    size_t most;
-    struct dws_texts text, lacking; /* the nodes, and the reads that are to be asked, of which those before `at` were */
-    size_t nodes_room;
-    dws_call *reads, *idle;   /* all of them, and those that ask nothing */
-    size_t asked;
-    bool must_look, has_moved, is_missing, is_changed;
-    uint64_t look_at_ms;
+    size_t most, nodes_room;
+    struct dws_texts text;    /* the nodes, as the library spells them */
+    struct dws_members members;
+    uint64_t ticket;          /* 0 where the library does not follow it yet */
+    int32_t fault;            /* why it is not shown whatever is read of its nodes, as of a call, or 0 */
+    bool must_look, must_weigh, is_changed; /* it is worth a look; `why` may be another; there is something to be told */
+    uint64_t look_at_ms;      /* there is no look before */
     dws_tree *next;
 };
 
@@ -274,7 +283,8 @@ static inline bool dws_is_good(const dws_subject *subject);
  * tree->why is 0; of several between two turns with the last. It is called too where there is another reason why there is none: DW_CODE_NO_NODE
  * where there is no root, whose making is waited for; a code of the server where it has refused a read, which is asked again after a second;
  * DWS_REFUSED - DW_TOO_MANY where there are more nodes. While nodes change faster than they are read there is no new one, and is_good is false.
- * Which nodes are shown is the library's word, and proved; when they are is tested. It answers what dws_follow does. */
+ * Which nodes are read and shown is the library's word, and proved; when they are shown is tested. Each step takes time with the number of nodes, and
+ * calls wait for their turn while a large tree is read at first: give it a session of its own. It answers what dws_follow does. */
 static inline enum dw_result dws_follow_tree(dws_session *s, dws_tree *tree, const char *path, size_t most,
                                              void (*shown)(dws_session *, dws_tree *));
 
@@ -347,6 +357,18 @@ struct dws_line {
     size_t count;
 };
 
+/* A subject or a tree that the library is to follow no more. */
+struct dws_gone {
+    uint64_t ticket;
+    bool is_tree;
+};
+
+/* What was said of what is followed by a ticket: why its read was refused, or 0 where what is kept of it is good. */
+struct dws_seen {
+    uint64_t ticket;
+    int32_t why;
+};
+
 /* What asks beside the library, on the same connection: lane.h. */
 struct dws_beside {
     enum dw_result (*ask)(dws_session *s, dws_call *call, uint64_t now_ms);                      /* a call is to be written */
@@ -382,9 +404,10 @@ struct dws_session {
     struct dws_line queue, sent;       /* calls that are to be asked, and those that were, in the order of their tickets */
     dws_call close;
     dws_subject *subjects;
-    uint64_t *gone;                    /* tickets of subjects that the library is to follow no more */
-    size_t gone_count, gone_room;
     dws_tree *trees;
+    struct dws_gone *gone;
+    struct dws_seen *seen;             /* at this step, where there are trees */
+    size_t gone_count, gone_room, seen_count, seen_room;
     enum dw_result result;
 };
 
@@ -696,7 +719,7 @@ static inline int32_t dws_why_over(const dws_session *s)
 }
 
 static inline void dws_hang_up(dws_session *s);
-static inline void dws_begin_trees(dws_session *s, bool is_lost);
+static inline void dws_lose_trees(dws_session *s);
 
 /* Answers all calls of a session that is over. Those that were asked may have happened, where there is a connection. */
 static inline void dws_answer_rest(dws_session *s)
@@ -715,7 +738,7 @@ static inline void dws_fail(dws_session *s, enum dw_result result)
     if (s->result == DW_OK) {
         s->result = result;
         s->is_over = true;
-        dws_begin_trees(s, true);
+        dws_lose_trees(s);
         dws_hang_up(s);
         dws_tell(s, DWS_FAILED, dw_result_words(result));
     }
@@ -939,7 +962,7 @@ static inline void dws_take_expiry(dws_session *s)
 {
     s->is_expired = s->options.is_over_at_expiry;
     s->is_over = s->is_over || s->is_expired;
-    dws_begin_trees(s, true);
+    dws_lose_trees(s);
     dws_hang_up(s);
     dws_tell(s, DWS_EXPIRED, "the session has expired");
     dws_finish_all(s, &s->queue, DW_OUTCOME_EXPIRED);
@@ -950,13 +973,12 @@ static inline void dws_take_state(dws_session *s, enum dw_state state)
     s->must_look = s->has_news = true;
     if (state == DW_STATE_CONNECTED) {
         s->is_resumed = false;
-        dws_begin_trees(s, false);
         dws_tell(s, DWS_CONNECTED, "connected");
     } else if (state == DW_STATE_EXPIRED) {
         dws_take_expiry(s);
     } else if (state == DW_STATE_CLOSED) {
         s->is_over = true;
-        dws_begin_trees(s, true);
+        dws_lose_trees(s);
         dws_hang_up(s);
         dws_tell(s, DWS_CLOSED, "the session is closed");
     }
@@ -991,25 +1013,43 @@ static inline void dws_take_hang_up(dws_session *s)
     }
 }
 
-static inline void dws_hear_of_trees(dws_session *s, const dw_output *report);
+static inline void dws_hear_of_trees(dws_session *s);
 
 /* What is kept has become stale, which a subject shows. */
-static inline void dws_take_report(dws_session *s, const dw_output *report)
+static inline void dws_take_report(dws_session *s)
 {
     s->must_look = s->has_news = true;
     if (s->trees != NULL) {
-        dws_hear_of_trees(s, report);
+        dws_hear_of_trees(s);
     }
 }
 
+/* Notes what is said of what is followed by a ticket. Which of it is of a tree is said later in the step. */
+static inline void dws_note_seen(dws_session *s, uint64_t ticket, int32_t why)
+{
+    if (s->trees == NULL) {
+        return;
+    }
+    void *block = s->seen;
+    bool is_there = dws_reserve(&block, &s->seen_room, (s->seen_count + 1) * sizeof s->seen[0]);
+    s->seen = (struct dws_seen *)block;
+    if (!is_there) {
+        dws_fail(s, DW_NO_MEMORY);
+        return;
+    }
+    s->seen[s->seen_count].ticket = ticket;
+    s->seen[s->seen_count++].why = why;
+}
+
 static inline void dws_take_refusal(dws_session *s, const dw_output *refused);
+static inline void dws_take_of_tree(dws_session *s, const dw_output *told);
 
 static inline void dws_take(dws_session *s, const dw_output *action)
 {
     switch (action->kind) {
     case DW_KIND_SEND: dws_send_later(s, action->length); break;
     case DW_KIND_ANSWER: dws_take_answer(s, action); break;
-    case DW_KIND_REPORT: dws_take_report(s, action); break;
+    case DW_KIND_REPORT: dws_take_report(s); break;
     case DW_KIND_STATE: dws_take_state(s, action->state); break;
     case DW_KIND_DROP: dws_take_drop(s); break;
     case DW_KIND_DIAL:
@@ -1018,17 +1058,21 @@ static inline void dws_take(dws_session *s, const dw_output *action)
         break;
     case DW_KIND_HANG_UP: dws_take_hang_up(s); break;
     case DW_KIND_TIMED_OUT: dws_take_late(s, action); break;
-    case DW_KIND_RENEWED:
-    case DW_KIND_SHOWN: s->must_look = true; break;
+    case DW_KIND_RENEWED: s->must_look = true; break;
+    case DW_KIND_SHOWN:
+        s->must_look = true;
+        dws_note_seen(s, action->ticket, 0);
+        break;
     case DW_KIND_REFUSED: dws_take_refusal(s, action); break;
-    case DW_KIND_TAKEN_ON: /* those of trees: none is followed by the library */
+    case DW_KIND_TAKEN_ON:
     case DW_KIND_LET_GO:
     case DW_KIND_BOUNDED:
-    case DW_KIND_WHOLE: break;
+    case DW_KIND_WHOLE: dws_take_of_tree(s, action); break;
     }
 }
 
 static inline void dws_resume(dws_session *s);
+static inline void dws_see_trees(dws_session *s);
 
 /* Takes what a step answered: all that it says, in its order. A session that is over does nothing more. */
 static inline void dws_act(dws_session *s, enum dw_result result)
@@ -1041,6 +1085,7 @@ static inline void dws_act(dws_session *s, enum dw_result result)
             dws_take(s, &action);
         }
     }
+    dws_see_trees(s);
     dws_lose_beside(s, UINT64_MAX);
     if (s->is_over || result == DW_NONE) {
         return;
@@ -1080,6 +1125,8 @@ static inline struct dws_line dws_ask_again(dws_session *s, struct dws_line *ask
     return rest;
 }
 
+static inline void dws_free_members(struct dws_members *members);
+
 /* Memory ran out within a step, so the library goes no further: another one takes its session up, and follows what was followed. Reads are asked
  * again; whether writes have happened is not known. */
 static inline void dws_resume(dws_session *s)
@@ -1103,8 +1150,12 @@ static inline void dws_resume(dws_session *s)
     for (dws_subject *one = s->subjects; one != NULL; one = one->next) {
         one->ticket = 0;
     }
+    for (dws_tree *tree = s->trees; tree != NULL; tree = tree->next) {
+        tree->ticket = 0;
+        dws_free_members(&tree->members);
+    }
+    dws_lose_trees(s);
     struct dws_line rest = dws_ask_again(s, &s->sent);
-    dws_begin_trees(s, true);
     dws_hang_up(s);
     dws_tell(s, DWS_CUT, dw_result_words(DW_HALTED));
     dws_finish_all(s, &rest, DW_OUTCOME_LOST);
@@ -1574,25 +1625,45 @@ static inline bool dws_is_good(const dws_subject *subject)
     return subject->mark == DW_MARK_GOOD;
 }
 
-/* A read of a subject was refused, for another reason than the last one. */
+/* Whether a read that was refused so may be answered later, for reasons of the server's or of the connection. */
+static inline bool dws_is_busy(int32_t code)
+{
+    enum { THROTTLED = -127 };
+    return code == THROTTLED || code == DW_CODE_CONNECTION_LOSS || code == DW_CODE_SESSION_EXPIRED || code == DW_CODE_SESSION_MOVED;
+}
+
+/* Why a read was refused, as of a call. */
+static inline int32_t dws_why_refused(const dw_output *refused)
+{
+    if (refused->refusal == DW_REFUSAL_CODE) {
+        return refused->code;
+    }
+    return (int32_t)(refused->refusal == DW_REFUSAL_TOO_LARGE ? DW_OUTCOME_TOO_LARGE : DW_OUTCOME_TOO_MANY_WATCHES);
+}
+
+/* A read of what is followed was refused, for another reason than the last one. Of a tree it is no trouble that a server is busy, or that a node
+ * comes and goes while it is read. */
 static inline void dws_take_refusal(dws_session *s, const dw_output *refused)
 {
     char line[DWS_LONGEST_LINE];
+    int32_t why = dws_why_refused(refused);
     const dws_subject *subject = s->subjects;
     while (subject != NULL && subject->ticket != refused->ticket) {
         subject = subject->next;
     }
-    if (subject == NULL || refused->refusal == DW_REFUSAL_CLOSED) {
+    if (refused->refusal == DW_REFUSAL_CLOSED) {
         return;
     }
-    const char *path = dws_inner(s, subject->path);
-    if (refused->refusal == DW_REFUSAL_CODE) {
-        write_code(line, sizeof line, refused->code, path);
+    bool is_code = refused->refusal == DW_REFUSAL_CODE;
+    if (subject == NULL) {
+        dws_note_seen(s, refused->ticket, is_code && (dws_is_busy(why) || why == DW_CODE_NO_NODE) ? 0 : why);
+    } else if (is_code) {
+        write_code(line, sizeof line, why, dws_inner(s, subject->path));
+        dws_tell(s, DWS_READ_REFUSED, line);
     } else {
-        bool is_large = refused->refusal == DW_REFUSAL_TOO_LARGE;
-        write_outcome(line, sizeof line, is_large ? DW_OUTCOME_TOO_LARGE : DW_OUTCOME_TOO_MANY_WATCHES, path);
+        write_outcome(line, sizeof line, (enum dw_outcome)why, dws_inner(s, subject->path));
+        dws_tell(s, DWS_READ_REFUSED, line);
     }
-    dws_tell(s, DWS_READ_REFUSED, line);
 }
 
 /* Has the library follow a subject, from this moment on. */
@@ -1614,6 +1685,29 @@ static inline dws_subject *dws_next_new(dws_session *s)
     return one;
 }
 
+/* Has the library follow a tree that it does not follow yet. False where there is none. */
+static inline bool dws_begin_tree(dws_session *s, uint64_t now_ms)
+{
+    dws_tree *tree = s->trees;
+    while (tree != NULL && tree->ticket != 0) {
+        tree = tree->next;
+    }
+    if (tree == NULL) {
+        return false;
+    }
+    tree->ticket = ++s->last_ticket;
+    dws_act(s, dw_session_follow_tree(&s->machine, now_ms, tree->ticket, tree->path, strlen(tree->path), tree->most));
+    return true;
+}
+
+/* Has the library follow no more what was noted last. */
+static inline void dws_unfollow_last(dws_session *s, uint64_t now_ms)
+{
+    const struct dws_gone *gone = &s->gone[--s->gone_count];
+    dws_act(s, gone->is_tree ? dw_session_unfollow_tree(&s->machine, now_ms, gone->ticket)
+                             : dw_session_unfollow(&s->machine, now_ms, gone->ticket));
+}
+
 /* Has the library follow what is to be followed, and no more what is not. Callbacks may change both. */
 static inline void dws_follow_new(dws_session *s)
 {
@@ -1624,8 +1718,10 @@ static inline void dws_follow_new(dws_session *s)
         while (!s->is_over && (one = dws_next_new(s)) != NULL) {
             dws_begin_subject(s, one, now_ms);
         }
+        while (!s->is_over && dws_begin_tree(s, now_ms)) {
+        }
         while (!s->is_over && s->gone_count > 0) {
-            dws_act(s, dw_session_unfollow(&s->machine, now_ms, s->gone[--s->gone_count]));
+            dws_unfollow_last(s, now_ms);
         }
     }
 }
@@ -1769,27 +1865,161 @@ static inline bool dws_reserve_texts(struct dws_texts *texts, size_t wanted)
     return is_there;
 }
 
-/* Adds a read to those that are to be asked. */
-static inline void dws_want(dws_session *s, dws_tree *tree, const char *path, enum dw_side side)
+/* Whether it is known that there is no root. */
+static inline bool dws_has_no_root(dws_session *s, const dws_tree *tree)
 {
-    struct dws_texts *lacking = &tree->lacking;
-    size_t length = strlen(path);
-    if (lacking->at == lacking->length) {
-        lacking->at = lacking->length = 0;
+    dw_kept_data kept;
+    uint8_t none;
+    enum dw_result result = dw_session_peek_data(&s->machine, tree->path, strlen(tree->path), &kept, &none, 0);
+    return result == DW_OK && kept.kind == DW_KEPT_ABSENT && kept.mark == DW_MARK_GOOD;
+}
+
+/* Leaves out the members that were let go, where they are the most. */
+static inline void dws_close_up(struct dws_members *members)
+{
+    if (members->left <= members->count / 2) {
+        return;
     }
-    if (!dws_reserve_texts(lacking, lacking->length + length + 8)) {
+    size_t count = 0;
+    for (size_t i = 0; i < members->count; i++) {
+        if (members->all[i].path != NULL) {
+            members->all[count++] = members->all[i];
+        }
+    }
+    members->count = count;
+    members->left = 0;
+}
+
+/* A side of a node is followed for a tree. */
+static inline void dws_take_on(dws_session *s, struct dws_members *members, const dw_output *told)
+{
+    dws_close_up(members);
+    void *block = members->all;
+    bool is_there = dws_reserve(&block, &members->room, (members->count + 1) * sizeof members->all[0]);
+    members->all = (struct dws_member *)block;
+    char *path = is_there ? (char *)malloc(told->length + 1) : NULL;
+    if (path == NULL) {
         dws_fail(s, DW_NO_MEMORY);
         return;
     }
-    uint8_t *at = lacking->bytes + lacking->length;
-    dws_spell_int(at, (uint32_t)length);
-    dws_spell_int(at + 4 + length, (uint32_t)side);
-    memcpy(at + 4, path, length);
-    lacking->length += length + 8;
+    dw_session_copy(&s->machine, 0, path, told->length);
+    path[told->length] = 0;
+    struct dws_member *member = &members->all[members->count++];
+    member->ticket = told->ticket;
+    member->path = path;
+    member->why = 0;
 }
 
-/* What was good of a path has ended. Of a node that was deleted the names above tell. */
-static inline void dws_hear_of_trees(dws_session *s, const dw_output *output)
+/* The member of a ticket; NULL where there is none. */
+static inline struct dws_member *dws_find_member(const struct dws_members *members, uint64_t ticket)
+{
+    size_t low = 0, high = members->count;
+    while (low < high) {
+        size_t middle = low + (high - low) / 2;
+        if (members->all[middle].ticket < ticket) {
+            low = middle + 1;
+        } else {
+            high = middle;
+        }
+    }
+    bool is_there = low < members->count && members->all[low].ticket == ticket && members->all[low].path != NULL;
+    return is_there ? &members->all[low] : NULL;
+}
+
+/* What a ticket follows for a tree is followed no more. */
+static inline void dws_let_member_go(dws_tree *tree, uint64_t ticket)
+{
+    struct dws_member *member = dws_find_member(&tree->members, ticket);
+    if (member == NULL) {
+        return;
+    }
+    tree->must_weigh = tree->must_weigh || member->why != 0;
+    free(member->path);
+    member->path = NULL;
+    member->why = 0;
+    tree->members.left++;
+}
+
+static inline void dws_free_members(struct dws_members *members)
+{
+    for (size_t i = 0; i < members->count; i++) {
+        free(members->all[i].path);
+    }
+    free(members->all);
+    memset(members, 0, sizeof *members);
+}
+
+/* What is said of a tree: after all else that is said of a step. */
+static inline void dws_take_of_tree(dws_session *s, const dw_output *told)
+{
+    bool is_of_node = told->kind == DW_KIND_TAKEN_ON || told->kind == DW_KIND_LET_GO;
+    uint64_t ticket = is_of_node ? told->tree : told->ticket;
+    dws_tree *tree = s->trees;
+    while (tree != NULL && tree->ticket != ticket) {
+        tree = tree->next;
+    }
+    if (tree == NULL) {
+        return;
+    }
+    if (told->kind == DW_KIND_TAKEN_ON) {
+        dws_take_on(s, &tree->members, told);
+    } else if (told->kind == DW_KIND_LET_GO) {
+        dws_let_member_go(tree, told->ticket);
+    } else if (told->kind == DW_KIND_BOUNDED) {
+        tree->fault = told->is_bounded ? DWS_REFUSED - (int32_t)DW_TOO_MANY : 0;
+        tree->must_weigh = true;
+    } else {
+        tree->must_look = true;
+    }
+}
+
+/* Takes what was said of a node of a tree. Of a root that is good it may be known that there is none. */
+static inline void dws_see(dws_session *s, dws_tree *tree, const struct dws_seen *seen)
+{
+    struct dws_member *member = dws_find_member(&tree->members, seen->ticket);
+    if (member == NULL) {
+        return;
+    }
+    bool is_absent = seen->why == 0 && seen->ticket == tree->ticket && dws_has_no_root(s, tree);
+    int32_t why = is_absent ? (int32_t)DW_CODE_NO_NODE : seen->why;
+    tree->must_weigh = tree->must_weigh || member->why != why;
+    member->why = why;
+}
+
+/* Finds out why there are no newer nodes of a tree: for a reason of all of it, or else of the first node that has one. */
+static inline void dws_weigh(dws_session *s, dws_tree *tree)
+{
+    int32_t why = tree->fault;
+    const char *path = tree->path;
+    for (size_t i = 0; why == 0 && i < tree->members.count; i++) {
+        why = tree->members.all[i].why;
+        path = tree->members.all[i].path;
+    }
+    tree->must_weigh = false;
+    if (why != 0) {
+        dws_trouble_tree(s, tree, why, path);
+    } else if (tree->why != 0) {
+        tree->why = 0;
+        tree->is_changed = false; /* it was not told yet */
+    }
+}
+
+/* Takes what was said at a step of nodes of trees, now that it is known which these are. */
+static inline void dws_see_trees(dws_session *s)
+{
+    for (dws_tree *tree = s->trees; tree != NULL && !s->is_over; tree = tree->next) {
+        for (size_t i = 0; i < s->seen_count; i++) {
+            dws_see(s, tree, &s->seen[i]);
+        }
+        if (tree->must_weigh) {
+            dws_weigh(s, tree);
+        }
+    }
+    s->seen_count = 0;
+}
+
+/* What was good of a path has ended. A tree that has it is whole again only where that is said after this. */
+static inline void dws_hear_of_trees(dws_session *s)
 {
     char path[DWS_LONGEST_LINE];
     size_t length = dw_session_copy(&s->machine, 0, path, sizeof path - 1);
@@ -1798,97 +2028,18 @@ static inline void dws_hear_of_trees(dws_session *s, const dw_output *output)
     }
     path[length] = 0;
     for (dws_tree *tree = s->trees; tree != NULL; tree = tree->next) {
-        bool is_root = strcmp(path, tree->path) == 0;
-        if (!is_root && !dws_is_below(path, tree->path)) {
-            continue;
-        }
-        tree->is_good = false;
-        tree->must_look = tree->has_moved = true;
-        tree->is_missing = tree->is_missing && !is_root;
-        if (output->event != DW_EVENT_DELETED || (is_root && output->side == DW_SIDE_DATA)) {
-            dws_want(s, tree, path, output->side);
+        if (strcmp(path, tree->path) == 0 || dws_is_below(path, tree->path)) {
+            tree->is_good = tree->must_look = false;
         }
     }
 }
 
-/* A server has accepted the session; or it is lost, and nothing is kept any more. */
-static inline void dws_begin_trees(dws_session *s, bool is_lost)
+/* Nothing is kept any more. */
+static inline void dws_lose_trees(dws_session *s)
 {
     for (dws_tree *tree = s->trees; tree != NULL; tree = tree->next) {
-        tree->has_moved = true;
-        if (is_lost) {
-            tree->must_look = true;
-            tree->is_good = tree->is_missing = false;
-            tree->lacking.length = tree->lacking.at = 0;
-            tree->look_at_ms = 0;
-        }
+        tree->is_good = tree->must_look = false;
     }
-}
-
-/* Whether a read that was refused so may be answered later, for reasons of the server's or of the connection. */
-static inline bool dws_is_busy(int32_t why)
-{
-    enum { THROTTLED = -127 };
-    return why == THROTTLED || why == DW_CODE_CONNECTION_LOSS || why == DW_CODE_SESSION_EXPIRED || why == DW_CODE_SESSION_MOVED
-           || why == DW_OUTCOME_TOO_MANY_PENDING;
-}
-
-/* A read of a tree is answered. Where its root was not there, it is asked whether it is, which leaves a watch. */
-static inline void dws_take_tree_read(dws_session *s, dws_call *call)
-{
-    dws_tree *tree = (dws_tree *)call->context;
-    bool is_question = call->kind == DWS_EXISTS, has_no_root = call->why == DW_CODE_NO_NODE && strcmp(call->path, tree->path) == 0;
-    bool is_lost = call->why == DW_OUTCOME_LOST || call->why == DW_OUTCOME_NOT_CONNECTED || call->why == DW_OUTCOME_EXPIRED
-                   || call->why == DW_OUTCOME_CLOSED || call->why == DWS_LATE;
-    free(call->text); /* the library keeps it */
-    free(call->names);
-    call->text = NULL;
-    call->names = NULL;
-    call->room = call->names_room = 0;
-    call->next = tree->idle;
-    tree->idle = call;
-    tree->asked--;
-    tree->must_look = true;
-    tree->has_moved = tree->has_moved || (call->why == 0 && !is_question) || (has_no_root && !tree->is_missing);
-    tree->is_missing = has_no_root || (tree->is_missing && !is_question);
-    if (call->why == 0 || call->why == DW_CODE_NO_NODE || is_lost) {
-        return;
-    }
-    tree->look_at_ms = s->now_ms + DWS_BETWEEN_READS_MS;
-    if (!dws_is_busy(call->why)) {
-        dws_trouble_tree(s, tree, call->why, call->path);
-    }
-}
-
-static inline void dws_put(dws_session *s, dws_call *call);
-
-/* Asks the next read, where one is to be asked. */
-static inline bool dws_ask_tree_read(dws_session *s, dws_tree *tree)
-{
-    const uint8_t *at = tree->lacking.bytes + tree->lacking.at;
-    const char *path;
-    size_t length;
-    enum dw_side side;
-    if (tree->idle == NULL || !dws_read_lacking(&at, tree->lacking.bytes + tree->lacking.length, &path, &length, &side)) {
-        return false;
-    }
-    dws_call *read = tree->idle;
-    char *kept = (char *)realloc(read->path, length + 1);
-    if (kept == NULL) {
-        dws_fail(s, DW_NO_MEMORY);
-        return false;
-    }
-    memcpy(kept, path, length);
-    kept[length] = 0;
-    tree->lacking.at = (size_t)(at - tree->lacking.bytes);
-    tree->idle = read->next;
-    tree->asked++;
-    bool is_question = tree->is_missing && side == DW_SIDE_DATA && strcmp(kept, tree->path) == 0;
-    read->kind = is_question ? DWS_EXISTS : side == DW_SIDE_DATA ? DWS_GET : DWS_CHILDREN;
-    read->path = kept;
-    read->watch = true;
-    dws_put(s, read);
-    return true;
 }
 
 /* Takes the nodes that the library has spelled. */
@@ -1910,81 +2061,63 @@ static inline void dws_show_tree(dws_session *s, dws_tree *tree)
         tree->nodes[tree->count++] = node;
     }
     qsort(tree->nodes, tree->count, sizeof node, dws_compare_nodes);
+    for (size_t i = 0; i < tree->members.count; i++) {
+        tree->members.all[i].why = 0; /* who is refused still is not of the tree any more */
+    }
     tree->zxid = dw_session_last_zxid(&s->machine);
     tree->is_good = tree->is_changed = true;
-    tree->why = 0;
+    tree->why = tree->fault = 0;
 }
 
-/* Whether it is known that there is no root. */
-static inline bool dws_has_no_root(dws_session *s, const dws_tree *tree)
+/* Copies the nodes at and below the root of a tree. */
+static inline enum dw_result dws_collect(dws_session *s, dws_tree *tree)
 {
-    dw_kept_data kept;
-    uint8_t none;
-    enum dw_result result = dw_session_peek_data(&s->machine, tree->path, strlen(tree->path), &kept, &none, 0);
-    return result == DW_OK && kept.kind == DW_KEPT_ABSENT && kept.mark == DW_MARK_GOOD;
-}
-
-/* Copies what this function of the library finds at and below the root of a tree. */
-static inline enum dw_result dws_collect(dws_session *s, const dws_tree *tree, struct dws_texts *texts,
-                                         enum dw_result (*find)(dw_session *, const char *, size_t, size_t, uint8_t *, size_t, size_t *))
-{
+    struct dws_texts *text = &tree->text;
     size_t length = strlen(tree->path);
-    texts->length = texts->at = 0;
-    if (!dws_reserve_texts(texts, 4096)) {
+    text->length = 0;
+    if (!dws_reserve_texts(text, 4096)) {
         return DW_NO_MEMORY;
     }
-    enum dw_result result = find(&s->machine, tree->path, length, tree->most, texts->bytes, texts->room, &texts->length);
-    if (result == DW_OK && texts->length > texts->room) {
-        if (!dws_reserve_texts(texts, texts->length + texts->length / 8)) {
+    enum dw_result result = dw_session_subtree(&s->machine, tree->path, length, tree->most, text->bytes, text->room, &text->length);
+    if (result == DW_OK && text->length > text->room) {
+        if (!dws_reserve_texts(text, text->length + text->length / 8)) {
             return DW_NO_MEMORY;
         }
-        result = find(&s->machine, tree->path, length, tree->most, texts->bytes, texts->room, &texts->length);
+        result = dw_session_subtree(&s->machine, tree->path, length, tree->most, text->bytes, text->room, &text->length);
     }
     return result;
 }
 
-/* Finds out what is lacking. Where nothing has come of the reads before, they are asked again after a second. */
+/* Shows a tree where it is whole. Where it is not, DW_OK means that it is lacking reads, and another result that no read makes it whole. */
 static inline enum dw_result dws_learn(dws_session *s, dws_tree *tree)
 {
-    if (dws_has_no_root(s, tree)) {
-        dws_trouble_tree(s, tree, DW_CODE_NO_NODE, tree->path);
-        return DW_OK;
+    uint8_t none;
+    size_t length;
+    enum dw_result result = dws_collect(s, tree);
+    if (result == DW_OK) {
+        dws_show_tree(s, tree);
+    } else if (result == DW_NOT_WHOLE) {
+        result = dw_session_lacking(&s->machine, tree->path, strlen(tree->path), tree->most, &none, 0, &length);
     }
-    if (!tree->has_moved) {
-        tree->must_look = tree->has_moved = true;
-        tree->look_at_ms = s->now_ms + DWS_BETWEEN_READS_MS;
-        return DW_OK;
-    }
-    tree->has_moved = false;
-    return dws_collect(s, tree, &tree->lacking, dw_session_lacking);
+    return result;
 }
 
-/* Shows a tree where it is whole, and else has what is lacking be read. */
+/* Looks at a tree. After a look that took long, the next one waits. */
 static inline void dws_look_at_tree(dws_session *s, dws_tree *tree)
 {
     struct timespec begun, ended;
     clock_gettime(CLOCK_MONOTONIC, &begun);
     tree->must_look = false;
-    enum dw_result result = dws_collect(s, tree, &tree->text, dw_session_subtree);
-    if (result == DW_OK) {
-        dws_show_tree(s, tree);
-    } else if (result == DW_NOT_WHOLE) {
-        result = dws_learn(s, tree);
-    }
+    enum dw_result result = dws_learn(s, tree);
     if (result == DW_NO_MEMORY || result == DW_CLOSED) {
         dws_fail(s, result);
-    } else if (result != DW_OK) {
-        dws_trouble_tree(s, tree, DWS_REFUSED - (int32_t)result, tree->path);
+    } else if (!s->is_over) {
+        tree->fault = result == DW_OK ? 0 : DWS_REFUSED - (int32_t)result;
+        dws_weigh(s, tree);
     }
     clock_gettime(CLOCK_MONOTONIC, &ended);
     int64_t took_us = (int64_t)(ended.tv_sec - begun.tv_sec) * 1000000 + (ended.tv_nsec - begun.tv_nsec) / 1000;
-    tree->look_at_ms = dws_most(tree->look_at_ms, dws_now_ms() + (uint64_t)took_us * DWS_SHARE / 1000);
-}
-
-/* Whether a tree may be another one, and nothing of it is to be asked or on its way. */
-static inline bool dws_may_look(const dws_tree *tree)
-{
-    return tree->must_look && tree->asked == 0 && tree->lacking.at == tree->lacking.length;
+    tree->look_at_ms = dws_now_ms() + (uint64_t)took_us * DWS_SHARE / 1000;
 }
 
 /* Shows a tree of which there is something to be told, where there is one. */
@@ -2003,47 +2136,37 @@ static inline bool dws_show_next_tree(dws_session *s)
     return false;
 }
 
-/* Has trees go on, where a server has accepted the session. */
-static inline void dws_grow_trees(dws_session *s)
+/* When a tree is to be looked at. */
+static inline uint64_t dws_look_due(const dws_tree *tree)
+{
+    return tree->must_look ? tree->look_at_ms : UINT64_MAX;
+}
+
+/* Looks at trees that are worth it, where a server has accepted the session, and shows what is to be told. */
+static inline void dws_look_at_trees(dws_session *s)
 {
     bool is_connected = dws_is_connected(s) && !s->is_closing;
     for (dws_tree *tree = s->trees; tree != NULL && is_connected && !s->is_over; tree = tree->next) {
-        if (dws_may_look(tree) && tree->look_at_ms <= s->now_ms) {
+        if (dws_look_due(tree) <= s->now_ms) {
             dws_look_at_tree(s, tree);
-        }
-        while (!s->is_over && dws_ask_tree_read(s, tree)) {
         }
     }
     while (!s->is_over && dws_show_next_tree(s)) {
     }
 }
 
-/* When a tree is to go on, though nothing comes from the server. */
-static inline uint64_t dws_growth(dws_session *s)
+/* When a tree is to be looked at, though nothing comes from the server. */
+static inline uint64_t dws_first_look(dws_session *s)
 {
     uint64_t first = UINT64_MAX;
     bool is_connected = dws_is_connected(s) && !s->is_closing;
     for (dws_tree *tree = s->trees; tree != NULL && is_connected; tree = tree->next) {
-        first = dws_may_look(tree) ? dws_least(first, tree->look_at_ms) : first;
+        first = dws_least(first, dws_look_due(tree));
     }
     return first;
 }
 
 static inline char *dws_outer(const dws_session *s, const char *path);
-
-/* Makes the calls by which a tree reads. */
-static inline bool dws_make_reads(dws_tree *tree)
-{
-    tree->reads = (dws_call *)calloc(DWS_MOST_READS, sizeof *tree->reads);
-    for (size_t i = 0; tree->reads != NULL && i < DWS_MOST_READS; i++) {
-        dws_call *read = &tree->reads[i];
-        read->then = dws_take_tree_read;
-        read->context = tree;
-        read->next = tree->idle;
-        tree->idle = read;
-    }
-    return tree->reads != NULL;
-}
 
 static inline enum dw_result dws_follow_tree(dws_session *s, dws_tree *tree, const char *path, size_t most,
                                              void (*shown)(dws_session *, dws_tree *))
@@ -2055,9 +2178,6 @@ static inline enum dw_result dws_follow_tree(dws_session *s, dws_tree *tree, con
     if (result == DW_OK) {
         result = dw_session_peek_data(&s->machine, tree->path, strlen(tree->path), &kept, &none, 0);
     }
-    if (result == DW_OK && !dws_make_reads(tree)) {
-        result = DW_NO_MEMORY;
-    }
     if (result != DW_OK) {
         free(tree->path);
         tree->path = NULL;
@@ -2065,13 +2185,13 @@ static inline enum dw_result dws_follow_tree(dws_session *s, dws_tree *tree, con
     }
     tree->most = most > 0 ? most : (size_t)DWS_MOST_NODES;
     tree->shown = shown;
-    tree->must_look = tree->has_moved = true;
     tree->next = s->trees;
     s->trees = tree;
+    s->must_follow = true;
     return DW_OK;
 }
 
-static inline void dws_drop_read(dws_session *s, struct dws_line *line, dws_call *read);
+static inline void dws_let_go(dws_session *s, uint64_t ticket, bool is_tree);
 
 static inline void dws_unfollow_tree(dws_session *s, dws_tree *tree)
 {
@@ -2082,13 +2202,10 @@ static inline void dws_unfollow_tree(dws_session *s, dws_tree *tree)
     if (*at != NULL) {
         *at = tree->next;
     }
-    for (size_t i = 0; tree->reads != NULL && i < DWS_MOST_READS; i++) {
-        dws_drop_read(s, &s->queue, &tree->reads[i]);
-        dws_drop_read(s, &s->sent, &tree->reads[i]);
-        dws_release(&tree->reads[i]);
+    if (tree->ticket != 0 && !s->is_over) {
+        dws_let_go(s, tree->ticket, true);
     }
-    free(tree->reads);
-    free(tree->lacking.bytes);
+    dws_free_members(&tree->members);
     free(tree->text.bytes);
     free(tree->nodes);
     free(tree->trouble);
@@ -2131,7 +2248,7 @@ static inline void dws_work(dws_session *s)
         while (!s->is_over && dws_show_next(s)) {
         }
     }
-    dws_grow_trees(s);
+    dws_look_at_trees(s);
     dws_send_queued(s);
     dws_transmit(s);
 }
@@ -2162,7 +2279,7 @@ static inline uint64_t dws_first_due(dws_session *s)
     uint64_t first = dws_least(dws_deadline(s), dws_end_of_waiting(s));
     first = dws_least(first, s->queue.count > 0 ? s->queue.first->until_ms : UINT64_MAX);
     first = dws_least(first, s->is_closing ? s->close.until_ms : UINT64_MAX);
-    return dws_least(first, dws_growth(s));
+    return dws_least(first, dws_first_look(s));
 }
 
 static inline int dws_wanted(dws_session *s, struct pollfd *polled)
@@ -2394,31 +2511,18 @@ static inline enum dw_result dws_follow_children(dws_session *s, dws_subject *su
     return dws_follow_side(s, subject, path, DW_SIDE_CHILDREN, changed);
 }
 
-/* A read of a tree is on its way no longer: what is answered is nobody's. */
-static inline void dws_drop_read(dws_session *s, struct dws_line *line, dws_call *read)
-{
-    dws_call **at = &line->first;
-    for (size_t i = 0; i < line->count; i++) {
-        if (*at == read) {
-            dws_remove(line, at);
-            s->has_news = true;
-            return;
-        }
-        at = &(*at)->next;
-    }
-}
-
-/* The library is to follow the subject of this ticket no more. */
-static inline void dws_let_go(dws_session *s, uint64_t ticket)
+/* The library is to follow what has this ticket no more. */
+static inline void dws_let_go(dws_session *s, uint64_t ticket, bool is_tree)
 {
     void *block = s->gone;
-    bool is_there = dws_reserve(&block, &s->gone_room, (s->gone_count + 1) * sizeof ticket);
-    s->gone = (uint64_t *)block;
+    bool is_there = dws_reserve(&block, &s->gone_room, (s->gone_count + 1) * sizeof s->gone[0]);
+    s->gone = (struct dws_gone *)block;
     if (!is_there) {
         dws_fail(s, DW_NO_MEMORY);
         return;
     }
-    s->gone[s->gone_count++] = ticket;
+    s->gone[s->gone_count].ticket = ticket;
+    s->gone[s->gone_count++].is_tree = is_tree;
     s->must_follow = true;
 }
 
@@ -2432,7 +2536,7 @@ static inline void dws_unfollow(dws_session *s, dws_subject *subject)
         *at = subject->next;
     }
     if (subject->ticket != 0 && !s->is_over) {
-        dws_let_go(s, subject->ticket);
+        dws_let_go(s, subject->ticket, false);
     }
     free(subject->path);
     free(subject->text);
@@ -2483,6 +2587,7 @@ static inline void dws_free(dws_session *s)
     free(s->unsent.bytes);
     free(s->waiting.since_ms);
     free(s->gone);
+    free(s->seen);
     free(s->hosts);
     free(s->hosts_text);
     free(s);

@@ -1,5 +1,5 @@
-/* A session of session.h at a server that the test is itself: the moment of a ping, when the server was heard, expired sessions, a lock, and memory
- * that runs out within a session, each request for it in turn. */
+/* A session of session.h at a server that the test is itself: the moment of a ping, when the server was heard, expired sessions, a lock, trees of
+ * which reads are refused, and memory that runs out within a session, each request for it in turn. */
 #define _POSIX_C_SOURCE 200809L
 #include "refusing_heap.h"
 #include "served.h"
@@ -10,6 +10,7 @@ enum { TYPE_CONNECT = 0, TYPE_CREATE = 1, TYPE_EXISTS = 3, TYPE_GET = 4, TYPE_SE
 
 static dws_call get, set, many[2 * DWS_MOST_ASKED];
 static dws_subject node;
+static dws_tree tree;
 
 static bool has_told(enum dws_event event)
 {
@@ -390,6 +391,124 @@ static void share_a_lock(void)
     dws_lock_release(&lock);
 }
 
+static void answer_node(int32_t xid)
+{
+    struct bytes came;
+    came.length = 0;
+    add_data(&came, xid, 6, "one", &STAT);
+    answer_at_once(&came);
+}
+
+static void answer_no_names(int32_t xid)
+{
+    struct bytes came;
+    came.length = 0;
+    add_no_names(&came, xid, 6, &STAT);
+    answer_at_once(&came);
+}
+
+static void refuse(int32_t xid)
+{
+    struct bytes came;
+    came.length = 0;
+    add_header(&came, xid, 6, DW_CODE_NO_AUTH);
+    answer_at_once(&came);
+}
+
+static void take_tree(dws_session *s, dws_tree *shown)
+{
+    char why[DWS_LONGEST_LINE];
+    if (shown->why != 0) {
+        dws_tree_words(s, shown, why, sizeof why);
+        say("%s\n", why);
+    } else {
+        say("%d nodes\n", (int)shown->count);
+    }
+}
+
+/* Two nodes of a tree are refused: the first one is told, and the other one once that is read, though it was refused long before. */
+static void refuse_nodes(void)
+{
+    open_session();
+    admit();
+    EXPECT_NUMBER(DW_OK, dws_follow_tree(session, &tree, "/t", 0, take_tree));
+    hear_about(1, TYPE_GET, "/t");
+    hear_about(2, TYPE_CHILDREN, "/t");
+    answer_node(1);
+    answer_names(2, 6, "a", "b");
+    hear_about(3, TYPE_GET, "/t/a");
+    hear_about(4, TYPE_GET, "/t/b");
+    hear_about(5, TYPE_CHILDREN, "/t/a");
+    hear_about(6, TYPE_CHILDREN, "/t/b");
+    refuse(3);
+    refuse(4);
+    answer_no_names(5);
+    answer_no_names(6);
+    turn(0);
+    expect_said("the node's ACL does not admit this client: /t/a\n");
+    hear_about(7, TYPE_GET, "/t/a");
+    answer_node(7);
+    hear_about(8, TYPE_GET, "/t/b");
+    refuse(8);
+    turn(0);
+    expect_said("the node's ACL does not admit this client: /t/b\n");
+    hear_about(9, TYPE_GET, "/t/b");
+    answer_node(9);
+    turn(0);
+    expect_said("3 nodes\n");
+    EXPECT(tree.is_good && tree.why == 0);
+    close_all();
+}
+
+/* A tree that is followed no more while its nodes are read is told nothing, and what comes of it is nobody's. */
+static void unfollow_tree(void)
+{
+    open_session();
+    admit();
+    EXPECT_NUMBER(DW_OK, dws_follow_tree(session, &tree, "/t", 0, take_tree));
+    hear_about(1, TYPE_GET, "/t");
+    hear_about(2, TYPE_CHILDREN, "/t");
+    answer_node(1);
+    answer_names(2, 6, "a", "b");
+    hear_about(3, TYPE_GET, "/t/a");
+    dws_unfollow_tree(session, &tree);
+    turn(0);
+    EXPECT(session->trees == NULL && session->gone_count == 0);
+    refuse(3);
+    turn(0);
+    EXPECT_NUMBER(DW_OK, dws_follow_tree(session, &tree, "/t/c", 0, take_tree));
+    hear_about(4, TYPE_GET, "/t/b");
+    hear_about(5, TYPE_CHILDREN, "/t/a");
+    hear_about(6, TYPE_CHILDREN, "/t/b");
+    hear_about(7, TYPE_GET, "/t/c");
+    hear_about(8, TYPE_CHILDREN, "/t/c");
+    refuse(4);
+    answer_no_names(5);
+    answer_no_names(6);
+    answer_node(7);
+    answer_no_names(8);
+    turn(0);
+    expect_said("1 nodes\n");
+    EXPECT(tree.is_good && tree.why == 0);
+    close_all();
+}
+
+/* Where a name makes no path no read makes the tree whole, and that is told. */
+static void find_no_path(void)
+{
+    open_session();
+    admit();
+    EXPECT_NUMBER(DW_OK, dws_follow_tree(session, &tree, "/t", 0, take_tree));
+    hear_about(1, TYPE_GET, "/t");
+    hear_about(2, TYPE_CHILDREN, "/t");
+    answer_node(1);
+    answer_names(2, 6, "a", "..");
+    turn(0);
+    expect_said("some of what is asked for is not kept, or not good: /t; read what is lacking, with a watch\n");
+    EXPECT(!tree.is_good && tree.count == 0);
+    close_all();
+}
+
 /* Serves what the session asks, over any number of connections, as far as it has asked. */
 static void serve(void)
 {
@@ -413,6 +532,7 @@ static void serve(void)
         switch (type) {
         case TYPE_CONNECT: add_connected(&came); break;
         case TYPE_GET: add_data(&came, xid, 6, "one", &STAT); break;
+        case TYPE_CHILDREN: add_no_names(&came, xid, 6, &STAT); break;
         case TYPE_SET:
         case TYPE_EXISTS: add_stat(&came, xid, 6, &STAT); break;
         default: add_header(&came, xid, 6, 0); break;
@@ -423,6 +543,31 @@ static void serve(void)
         ssize_t sent = send(line, came.at, came.length, MSG_NOSIGNAL);
         EXPECT(sent != 0);
         told += sent > 0 ? (size_t)sent : 0;
+    }
+}
+
+/* As many paths are watched as may be. So the root of a tree is refused, which is said before the library says which node that is. */
+static void watch_all(void)
+{
+    enum { ALL = 65536 };
+    static dws_call all[ALL];
+    char path[32];
+    line = -1;
+    open_session();
+    for (int i = 0; i < ALL; i++) {
+        snprintf(path, sizeof path, "/w/%d", i);
+        dws_exists(session, &all[i], path, true);
+    }
+    while (!all[ALL - 1].is_answered) {
+        serve();
+        turn(0);
+    }
+    EXPECT_NUMBER(DW_OK, dws_follow_tree(session, &tree, "/t", 0, take_tree));
+    turn(0);
+    expect_said("65536 paths are watched: /t; read without a watch, or in another session\n");
+    close_all();
+    for (int i = 0; i < ALL; i++) {
+        dws_release(&all[i]);
     }
 }
 
@@ -438,10 +583,14 @@ static bool run_short(long refused_at)
         EXPECT(was_refused());
         return false;
     }
-    enum dw_result followed = dws_follow(session, &node, "/a", NULL);
+    enum dw_result followed = dws_follow(session, &node, "/a", NULL), planted = dws_follow_tree(session, &tree, "/t", 0, NULL);
     dws_get(session, &get, "/a", false);
     dws_set(session, &set, "/a", "one", 3, -1);
-    for (int i = 0; i < MOST_TURNS && !(get.is_answered && set.is_answered && (followed != DW_OK || dws_is_good(&node))); i++) {
+    for (int i = 0; i < MOST_TURNS; i++) {
+        bool is_shown = (followed != DW_OK || dws_is_good(&node)) && (planted != DW_OK || tree.is_good);
+        if (get.is_answered && set.is_answered && is_shown) {
+            break;
+        }
         serve();
         turn(i);
         if (dws_is_over(session)) {
@@ -450,9 +599,11 @@ static bool run_short(long refused_at)
     }
     EXPECT(get.is_answered && set.is_answered);
     EXPECT(followed == DW_OK || followed == DW_NO_MEMORY);
+    EXPECT(planted == DW_OK || planted == DW_NO_MEMORY);
     bool goes_on = !dws_is_over(session);
     EXPECT(goes_on != has_told(DWS_FAILED));
     EXPECT(!goes_on || followed != DW_OK || strcmp(node.text, "one") == 0);
+    EXPECT(!goes_on || planted != DW_OK || (tree.count == 1 && strcmp(tree.nodes[0].data, "one") == 0));
     EXPECT(get.why == 0 || get.why == DWS_REFUSED - DW_NO_MEMORY || !goes_on);
     EXPECT(set.why == 0 || set.why == DWS_REFUSED - DW_NO_MEMORY || set.why == DW_OUTCOME_LOST || !goes_on);
     dws_free(session);
@@ -475,8 +626,10 @@ static void run_out_of_memory(void)
     close(line);
 }
 
-int main(void)
+/* With a word some tests are left out that take long by valgrind. */
+int main(int argc, char **argv)
 {
+    (void)argv;
     begin_listening();
     ping_in_time();
     answer_pings_alone();
@@ -488,6 +641,12 @@ int main(void)
     wait_for_a_lock();
     lose_a_lock();
     share_a_lock();
+    refuse_nodes();
+    unfollow_tree();
+    find_no_path();
+    if (argc == 1) {
+        watch_all();
+    }
     run_out_of_memory();
     dws_release(&get);
     dws_release(&set);

@@ -117,8 +117,8 @@ class Tree(Case):
         self.show(partner.address)
         self.assertEqual(len(self.subtree()), 701)
 
-    def serve(self, read):
-        """A server of /t with the child /t/a, whose data are read by this function of the line and the xid."""
+    def serve(self, read, kinds=None):
+        """A server of /t with the child /t/a, whose data are read by this function of the line and the xid. The kinds of its reads are noted."""
 
         def serve(_, line):
             line.admit(10_000)
@@ -126,6 +126,8 @@ class Tree(Case):
                 frame = line.frame()
                 xid, kind = struct.unpack(">ii", frame[:8])
                 is_child = b"/t/a" in frame
+                if kinds is not None and is_child and kind != GET_CHILDREN2:
+                    kinds.append(kind)
                 if kind == GET_DATA and is_child:
                     read(line, xid)
                 elif kind == GET_DATA:
@@ -141,7 +143,7 @@ class Tree(Case):
 
     def test_refused_reads(self):
         """The program goes on at each code, and reads once a second at most. It says which are no wait for a server that is busy."""
-        codes, reads, answers = [-101, -127, -102], [], []
+        codes, reads, answers = [-127, -102], [], []
 
         def read(line, xid):
             reads.append(time.monotonic())
@@ -154,6 +156,19 @@ class Tree(Case):
         self.assertGreater(min(after - before for before, after in zip(answers, reads[1:])), 0.95)
         self.wait_for_words("tree: the node's ACL does not admit this client: /t/a\n")
         self.assertNotIn("too much to do", self.said())
+
+    def test_node_that_was_not_there(self):
+        """Whether there is one is asked at once, and where there is, it is read again."""
+        codes, kinds = [-101], []
+
+        def read(line, xid):
+            code = codes.pop() if codes else 0
+            line.answer(xid, code, b"" if code else struct.pack(">i", 3) + b"one" + STAT)
+
+        self.serve(read, kinds)
+        self.assertEqual(self.subtree(), ['/t "root"', '/t/a "one"'])
+        self.assertEqual(kinds, [GET_DATA, EXISTS, GET_DATA])
+        self.assertNotIn("/t/a", self.said())
 
     def test_tree_that_never_settles(self):
         """Each answer is stale at once, until the server is quiet: there is no subtree before."""

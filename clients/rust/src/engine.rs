@@ -12,7 +12,7 @@ use crate::client::{Client, State};
 use crate::error::{ErrorKind, Search};
 use crate::fault::{Code, Fault, NoReply};
 use crate::followed::Followed;
-use crate::grove::Grove;
+use crate::growing::Growing;
 use crate::hosts::{chance, Host, Hosts, Order, Places};
 use crate::introductions::Introductions;
 use crate::lane::{Credentials, Lane};
@@ -22,6 +22,7 @@ use crate::saved::SavedSession;
 use crate::stream::Outgoing;
 use crate::ticket::{Ending, Slot};
 use crate::told::{Event, Outcome, Told};
+use std::collections::BTreeMap;
 use std::net::SocketAddr;
 use std::sync::Arc;
 use std::time::Duration;
@@ -96,7 +97,8 @@ pub(crate) struct Engine {
     calls: Calls,
     told: Told,
     followed: Followed,
-    grove: Grove,
+    /// The trees that are followed, by the tickets that the machine has for them.
+    trees: BTreeMap<u64, Growing>,
     /// The attempts that the machine has asked for, and the one that is to be begun or is on its way.
     attempts: u64,
     wanted: Option<Attempt>,
@@ -134,7 +136,7 @@ impl Engine {
             chroot,
             calls: Calls::default(),
             followed: Followed::default(),
-            grove: Grove::default(),
+            trees: BTreeMap::new(),
             attempts: 0,
             wanted: None,
             dialling: None,
@@ -162,10 +164,11 @@ impl Engine {
         self.calls.end_all(&NoReply::ConnectionLoss.into());
         self.machine = renewed;
         self.places.begin_again();
-        self.grove.begin_again();
+        self.trees.values_mut().for_each(Growing::begin_again);
         if self.course != Course::Stopped {
             self.course = Course::GoesOn;
             self.follow_again();
+            self.plant_again();
         }
         Ok(())
     }
@@ -307,7 +310,7 @@ impl Engine {
 
     /// Whether who waits for events, or for news, has something to look at.
     pub(crate) fn has_event(&mut self) -> bool {
-        let is_news = self.grove.takes_news() | self.followed.takes_news();
+        let is_news = self.takes_tree_news() | self.followed.takes_news();
         is_news || self.told.has_event() || self.is_over()
     }
 
@@ -420,9 +423,11 @@ mod tests {
     use super::{
         Beginning, Engine, ErrorKind, Fault, Hosts, NoReply, Order, Outgoing, Plan, Slot, NEVER,
     };
+    use crate::action::Refusal;
     use crate::client::State;
     use crate::jute::Writer;
     use crate::request::Request;
+    use crate::told::{Shows, TreeNews};
     use std::io;
     use std::net::SocketAddr;
     use std::sync::Arc;
@@ -514,6 +519,23 @@ mod tests {
         let saved = engine.machine().saved().unwrap();
         assert_eq!((saved.id(), engine.is_over()), (Some(7), false));
         connect(&mut engine);
+    }
+
+    /// So it is where as many paths are watched as may be: the read is refused at once.
+    #[test]
+    fn a_refusal_is_of_the_node_that_is_told_after_it() {
+        let mut engine = connected();
+        let shown = engine.plant("/t", 10).unwrap();
+        let (tree, ticket) = (*engine.trees.keys().next().unwrap(), 1 << 63 | 1);
+        let refused = Shows::Refused(Refusal::TooManyWatches);
+        let path = String::from("/t/a");
+        engine.told.news.shown.push((ticket, refused));
+        let taken_on = TreeNews::TakenOn { ticket, path };
+        engine.told.news.trees.push((tree, taken_on));
+        engine.settle(NEVER, Ok(())).unwrap();
+        let trouble = shown.trouble().unwrap();
+        let kind = ErrorKind::from(Refusal::TooManyWatches);
+        assert_eq!((trouble.path(), trouble.kind()), (Some("/t/a"), &kind));
     }
 
     #[test]

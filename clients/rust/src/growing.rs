@@ -1,27 +1,25 @@
-//! How a tree is read until all of it is good, and read again where it changes. It has no connection and no thread.
+//! What is shown of a tree, and when it is looked at. It has no connection and no thread.
 //!
-//! The core judges whether a tree is whole, and what is lacking. What is noted here says when it is worth while to ask, and what to read
-//! next: where that is wrong, it costs a look in vain.
+//! The machine decides which nodes are followed, and tells when the tree is worth a look; the core judges whether it is of one moment. What
+//! is noted here is who waits for what is shown, how often it is looked at, and why there is nothing newer.
 
+use crate::action::Refusal;
 use crate::chroot::Chroot;
 use crate::error::{Error, ErrorKind};
-use crate::fault::{Code, Fault, NoReply};
+use crate::fault::{Code, Fault};
 use crate::kept::{DataAnswer, Kept, Mark};
 use crate::machine::Machine;
 use crate::moment::{Clock, Moment};
-use crate::node::{NodeEvent, Side, Watch};
-use crate::request::CoreCall;
-use crate::subtree::Lacking;
-use crate::told::{Fired, Outcome};
+use crate::told::{Shows, TreeNews};
 use crate::tree_snapshot::{is_below, TreeSnapshot};
-use std::collections::{HashMap, VecDeque};
+use std::collections::{BTreeMap, HashMap};
 use std::fmt;
 use std::mem;
 use std::sync::{Mutex, MutexGuard, PoisonError, Weak};
 use std::time::{Duration, Instant};
 
-/// The time from a read that was refused to the next one of the same.
-const BETWEEN_READS: Duration = Duration::from_secs(1);
+/// The time from a look for which there was no memory to the next one.
+const BETWEEN_LOOKS: Duration = Duration::from_secs(1);
 
 /// A look at a whole tree takes at most this part of the time: after one that took long, the next one waits.
 const SHARE: u32 = 10;
@@ -110,67 +108,55 @@ impl Board {
         self.trouble = None;
     }
 
-    /// Whether the trouble is another one than before.
-    fn warn(&mut self, trouble: Error) -> bool {
-        let is_news = self.trouble.as_ref() != Some(&trouble);
+    /// Whether there is a trouble, and it is another one than before.
+    fn warn(&mut self, trouble: Option<Error>) -> bool {
+        let is_news = trouble.is_some() && self.trouble != trouble;
         if is_news {
             self.troubled = self.next_number();
-            self.trouble = Some(trouble);
+            self.is_current = false;
         }
-        self.is_current = false;
+        self.trouble = trouble;
         is_news
     }
 }
 
-/// What a tree grows on.
-#[derive(Clone, Copy)]
-pub(crate) struct Ground<'a> {
-    pub(crate) machine: &'a Machine,
-    pub(crate) chroot: &'a Chroot,
-    pub(crate) clock: Clock,
-}
+/// The ticket by which it is noted what keeps all of a tree from being shown. Nothing is followed by it.
+const ALL: u64 = 0;
 
-/// A read that was refused, or has found no node.
-struct Refusal {
-    until: Moment,
-    /// Where it has found no node: the last change of the names that lead to it.
-    names_of: Option<i64>,
-}
-
-/// One tree. Its paths are those that the servers know.
+/// One tree. The path of its root is the one that the servers know.
 pub(crate) struct Growing {
     shown: Weak<Shown>,
-    root: String,
-    most: usize,
-    queue: VecDeque<Lacking>,
-    /// The reads that are to be asked or are on their way: the last change of the names that led there, where they were asked.
-    begun: HashMap<Lacking, Option<i64>>,
-    refused: HashMap<Lacking, Refusal>,
-    asks_exists: bool,
+    ticket: u64,
+    pub(crate) root: String,
+    pub(crate) most: usize,
+    /// The paths of what the machine follows of it, as the program knows them, by the tickets.
+    paths: HashMap<u64, String>,
+    /// What keeps a newer snapshot from coming, by the tickets of what is not read. The first is shown.
+    troubles: BTreeMap<u64, Error>,
     must_look: bool,
     look_at: Moment,
     room: usize,
     is_news: bool,
 }
 
-/// The path above another one.
-fn parent(path: &str) -> &str {
-    let slash = path.rfind('/').unwrap_or_default();
-    &path[..slash.max(1)]
+/// Why a read was refused that is not only to be made again. That there is no node is told of the root alone, by what is kept of it.
+fn kind_of(reason: Refusal) -> Option<ErrorKind> {
+    match reason {
+        Refusal::Closed | Refusal::Code(Code::NO_NODE) => None,
+        other => Some(ErrorKind::from(other)).filter(|kind| !kind.is_passing()),
+    }
 }
 
-/// What happens.
 impl Growing {
-    pub(crate) fn new(shown: Weak<Shown>, root: String, most: usize) -> Growing {
+    pub(crate) fn new(shown: Weak<Shown>, ticket: u64, root: String, most: usize) -> Growing {
         Growing {
             shown,
+            ticket,
             root,
             most,
-            queue: VecDeque::new(),
-            begun: HashMap::new(),
-            refused: HashMap::new(),
-            asks_exists: false,
-            must_look: true,
+            paths: HashMap::new(),
+            troubles: BTreeMap::new(),
+            must_look: false,
             look_at: Moment::default(),
             room: FIRST_ROOM,
             is_news: false,
@@ -186,341 +172,225 @@ impl Growing {
     pub(crate) fn takes_news(&mut self) -> bool {
         mem::take(&mut self.is_news)
     }
+}
 
-    /// Nothing is kept any more: it begins again.
+/// What the machine tells.
+impl Growing {
+    /// Another machine follows it, which has told nothing yet.
     pub(crate) fn begin_again(&mut self) {
-        self.queue.clear();
-        self.begun.clear();
-        self.refused.clear();
-        self.asks_exists = false;
-        self.must_look = true;
-        self.look_at = Moment::default();
+        self.paths.clear();
+        self.troubles.clear();
         self.is_past();
     }
 
-    /// What is shown is not known to be so any more.
+    /// What is shown is not known to be so any more. It is worth a look only where that is told after this.
     pub(crate) fn is_past(&mut self) {
+        self.must_look = false;
         if let Some(shown) = self.shown.upgrade() {
             shown.board().is_current = false;
         }
     }
 
-    /// What was good of a path has ended. Of a node that was deleted the names above tell.
-    pub(crate) fn hear(&mut self, fired: &Fired) {
-        let Fired { path, side, event } = fired;
-        let is_root = *path == self.root;
-        if !is_root && !is_below(path, &self.root) {
-            return;
-        }
-        self.must_look = true;
-        self.is_past();
-        self.asks_exists &= !is_root;
-        if *event != NodeEvent::Deleted || is_root && *side == Side::Data {
-            let (path, side) = (path.clone(), *side);
-            self.want(Lacking { path, side });
+    /// What was good of a path has ended.
+    pub(crate) fn notice(&mut self, path: &str) {
+        if path == self.root || is_below(path, &self.root) {
+            self.is_past();
         }
     }
 
-    /// A read is answered.
-    pub(crate) fn answered(&mut self, read: &Lacking, outcome: &Outcome, ground: Ground<'_>) {
-        let Some(names_of) = self.begun.remove(read) else {
-            return;
+    /// News of it.
+    pub(crate) fn hear(&mut self, news: TreeNews) {
+        match news {
+            TreeNews::TakenOn { ticket, path } => drop(self.paths.insert(ticket, path)),
+            TreeNews::LetGo { ticket } => {
+                self.paths.remove(&ticket);
+                self.note(ticket, None);
+            }
+            TreeNews::Bounded { is_bounded } => {
+                self.note(ALL, is_bounded.then(|| Fault::TooManyNodes.into()));
+            }
+            TreeNews::Whole => self.must_look = true,
+        }
+    }
+
+    /// Something is told of what is followed by a ticket, of this tree or of something else.
+    pub(crate) fn see(&mut self, ticket: u64, shows: Shows, machine: &Machine) {
+        let kind = match shows {
+            _ if !self.paths.contains_key(&ticket) => return,
+            Shows::Refused(reason) => kind_of(reason),
+            Shows::Good if ticket == self.ticket && self.is_absent(machine) => {
+                Some(Code::NO_NODE.into())
+            }
+            Shows::Good => None,
         };
-        self.must_look = true;
-        let is_question = self.is_question(read);
-        match outcome {
-            Ok(_) if is_question => {
-                self.asks_exists = false;
-                self.rest(read, None, ground);
-            }
-            Ok(_) => drop(self.refused.remove(read)),
-            Err(ErrorKind::Server(Code::NO_NODE)) if read.path == self.root => {
-                self.asks_exists = true;
-            }
-            Err(ErrorKind::Server(Code::NO_NODE)) => self.rest(read, names_of, ground),
-            Err(kind) => self.refuse(read, kind, ground),
-        }
-    }
-
-    /// Whether a read is the question whether there is a root.
-    fn is_question(&self, read: &Lacking) -> bool {
-        self.asks_exists && read.side == Side::Data && read.path == self.root
-    }
-
-    /// There is no answer, or a refusal.
-    fn refuse(&mut self, read: &Lacking, kind: &ErrorKind, ground: Ground<'_>) {
-        let is_lost = matches!(
-            kind,
-            ErrorKind::NoReply(
-                NoReply::ConnectionLoss
-                    | NoReply::NotConnected
-                    | NoReply::SessionExpired
-                    | NoReply::SessionClosed
-            )
-        );
-        if is_lost {
-            return;
-        }
-        self.rest(read, None, ground);
-        if !kind.is_passing() {
-            let path = ground.chroot.inner(read.path.clone());
-            self.warn(Error::about(Some(&path), kind.clone()));
-        }
-    }
-
-    fn rest(&mut self, read: &Lacking, names_of: Option<i64>, ground: Ground<'_>) {
-        let until = ground.clock.now().saturating_add(BETWEEN_READS);
-        self.refused
-            .insert(read.clone(), Refusal { until, names_of });
-    }
-
-    fn warn(&mut self, trouble: Error) {
-        if let Some(shown) = self.shown.upgrade() {
-            self.is_news |= shown.board().warn(trouble);
-        }
-    }
-
-    /// The same, about the root.
-    fn warn_of_root(&mut self, kind: ErrorKind, ground: Ground<'_>) {
-        let path = ground.chroot.inner(self.root.clone());
-        self.warn(Error::about(Some(&path), kind));
-    }
-}
-
-/// What is to be done.
-impl Growing {
-    /// The next read that is to be asked, where one is.
-    pub(crate) fn next_read(&mut self, ground: Ground<'_>) -> Option<(Lacking, CoreCall)> {
-        let now = ground.clock.now();
-        let resting = self.refused.len();
-        self.refused.retain(|_, refusal| now < refusal.until);
-        self.must_look |= self.refused.len() < resting;
-        if self.may_look() && self.look_at <= now {
-            self.look(ground);
-        }
-        let read = self.queue.pop_front()?;
-        if let Some(names_of) = self.begun.get_mut(&read) {
-            *names_of = ground.machine.names_of(parent(&read.path));
-        }
-        let call = match read.side {
-            Side::Children => CoreCall::Children(Watch::Yes),
-            Side::Data if self.is_question(&read) => CoreCall::Exists(Watch::Yes),
-            Side::Data => CoreCall::Data(Watch::Yes),
-        };
-        Some((read, call))
-    }
-
-    /// The moment at which something is to be done, though nothing is told before.
-    pub(crate) fn deadline(&self) -> Option<Moment> {
-        let look = self.may_look().then_some(self.look_at);
-        let rests = self.refused.values().map(|refusal| refusal.until);
-        rests.chain(look).min()
-    }
-
-    /// Whether the tree may be another one, and nothing is to be asked or on its way.
-    fn may_look(&self) -> bool {
-        self.must_look && self.begun.is_empty()
-    }
-
-    /// Has a read be asked, where it is not already.
-    fn want(&mut self, read: Lacking) {
-        let is_resting = self.refused.contains_key(&read);
-        if !is_resting && !self.begun.contains_key(&read) {
-            self.begun.insert(read.clone(), None);
-            self.queue.push_back(read);
-        }
-    }
-
-    /// Shows the tree where it is whole, and else finds out what is lacking.
-    fn look(&mut self, ground: Ground<'_>) {
-        let begun = Instant::now();
-        self.must_look = false;
-        let found = ground
-            .machine
-            .subtree_of(&self.root, self.most, &mut self.room);
-        match found {
-            Ok(Some(subtree)) => {
-                let Some(shown) = self.shown.upgrade() else {
-                    return;
-                };
-                let snapshot = TreeSnapshot::new(shown.root(), subtree.below(ground.chroot));
-                shown.board().show(snapshot);
-                self.is_news = true;
-            }
-            Ok(None) => self.learn(ground),
-            Err(fault) => self.stop(fault, ground),
-        }
-        let pause = begun.elapsed() * SHARE;
-        self.look_at = self.look_at.max(ground.clock.now().saturating_add(pause));
-    }
-
-    /// Has all that is lacking be read.
-    fn learn(&mut self, ground: Ground<'_>) {
-        match ground.machine.lacking(&self.root, self.most) {
-            Ok(reads) if self.is_absent(&reads, ground) => {
-                self.warn_of_root(Code::NO_NODE.into(), ground);
-            }
-            Ok(reads) => {
-                for read in reads {
-                    self.want_known(read, ground);
-                }
-            }
-            Err(fault) => self.stop(fault, ground),
-        }
+        self.note(ticket, kind);
     }
 
     /// Whether it is known that there is no root.
-    fn is_absent(&self, reads: &[Lacking], ground: Ground<'_>) -> bool {
-        let is_root = |read: &Lacking| read.side == Side::Data && read.path == self.root;
-        let kept = || ground.machine.peek_data(&self.root).ok().flatten();
-        reads.iter().any(is_root)
-            && matches!(
-                kept(),
-                Some(Kept {
-                    answer: DataAnswer::Absent,
-                    mark: Mark::Good
-                })
-            )
+    fn is_absent(&self, machine: &Machine) -> bool {
+        matches!(
+            machine.peek_data(&self.root),
+            Ok(Some(Kept {
+                answer: DataAnswer::Absent,
+                mark: Mark::Good
+            }))
+        )
     }
 
-    /// Has a read be asked of a node that names lead to. Where it has found no node, and the names are others since, it may find one.
-    fn want_known(&mut self, read: Lacking, ground: Ground<'_>) {
-        if self.asks_exists && read.side == Side::Children && read.path == self.root {
+    /// Notes why there is nothing to show of what is followed by a ticket, or that this is over, and shows what keeps a newer snapshot from
+    /// coming.
+    fn note(&mut self, ticket: u64, kind: Option<ErrorKind>) {
+        let Some(shown) = self.shown.upgrade() else {
+            return;
+        };
+        let path = self.paths.get(&ticket).map_or(shown.root(), String::as_str);
+        let trouble = kind.map(|kind| Error::about(Some(path), kind));
+        let is_same = self.troubles.get(&ticket) == trouble.as_ref();
+        match trouble {
+            _ if is_same => return,
+            Some(trouble) => self.troubles.insert(ticket, trouble),
+            None => self.troubles.remove(&ticket),
+        };
+        let first = self.troubles.values().next().cloned();
+        self.is_news |= shown.board().warn(first);
+    }
+}
+
+/// How it is looked at.
+impl Growing {
+    /// The moment at which it is to be looked at, where it is worth that.
+    pub(crate) fn deadline(&self) -> Option<Moment> {
+        self.must_look.then_some(self.look_at)
+    }
+
+    /// Looks, where the moment has come. After a look that took long, the next one waits.
+    pub(crate) fn look(&mut self, machine: &Machine, chroot: &Chroot, clock: Clock) {
+        if !self.must_look || clock.now() < self.look_at {
             return;
         }
-        if let Some(Refusal {
-            names_of: Some(before),
-            ..
-        }) = self.refused.get(&read)
-        {
-            if ground.machine.names_of(parent(&read.path)) != Some(*before) {
-                self.refused.remove(&read);
-            }
-        }
-        self.want(read);
+        let begun = Instant::now();
+        let looked = self.show(machine, chroot);
+        self.must_look = looked == Err(Fault::NoMemory);
+        let pause = if self.must_look {
+            BETWEEN_LOOKS
+        } else {
+            begun.elapsed() * SHARE
+        };
+        self.look_at = clock.now().saturating_add(pause);
+        self.note(ALL, looked.err().map(ErrorKind::from));
     }
 
-    /// Goes no further before something is told; after a while, where memory ran out.
-    fn stop(&mut self, fault: Fault, ground: Ground<'_>) {
-        if fault == Fault::NoMemory {
-            self.must_look = true;
-            self.look_at = ground.clock.now().saturating_add(BETWEEN_READS);
+    /// Shows the tree where it is whole. It fails where no read makes it so.
+    fn show(&mut self, machine: &Machine, chroot: &Chroot) -> Result<(), Fault> {
+        let found = machine.subtree_of(&self.root, self.most, &mut self.room)?;
+        let Some(subtree) = found else {
+            return machine.lacking(&self.root, self.most).map(drop);
+        };
+        self.troubles.clear(); // what is refused still is not of the tree any more
+        if let Some(shown) = self.shown.upgrade() {
+            let snapshot = TreeSnapshot::new(shown.root(), subtree.below(chroot));
+            shown.board().show(snapshot);
+            self.is_news = true;
         }
-        self.warn_of_root(fault.into(), ground);
+        Ok(())
     }
 }
 
 #[cfg(test)]
 mod tests {
-    use super::{Ground, Growing, Lacking, Shown};
-    use crate::chroot::Chroot;
+    use super::{Growing, Shown};
+    use crate::action::Refusal;
     use crate::error::{Error, ErrorKind};
-    use crate::fault::Code;
-    use crate::jute::Writer;
+    use crate::fault::{Code, Fault};
     use crate::machine::Machine;
-    use crate::moment::{Clock, Moment};
-    use crate::node::{NodeEvent, Side, Watch};
     use crate::subtree::Subtree;
-    use crate::told::{Fired, Found};
+    use crate::told::{Shows, TreeNews};
     use crate::tree_snapshot::TreeSnapshot;
     use std::sync::Arc;
     use std::time::Duration;
 
-    const NOW: Moment = Moment::from_millis(1);
+    const DENIED: Shows = Shows::Refused(Refusal::Code(Code::NO_AUTH));
 
-    fn framed(payload: Writer) -> Vec<u8> {
-        let mut frame = Writer::default();
-        frame.buffer(&payload.into_bytes());
-        frame.into_bytes()
-    }
-
-    /// A machine with a session.
-    fn connected() -> Machine {
-        let mut machine = Machine::open(Duration::from_secs(10), 1, 1).unwrap();
-        let _ = machine.tick(NOW).unwrap();
-        let _ = machine.opened(NOW).unwrap();
-        let mut accepted = Writer::default();
-        accepted.int(0).int(10_000).int(0).int(7);
-        accepted.buffer(&[0; 16]).boolean(false);
-        let _ = machine.bytes(NOW, &framed(accepted)).unwrap();
-        machine
-    }
-
-    /// The machine reads the names below `/t`, which were changed last at this zxid: `b` alone.
-    fn list(machine: &mut Machine, xid: i32, pzxid: i32) {
-        let _ = machine
-            .get_children(NOW, 1, None, "/t", Watch::Yes)
-            .unwrap();
-        let mut reply = Writer::default();
-        reply.int(xid).int(0).int(pzxid).int(0);
-        reply.int(1).text("b");
-        for _ in 0..8 {
-            reply.int(0); // four zxids and times
-        }
-        reply.int(0).int(0).int(0).int(0).int(0).int(0).int(1);
-        reply.int(0).int(pzxid);
-        let _ = machine.bytes(NOW, &framed(reply)).unwrap();
-    }
-
-    fn read(path: &str, side: Side) -> Lacking {
-        let path = String::from(path);
-        Lacking { path, side }
-    }
-
-    fn ground(machine: &Machine) -> Ground<'_> {
-        static WHOLE: std::sync::OnceLock<Chroot> = std::sync::OnceLock::new();
-        Ground {
-            machine,
-            chroot: WHOLE.get_or_init(Chroot::default),
-            clock: Clock::start(),
-        }
-    }
-
-    fn tree() -> (Arc<Shown>, Growing) {
+    /// A tree by the ticket 1 with two nodes, whose data are followed by the tickets 8 and 9, and a machine that keeps nothing.
+    fn tree() -> (Arc<Shown>, Growing, Machine) {
         let shown = Arc::new(Shown::of("/t"));
-        let tree = Growing::new(Arc::downgrade(&shown), String::from("/t"), 10);
-        (shown, tree)
-    }
-
-    #[test]
-    fn a_node_that_names_lead_to_still_rests_and_one_of_other_names_does_not() {
-        let (_shown, mut tree) = tree();
-        let mut machine = connected();
-        list(&mut machine, 1, 5);
-        let lost = read("/t/b", Side::Data);
-        tree.begun.insert(lost.clone(), Some(5));
-        let none = Err(ErrorKind::Server(Code::NO_NODE));
-        tree.answered(&lost, &none, ground(&machine));
-        tree.want_known(lost.clone(), ground(&machine));
-        assert!(tree.begun.is_empty(), "the names are those that led there");
-        assert!(tree.deadline().is_some());
-        list(&mut machine, 2, 9);
-        tree.want_known(lost.clone(), ground(&machine));
-        assert!(tree.begun.contains_key(&lost));
-    }
-
-    #[test]
-    fn what_has_fired_is_read_again_where_it_is_of_the_tree() {
-        let (_shown, mut tree) = tree();
-        let fired = |path: &str, side, event| {
+        let mut tree = Growing::new(Arc::downgrade(&shown), 1, String::from("/app/t"), 10);
+        for (ticket, path) in [(1, "/t"), (8, "/t/a"), (9, "/t/b")] {
             let path = String::from(path);
-            Fired { path, side, event }
-        };
-        for (path, side, event, is_read) in [
-            ("/t", Side::Data, NodeEvent::DataChanged, true),
-            ("/t/a", Side::Children, NodeEvent::ChildrenChanged, true),
-            ("/t/b", Side::Data, NodeEvent::Deleted, false),
-            ("/ta", Side::Data, NodeEvent::DataChanged, false),
-            ("/", Side::Children, NodeEvent::ChildrenChanged, false),
-        ] {
-            tree.hear(&fired(path, side, event));
-            assert_eq!(tree.begun.remove(&read(path, side)).is_some(), is_read);
-            tree.queue.clear();
+            tree.hear(TreeNews::TakenOn { ticket, path });
         }
-        tree.hear(&fired("/t", Side::Data, NodeEvent::Deleted));
-        assert_eq!(tree.begun.len(), 1, "the root is asked for");
-        tree.hear(&fired("/t", Side::Children, NodeEvent::Deleted));
-        assert_eq!(tree.begun.len(), 1);
+        let machine = Machine::open(Duration::from_secs(10), 1, 1).unwrap();
+        (shown, tree, machine)
+    }
+
+    fn trouble(path: &str, kind: impl Into<ErrorKind>) -> Error {
+        Error::about(Some(path), kind.into())
+    }
+
+    #[test]
+    fn the_trouble_is_of_what_is_refused_still() {
+        let (shown, mut tree, machine) = tree();
+        let denied = |path| Some(trouble(path, Code::NO_AUTH));
+        tree.see(9, DENIED, &machine);
+        assert_eq!(shown.trouble(), denied("/t/b"));
+        tree.see(8, DENIED, &machine);
+        assert_eq!(shown.trouble(), denied("/t/a"));
+        tree.see(8, Shows::Good, &machine);
+        assert_eq!(shown.trouble(), denied("/t/b"));
+        assert!(tree.takes_news() && !tree.takes_news());
+        tree.hear(TreeNews::LetGo { ticket: 9 });
+        assert_eq!((shown.trouble(), tree.takes_news()), (None, false));
+        for ticket in [2, 9] {
+            tree.see(ticket, DENIED, &machine);
+        }
+        assert_eq!(shown.trouble(), None, "those are not of the tree");
+    }
+
+    #[test]
+    fn what_is_only_to_be_asked_again_is_no_trouble() {
+        let (shown, mut tree, machine) = tree();
+        tree.see(8, DENIED, &machine);
+        for reason in [
+            Refusal::Code(Code::THROTTLED),
+            Refusal::Code(Code::NO_NODE),
+            Refusal::Closed,
+        ] {
+            tree.see(8, Shows::Refused(reason), &machine);
+            assert_eq!(shown.trouble(), None, "{reason:?}");
+        }
+    }
+
+    #[test]
+    fn more_nodes_than_wanted_are_a_trouble_until_there_are_fewer() {
+        let (shown, mut tree, machine) = tree();
+        let bounded = |is_bounded| TreeNews::Bounded { is_bounded };
+        tree.hear(bounded(true));
+        assert_eq!(shown.trouble(), Some(trouble("/t", Fault::TooManyNodes)));
+        tree.see(8, DENIED, &machine);
+        assert_eq!(shown.trouble(), Some(trouble("/t", Fault::TooManyNodes)));
+        tree.hear(bounded(false));
+        assert_eq!(shown.trouble(), Some(trouble("/t/a", Code::NO_AUTH)));
+        tree.begin_again();
+        tree.hear(bounded(true));
+        tree.hear(bounded(false));
+        assert_eq!(shown.trouble(), None, "another machine has refused nothing");
+    }
+
+    #[test]
+    fn a_report_ends_what_is_current_and_a_look_where_it_is_of_the_tree() {
+        let (shown, mut tree, _) = tree();
+        for (path, is_of_tree) in [
+            ("/app/t", true),
+            ("/app/t/a", true),
+            ("/app/ta", false),
+            ("/app", false),
+        ] {
+            shown.board().show(snapshot(1));
+            tree.hear(TreeNews::Whole);
+            tree.notice(path);
+            let is_over = (shown.current().is_none(), tree.deadline().is_none());
+            assert_eq!(is_over, (is_of_tree, is_of_tree), "{path}");
+        }
     }
 
     /// A snapshot without nodes, as of this zxid.
@@ -529,21 +399,18 @@ mod tests {
         TreeSnapshot::new("/t", Subtree { zxid, nodes })
     }
 
-    fn trouble(code: Code) -> Error {
-        Error::about(Some("/t"), code.into())
-    }
-
     #[test]
     fn news_come_in_the_order_in_which_they_were() {
         let shown = Shown::of("/t");
+        let none = || trouble("/t", Code::NO_NODE);
         assert_eq!(shown.news_after(0), None);
         shown.board().show(snapshot(1));
         shown.board().show(snapshot(2));
-        assert!(shown.board().warn(trouble(Code::NO_NODE)));
+        assert!(shown.board().warn(Some(none())));
         let first = shown.news_after(0).unwrap();
         assert_eq!(first.1, Ok(snapshot(2)), "the newest of several");
         let second = shown.news_after(first.0).unwrap();
-        assert_eq!(second.1, Err(trouble(Code::NO_NODE)));
+        assert_eq!(second.1, Err(none()));
         assert_eq!(shown.news_after(second.0), None);
         shown.board().show(snapshot(3));
         let third = shown.news_after(second.0).unwrap();
@@ -557,23 +424,16 @@ mod tests {
         let shown = Shown::of("/t");
         shown.board().show(snapshot(1));
         assert_eq!(shown.current(), Some(snapshot(1)));
-        assert!(shown.board().warn(trouble(Code::NO_NODE)));
+        let warn = |code: Code| shown.board().warn(Some(trouble("/t", code)));
+        assert!(warn(Code::NO_NODE));
         assert_eq!((shown.current(), shown.latest()), (None, Some(snapshot(1))));
         let (told, _) = shown.news_after(1).unwrap();
-        assert!(!shown.board().warn(trouble(Code::NO_NODE)));
+        assert!(!warn(Code::NO_NODE));
         assert_eq!(shown.news_after(told), None);
-        assert!(shown.board().warn(trouble(Code::NO_AUTH)));
-        let (_, other) = shown.news_after(told).unwrap();
-        assert_eq!(other, Err(trouble(Code::NO_AUTH)));
-    }
-
-    #[test]
-    fn an_answer_that_nobody_waits_for_changes_nothing() {
-        let (shown, mut tree) = tree();
-        let machine = connected();
-        tree.must_look = false;
-        let found = Ok(Found::default());
-        tree.answered(&read("/t", Side::Data), &found, ground(&machine));
-        assert!(!tree.must_look && shown.news_after(0).is_none());
+        assert!(warn(Code::NO_AUTH));
+        let (told, other) = shown.news_after(told).unwrap();
+        assert_eq!(other, Err(trouble("/t", Code::NO_AUTH)));
+        assert!(!shown.board().warn(None));
+        assert_eq!((shown.trouble(), shown.news_after(told)), (None, None));
     }
 }

@@ -41,7 +41,6 @@ mod fault;
 mod ffi;
 mod follow;
 mod followed;
-mod grove;
 mod growing;
 mod hosts;
 mod introductions;

@@ -351,12 +351,6 @@ impl Machine {
             nodes: nodes_in(&spelled[..length]),
         }))
     }
-
-    /// The last change of the names that are kept of a path, where some are.
-    pub(crate) fn names_of(&self, path: &str) -> Option<i64> {
-        let kept = self.handle.peek_children(path).ok()?;
-        (kept.mark != 0).then_some(kept.pzxid)
-    }
 }
 
 impl fmt::Debug for Machine {

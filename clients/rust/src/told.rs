@@ -77,14 +77,6 @@ pub(crate) struct Found {
 /// What comes of a call. The error has no path yet.
 pub(crate) type Outcome = Result<Found, ErrorKind>;
 
-/// A watch has fired, of a path as the servers know it.
-#[derive(Debug)]
-pub(crate) struct Fired {
-    pub(crate) path: String,
-    pub(crate) side: Side,
-    pub(crate) event: NodeEvent,
-}
-
 /// What is told of a subject that is followed.
 #[derive(Clone, Copy, Debug, PartialEq, Eq)]
 pub(crate) enum Shows {
@@ -92,6 +84,19 @@ pub(crate) enum Shows {
     Good,
     /// A read of it was refused.
     Refused(Refusal),
+}
+
+/// What is told of a tree that is followed.
+#[derive(Debug)]
+pub(crate) enum TreeNews {
+    /// A side of the node of this path, as the program knows it, is followed by this ticket.
+    TakenOn { ticket: u64, path: String },
+    /// What this ticket follows is followed no more.
+    LetGo { ticket: u64 },
+    /// Whether there are more nodes than its bound is another than before.
+    Bounded { is_bounded: bool },
+    /// Nothing is lacking: it is worth a look.
+    Whole,
 }
 
 /// What a machine has said.
@@ -103,8 +108,6 @@ pub(crate) struct Told {
     pub(crate) answers: Vec<(u64, Outcome)>,
     /// What was told of the session, and asked for, since this was taken.
     pub(crate) news: News,
-    /// The watches that have fired, where somebody wants to know.
-    pub(crate) fired: Option<Vec<Fired>>,
     state: Option<State>,
     chroot: Chroot,
     events: VecDeque<Event>,
@@ -124,8 +127,12 @@ pub(crate) struct News {
     pub(crate) is_left: bool,
     /// The place of the host that is to be dialled, and within which time.
     pub(crate) dial: Option<(usize, Duration)>,
-    /// What is told of subjects, by their tickets.
+    /// The paths of which something that was good has ended, as the servers know them.
+    pub(crate) reported: Vec<String>,
+    /// What is told of subjects, and of nodes of trees, by their tickets.
     pub(crate) shown: Vec<(u64, Shows)>,
+    /// What is told of trees, by their tickets, after all of that.
+    pub(crate) trees: Vec<(u64, TreeNews)>,
 }
 
 impl Found {
@@ -175,36 +182,46 @@ impl Told {
     /// Takes what a machine says.
     pub(crate) fn take(&mut self, mut actions: Actions<'_>) -> Result<(), Fault> {
         while let Some(action) = actions.next()? {
-            match action {
-                Action::Send(frame) => frame.append_to(&mut self.frames),
-                Action::Answer { ticket, outcome } => {
-                    let answer = answer_of(outcome, &self.chroot);
-                    self.answers.push((ticket, answer));
-                }
-                Action::TimedOut { ticket, was_sent } => {
-                    let late = self.late(was_sent);
-                    self.answers.push((ticket, Err(late)));
-                }
-                Action::Report { path, side, event } => {
-                    self.tell_report(String::from(path), side, event);
-                }
-                Action::State(state) => self.tell_state(state),
-                Action::Drop(given_up) => self.tell(dropped(&given_up)),
-                Action::Dial { place, within } => self.news.dial = Some((place, within)),
-                Action::HangUp => self.hang_up(),
-                // of trees: the machine of a session follows none
-                Action::Renewed
-                | Action::TakenOn { .. }
-                | Action::LetGo { .. }
-                | Action::Bounded { .. }
-                | Action::Whole { .. } => {}
-                Action::Shown { ticket } => self.news.shown.push((ticket, Shows::Good)),
-                Action::Refused { ticket, reason } => {
-                    self.news.shown.push((ticket, Shows::Refused(reason)));
-                }
-            }
+            self.take_one(action);
         }
         Ok(())
+    }
+
+    fn take_one(&mut self, action: Action<'_>) {
+        match action {
+            Action::Send(frame) => frame.append_to(&mut self.frames),
+            Action::Answer { ticket, outcome } => {
+                let answer = answer_of(outcome, &self.chroot);
+                self.answers.push((ticket, answer));
+            }
+            Action::TimedOut { ticket, was_sent } => {
+                let late = self.late(was_sent);
+                self.answers.push((ticket, Err(late)));
+            }
+            Action::Report { path, side, event } => {
+                self.tell_report(String::from(path), side, event);
+            }
+            Action::State(state) => self.tell_state(state),
+            Action::Drop(given_up) => self.tell(dropped(&given_up)),
+            Action::Dial { place, within } => self.news.dial = Some((place, within)),
+            Action::HangUp => self.hang_up(),
+            Action::Renewed => {}
+            Action::Shown { ticket } => self.news.shown.push((ticket, Shows::Good)),
+            Action::Refused { ticket, reason } => {
+                self.news.shown.push((ticket, Shows::Refused(reason)));
+            }
+            Action::TakenOn {
+                tree, ticket, path, ..
+            } => {
+                let path = self.chroot.inner(String::from(path));
+                self.tell_tree(tree, TreeNews::TakenOn { ticket, path });
+            }
+            Action::LetGo { tree, ticket } => self.tell_tree(tree, TreeNews::LetGo { ticket }),
+            Action::Bounded { tree, is_bounded } => {
+                self.tell_tree(tree, TreeNews::Bounded { is_bounded });
+            }
+            Action::Whole { tree } => self.tell_tree(tree, TreeNews::Whole),
+        }
     }
 
     /// Why a call waits no more whose limit has come.
@@ -225,12 +242,13 @@ impl Told {
     }
 
     fn tell_report(&mut self, outer: String, side: Side, event: NodeEvent) {
-        if let Some(fired) = &mut self.fired {
-            let path = outer.clone();
-            fired.push(Fired { path, side, event });
-        }
+        self.news.reported.push(outer.clone());
         let path = self.chroot.inner(outer);
         self.tell(Event::Report { path, side, event });
+    }
+
+    fn tell_tree(&mut self, tree: u64, news: TreeNews) {
+        self.news.trees.push((tree, news));
     }
 
     fn tell_state(&mut self, state: State) {

@@ -5,6 +5,7 @@ use crate::action::Actions;
 use crate::client::State;
 use crate::error::ErrorKind;
 use crate::fault::{Code, Fault, NoReply};
+use crate::growing::Growing;
 use crate::machine::Machine;
 use crate::moment::Moment;
 use crate::stream::Outgoing;
@@ -38,7 +39,7 @@ impl Engine {
     /// Does what the machine has said at a step, in its order. The connection is over where the machine says so or has no use any more, and
     /// where a write fails.
     pub(super) fn settle(&mut self, now: Moment, taken: Result<(), Fault>) -> Result<(), Fault> {
-        let news = mem::take(&mut self.told.news);
+        let mut news = mem::take(&mut self.told.news);
         if let Some(fault) = taken.as_ref().err().filter(|fault| fault.is_final()) {
             self.end_course(Course::Halted(fault.clone()));
         }
@@ -48,6 +49,7 @@ impl Engine {
         if news.hangs_up || self.is_over() {
             self.hang_up();
         }
+        self.note_followed(&mut news);
         self.note(now, &news);
         if !self.send() {
             self.end()?;
@@ -63,16 +65,28 @@ impl Engine {
         taken
     }
 
+    /// Notes what the machine tells of what is followed: which node of a tree has which ticket before what is told by the tickets, though it
+    /// says that last.
+    fn note_followed(&mut self, news: &mut News) {
+        for path in news.reported.drain(..) {
+            self.trees.values_mut().for_each(|tree| tree.notice(&path));
+        }
+        for (tree, told) in news.trees.drain(..) {
+            self.hear_tree(tree, told);
+        }
+        for (ticket, shows) in news.shown.drain(..) {
+            self.followed.hear(ticket, shows);
+            self.see_trees(ticket, shows);
+        }
+    }
+
     /// Notes what the machine tells of the session, and asks for.
     fn note(&mut self, now: Moment, news: &News) {
         if news.state == Some(State::Connected) {
             self.calls.wait_for(None);
         }
-        for (ticket, shows) in &news.shown {
-            self.followed.hear(*ticket, *shows);
-        }
         if news.is_expired {
-            self.grove.begin_again();
+            self.trees.values_mut().for_each(Growing::is_past);
             if !self.renews {
                 self.end_course(Course::Ended(State::Expired));
             }
@@ -114,9 +128,7 @@ impl Engine {
                 self.bar();
                 is_end = true;
             }
-            if !self.tell_grove(ticket, &outcome) {
-                self.calls.end(ticket, outcome);
-            }
+            self.calls.end(ticket, outcome);
         }
         is_end
     }

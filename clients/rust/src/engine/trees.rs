@@ -1,82 +1,116 @@
-//! The trees of a session: what is lacking of them is read by calls of the machine, with watches.
+//! The trees of a session, as subjects of the machine.
 
 use super::{Engine, NEVER};
 use crate::fault::Fault;
-use crate::grove::TreeRead;
-use crate::growing::{Ground, Shown};
+use crate::growing::{Growing, Shown};
 use crate::moment::Moment;
-use crate::told::Outcome;
-use std::mem;
+use crate::told::{Shows, TreeNews};
 use std::sync::Arc;
 
-/// How many reads of trees wait for their answers, at most, so that other calls find room.
-const MOST_READS: usize = 500;
-
+/// Which trees the machine follows.
 impl Engine {
     /// Follows the tree at a path, for as long as somebody has what is shown of it.
     pub(crate) fn plant(&mut self, path: &str, most: usize) -> Result<Arc<Shown>, Fault> {
-        let root = self.chroot.outer(path)?;
+        let root = self.chroot.outer(path)?.into_owned();
         let looked = self.machine.data_mark(&root);
         looked.map_err(|fault| fault.at(path))?;
-        let shown = Arc::new(Shown::of(path));
-        self.grove.plant(&shown, root.into_owned(), most);
-        self.told.fired.get_or_insert_with(Vec::new);
-        Ok(shown)
+        let (shown, ticket) = (Arc::new(Shown::of(path)), self.calls.next_ticket());
+        let tree = Growing::new(Arc::downgrade(&shown), ticket, root.clone(), most);
+        self.trees.insert(ticket, tree);
+        match self.follow_tree(ticket, &root, most) {
+            Err(fault) if !fault.is_final() => {
+                self.trees.remove(&ticket);
+                Err(fault.at(path))
+            }
+            // A machine that halts tells it to whoever asks next, and the next one follows the tree.
+            Ok(()) | Err(_) => Ok(shown),
+        }
     }
 
-    /// Has trees go on: what is lacking is read, where a server has accepted the session.
-    pub(crate) fn grow(&mut self) {
-        if self.grove.is_empty() {
-            return;
-        }
-        self.grove.clear();
-        if let Some(fired) = &mut self.told.fired {
-            self.grove.hear(&mem::take(fired));
-        }
+    fn follow_tree(&mut self, ticket: u64, root: &str, most: usize) -> Result<(), Fault> {
         if self.is_over() {
-            self.grove.is_past();
+            return Ok(());
         }
-        while self.may_read() {
-            let ground = Ground {
-                machine: &self.machine,
-                chroot: &self.chroot,
-                clock: self.clock,
-            };
-            let Some(read) = self.grove.next_read(ground) else {
-                return;
-            };
-            self.put_read(&read);
-        }
+        self.step(self.now(), |machine, now| {
+            machine.follow_tree(now, ticket, root, most)
+        })
     }
 
-    fn may_read(&self) -> bool {
-        self.is_connected() && !self.is_closing() && self.grove.reads() < MOST_READS
-    }
-
-    fn put_read(&mut self, read: &TreeRead) {
-        let (now, ticket) = (self.now(), self.calls.next_ticket());
-        self.grove.asks(ticket, read);
-        let asked = self.step(now, |machine, now| {
-            read.call.ask(machine, now, ticket, NEVER, read.path())
-        });
-        if let Err(fault) = asked {
-            self.tell_grove(ticket, &Err(fault.into()));
+    /// Another machine follows the trees of the one before.
+    pub(super) fn plant_again(&mut self) {
+        let trees = self.trees.iter();
+        let roots: Vec<_> = trees
+            .map(|(ticket, tree)| (*ticket, tree.root.clone(), tree.most))
+            .collect();
+        for (ticket, root, most) in roots {
+            // A machine that halts tells it to whoever asks next.
+            let _ = self.follow_tree(ticket, &root, most);
         }
     }
 
-    /// A call is answered. Whether it was a read of a tree.
-    pub(super) fn tell_grove(&mut self, ticket: u64, outcome: &Outcome) -> bool {
-        let ground = Ground {
-            machine: &self.machine,
-            chroot: &self.chroot,
-            clock: self.clock,
-        };
-        self.grove.answered(ticket, outcome, ground)
+    /// The machine follows the trees no more that nobody has any more.
+    fn uproot(&mut self) {
+        let trees = self.trees.iter();
+        let unwanted: Vec<_> = trees
+            .filter(|(_, tree)| !tree.is_wanted())
+            .map(|(ticket, _)| *ticket)
+            .collect();
+        for ticket in unwanted {
+            self.trees.remove(&ticket);
+            if !self.is_over() {
+                // A machine that halts tells it to whoever asks next.
+                let _ = self.step(self.now(), |machine, now| {
+                    machine.unfollow_tree(now, ticket)
+                });
+            }
+        }
+    }
+}
+
+/// What is told of them, and shown.
+impl Engine {
+    /// The machine tells news of the tree of this ticket.
+    pub(super) fn hear_tree(&mut self, ticket: u64, news: TreeNews) {
+        if let Some(tree) = self.trees.get_mut(&ticket) {
+            tree.hear(news);
+        }
     }
 
-    /// When a tree is to go on, though nothing comes from the server.
+    /// The machine tells something of what is followed by this ticket.
+    pub(super) fn see_trees(&mut self, ticket: u64, shows: Shows) {
+        for tree in self.trees.values_mut() {
+            tree.see(ticket, shows, &self.machine);
+        }
+    }
+
+    /// Looks at the trees that are worth it.
+    pub(crate) fn grow(&mut self) {
+        self.uproot();
+        let (is_over, may_look) = (self.is_over(), self.may_look());
+        for tree in self.trees.values_mut() {
+            if is_over {
+                tree.is_past();
+            }
+            if may_look {
+                tree.look(&self.machine, &self.chroot, self.clock);
+            }
+        }
+    }
+
+    fn may_look(&self) -> bool {
+        self.is_connected() && !self.is_closing()
+    }
+
+    /// When a tree is to be looked at, though nothing comes from the server.
     pub(super) fn growth(&self) -> Moment {
-        let deadline = self.may_read().then(|| self.grove.deadline());
+        let deadlines = self.trees.values().filter_map(Growing::deadline);
+        let deadline = self.may_look().then(|| deadlines.min());
         deadline.flatten().unwrap_or(NEVER)
+    }
+
+    /// Whether a tree has something to tell since this was asked.
+    pub(super) fn takes_tree_news(&mut self) -> bool {
+        let trees = self.trees.values_mut();
+        trees.fold(false, |is_news, tree| tree.takes_news() | is_news)
     }
 }

@@ -2,7 +2,7 @@
 
 use crate::jute::{Record, EXISTS, GET_CHILDREN_2, GET_DATA, PING, PONG, SET_WATCHES, WATCHES_SET};
 use crate::partner::{Line, Partner, Request};
-use dirwolleu::{Code, ErrorKind, Session, SubtreeNode, TreeSnapshot};
+use dirwolleu::{Code, ErrorKind, Request as Asked, Session, SubtreeNode, TreeSnapshot};
 use std::mem;
 use std::sync::atomic::{AtomicBool, Ordering};
 use std::sync::{mpsc, Arc};
@@ -14,8 +14,8 @@ const TIMEOUT: Duration = Duration::from_secs(300);
 /// How long what is awaited may take.
 const PATIENCE: Duration = Duration::from_secs(120);
 
-/// How many calls wait for their answers, at most, where a tree asks another one.
-const MOST_READS: usize = 500;
+/// How many calls wait for their answers, at most.
+const MOST_READS: usize = 1_024;
 
 /// How many children a large tree has.
 const MANY: usize = 1_500;
@@ -142,7 +142,7 @@ fn refuse_once(code: i32) -> (Duration, Vec<String>) {
 #[test]
 fn a_read_that_was_refused_is_made_again_after_a_second() {
     let bounds = Duration::from_millis(999)..TIMEOUT / 4;
-    let kinds = [Code::NO_AUTH, Code::THROTTLED, Code::NO_NODE];
+    let kinds = [Code::NO_AUTH, Code::THROTTLED];
     let told = thread::scope(|scope| {
         let tried = kinds.map(|code| scope.spawn(move || refuse_once(code.0)));
         tried.map(|tried| tried.join().unwrap())
@@ -153,8 +153,31 @@ fn a_read_that_was_refused_is_made_again_after_a_second() {
     let denied = "the node's ACL does not admit this client: /t/a";
     assert_eq!(
         told.map(|(_, told)| told),
-        [vec![String::from(denied)], vec![], vec![]]
+        [vec![String::from(denied)], vec![]]
     );
+}
+
+/// A read of the data of a node that is not there leaves no watch, and the question whether there is a node does: so that is asked then,
+/// at once, and where there is one by now, its data are read again.
+#[test]
+fn a_node_that_was_not_there_is_asked_for() {
+    let (sender, kinds) = mpsc::channel();
+    let partner = Partner::start(move |_, mut line| {
+        let mut is_first = true;
+        serve(&mut line, |line, request| {
+            let is_of_data = is_below(request) && request.kind != GET_CHILDREN_2;
+            if is_of_data {
+                let _ = sender.send(request.kind);
+            }
+            is_of_data && mem::take(&mut is_first) && line.refuse(request.xid, Code::NO_NODE.0)
+        });
+    });
+    let session = Session::open(partner.address, TIMEOUT).unwrap();
+    let tree = session.tree("/t").unwrap();
+    let whole = tree.wait_for(PATIENCE);
+    assert_eq!(whole.map(|all| all.len()), Ok(2), "no trouble is told");
+    let kinds: Vec<_> = kinds.try_iter().collect();
+    assert_eq!(kinds, [GET_DATA, EXISTS, GET_DATA]);
 }
 
 /// A server that tells a change of the child before it answers to exists. Then it answers no read of the child, or each.
@@ -235,44 +258,42 @@ fn a_large_tree_that_has_just_been_looked_at_is_looked_at_again_after_a_change()
     }
 }
 
-/// A server that has many children, and answers no read of them before it is asked whether there is a node.
-fn hold_reads(line: &mut Line, reads: &mpsc::Sender<()>) {
+/// A server that has many children. Once as many reads of them have come as may, it tells so, and answers none before it is told to.
+fn hold_reads(line: &mut Line, are_held: &mpsc::Sender<()>, go: &mpsc::Receiver<()>) {
     let names = many_names();
     let names: Vec<_> = names.iter().map(String::as_str).collect();
-    let mut held = Some(Vec::new());
+    let mut held = Vec::new();
+    let mut is_holding = true;
     serve(line, |line, request| {
         if request.kind == GET_CHILDREN_2 && !is_below(request) {
             return line.send(&listed(request, &names));
         }
-        if request.kind == EXISTS {
-            let held = held.take().unwrap_or_default();
-            for read in held {
-                answer(line, &read);
-            }
+        if !is_holding || !is_below(request) {
+            return false;
         }
-        match &mut held {
-            Some(held) if is_below(request) => {
-                held.push(request.clone());
-                let _ = reads.send(());
-                true
-            }
-            _ => false,
+        held.push(request.clone());
+        if held.len() == MOST_READS {
+            is_holding = false;
+            let _ = are_held.send(());
+            go.recv_timeout(PATIENCE).unwrap();
+            held.drain(..).all(|read| answer(line, &read));
         }
+        true
     });
 }
 
+/// All calls that may be on their way are reads of the tree: one that is asked meanwhile waits for its turn, and has its answer.
 #[test]
-fn the_reads_of_a_large_tree_leave_room_for_a_call() {
-    let (sender, reads) = mpsc::channel();
-    let partner = Partner::start(move |_, mut line| hold_reads(&mut line, &sender));
+fn the_reads_of_a_large_tree_let_a_call_have_its_turn() {
+    let (sender, are_held) = mpsc::channel();
+    let (go, told) = mpsc::channel();
+    let partner = Partner::start(move |_, mut line| hold_reads(&mut line, &sender, &told));
     let session = Session::open(partner.address, TIMEOUT).unwrap();
     let tree = session.tree("/t").unwrap();
-    for _ in 0..MOST_READS {
-        reads.recv_timeout(PATIENCE).unwrap();
-    }
-    let more = reads.recv_timeout(Duration::from_millis(300));
-    assert!(more.is_err(), "no more reads are on their way");
-    assert!(session.exists("/x").unwrap().is_some());
+    are_held.recv_timeout(PATIENCE).unwrap();
+    let asked = session.ask(Asked::exists("/x"));
+    go.send(()).unwrap();
+    assert!(asked.wait_for(PATIENCE).unwrap().is_some());
     assert_eq!(tree.wait_for(PATIENCE).unwrap().len(), MANY + 1);
 }
 
@@ -323,4 +344,43 @@ fn a_tree_is_read_anew_by_a_renewed_client() {
     admit.send(()).unwrap();
     let again = snapshots.next_within(PATIENCE).unwrap().unwrap();
     assert_eq!((again.len(), tree.current()), (first.len(), Some(again)));
+}
+
+/// No read makes such a tree whole.
+#[test]
+fn a_name_that_makes_no_path_is_a_trouble() {
+    let partner = Partner::start(|_, mut line| {
+        serve(&mut line, |line, request| {
+            request.kind == GET_CHILDREN_2 && line.send(&listed(request, &["a", ".."]))
+        });
+    });
+    let session = Session::open(partner.address, TIMEOUT).unwrap();
+    let trouble = session.tree("/t").unwrap().wait_for(PATIENCE).unwrap_err();
+    let wanted = "some of what is asked for is not kept, or not good: /t; read what is lacking, with a watch";
+    assert_eq!(trouble.to_string(), wanted);
+}
+
+#[test]
+fn a_tree_that_nobody_has_is_read_no_more() {
+    let (sender, reads) = mpsc::channel();
+    let partner = Partner::start(move |_, mut line| {
+        serve(&mut line, |line, request| {
+            if request.kind == EXISTS {
+                line.send(&Record::notice(3, "/t/a"));
+            }
+            if is_below(request) {
+                let _ = sender.send(());
+            }
+            false
+        });
+    });
+    let session = Session::open(partner.address, TIMEOUT).unwrap();
+    let tree = session.tree("/t").unwrap();
+    assert_eq!(tree.wait_for(PATIENCE).unwrap().len(), 2);
+    assert_eq!(reads.try_iter().count(), 2);
+    drop(tree);
+    for _ in 0..2 {
+        session.exists("/x").unwrap();
+    }
+    assert_eq!(reads.try_iter().count(), 0);
 }

@@ -211,6 +211,26 @@ fn many_trees_and_calls_go_on_at_once() {
     assert_eq!(held.children("/t").count(), 402);
 }
 
+/// The second tree begins where all of it is kept and good already, by the first one.
+#[test]
+fn trees_may_have_the_same_nodes() {
+    let Some(mut server) = server() else { return };
+    let session = session_at(&server);
+    let trees = ["/t", "/t/a"].map(|root| {
+        let tree = session.tree(root).unwrap();
+        tree.wait_for(PATIENCE).unwrap();
+        tree
+    });
+    let mut all_news: Vec<_> = trees.iter().map(Tree::snapshots).collect();
+    for value in ["4", "5"] {
+        server.tell(&format!("set /t/a/deep {value}"));
+        for news in &mut all_news {
+            next(news, |one| data(one, "/t/a/deep") == Some(value));
+        }
+        assert!(trees.iter().all(|tree| tree.current().is_some()));
+    }
+}
+
 #[test]
 fn a_transaction_is_in_a_snapshot_as_a_whole() {
     let Some(server) = server() else { return };
