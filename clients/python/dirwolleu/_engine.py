@@ -1,8 +1,8 @@
 """What both clients share: a session, and who waits for what it tells. It has no socket, no thread and no clock.
 
 The session decides which server is dialled and when, when a connection is left, which calls wait and what becomes of them at a
-cut, what is read again, and when another session begins. What is decided here is of the host alone: the lane, and when an
-answer to it has taken too long, trees, and whose function is called.
+cut, what is read again, which nodes of a tree are read, and when another session begins. What is decided here is of the host
+alone: the lane, and when an answer to it has taken too long, when a tree is looked at, and whose function is called.
 """
 
 from __future__ import annotations
@@ -21,8 +21,8 @@ from dirwolleu import _library as library
 from dirwolleu._asked import Asked, Waiter
 from dirwolleu._contact import Contact
 from dirwolleu._followed import Followed
-from dirwolleu._frames import Frames, Kind, is_ping
-from dirwolleu._growing import Growing
+from dirwolleu._frames import Frames, Kind, is_ping, joined
+from dirwolleu._growing import Growing, TreeNews
 from dirwolleu._jute import Malformed
 from dirwolleu._keeping import Keeping
 from dirwolleu._lane import Lane, LaneRequest
@@ -33,7 +33,7 @@ from dirwolleu._process import this_process
 from dirwolleu._registry import Watchers
 from dirwolleu._requests import Request, refusal_of
 from dirwolleu._root import Root
-from dirwolleu._session import Action, Dial, Refused, Session, Shown, Sign, TimedOut
+from dirwolleu._session import Action, Bounded, Dial, LetGo, Refused, Session, Shown, Sign, TakenOn, TimedOut, Whole
 from dirwolleu.exceptions import (
     ConnectionClosedError,
     ConnectionLoss,
@@ -99,6 +99,11 @@ class Orders(NamedTuple):
 _NO_ORDERS = Orders(False, None, b"")
 
 
+def _comes_later(action: Action) -> bool:
+    """Whether an action is taken after those that say by which tickets a tree follows its nodes."""
+    return type(action) is not TakenOn
+
+
 def _is_auth(asked: Asked) -> bool:
     return isinstance(asked.request, LaneRequest) and asked.request.operation is lane.Operation.AUTH
 
@@ -153,7 +158,7 @@ class Engine(Keeping):
         """Makes what holds those who have asked, and who listen."""
         self._tickets = itertools.count(1)
         self._handed: collections.deque[Asked] = collections.deque()
-        self._wishes: collections.deque[tuple[Callable[[int, Followed], None], Followed]] = collections.deque()
+        self._wishes: collections.deque[tuple[Callable[[int, Any], None], Any]] = collections.deque()
         self._line = Line()
         self._sent: dict[int, Asked] = {}
         self._subjects: dict[int, Followed] = {}
@@ -162,6 +167,7 @@ class Engine(Keeping):
         self._watchers = Watchers()
         self._listening = Listeners()
         self._trees: list[Growing] = []
+        self._planted: dict[int, Growing] = {}
         self._listeners: list[Listener] = []
 
     def _hold_connection(self) -> None:
@@ -170,7 +176,7 @@ class Engine(Keeping):
         self._dial: Optional[Dial] = None
         self._hangs_up, self._why = False, ""
         self._is_admitted, self._is_recast = False, True
-        self._now = self._written = self._late = self._number = 0
+        self._now = self._written = self._sends = self._number = 0
         self._due: Optional[int] = None
 
     def _new_session(self, saved: Optional[bytes], addresses: int = 0) -> Session:
@@ -230,7 +236,7 @@ class Engine(Keeping):
 
     def opened(self, now: int) -> None:
         """The connection that was asked for is there."""
-        self._came, self._is_recast = Frames(), True
+        self._came, self._is_recast, self._sends = Frames(), True, 0
         self._pings.clear()
         self._step(now, Session.opened)
         self._frames = [self._with_zxid_of_lane(frame) for frame in self._frames]
@@ -263,13 +269,18 @@ class Engine(Keeping):
             self.contact.losses += 1
             asked.give_up(self.no_server(self._timeout_ms / 1000))
         self._line.tidy()
-        self._grow_trees(now)
+        if self._trees:
+            self._grow_trees(now)
 
     def received(self, now: int, data: bytes) -> None:
         """Bytes came. Each frame is a step of its own, so that what is kept can be looked up as it was with the frame.
+
+        Where there are trees, over which each step goes, several are one step, if no notice follows an answer in it: so each answer that
+        was good when it came is good after the step.
         """
         came = self._came
-        for piece, kind in came.cut(data):
+        pieces = came.cut(data)
+        for piece, kind in joined(pieces) if self._trees else pieces:
             if kind is not _LANE or not self._reply(now, piece):
                 try:
                     self._step(now, Session.received, piece)
@@ -400,7 +411,7 @@ class Engine(Keeping):
             round_trip=None if contact.round_trip is None else contact.round_trip / 1000,
         )
 
-    # Subjects, which the core keeps good, and trees, whose reads are asked by the engine itself.
+    # Subjects and trees, which the core keeps good.
 
     @contextlib.contextmanager
     def following(
@@ -429,26 +440,38 @@ class Engine(Keeping):
             self._step(now, Session.unfollow, ticket)
 
     def add_tree(self, tree: Growing) -> None:
-        """Has a tree be read, from the next step on."""
+        """Has a tree be followed, from the next step on."""
         self._trees.append(tree)
 
     def remove_tree(self, tree: Growing) -> None:
         with contextlib.suppress(ValueError):
             self._trees.remove(tree)
+            self._wishes.append((self._uproot, tree))
 
     def has_tree(self, tree: Growing) -> bool:
         return tree in self._trees
 
-    def hand_in(self, request: Request[Any], waiter: Waiter) -> None:
-        """Has a request be sent after those that wait."""
-        self._line.add(Asked(request, waiter, self._now + self._timeout_ms))
-
     def _grow_trees(self, now: int) -> None:
-        """Has trees be read on, where a server has accepted the session."""
-        if self._trees and self.state is State.CONNECTED and self.is_running:
+        """Has trees be followed, and looked at, where a server has accepted the session."""
+        if self.state is State.CONNECTED and self.is_running:
             for tree in list(self._trees):
-                tree.advance(now)
-            self._send_line(now)
+                if tree.ticket is None:
+                    self._plant(now, tree)
+                tree.look(now)
+
+    def _plant(self, now: int, tree: Growing) -> None:
+        """Has the core follow a tree. Where there is no memory for that, it is tried again with the next step."""
+        tree.ticket = ticket = next(self._tickets)
+        self._planted[ticket] = tree
+        try:
+            self._step(now, Session.follow_tree, ticket, tree.root, tree.most)
+        except NoMemory:
+            del self._planted[ticket]
+            tree.begin_again()
+
+    def _uproot(self, now: int, tree: Growing) -> None:
+        if tree.ticket is not None and self._planted.pop(tree.ticket, None) is tree:
+            self._step(now, Session.unfollow_tree, tree.ticket)
 
     def timeout(self) -> float:
         """The timeout of the session in seconds: the one that a server granted last, or the one to ask for."""
@@ -484,7 +507,10 @@ class Engine(Keeping):
         self._written = len(self._frames)
         session = self._session
         try:
-            for action in step(session, now, *words):
+            actions = step(session, now, *words)
+            if self._planted:
+                actions.sort(key=_comes_later)
+            for action in actions:
                 _TAKERS[type(action)](self, action)
                 if self._session is not session:
                     return  # it is closed, and what else it asks for is not done
@@ -498,6 +524,7 @@ class Engine(Keeping):
 
     def _take_frame(self, send: Send) -> None:
         self._frames.append(send.frame)
+        self._sends += 1
         if is_ping(send.frame):
             self._pings.append(self._now)
 
@@ -543,7 +570,7 @@ class Engine(Keeping):
         self._frames.clear()
         self._came = Frames()
         self._pings.clear()
-        self._is_admitted, self._late = False, 0
+        self._is_admitted, self._sends = False, 0
         self._is_recast = True
 
     def _end_of_waiting(self) -> Optional[int]:
@@ -562,8 +589,7 @@ class Engine(Keeping):
 
     def _are_sent(self) -> bool:
         """Whether no call of the core can wait for its turn, which it does where 1,024 of it and of its own reads are on their way."""
-        calls = len(self._sent)
-        return not calls or calls + self._late + len(self._subjects) < lane.MOST_PENDING
+        return not self._sent or self._sends - self._came.answers < lane.MOST_PENDING
 
     def _send_line(self, now: int) -> None:
         """Hands over what waits for that, as far as it can be, except what nobody waits for any more."""
@@ -673,7 +699,6 @@ class Engine(Keeping):
 
     def _time_out(self, timed_out: TimedOut) -> None:
         asked = self._sent.pop(timed_out.ticket, None)
-        self._late += timed_out.was_sent
         if asked is not None:
             self.contact.losses += 1
             asked.is_sent = timed_out.was_sent
@@ -683,15 +708,26 @@ class Engine(Keeping):
         followed = self._subjects.get(shown.ticket)
         if followed is not None:
             followed.show()
+            return
+        for tree in self._planted.values():
+            tree.show(shown.ticket)
 
     def _refuse(self, refused: Refused) -> None:
         self._is_recast = True
+        kind = _REFUSALS.get(refused.refusal)
+        error = refusal_of(refused.code) if kind is None else kind()
         followed = self._subjects.get(refused.ticket)
         if followed is not None:
-            kind = _REFUSALS.get(refused.refusal)
-            error = refusal_of(refused.code) if kind is None else kind()
             error.path = followed.path
             followed.refuse(error)
+            return
+        for tree in self._planted.values():
+            tree.refuse(refused.ticket, error)
+
+    def _hear_of_tree(self, news: TreeNews) -> None:
+        tree = self._planted.get(news.tree)
+        if tree is not None:
+            tree.hear(news)
 
     def _report(self, report: Report) -> None:
         event = WatchedEvent(_EVENTS[report.event], self.state, report.path)
@@ -751,6 +787,9 @@ class Engine(Keeping):
         """Has another session instead of this one. The connection is to be closed."""
         old, self._session = self._session, self._new_session(saved, addresses)
         old.close()
+        for tree in self._planted.values():
+            tree.begin_again()
+        self._planted.clear()
         self._recast()
         self._hangs_up, self._dial = True, None
 
@@ -758,7 +797,7 @@ class Engine(Keeping):
         """Fails all that waits for an answer, ends all watches, and enters a state."""
         self._refuse_handed(error)
         for tree in list(self._trees):
-            tree.forget()
+            tree.end_current()
         for asked in [*self._sent.values(), *self._lane.pending(), *self._line.clear()]:
             self._count_loss(asked, type(error)(*error.args))
         self._lane = Lane()
@@ -797,6 +836,10 @@ _TAKERS: dict[type, Callable[[Engine, Any], None]] = {
     TimedOut: Engine._time_out,
     Shown: Engine._show,
     Refused: Engine._refuse,
+    TakenOn: Engine._hear_of_tree,
+    LetGo: Engine._hear_of_tree,
+    Bounded: Engine._hear_of_tree,
+    Whole: Engine._hear_of_tree,
 }
 
 

@@ -4,6 +4,7 @@ from __future__ import annotations
 
 import enum
 import struct
+from collections.abc import Iterable, Iterator
 from typing import NamedTuple
 
 LONGEST_FRAME = 4_194_304
@@ -12,6 +13,7 @@ LANE_XID = -1001
 """The first xid of the lane, which counts down from here. The core has -8, -4, -2, -1, and those from 1 on."""
 AUTH_XID = -4
 PING_XID = -2
+NOTICE_XID = -1
 _HEADER = 16
 _PING = PING_XID.to_bytes(4, "big", signed=True)
 _head_in = struct.Struct(">ii").unpack_from
@@ -26,7 +28,10 @@ class Kind(enum.Enum):
     """What a piece of a connection is."""
 
     CORE = enum.auto()
-    """Bytes for the core, with which no answer to a ping is whole."""
+    """Bytes for the core, with which no answer to a ping is whole, and no notice."""
+
+    NOTICE = enum.auto()
+    """Bytes for the core, with which a notice is whole: what was known of a path has ended."""
 
     PONG = enum.auto()
     """Bytes for the core, with which the answer to a ping is whole."""
@@ -35,15 +40,32 @@ class Kind(enum.Enum):
     """A whole frame whose xid is one of the lane, or that of credentials."""
 
 
-_CORE, _PONG, _LANE = Kind.CORE, Kind.PONG, Kind.LANE  # a class of an enum takes its time
+_CORE, _NOTICE, _PONG, _LANE = Kind.CORE, Kind.NOTICE, Kind.PONG, Kind.LANE  # a class of an enum takes its time
+_KINDS = {PING_XID: _PONG, NOTICE_XID: _NOTICE}
 _made = tuple.__new__  # it is quicker than the name of a record
 
 
 class Piece(NamedTuple):
-    """A piece of what came: none goes past the end of a frame."""
+    """A piece of what came: none goes past the end of a frame, unless it was joined."""
 
     data: bytes
     kind: Kind
+
+
+def joined(pieces: Iterable[Piece]) -> Iterator[Piece]:
+    """The same bytes in fewer pieces: none goes past the answer to a ping, and in none a notice follows an answer."""
+    run, has_answer = list[bytes](), False
+    for data, kind in pieces:
+        if run and (kind is _LANE or kind is _NOTICE and has_answer):
+            yield Piece(b"".join(run), _CORE)
+            run, has_answer = [], False
+        run.append(data)
+        has_answer = has_answer or kind is not _NOTICE
+        if kind is _LANE or kind is _PONG:
+            yield Piece(b"".join(run), kind)
+            run, has_answer = [], False
+    if run:
+        yield Piece(b"".join(run), _CORE)
 
 
 class Frames:
@@ -54,6 +76,8 @@ class Frames:
     """
 
     def __init__(self) -> None:
+        self.answers = 0
+        """How many frames of the core's were whole, without notices."""
         self._held = b""
         self._left, self._kind = 0, _CORE
         self._is_first = True
@@ -65,7 +89,9 @@ class Frames:
         while begin < end and (self._left or self._knows(data, begin)):
             left = self._left
             if left <= end - begin:
-                pieces.append(_made(Piece, (data if left == end else data[begin : begin + left], self._kind)))
+                kind = self._kind
+                pieces.append(_made(Piece, (data if left == end else data[begin : begin + left], kind)))
+                self.answers += kind is _CORE or kind is _PONG
                 self._left = 0
                 begin += left
             elif self._kind is _LANE:
@@ -98,4 +124,4 @@ class Frames:
             return _PONG if 4 <= length < _HEADER and xid == PING_XID else _CORE
         if xid <= LANE_XID or xid == AUTH_XID:
             return _LANE
-        return _PONG if xid == PING_XID else _CORE
+        return _KINDS.get(xid, _CORE)

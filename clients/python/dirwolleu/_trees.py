@@ -94,7 +94,7 @@ class _Client(Protocol):
 
 class Tree(_Grown):
     """All nodes at and below a path, kept as the servers have them: what `client.tree` gives. A thread of the client reads, and reads
-    again what changes, through lost connections and new sessions.
+    again what changes, through lost connections and new sessions: which nodes, the proved core decides.
 
     Each snapshot is of one moment, and no node is left out: the proved core judges that. When one is shown is tested.
 

@@ -27,7 +27,7 @@ from dirwolleu import (
 from dirwolleu import _lane as lane
 from dirwolleu import _requests as requests
 from dirwolleu._engine import MOST_HANDED, Engine
-from dirwolleu._frames import Frames, Kind, Piece, is_ping
+from dirwolleu._frames import Frames, Kind, Piece, is_ping, joined
 from dirwolleu._library import DATA_SIDE, Answer, Halted, NoMemory
 from dirwolleu._session import Session
 from dirwolleu.exceptions import error_of
@@ -333,6 +333,18 @@ class EngineTest(support.PartnerCase):
             of_lane = [piece.data for piece in came if piece.kind is Kind.LANE]
             self.assertEqual(of_lane, [answers[3], answers[5], answers[8]])
         self.assertEqual([piece.data for piece in Frames().cut(whole)], answers)
+
+    def test_in_what_is_joined_no_notice_follows_an_answer(self) -> None:
+        answer, pong, of_lane, frames = reply(1, 9), reply(-2, 9), reply(-1001, 9, 0, b"lane"), Frames()
+        self.assertEqual(list(joined(frames.cut(CONNECT_RESPONSE))), [Piece(CONNECT_RESPONSE, Kind.CORE)])
+        first = [NOTICE, NOTICE, answer, answer, NOTICE, answer, of_lane, of_lane, answer, pong, NOTICE, pong, answer[:9]]
+        pieces = [
+            Piece(NOTICE + NOTICE + answer + answer, Kind.CORE), Piece(NOTICE + answer, Kind.CORE), Piece(of_lane, Kind.LANE),
+            Piece(of_lane, Kind.LANE), Piece(answer + pong, Kind.PONG), Piece(NOTICE + pong, Kind.PONG), Piece(answer[:9], Kind.CORE),
+        ]  # fmt: skip
+        self.assertEqual(list(joined(frames.cut(b"".join(first)))), pieces)
+        self.assertEqual(list(joined(frames.cut(answer[9:] + NOTICE))), [Piece(answer[9:], Kind.CORE), Piece(NOTICE, Kind.CORE)])
+        self.assertEqual((frames.answers, list(joined([]))), (8, []))
 
     def test_a_frame_that_is_too_long_goes_on_at_once(self) -> None:
         for length in (-1, 4_194_305, 2_147_483_647):
