@@ -1,7 +1,7 @@
 //! When trees are tended, and what is noted of them until then.
 
-ghost use Rattle.std.specs.Prelude.{◌≡◌, ◌<◌, ◌^◌, ◌==◌, ⊤, ℕ, None, map, IfSome};
-ghost use Rattle.std.specs.List.{list_any};
+ghost use Rattle.std.specs.Prelude.{◌≡◌, ◌<◌, ◌^◌, ◌==◌, ⊤, ℕ, None, map, nat_eq, IfSome};
+ghost use Rattle.std.specs.List.{list_any, starts_with};
 ghost use Rattle.ffi_agent_device.specs.Taking.{voice_of};
 ghost use Rattle.ffi_agent_device.specs.Tending.{are_at_rest, is_report_of, is_touched, noted, paced, sides_in, NothingDue};
 
@@ -16,12 +16,19 @@ use zk_trees::Member;
 /// How many sides of nodes a millisecond is for, from when trees were tended to when they are again.
 const SIDES_EACH_MS: u64 = 1_000;
 
+/// Whether a text begins with another.
+fn begins_with(text: &str, beginning: &str) -> bool
+    ensures { result ≡ starts_with nat_eq text.now beginning.now }
+{
+    text.starts_with(beginning)
+}
+
 /// Whether an action is the report of a path that begins with the text of a root.
 fn is_report_of(root: &Path<Global>, action: &Action<Global>) -> bool
     ensures { result ≡ is_report_of root.now action.now }
 {
     match action {
-        Action::Report { path, .. } => path.as_str().starts_with(root.as_str()),
+        Action::Report { path, .. } => begins_with(path.as_str(), root.as_str()),
         _ => false,
     }
 }

@@ -29,6 +29,6 @@ returns-clause-pace c =
     let changes = c.args.self.now.changes.number in
     ok_is c.read_new.result
     (ap (λ (t : Trees). t.pace) c.read_new.ensures.trees ∙ c.paced-self.ensures
-    ∙ ap (λ (ts : List Tree). paced c.args.now ts c.number-changes.result) c.as_slice.ensures.value
-    ∙ ap (paced c.args.now _) c.number-changes.ensures.number
+    ∙ ap (paced c.args.now c.as_slice.result.now) c.number-changes.ensures.number
+    ∙ ap (λ (ts : List Tree). paced c.args.now ts changes) c.as_slice.ensures.value
     ∙ sym (ap (λ (t : Trees). paced c.args.now t.all.items changes) c.read_new.ensures.trees))
