@@ -734,7 +734,7 @@ class Engine(Keeping):
         for function in self._watchers.take(report.path, report.side):
             self._tell(function, event)
         for tree in list(self._trees):
-            tree.reported(report.path, report.side)
+            tree.reported(report.path)
         self._wake(report.path)
 
     def _change(self, change: StateChange) -> None:

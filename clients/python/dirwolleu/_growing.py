@@ -16,7 +16,7 @@ from dirwolleu._retry import is_passing
 from dirwolleu._session import Bounded, LetGo, TakenOn, Whole
 from dirwolleu.exceptions import ConnectionClosedError, NoNodeError, ZookeeperError
 from dirwolleu.tree import TreeNode, TreeSnapshot
-from dirwolleu.types import Kept, KeptChildren
+from dirwolleu.types import Kept
 
 logger = logging.getLogger("dirwolleu.tree")
 
@@ -33,7 +33,6 @@ class Host(Protocol):
     """What a tree wants of the client that it is of."""
 
     def settled(self, path: str) -> Optional[Kept]: ...
-    def settled_children(self, path: str) -> Optional[KeptChildren]: ...
     def lacking(self, path: str, most: int) -> list[library.Lacking]: ...
     def subtree(self, path: str, most: int) -> tuple[Optional[list[SubtreeNode]], int]: ...
 
@@ -67,15 +66,10 @@ class Growing:
         """The newest snapshot is of the past."""
         self._is_current = False
 
-    def reported(self, path: str, side: int) -> None:
-        """What was good of a side of a path has ended.
-
-        It is read again, and then the session tells that nothing is lacking. It does not where that side was good before it followed
-        the tree, and is good again after one step.
-        """
+    def reported(self, path: str) -> None:
+        """What was good of a path has ended. Once it is good again, the session tells that nothing is lacking."""
         if path == self.root or path.startswith(self._below):
-            self._is_current = False
-            self._must_look = self._is_good(path, side)
+            self._must_look = self._is_current = False
 
     def hear(self, news: TreeNews) -> None:
         """The session tells news of the tree."""
@@ -133,10 +127,6 @@ class Growing:
         self.latest = TreeSnapshot(self.root, zxid, map(TreeNode._make, nodes))
         self._is_current, self.trouble = True, None
         self._tell()
-
-    def _is_good(self, path: str, side: int) -> bool:
-        settled = self._host.settled if side == library.DATA_SIDE else self._host.settled_children
-        return settled(path) is not None
 
     def _absence(self) -> Optional[NoNodeError]:
         """That there is no root, where that is known."""

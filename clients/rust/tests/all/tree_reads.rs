@@ -384,3 +384,36 @@ fn a_tree_that_nobody_has_is_read_no_more() {
     }
     assert_eq!(reads.try_iter().count(), 0);
 }
+
+/// The child is kept by watched reads of the program, so that nothing of it is lacking when the tree is asked for. A change of it and its
+/// new data come at once.
+#[test]
+fn what_the_program_itself_has_read_again_is_shown() {
+    let partner = Partner::start(|_, mut line| {
+        let mut version = 0;
+        serve_child(&mut line, |line, xid| {
+            let reply = Record::reply(xid, 5, 0).buffer(&[version]);
+            let reply = reply.stat(5, i32::from(version), 1, 0).framed();
+            let mut told = Record::notice(3, "/t/a");
+            if version == 0 {
+                told.clear();
+            }
+            version += 1;
+            line.send(&[told, reply].concat());
+        });
+    });
+    let session = Session::open(partner.address, TIMEOUT).unwrap();
+    let read = || session.call(Asked::get("/t/a").watched()).unwrap();
+    read();
+    session.call(Asked::children("/t/a").watched()).unwrap();
+    let tree = session.tree("/t").unwrap();
+    let mut snapshots = tree.snapshots();
+    for version in 0..3 {
+        let snapshot = snapshots.next_within(PATIENCE).unwrap().unwrap();
+        let child = snapshot.get("/t/a").unwrap();
+        assert_eq!(child.data, Some(vec![version]));
+        assert_eq!(tree.current(), Some(snapshot.clone()));
+        read();
+    }
+}
+
