@@ -21,7 +21,7 @@ const UNTIL: u64 = 1_000;
 const BYTES: usize = 300;
 
 /// More requests for memory than a driver makes before the answer is there.
-const REQUESTS: u32 = 300;
+const REQUESTS: u32 = 1_000;
 
 /// What is dialled, in turn.
 static ADDRESSES: [&str; 2] = ["a", "b"];
