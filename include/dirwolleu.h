@@ -540,8 +540,7 @@ enum dw_result dw_session_create(dw_session *handle, uint64_t now_ms, uint64_t t
 enum dw_result dw_session_delete(dw_session *handle, uint64_t now_ms, uint64_t ticket, uint64_t until_ms, const char *path,
                                  size_t path_length, int32_t version);
 
-/* Ends the session of the servers. After DW_STATE_CLOSED it asks for nothing more, nothing is due but trees that were to be tended, once, and each
- * call is answered DW_OUTCOME_CLOSED at once. */
+/* Ends the session of the servers. After DW_STATE_CLOSED it asks for nothing more, nothing is due, and each call is answered DW_OUTCOME_CLOSED at once. */
 enum dw_result dw_session_close(dw_session *handle, uint64_t now_ms, uint64_t ticket, uint64_t until_ms);
 
 /* Follows the data of a node, or the names of its children, also of a node that is not there yet: it is read with a watch, and read again after

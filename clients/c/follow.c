@@ -1,15 +1,12 @@
-/* Follows the data of a node of ZooKeeper, through lost connections, restarts of servers and expired sessions:
+/* follow HOST:PORT[,HOST:PORT..][/CHROOT] PATH
  *
- *   follow HOST:PORT[,HOST:PORT..][/CHROOT] PATH
- *
- * Each change of what is kept of the node is a line on standard output: the path, the mark, the last seen zxid, the data.
- *
+ * Follows the data of a node of ZooKeeper, through lost connections, restarts of servers and expired sessions. Each change of what is
+ * kept is a line on standard output: the path, the mark, the last seen zxid, the data. What happens to connections is told on standard
+ * error. SIGINT and SIGTERM end the session and the program.
  *   /config good 12 "first"     the servers' history has these data at zxid 12
  *   /config stale 13 "first"    a change was told, and the node is read again
  *   /config good 14 absent      no node is there
- *   /config unknown 14          nothing is kept: the session has expired, and another one begins, at no server that is behind
- *
- * What happens to connections is told on standard error. SIGINT and SIGTERM end the session and the program. */
+ *   /config unknown 14          nothing is kept: the session has expired, and another one begins, at no server that is behind */
 #define _POSIX_C_SOURCE 200809L
 #include "session.h"
 #include "told.h"
@@ -26,10 +23,7 @@ static void show(dws_session *session, dws_subject *node)
         print_quoted(node->text, node->length);
     }
     putchar('\n');
-    if (fflush(stdout) != 0) {
-        perror("follow: standard output");
-        exit(EXIT_FAILURE);
-    }
+    flush_output("follow");
 }
 
 int main(int argc, char **argv)

@@ -283,8 +283,8 @@ static inline bool dws_is_good(const dws_subject *subject);
  * tree->why is 0; of several between two turns with the last. It is called too where there is another reason why there is none: DW_CODE_NO_NODE
  * where there is no root, whose making is waited for; a code of the server where it has refused a read, which is asked again after a second;
  * DWS_REFUSED - DW_TOO_MANY where there are more nodes. While nodes change faster than they are read there is no new one, and is_good is false.
- * Which nodes are read and shown is the library's word, and proved; when they are shown is tested. Each step takes time with the number of nodes, and
- * calls wait for their turn while a large tree is read at first: give it a session of its own. It answers what dws_follow does. */
+ * Which nodes are read and shown is the library's word, and proved; when they are shown is tested. At most 960 reads are on their way at a time, so
+ * that calls go beside them. Each step takes time with the number of nodes: give a large tree a session of its own. It answers what dws_follow does. */
 static inline enum dw_result dws_follow_tree(dws_session *s, dws_tree *tree, const char *path, size_t most,
                                              void (*shown)(dws_session *, dws_tree *));
 

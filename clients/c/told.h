@@ -40,6 +40,15 @@ static inline void print_quoted(const char *bytes, size_t length)
     putchar('"');
 }
 
+/* Writes what was printed. A program that nobody can read ends. */
+static inline void flush_output(const char *program)
+{
+    if (fflush(stdout) != 0) {
+        fprintf(stderr, "%s: standard output: %s\n", program, strerror(errno));
+        exit(EXIT_FAILURE);
+    }
+}
+
 /* Goes on until the session is over. SIGINT and SIGTERM end it; a second one does not wait for the server's word. */
 static inline void turn_until_signal(dws_session *session)
 {

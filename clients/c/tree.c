@@ -29,10 +29,7 @@ static void show(dws_session *session, dws_tree *tree)
         print_quoted(tree->nodes[i].data, tree->nodes[i].length);
         putchar('\n');
     }
-    if (fflush(stdout) != 0) {
-        perror("tree: standard output");
-        exit(EXIT_FAILURE);
-    }
+    flush_output("tree");
 }
 
 int main(int argc, char **argv)

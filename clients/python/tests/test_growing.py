@@ -260,16 +260,18 @@ class GrowingTest(unittest.TestCase):
         self.engine.received(600, CONNECT_RESPONSE)
         self.assertTrue(self.frames().endswith(read(1, "/t", True).frame + list_of(2, "/t")))
 
-    def test_what_is_asked_in_the_lane_comes_after_calls_that_wait_for_reads(self) -> None:
-        """A tree has 1,024 reads on their way, for which a call waits in the session."""
+    def test_reads_of_a_large_tree_leave_room_for_calls(self) -> None:
+        """A tree has 960 reads on their way. Beside them 64 calls have room; what is asked after those waits, in the lane too."""
         self.planted(2000)
         self.come(data(1), listed(2, *(f"n{number:03}" for number in range(512))))
-        self.frames()
+        self.assertTrue(self.frames().endswith(list_of(962, "/t/n447")))
+        for number in range(64):
+            self.engine.ask(300, requests.get("/other", None), Future())
         call, synced = Future(), Future()
         self.engine.ask(300, requests.get("/other", None), call)
         self.engine.ask(300, lane.sync("/"), synced)
         self.engine.take_handed(300)
-        self.assertEqual(self.frames(), b"")
+        self.assertEqual(self.frames(), b"".join(read(963 + number, "/other").frame for number in range(64)))
         self.come(data(3))
         self.assertEqual(self.frames(), read(1027, "/other").frame)
         self.come(data(4))

@@ -23,14 +23,14 @@ pub(crate) type News = Result<TreeSnapshot, Error>;
 /// sessions.
 ///
 /// Each [`TreeSnapshot`] is of one moment: a transaction that changes several nodes is in it whole or not at all, and no node is left out.
-/// The proved core decides which nodes are read, and judges that; when a snapshot is shown is tested. Where nodes change faster than they are read there is no new one, and
-/// [`current`](Tree::current) is none until it settles.
+/// The proved core decides which nodes are read, and judges that; when a snapshot is shown is tested. Where nodes change faster than they
+/// are read there is no new one, and [`current`](Tree::current) is none until it settles.
 ///
 /// Threads may look at a tree at once. It is followed until it is dropped; then what was read stays kept. A look at a large tree takes a
 /// while, so the next one waits, for ten times as long.
 ///
-/// Each step of a session takes time with the number of nodes of its trees, and a call that is asked while a large tree is read for the
-/// first time waits for its turn after the reads: give a large tree a session of its own.
+/// At most 960 of its reads are on their way at a time, so that calls go beside them. Each step of a session takes time with the number of
+/// nodes of its trees: give a large tree a session of its own.
 ///
 /// ```no_run
 /// use dirwolleu::SessionOptions;

@@ -5,6 +5,7 @@ use Rattle.std.specs.Prelude.{Result, Ok, Err, OnOk}
 use Rattle.std.specs.declared.alloc.Global.{Global}
 use Rattle.zk_nodes.specs.Path.{Text}
 use Rattle.zk_nodes.specs.declared.side.Side.TheVariants.{Data, Child}
+use Rattle.zk_agent.specs.Agents.{IsBroken}
 use Rattle.zk_agent.specs.declared.input.AgentInput.{AgentInput}
 use Rattle.zk_agent.specs.declared.input.AgentInput.TheVariants as input
 use Rattle.ffi_agent_device.specs.Happenings.{happening}
@@ -54,9 +55,9 @@ stepped now given old new last went goes read its same advances = record {
 -- A step that has stopped.
 pub stopped : (old new : AgentDevice) (refusal : DeviceRefusal)
     → refusal ≡ Halted → new.is_over ≡ true → new.said.items ≡ [] → new.news.items ≡ [] → new.revision.number ≡ raised old.revision.number
-    → (refusal ≡ Halted) × Stopped old new
-stopped old new refusal halted over silent untold number =
-    (halted, record { over = over; silent = silent; untold = untold; number = number })
+    → IsBroken old.agent new.agent → (refusal ≡ Halted) × Stopped old new
+stopped old new refusal halted over silent untold number broke =
+    (halted, record { over = over; silent = silent; untold = untold; number = number; broke = broke })
 
 -- ---- a tree that begins
 

@@ -2,6 +2,7 @@
 -- it is put together from its parts, trees among them, and keeps what each part keeps.
 mod AtOnce
 pub mod Beginning
+pub mod Breaking
 mod Chains
 mod Finding
 mod Growing

@@ -38,3 +38,7 @@ not_both P Q first due p q both = by (nat_le first due) refl
 pub some_so : {X : Type 0} (P Q : X → Type 0) (o : Option X) → ((x : X) → P x → Q x) → IfSome o P → IfSome o Q
 some_so P Q None so p = p
 some_so P Q (Some x) so p = so x p
+
+pub neither : (a b : Bool) → (a || b) ≡ false → (a ≡ false) × (b ≡ false)
+neither true b e = absurd cc
+neither false b e = (refl, e)

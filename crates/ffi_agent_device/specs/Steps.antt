@@ -14,7 +14,7 @@ use Rattle.zk_dialler.specs.declared.dialler.Dialler.{Dialler}
 use Rattle.zk_dialler.specs.declared.dialler.Phase.TheVariants.{Waiting}
 use Rattle.zk_agent.specs.declared.input.AgentInput.{AgentInput}
 use Rattle.zk_agent.specs.declared.input.AgentInput.TheVariants as input
-use Rattle.zk_agent.specs.Agents.{IsLed}
+use Rattle.zk_agent.specs.Agents.{IsBroken, IsLed}
 use Rattle.zk_conclusions.specs.Revisions.{raised}
 use Rattle.ffi_device.specs.Codes.{refusal_code}
 use Rattle.ffi_device.specs.declared.refusal.DeviceRefusal.{DeviceRefusal}
@@ -46,12 +46,13 @@ pub record Stepped (now : ℕ) (what : Happening) (before after : AgentDevice) :
   pub took : Took now given before after
 
 -- Memory ran out within this step, or within an earlier one: the agent goes on no further, and nothing is told. The revision is the next
--- one.
+-- one. The agent's client has gone on until then, in one chain from before this step.
 pub record Stopped (before after : AgentDevice) : Type 0 where
   pub over : after.is_over ≡ true
   pub silent : after.said.items ≡ []
   pub untold : after.news.items ≡ []
   pub number : after.revision.number ≡ raised before.revision.number
+  pub broke : IsBroken before.agent after.agent
 
 -- What happened, at a moment: 0 where it was one step of the agent, -1 where the agent goes on no further, and any other number where
 -- nothing happened, for a reason that it has.

@@ -11,7 +11,7 @@ use Rattle.zk_client.specs.Clients.{view_of}
 use Rattle.zk_agent.specs.declared.action.Action.{Action}
 use Rattle.zk_agent.specs.declared.action.Action.TheVariants as action
 use Rattle.zk_agent.specs.Calls.{is_same}
-use Rattle.zk_agent.specs.Agents.{Move, Follows, NothingAt, Unfollows}
+use Rattle.zk_agent.specs.Agents.{Move, Follows, NothingAt, Unfollows, is_closed}
 use Rattle.zk_agent.specs.declared.input.AgentInput.TheVariants as input
 use Rattle.zk_trees.specs.Trees.{is_settled, stays, tickets_gone, AreWanted, Wants}
 use Rattle.zk_trees.specs.Trees as trees
@@ -206,10 +206,12 @@ TendsWhere false now was olds is news old new = (is ≡ paced now news old.chang
 abbrev pub TendsSo : (now : ℕ) → (was : Pace) → (olds : List Tree) → (is : Pace) → (news : List Tree) → (old new : Voice) → Type 0
 TendsSo now was olds is news old new = TendsWhere (are_at_rest now was old.changes) now was olds is news old new
 
--- At a moment neither a step of the agent is due, nor are trees to be tended.
+-- At a moment neither a step of the agent is due, nor are trees to be tended. After a close nothing is.
 abbrev pub NothingDue : AgentDevice → (moment : ℕ) → Type 0
 NothingDue device moment =
-    NothingAt device.agent moment × (are_at_rest moment device.trees.pace device.changes.number ≡ true)
+    NothingAt device.agent moment
+    × ((is_closed (view_of device.agent.asker.follower.client).standing.state
+    || are_at_rest moment device.trees.pace device.changes.number) ≡ true)
 
 -- ---- a new tree
 

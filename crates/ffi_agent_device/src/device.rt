@@ -1,6 +1,6 @@
 //! An agent with the actions of its last step.
 
-ghost use Rattle.std.specs.Prelude.{◌≡◌, ◌≢◌, ◌<ℤ◌, pos, false, true, [], IfErr, IfOk, OnOk, Ok, Err, unsigned_abs};
+ghost use Rattle.std.specs.Prelude.{◌≡◌, ◌≢◌, ◌<ℤ◌, pos, false, true, [], IfErr, IfOk, OnErr, OnOk, Ok, Err, unsigned_abs};
 ghost use Rattle.zk_turns.specs.Turns.{new_start};
 ghost use Rattle.zk_client.specs.Clients.{view_of};
 ghost use Rattle.zk_client.specs.SavedSessions.{PutAway, bytes_read};
@@ -13,6 +13,7 @@ ghost use Rattle.ffi_device.specs.Refused.{RefusesMemory, RefusesNothing, Refuse
 ghost use Rattle.ffi_device.specs.Sessions.{put_start};
 ghost use Rattle.ffi_agent_device.specs.Happenings.{happening, Addressed, Bytes, Cut, Failed, Moment, Opened};
 ghost use Rattle.zk_agent.specs.Agents as agents;
+ghost use Rattle.zk_agent.specs.Agents.{IsBroken};
 ghost use Rattle.ffi_agent_device.specs.Taking.{begun, voice_of, MovesOn, StepsOn, Voice};
 ghost use Rattle.ffi_agent_device.specs.Tending.{TendsSo};
 ghost use Rattle.ffi_agent_device.specs.Steps.{Dials, Forgot, Begins, BeginsWith, Stepped, Steps, Stopped};
@@ -135,6 +136,7 @@ impl AgentDevice {
         ensures silent { self.new.said.items ≡ [] }
         ensures untold { self.new.news.items ≡ [] }
         ensures number { self.new.revision.number ≡ raised revision.number }
+        ensures agent { self.new.agent ≡ self.old.agent }
     {
         self.begin_step();
         self.revision = revision;
@@ -149,6 +151,8 @@ impl AgentDevice {
         ensures said { self.new.said.items ≡ [] }
         ensures news { self.new.news.items ≡ [] }
         ensures over { self.new.is_over ≡ true }
+        ensures client { self.new.agent.asker.follower.client ≡ self.old.agent.asker.follower.client }
+        ensures timeout { self.new.agent.timeout_ms ≡ self.old.agent.timeout_ms }
     {
         self.said.clear();
         self.news.clear();
@@ -176,6 +180,7 @@ impl AgentDevice {
     ) -> Result<(), FollowerStop>
         ensures steps { OnOk result (StepsOn now input (voice_of self.old) (voice_of self.new)) }
         ensures trees { self.new.trees ≡ self.old.trees }
+        ensures broke { OnErr result (IsBroken self.old.agent self.new.agent) }
     {
         let is_bytes = is_bytes(&input);
         let mut said = self.agent.step(now, input)?;
@@ -196,6 +201,8 @@ impl AgentDevice {
     ) -> Result<(), FollowerStop>
         ensures moves { OnOk result (MovesOn (agents.Follows ticket side path) (voice_of self.old) (voice_of self.new)) }
         ensures trees { self.new.trees ≡ self.old.trees }
+        ensures client { self.new.agent.asker.follower.client ≡ self.old.agent.asker.follower.client }
+        ensures timeout { self.new.agent.timeout_ms ≡ self.old.agent.timeout_ms }
     {
         if self.agent.add_subject(ticket, side, path).is_err() {
             return Err(FollowerStop::Memory);
@@ -207,15 +214,18 @@ impl AgentDevice {
     pub(crate) fn remove_subject(&mut self, ticket: u64)
         ensures moves { MovesOn (agents.Unfollows ticket) (voice_of self.old) (voice_of self.new) }
         ensures trees { self.new.trees ≡ self.old.trees }
+        ensures client { self.new.agent.asker.follower.client ≡ self.old.agent.asker.follower.client }
+        ensures timeout { self.new.agent.timeout_ms ≡ self.old.agent.timeout_ms }
     {
         self.agent.remove_subject(ticket);
     }
 
     // One step of the agent, and then trees are tended.
     fn advance(&mut self, now: u64, input: AgentInput<Global>) -> Result<(), FollowerStop>
-        ensures { OnOk result ((between : Voice) × StepsOn now input (voice_of self.old) between
+        ensures advances { OnOk result ((between : Voice) × StepsOn now input (voice_of self.old) between
             × TendsSo now self.old.trees.pace self.old.trees.all.items self.new.trees.pace self.new.trees.all.items
             between (voice_of self.new)) }
+        ensures broke { OnErr result (IsBroken self.old.agent self.new.agent) }
     {
         self.step_on(now, input)?;
         self.tend(now)

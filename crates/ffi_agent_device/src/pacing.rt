@@ -1,7 +1,10 @@
 //! When trees are tended, and what is noted of them until then.
 
-ghost use Rattle.std.specs.Prelude.{◌≡◌, ◌<◌, ◌^◌, ◌==◌, ⊤, ℕ, None, map, nat_eq, IfSome};
+ghost use Rattle.std.specs.Prelude.{◌≡◌, ◌<◌, ◌^◌, ◌==◌, ◌||◌, ⊤, ℕ, None, map, nat_eq, IfSome};
 ghost use Rattle.std.specs.List.{list_any, starts_with};
+ghost use Rattle.zk_client.specs.Clients.{view_of};
+ghost use Rattle.zk_session.specs.declared.states.State.TheVariants.{Closed};
+ghost use Rattle.zk_agent.specs.Agents.{is_closed};
 ghost use Rattle.ffi_agent_device.specs.Taking.{voice_of};
 ghost use Rattle.ffi_agent_device.specs.Tending.{are_at_rest, is_report_of, is_touched, noted, paced, sides_in, NothingDue};
 
@@ -10,7 +13,7 @@ use crate::tending::is_any_shown;
 use crate::tree::{Pace, Tree};
 use std::alloc::Global;
 use zk_agent::Action;
-use zk_client::Path;
+use zk_client::{Path, State};
 use zk_trees::Member;
 
 /// How many sides of nodes a millisecond is for, from when trees were tended to when they are again.
@@ -104,25 +107,43 @@ impl AgentDevice {
         self.trees.pace.tended == self.changes.number()
     }
 
+    /// Whether the session was closed.
+    fn is_closed(&self) -> bool
+        ensures { result ≡ is_closed (view_of self.now.agent.asker.follower.client).standing.state }
+    {
+        matches!(self.agent.client().state(), State::Closed)
+    }
+
+    /// Whether no tree is due, at any moment.
+    fn rests_on(&self) -> bool
+        ensures { result ≡ (is_closed (view_of self.now.agent.asker.follower.client).standing.state
+            || (self.now.trees.pace.tended == self.now.changes.number)) }
+    {
+        self.is_closed() || self.is_tended()
+    }
+
     /// Notes of each tree whether it may be another one by what was said.
     pub(crate) fn note_each(&mut self)
         ensures trees { self.new.trees.all.items ≡ map (noted self.old.said.items) self.old.trees.all.items }
         ensures pace { self.new.trees.pace ≡ self.old.trees.pace }
         ensures voice { voice_of self.new ≡ voice_of self.old }
+        ensures client { self.new.agent.asker.follower.client ≡ self.old.agent.asker.follower.client }
+        ensures timeout { self.new.agent.timeout_ms ≡ self.old.agent.timeout_ms }
     {
         let all = self.trees.all.as_mut_slice();
         note_all(all, self.said.as_slice());
     }
 
     /// The first moment at which something is due: at the latest then a step is to be made, if nothing else happens. It may be past, and
-    /// there is none where nothing will be due.
+    /// there is none where nothing will be due, as after a close.
     pub fn deadline(&self) -> Option<u64>
         ensures before { IfSome result (λ first. (moment : ℕ) → moment < 2 ^ 64 → moment < first → NothingDue self.now moment) }
         ensures due { IfSome result (λ first. ¬ (NothingDue self.now first)) }
         ensures never { result ≡ None → (moment : ℕ) → moment < 2 ^ 64 → NothingDue self.now moment }
+        ensures closed { (view_of self.now.agent.asker.follower.client).standing.state ≡ Closed → result ≡ None }
     {
         let first = self.agent.deadline();
-        if self.is_tended() {
+        if self.rests_on() {
             return first;
         }
         let due = self.trees.pace.due;

@@ -1,6 +1,7 @@
 //! Which trees are followed.
 
-ghost use Rattle.std.specs.Prelude.{◌≡◌, ◌++◌, ◌∷◌, [], IfErr, IfOk, OnOk};
+ghost use Rattle.std.specs.Prelude.{◌≡◌, ◌++◌, ◌∷◌, [], IfErr, IfOk, OnErr, OnOk};
+ghost use Rattle.zk_agent.specs.Agents.{IsBroken};
 ghost use Rattle.zk_agent.specs.declared.input.AgentInput.TheVariants.{Moment};
 ghost use Rattle.ffi_device.specs.Codes.{code_of};
 ghost use Rattle.ffi_device.specs.Refused.{RefusesPath};
@@ -22,7 +23,9 @@ use zk_trees::NodeSide;
 impl AgentDevice {
     /// Follows the data of a root, and the names below it, as a tree of no other nodes yet.
     fn plant(&mut self, ticket: u64, root: &Path<Global>, most: u64) -> Result<Tree, FollowerStop>
-        ensures { IfOk result (λ tree. Plants ticket root.now most (voice_of self.old) (bed_of (voice_of self.new) tree)) }
+        ensures plants { IfOk result (λ tree. Plants ticket root.now most (voice_of self.old) (bed_of (voice_of self.new) tree)) }
+        ensures client { self.new.agent.asker.follower.client ≡ self.old.agent.asker.follower.client }
+        ensures timeout { self.new.agent.timeout_ms ≡ self.old.agent.timeout_ms }
     {
         let alloc = self.trees.alloc;
         let its_data = NodeSide::of(alloc, Side::Data, root)?;
@@ -46,10 +49,12 @@ impl AgentDevice {
         root: &Path<Global>,
         most: u64,
     ) -> Result<(), FollowerStop>
-        ensures { OnOk result ((tree : Tree) × (planted : Voice) × Plants ticket root.now most (voice_of self.old) (bed_of planted tree)
+        ensures plants { OnOk result
+            ((tree : Tree) × (planted : Voice) × Plants ticket root.now most (voice_of self.old) (bed_of planted tree)
             × (between : Voice) × StepsOn now Moment planted between
             × (self.new.trees.pace ≡ paced now self.new.trees.all.items between.changes)
             × TendsAll now (self.old.trees.all.items ++ tree ∷ []) self.new.trees.all.items between (voice_of self.new)) }
+        ensures broke { OnErr result (IsBroken self.old.agent self.new.agent) }
     {
         let mut all = std::mem::replace(&mut self.trees.all, Vec::new(self.trees.alloc));
         let tree = self.plant(ticket, root, most)?;
@@ -106,6 +111,8 @@ impl AgentDevice {
     fn uproot(&mut self, tree: &Tree) -> Result<(), FollowerStop>
         ensures uprooted { OnOk result (Uproots tree.now (voice_of self.old) (voice_of self.new)) }
         ensures trees { self.new.trees ≡ self.old.trees }
+        ensures client { self.new.agent.asker.follower.client ≡ self.old.agent.asker.follower.client }
+        ensures timeout { self.new.agent.timeout_ms ≡ self.old.agent.timeout_ms }
     {
         for one in tree.members.as_slice() {
             self.leave(tree.ticket, one.ticket)?;
@@ -118,6 +125,8 @@ impl AgentDevice {
         ensures uprooted { OnOk result (UprootsSo (found ticket self.old.trees.all.items) (voice_of self.old) (voice_of self.new)) }
         ensures left { self.new.trees.all.items ≡ left ticket self.old.trees.all.items }
         ensures pace { self.new.trees.pace ≡ self.old.trees.pace }
+        ensures client { self.new.agent.asker.follower.client ≡ self.old.agent.asker.follower.client }
+        ensures timeout { self.new.agent.timeout_ms ≡ self.old.agent.timeout_ms }
     {
         match self.trees.take_out(ticket) {
             Some(tree) => self.uproot(&tree),
@@ -127,10 +136,11 @@ impl AgentDevice {
 
     /// Follows the first tree of this ticket no more, notices the moment, and tends each tree that is left.
     fn uproot_and_tend(&mut self, now: u64, ticket: u64) -> Result<(), FollowerStop>
-        ensures { OnOk result ((bare : Voice) × UprootsSo (found ticket self.old.trees.all.items) (voice_of self.old) bare
+        ensures uproots { OnOk result ((bare : Voice) × UprootsSo (found ticket self.old.trees.all.items) (voice_of self.old) bare
             × (between : Voice) × StepsOn now Moment bare between
             × TendsSo now self.old.trees.pace
             (left ticket self.old.trees.all.items) self.new.trees.pace self.new.trees.all.items between (voice_of self.new)) }
+        ensures broke { OnErr result (IsBroken self.old.agent self.new.agent) }
     {
         self.uproot_first(ticket)?;
         self.step_on(now, AgentInput::Moment)?;

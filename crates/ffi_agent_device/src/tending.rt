@@ -1,10 +1,10 @@
 //! What becomes of trees within a step: what is gone is let go, and what good names lead to is taken on.
 
-ghost use Rattle.std.specs.Prelude.{◌≡◌, ◌&&◌, ◌||◌, ◌++◌, ◌∷◌, ◌==◌, [], ⊤, not, OnOk};
+ghost use Rattle.std.specs.Prelude.{◌≡◌, ◌&&◌, ◌||◌, ◌++◌, ◌∷◌, ◌==◌, [], ⊤, not, OnErr, OnOk};
 ghost use Rattle.std.specs.List.{list_any};
 ghost use Rattle.zk_client.specs.Clients.{view_of};
 ghost use Rattle.zk_agent.specs.Calls.{is_same};
-ghost use Rattle.zk_agent.specs.Agents.{Unfollows};
+ghost use Rattle.zk_agent.specs.Agents.{IsBroken, Unfollows};
 ghost use Rattle.zk_trees.specs.Trees.{aim_of, aims_of, wants_of};
 ghost use Rattle.ffi_agent_device.specs.declared.tree.TreeNews.TheVariants.{LetGo, TakenOn};
 ghost use Rattle.zk_trees.specs.Trees.{IsIndexOf};
@@ -79,6 +79,8 @@ impl AgentDevice {
     fn tell(&mut self, news: TreeNews) -> Result<(), FollowerStop>
         ensures told { OnOk result (voice_of self.new ≡ tells news (voice_of self.old)) }
         ensures trees { self.new.trees ≡ self.old.trees }
+        ensures client { self.new.agent.asker.follower.client ≡ self.old.agent.asker.follower.client }
+        ensures timeout { self.new.agent.timeout_ms ≡ self.old.agent.timeout_ms }
     {
         if self.news.push(news).is_err() {
             return Err(FollowerStop::Memory);
@@ -94,7 +96,9 @@ impl AgentDevice {
         side: Side,
         path: &Path<Global>,
     ) -> Result<(), FollowerStop>
-        ensures { OnOk result (voice_of self.new ≡ tells (TakenOn tree ticket side path.now) (voice_of self.old)) }
+        ensures told { OnOk result (voice_of self.new ≡ tells (TakenOn tree ticket side path.now) (voice_of self.old)) }
+        ensures client { self.new.agent.asker.follower.client ≡ self.old.agent.asker.follower.client }
+        ensures timeout { self.new.agent.timeout_ms ≡ self.old.agent.timeout_ms }
     {
         let path = copy_of(self.trees.alloc, path)?;
         self.tell(TreeNews::TakenOn {
@@ -117,6 +121,8 @@ impl AgentDevice {
             (Joins ticket is_found (aim_of subject.now) (bed_of (voice_of self.old) tree.old) (bed_of (voice_of self.new) tree.new)) }
         ensures member { OnOk result ((one : Member Global ⊤) × (aim_of one.subject ≡ aim_of subject.now)
             × (tree.new.members.items ≡ tree.old.members.items ++ one ∷ [])) }
+        ensures client { self.new.agent.asker.follower.client ≡ self.old.agent.asker.follower.client }
+        ensures timeout { self.new.agent.timeout_ms ≡ self.old.agent.timeout_ms }
     {
         let side = subject.side;
         let path = copy_of(self.trees.alloc, &subject.path)?;
@@ -139,6 +145,8 @@ impl AgentDevice {
         ensures takes { OnOk result
             (TakesOn (aim_of subject.now) (bed_of (voice_of self.old) tree.old) (bed_of (voice_of self.new) tree.new)) }
         ensures index { OnOk result (IsIndexOf index.new tree.new.members.items) }
+        ensures client { self.new.agent.asker.follower.client ≡ self.old.agent.asker.follower.client }
+        ensures timeout { self.new.agent.timeout_ms ≡ self.old.agent.timeout_ms }
     {
         let client = self.agent.client();
         if index.is_settled(client, subject) {
@@ -161,8 +169,10 @@ impl AgentDevice {
         tree: &mut Tree,
     ) -> Result<(), FollowerStop>
         requires { IsIndexOf index.old tree.old.members.items }
-        ensures { OnOk result
+        ensures takes { OnOk result
             (TakesAllOn (aims_of subjects.now) (bed_of (voice_of self.old) tree.old) (bed_of (voice_of self.new) tree.new)) }
+        ensures client { self.new.agent.asker.follower.client ≡ self.old.agent.asker.follower.client }
+        ensures timeout { self.new.agent.timeout_ms ≡ self.old.agent.timeout_ms }
     {
         for subject in subjects {
             self.take_on(subject, index, tree)?;
@@ -176,8 +186,10 @@ impl AgentDevice {
         subjects: &[NodeSide<Global>],
         tree: &mut Tree,
     ) -> Result<(), FollowerStop>
-        ensures { OnOk result
+        ensures takes { OnOk result
             (TakesAllOn (aims_of subjects.now) (bed_of (voice_of self.old) tree.old) (bed_of (voice_of self.new) tree.new)) }
+        ensures client { self.new.agent.asker.follower.client ≡ self.old.agent.asker.follower.client }
+        ensures timeout { self.new.agent.timeout_ms ≡ self.old.agent.timeout_ms }
     {
         if is_none(subjects) {
             return Ok(());
@@ -188,7 +200,9 @@ impl AgentDevice {
 
     /// Notes whether a tree has more nodes than its bound, and tells it where that is not what it was.
     fn note_bound(&mut self, is_bounded: bool, tree: &mut Tree) -> Result<(), FollowerStop>
-        ensures { OnOk result (NotesBound is_bounded (bed_of (voice_of self.old) tree.old) (bed_of (voice_of self.new) tree.new)) }
+        ensures notes { OnOk result (NotesBound is_bounded (bed_of (voice_of self.old) tree.old) (bed_of (voice_of self.new) tree.new)) }
+        ensures client { self.new.agent.asker.follower.client ≡ self.old.agent.asker.follower.client }
+        ensures timeout { self.new.agent.timeout_ms ≡ self.old.agent.timeout_ms }
     {
         if is_same(tree.is_bounded, is_bounded) {
             return Ok(());
@@ -209,7 +223,9 @@ impl AgentDevice {
 
     /// Notes whether nothing is lacking of a tree, and tells it where that is so of another one.
     fn note_whole(&mut self, is_whole: bool, tree: &mut Tree) -> Result<(), FollowerStop>
-        ensures { OnOk result (NotesWhole is_whole (bed_of (voice_of self.old) tree.old) (bed_of (voice_of self.new) tree.new)) }
+        ensures notes { OnOk result (NotesWhole is_whole (bed_of (voice_of self.old) tree.old) (bed_of (voice_of self.new) tree.new)) }
+        ensures client { self.new.agent.asker.follower.client ≡ self.old.agent.asker.follower.client }
+        ensures timeout { self.new.agent.timeout_ms ≡ self.old.agent.timeout_ms }
     {
         let is_news = is_whole && self.is_moved(tree);
         tree.is_whole = is_whole;
@@ -221,7 +237,9 @@ impl AgentDevice {
 
     /// Takes a tree on, as far as good names lead.
     fn grow(&mut self, tree: &mut Tree) -> Result<(), FollowerStop>
-        ensures { OnOk result (Grows (bed_of (voice_of self.old) tree.old) (bed_of (voice_of self.new) tree.new)) }
+        ensures grows { OnOk result (Grows (bed_of (voice_of self.old) tree.old) (bed_of (voice_of self.new) tree.new)) }
+        ensures client { self.new.agent.asker.follower.client ≡ self.old.agent.asker.follower.client }
+        ensures timeout { self.new.agent.timeout_ms ≡ self.old.agent.timeout_ms }
     {
         let client = self.agent.client();
         let roots = std::slice::from_ref(&tree.root);
@@ -235,6 +253,8 @@ impl AgentDevice {
     pub(crate) fn leave(&mut self, tree: u64, ticket: u64) -> Result<(), FollowerStop>
         ensures left { OnOk result (Shifts (Unfollows ticket) (LetGo tree ticket) (voice_of self.old) (voice_of self.new)) }
         ensures trees { self.new.trees ≡ self.old.trees }
+        ensures client { self.new.agent.asker.follower.client ≡ self.old.agent.asker.follower.client }
+        ensures timeout { self.new.agent.timeout_ms ≡ self.old.agent.timeout_ms }
     {
         self.tell(TreeNews::LetGo { tree, ticket })?;
         self.remove_subject(ticket);
@@ -243,7 +263,9 @@ impl AgentDevice {
 
     /// Follows no more what is gone.
     fn let_go(&mut self, tree: &mut Tree) -> Result<(), FollowerStop>
-        ensures { OnOk result (LetsAllGo (bed_of (voice_of self.old) tree.old) (bed_of (voice_of self.new) tree.new)) }
+        ensures lets { OnOk result (LetsAllGo (bed_of (voice_of self.old) tree.old) (bed_of (voice_of self.new) tree.new)) }
+        ensures client { self.new.agent.asker.follower.client ≡ self.old.agent.asker.follower.client }
+        ensures timeout { self.new.agent.timeout_ms ≡ self.old.agent.timeout_ms }
     {
         let client = self.agent.client();
         let tickets = tickets_gone(self.trees.alloc, client, tree.members.as_slice())?;
@@ -256,7 +278,9 @@ impl AgentDevice {
 
     /// Lets go what is gone of a tree, and takes it on.
     fn tend_tree(&mut self, tree: &mut Tree) -> Result<(), FollowerStop>
-        ensures { OnOk result (TendsTree (bed_of (voice_of self.old) tree.old) (bed_of (voice_of self.new) tree.new)) }
+        ensures tends { OnOk result (TendsTree (bed_of (voice_of self.old) tree.old) (bed_of (voice_of self.new) tree.new)) }
+        ensures client { self.new.agent.asker.follower.client ≡ self.old.agent.asker.follower.client }
+        ensures timeout { self.new.agent.timeout_ms ≡ self.old.agent.timeout_ms }
     {
         self.let_go(tree)?;
         self.grow(tree)
@@ -264,7 +288,9 @@ impl AgentDevice {
 
     /// Tends each of these trees, in order.
     pub(crate) fn tend_each(&mut self, trees: &mut [Tree]) -> Result<(), FollowerStop>
-        ensures { OnOk result (TendsEach trees.old trees.new (voice_of self.old) (voice_of self.new)) }
+        ensures tends { OnOk result (TendsEach trees.old trees.new (voice_of self.old) (voice_of self.new)) }
+        ensures client { self.new.agent.asker.follower.client ≡ self.old.agent.asker.follower.client }
+        ensures timeout { self.new.agent.timeout_ms ≡ self.old.agent.timeout_ms }
     {
         for tree in trees.iter_mut() {
             self.tend_tree(tree)?;
@@ -283,6 +309,7 @@ impl AgentDevice {
     fn read_new(&mut self, now: u64, next: u64) -> Result<(), FollowerStop>
         ensures reads { OnOk result (ReadsWhere (next == (voice_of self.old).next) now (voice_of self.old) (voice_of self.new)) }
         ensures trees { self.new.trees ≡ self.old.trees }
+        ensures broke { OnErr result (IsBroken self.old.agent self.new.agent) }
     {
         if self.is_none_since(next) {
             return Ok(());
@@ -298,6 +325,7 @@ impl AgentDevice {
     ) -> Result<(), FollowerStop>
         ensures tends { OnOk result (TendsAll now trees.items self.new.trees.all.items (voice_of self.old) (voice_of self.new)) }
         ensures pace { OnOk result (self.new.trees.pace ≡ paced now self.new.trees.all.items self.old.changes.number) }
+        ensures broke { OnErr result (IsBroken self.old.agent self.new.agent) }
     {
         let changes = self.changes.number();
         let next = self.trees.next;
@@ -310,8 +338,9 @@ impl AgentDevice {
 
     /// Tends each tree, or notes what was said of them where they rest.
     pub(crate) fn tend(&mut self, now: u64) -> Result<(), FollowerStop>
-        ensures { OnOk result (TendsSo now self.old.trees.pace self.old.trees.all.items self.new.trees.pace self.new.trees.all.items
+        ensures tends { OnOk result (TendsSo now self.old.trees.pace self.old.trees.all.items self.new.trees.pace self.new.trees.all.items
             (voice_of self.old) (voice_of self.new)) }
+        ensures broke { OnErr result (IsBroken self.old.agent self.new.agent) }
     {
         if self.are_at_rest(now) {
             self.note_each();

@@ -1,4 +1,5 @@
 -- Lemmas on an agent: its moves and calls one after the other, what outputs say, and when a server is left or a session ends.
+pub mod Breaking
 pub mod Closing
 pub mod Counting
 pub mod Deadlines

@@ -190,7 +190,7 @@ stays_where : {A : Type 0} (is_lost : Bool) (now : ℕ) (old new : Trail A) → 
 stays_where true now old new leaves = leaves.timeout
 stays_where {A} false now old new same = ap (λ (t : Trail A). t.timeout) same
 
-stays_by : {A : Type 0} (move : Move) (old new : Trail A) → Does old move new → new.timeout ≡ old.timeout
+pub stays_by : {A : Type 0} (move : Move) (old new : Trail A) → Does old move new → new.timeout ≡ old.timeout
 stays_by (Hears now input) old new does = stays_where does.hears.heard.is_lost now does.between new does.leaves ∙ does.hears.timeout
 stays_by (Hands now ticket asked) old new does = does.timeout
 stays_by Renews old new does = does.timeout

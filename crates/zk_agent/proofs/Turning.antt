@@ -23,12 +23,12 @@ use Rattle.zk_turns.specs.Rule.{after_all, next, says_all, Rule}
 use Rattle.zk_turns.proofs.Cases.{by_cond, by_due, by_open}
 use Rattle.zk_turns.proofs.Words.{calls, refusal_in}
 use Rattle.zk_follow.specs.declared.subject.Subject.{Subject}
-use Rattle.zk_follow.specs.Following.{outputs_in, AreReads, IsFull, Steps}
+use Rattle.zk_follow.specs.Following.{outputs_in, AreReads, Steps}
 use Rattle.zk_follow.specs.inner.Following.{Asks}
-use Rattle.zk_follow.proofs.Asking.{full_on}
+use Rattle.zk_follow.proofs.Asking.{calls_on}
 use Rattle.zk_follow.proofs.Waiting.{Silent, Waits}
 use Rattle.zk_calls.specs.declared.entry.Entry.{Entry}
-use Rattle.zk_agent.specs.Calls.{IsAway, IsPending}
+use Rattle.zk_agent.specs.Calls.{IsAway, IsFull, IsPending}
 use Rattle.zk_agent.specs.Replies.{is_back}
 use Rattle.zk_agent.proofs.Keeping.{is_found, pending_on}
 
@@ -133,7 +133,7 @@ call_asks view ticket call after is = record {
 
 away_on : (view after : View) → Asks view after → IsAway view → IsAway after
 away_on view after asks (inl away) = inl (λ there. away (sym (ap (λ s. s.state) asks.standing) ∙ there))
-away_on view after asks (inr full) = inr (full_on view after asks full)
+away_on view after asks (inr full) = inr (omega (arith, calls_on view after asks, full))
 
 -- with a call no call can be handed over where none could before, or where it cannot be sent
 pub call_away : (view : View) (ticket : ℕ) (call : Asked_call) (outputs : List Output) (after : View)

@@ -9,10 +9,10 @@ use Rattle.zk_conversation.specs.Calls.{Call}
 use Rattle.zk_conversation.specs.Views.{call_view}
 use Rattle.zk_session.specs.declared.states.State.{State}
 use Rattle.zk_session.specs.declared.states.State.TheVariants.{Connected, Expired, Closed}
-use Rattle.zk_turns.specs.Turns.{Output, Input, Item, Start}
+use Rattle.zk_turns.specs.Turns.{Output, Input, Item, Start, Turn}
 use Rattle.zk_turns.specs.Turns as turns
 use Rattle.zk_turns.specs.View.{View, view_at}
-use Rattle.zk_turns.specs.Rule.{Stands}
+use Rattle.zk_turns.specs.Rule.{Rule, Stands}
 use Rattle.zk_turns.specs.Taken.{NothingIsDue}
 use Rattle.zk_client.specs.Clients.{renewed_start, view_of}
 use Rattle.zk_dialler.specs.declared.dialler.Dialler.{Dialler}
@@ -25,7 +25,7 @@ use Rattle.zk_dialler.specs.Dialling.{first_moment, has_come, is_due, is_open, D
 use Rattle.zk_dialler.specs.Orders.{numbers, shuffled}
 use Rattle.zk_follow.specs.declared.progress.Progress.TheVariants as progress
 use Rattle.zk_follow.specs.declared.subject.Subject.{Subject}
-use Rattle.zk_follow.specs.Following.{due_again, first_again, news_in, told_of, unfollowed, Steps}
+use Rattle.zk_follow.specs.Following.{due_again, first_again, news_in, told_of, unfollowed, RunsOut, Steps}
 use Rattle.zk_calls.specs.declared.entry.Entry.{Entry}
 use Rattle.zk_calls.specs.declared.entry.Ending.TheVariants as ending
 use Rattle.zk_calls.specs.Lines.{first_limit, left, next_call}
@@ -308,6 +308,28 @@ pub record IsDecided {A : Type 0} (now : ℕ) (new : Trail A) : Type 0 where
   pub all : is_some due ≡ is_due now before
   pub rest : List Told
   pub told : new.told ≡ rest ++ due_told due
+
+-- ---- where memory runs out
+
+-- A client goes on by a turn, or after an expiry as that of another session, which asks for this timeout.
+pub data Advance : Type 0 where
+  ByTurn : Turn → Advance
+  ByRenewal : Advance
+
+abbrev pub Advances : (timeout : ℤ) → View → Advance → View → Type 0
+Advances timeout view (ByTurn turn) after = Rule view turn after
+Advances timeout view ByRenewal after = (view.standing.state ≡ Expired) × (after ≡ view_at (renewed_start timeout view) [])
+
+-- A step was broken off. So far did the client go on from where it stood before, and memory ran out after that.
+pub record BreaksOff (timeout : ℤ) (view new : View) : Type 0 where
+  pub advances : List Advance
+  pub here : View
+  pub chain : FoldsTo (Advances timeout) view advances here
+  pub ends : RunsOut here new
+
+-- that of an agent's client
+abbrev pub IsBroken : {A : Type 0} → (old new : Agent A) → Type 0
+IsBroken old new = BreaksOff old.timeout_ms (view_of old.asker.follower.client) (view_of new.asker.follower.client)
 
 -- ---- calls
 

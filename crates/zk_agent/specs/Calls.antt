@@ -1,15 +1,15 @@
 -- What becomes of the calls of a program.
-use Rattle.std.specs.Prelude.{◌≡◌, ◌≢◌, ◌⊎◌, ◌&&◌, ◌==◌, not, ℕ, Bool, true, false, List, [], ◌∷◌, ◌++◌, fold, map, bytes_eq}
+use Rattle.std.specs.Prelude.{◌≡◌, ◌≢◌, ◌≤◌, ◌⊎◌, ◌&&◌, ◌==◌, not, ℕ, Bool, true, false, List, [], ◌∷◌, ◌++◌, fold, map, bytes_eq}
 use Rattle.std.specs.Prelude.{if◌then◌else◌}
 use Rattle.std.specs.List.{count_by, list_any}
 use Rattle.zk_session.specs.declared.states.State.TheVariants.{Connected}
-use Rattle.zk_conversation.specs.Pending.{Pending, Part_waits, Call_waits}
+use Rattle.zk_conversation.specs.Pending.{Pending, Part_waits, Call_waits, calls_pending}
 use Rattle.zk_conversation.specs.Questions.{question_of, Question, Exists, GetData, GetChildren, SetData, Create, Delete, Close}
 use Rattle.zk_conversation.specs.Views.{call_view}
 use Rattle.zk_turns.specs.Turns.{Outcome, Output, Answer, Enters, Input}
 use Rattle.zk_turns.specs.Turns as turns
 use Rattle.zk_turns.specs.View.{View}
-use Rattle.zk_follow.specs.Following.{IsFull}
+use Rattle.zk_limits.specs.declared.limits.TheConstants.{MOST_PENDING}
 use Rattle.zk_calls.specs.declared.entry.Entry.{Entry}
 use Rattle.zk_calls.specs.declared.entry.Ending.{Ending}
 use Rattle.zk_calls.specs.declared.entry.Ending.TheVariants.{Lost, LostOf}
@@ -84,6 +84,10 @@ is_call_of entry pending = elim pending.waiting [
 
 abbrev pub IsPending : {A : Type 0} → View → Entry A → Type 0
 IsPending view entry = list_any (is_call_of entry) view.pending ≡ true
+
+-- As many calls wait for their replies as may.
+abbrev pub IsFull : View → Type 0
+IsFull view = MOST_PENDING ≤ calls_pending view.pending
 
 -- No call can be handed over: no server has accepted the connection, or as many calls are on their way as may be.
 abbrev pub IsAway : View → Type 0

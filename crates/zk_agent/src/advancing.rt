@@ -1,11 +1,11 @@
 //! What a client with subjects and calls is handed.
 
-ghost use Rattle.std.specs.Prelude.{◌≡◌, ◌++◌, ◌<ℤ◌, ℕ, pos, map, [], IfOk, OnOk, OnSome, All};
+ghost use Rattle.std.specs.Prelude.{◌≡◌, ◌++◌, ◌<ℤ◌, ℕ, pos, map, [], IfOk, OnErr, OnOk, OnSome, All};
 ghost use Rattle.std.specs.List.{flat_map};
 ghost use Rattle.zk_turns.specs.View.{view_at};
 ghost use Rattle.zk_client.specs.Clients.{renewed_start, view_of};
 ghost use Rattle.zk_client.specs.Views.{input_view, said};
-ghost use Rattle.zk_follow.specs.Following.{due_again, news_in, told_of, IsFollowed};
+ghost use Rattle.zk_follow.specs.Following.{due_again, news_in, told_of, BreaksOff, IsFollowed};
 ghost use Rattle.zk_calls.specs.Lines.{left};
 ghost use Rattle.zk_agent.specs.inner.Agents.{HandsOver};
 ghost use Rattle.zk_agent.specs.Agents.{TakesSo};
@@ -54,6 +54,7 @@ pub(crate) fn advance<A: Allocator + Copy>(
         (view_of follower.old.client) follower.old.subjects.items line.old.entries.items (told_by actions.old.items)
         (view_of follower.new.client) follower.new.subjects.items line.new.entries.items (told_by actions.new.items) heard) }
     ensures followed { OnOk result (All (IsFollowed now (view_of follower.new.client)) follower.new.subjects.items) }
+    ensures broke { OnErr result (BreaksOff (view_of follower.old.client) (view_of follower.new.client)) }
 {
     let outputs = follower.step(now, input)?;
     let heard = heard_in(outputs.as_slice());
@@ -74,6 +75,7 @@ pub(crate) fn hand_over<A: Allocator + Copy>(
         (view_of follower.new.client) follower.new.subjects.items line.new.entries.items (told_by actions.new.items) heard) }
     ensures followed { IfOk result
         (λ heard. OnSome heard (All (IsFollowed now (view_of follower.new.client)) follower.new.subjects.items)) }
+    ensures broke { OnErr result (BreaksOff (view_of follower.old.client) (view_of follower.new.client)) }
 {
     let Some((ticket, call)) = line.next()? else {
         return Ok(None);
@@ -95,6 +97,7 @@ pub(crate) fn begin<A: Allocator + Copy>(
     ensures followed { OnOk result ((now : ℕ) → All (IsFollowed now (view_of follower.new.client)) follower.new.subjects.items) }
     ensures line { OnOk result (line.new.entries.items ≡ left Ending.Expired line.old.entries.items) }
     ensures told { OnOk result (told_by actions.new.items ≡ told_by actions.old.items ++ endings Ending.Expired line.old.entries.items) }
+    ensures same { OnErr result (view_of follower.new.client ≡ view_of follower.old.client) }
 {
     end_calls(line, Ending::Expired, actions)?;
     follower.renew(timeout_ms)

@@ -38,7 +38,7 @@ pub struct Agent<A: Allocator + Copy = Global> {
 
 impl<A: Allocator + Copy> Agent<A> {
     ghost use Rattle.std.specs.Prelude.{◌≡◌, ◌≢◌, ◌≤◌, ◌<◌, ◌+◌, ◌<ℤ◌, ◌≤ℤ◌, ◌^◌, ◌++◌, ◌∷◌, ℕ, true, false, map, max, length, pos};
-    ghost use Rattle.std.specs.Prelude.{unsigned_abs, [], None, IfOk, IfSome, OnOk, All};
+    ghost use Rattle.std.specs.Prelude.{unsigned_abs, [], None, IfOk, IfSome, OnErr, OnOk, All};
     ghost use Rattle.std.specs.List.Sorted.{IsPermutation};
     ghost use Rattle.zk_turns.specs.Turns as turns;
     ghost use Rattle.zk_turns.specs.View.{view_at};
@@ -54,8 +54,8 @@ impl<A: Allocator + Copy> Agent<A> {
     ghost use Rattle.zk_conversation.specs.Views.{call_view};
     ghost use Rattle.zk_calls.specs.declared.entry.Ending.TheVariants as ending;
     ghost use Rattle.zk_agent.specs.Agents.{bytes_at, given_of, heard_after, how_many_asked, how_many_ended, is_closed, opened_at, over_at};
-    ghost use Rattle.zk_agent.specs.Agents.{trail_of, Addressed, Asks, Comes, Follows, Hears, IsAnswered, IsDecided, IsLed, NothingAt};
-    ghost use Rattle.zk_agent.specs.Agents.{NothingOpen, Unfollows};
+    ghost use Rattle.zk_agent.specs.Agents.{trail_of, Addressed, Asks, Comes, Follows, Hears, IsAnswered, IsBroken, IsDecided, IsLed};
+    ghost use Rattle.zk_agent.specs.Agents.{NothingAt, NothingOpen, Unfollows};
     ghost use Rattle.zk_agent.specs.Calls.{endings, how_many, IsInTime, IsServed};
     ghost use Rattle.zk_agent.specs.Telling.{told_by, Begins};
     ghost use Rattle.zk_agent.specs.Waits.{nothing_waits, waited_of};
@@ -185,7 +185,7 @@ impl<A: Allocator + Copy> Agent<A> {
 
     /// Takes what has happened, noticed at this moment, and gives what is to be done and what there is to tell, in order.
     ///
-    /// An error means that memory ran out. The agent is of no use then: begin with another one, from what was saved.
+    /// An error means that memory ran out. The agent is of no use then: begin with another one, from what its client has saved.
     pub fn step(
         &mut self,
         now: u64,
@@ -208,6 +208,7 @@ impl<A: Allocator + Copy> Agent<A> {
         ensures latest { OnOk result (self.new.latest ≡ max self.old.latest now) }
         ensures heard { OnOk result
             (self.new.heard_at ≡ heard_after (is_open self.old.dialler.phase) (max self.old.latest now) input self.old.heard_at) }
+        ensures broke { OnErr result (IsBroken self.old self.new) }
     {
         let now = self.latest.max(now);
         let heard_at = heard_moment(self.dialler.is_open(), now, &input, self.heard_at);
@@ -234,6 +235,7 @@ impl<A: Allocator + Copy> Agent<A> {
             (trail_of self.new actions.new.items)) }
         ensures followed { OnOk result
             (All (IsFollowed now (view_of self.new.asker.follower.client)) self.new.asker.follower.subjects.items) }
+        ensures broke { OnErr result (IsBroken self.old self.new) }
     {
         match input {
             AgentInput::Opened => self.open(now, actions),
@@ -259,6 +261,7 @@ impl<A: Allocator + Copy> Agent<A> {
             (Comes now (opened_at self.old.dialler.phase now) (trail_of self.old actions.old.items) (trail_of self.new actions.new.items)) }
         ensures followed { OnOk result
             (All (IsFollowed now (view_of self.new.asker.follower.client)) self.new.asker.follower.subjects.items) }
+        ensures broke { OnErr result (IsBroken self.old self.new) }
     {
         let timeout_ms = self.timeout_ms();
         if self.dialler.open(timeout_ms, now) {
@@ -273,6 +276,7 @@ impl<A: Allocator + Copy> Agent<A> {
         ensures comes { OnOk result (Comes now (over_at now) (trail_of self.old actions.old.items) (trail_of self.new actions.new.items)) }
         ensures followed { OnOk result
             (All (IsFollowed now (view_of self.new.asker.follower.client)) self.new.asker.follower.subjects.items) }
+        ensures broke { OnErr result (IsBroken self.old self.new) }
     {
         let timeout_ms = self.timeout_ms();
         self.dialler.end(timeout_ms, now);
@@ -290,6 +294,7 @@ impl<A: Allocator + Copy> Agent<A> {
             (trail_of self.old actions.old.items) (trail_of self.new actions.new.items)) }
         ensures followed { OnOk result
             (All (IsFollowed now (view_of self.new.asker.follower.client)) self.new.asker.follower.subjects.items) }
+        ensures broke { OnErr result (IsBroken self.old self.new) }
     {
         if self.dialler.is_open() {
             return self.step_client(now, zk_client::Input::Bytes(bytes), actions);
@@ -308,6 +313,7 @@ impl<A: Allocator + Copy> Agent<A> {
             (trail_of self.new actions.new.items)) }
         ensures followed { OnOk result
             (All (IsFollowed now (view_of self.new.asker.follower.client)) self.new.asker.follower.subjects.items) }
+        ensures broke { OnErr result (IsBroken self.old self.new) }
     {
         self.dialler.set_addresses(self.alloc, count)?;
         self.step_client(now, zk_client::Input::Now(now), actions)
@@ -326,6 +332,7 @@ impl<A: Allocator + Copy> Agent<A> {
             (trail_of self.old actions.old.items) (trail_of self.new actions.new.items)) }
         ensures followed { OnOk result
             (All (IsFollowed now (view_of self.new.asker.follower.client)) self.new.asker.follower.subjects.items) }
+        ensures broke { OnErr result (IsBroken self.old self.new) }
     {
         self.asker.ask(ticket, call, until)?;
         self.step_client(now, zk_client::Input::Now(now), actions)
@@ -344,6 +351,7 @@ impl<A: Allocator + Copy> Agent<A> {
             (trail_of self.old actions.old.items) (trail_of self.new actions.new.items)) }
         ensures followed { OnOk result
             (All (IsFollowed now (view_of self.new.asker.follower.client)) self.new.asker.follower.subjects.items) }
+        ensures broke { OnErr result (IsBroken self.old self.new) }
     {
         self.asker.follow(ticket, side, path)?;
         self.step_client(now, zk_client::Input::Now(now), actions)
@@ -360,6 +368,7 @@ impl<A: Allocator + Copy> Agent<A> {
             (trail_of self.new actions.new.items)) }
         ensures followed { OnOk result
             (All (IsFollowed now (view_of self.new.asker.follower.client)) self.new.asker.follower.subjects.items) }
+        ensures broke { OnErr result (IsBroken self.old self.new) }
     {
         self.asker.unfollow(ticket);
         self.step_client(now, zk_client::Input::Now(now), actions)
@@ -367,6 +376,7 @@ impl<A: Allocator + Copy> Agent<A> {
 
     /// Another session begins.
     fn begin(&mut self, actions: &mut Vec<Action<A>, A>) -> Result<(), FollowerStop>
+        requires { (view_of self.old.asker.follower.client).standing.state ≡ Expired }
         ensures view { OnOk result (view_of self.new.asker.follower.client
             ≡ view_at (renewed_start self.old.timeout_ms (view_of self.old.asker.follower.client)) []) }
         ensures subjects { OnOk result (self.new.asker.follower.subjects.items ≡ map due_again self.old.asker.follower.subjects.items) }
@@ -378,6 +388,7 @@ impl<A: Allocator + Copy> Agent<A> {
             ≡ (told_by actions.old.items ++ endings ending.Expired self.old.asker.line.entries.items) ++ Begins ∷ []) }
         ensures followed { OnOk result
             ((now : ℕ) → All (IsFollowed now (view_of self.new.asker.follower.client)) self.new.asker.follower.subjects.items) }
+        ensures broke { OnErr result (IsBroken self.old self.new) }
     {
         self.asker.renew(self.timeout_ms, actions)?;
         self.dialler.answered();
@@ -401,6 +412,7 @@ impl<A: Allocator + Copy> Agent<A> {
         ensures renewed { OnOk result ((view_of self.new.asker.follower.client).standing.state ≢ Expired) }
         ensures followed { (now : ℕ) → All (IsFollowed now (view_of self.old.asker.follower.client)) self.old.asker.follower.subjects.items
             → OnOk result (All (IsFollowed now (view_of self.new.asker.follower.client)) self.new.asker.follower.subjects.items) }
+        ensures broke { OnErr result (IsBroken self.old self.new) }
     {
         if self.is_expired() {
             return self.begin(actions);

@@ -32,7 +32,7 @@ impl<A: Allocator + Copy> Asker<A> {
     ghost use Rattle.zk_client.specs.Clients.{renewed_start, view_of};
     ghost use Rattle.zk_client.specs.Views.{input_view};
     ghost use Rattle.zk_follow.specs.declared.progress.Progress.TheVariants as progress;
-    ghost use Rattle.zk_follow.specs.Following.{due_again, unfollowed, IsFollowed};
+    ghost use Rattle.zk_follow.specs.Following.{due_again, unfollowed, BreaksOff, IsFollowed};
     ghost use Rattle.zk_calls.specs.Lines.{left};
     ghost use Rattle.zk_agent.specs.inner.Agents.{HandsOver};
     ghost use Rattle.zk_agent.specs.Agents.{TakesSo};
@@ -64,6 +64,7 @@ impl<A: Allocator + Copy> Asker<A> {
             (view_of self.new.follower.client) self.new.follower.subjects.items self.new.line.entries.items
             (told_by actions.new.items) heard) }
         ensures followed { OnOk result (All (IsFollowed now (view_of self.new.follower.client)) self.new.follower.subjects.items) }
+        ensures broke { OnErr result (BreaksOff (view_of self.old.follower.client) (view_of self.new.follower.client)) }
     {
         match advance(
             self.alloc,
@@ -93,6 +94,7 @@ impl<A: Allocator + Copy> Asker<A> {
             (told_by actions.new.items) heard) }
         ensures followed { IfOk result
             (λ heard. OnSome heard (All (IsFollowed now (view_of self.new.follower.client)) self.new.follower.subjects.items)) }
+        ensures broke { OnErr result (BreaksOff (view_of self.old.follower.client) (view_of self.new.follower.client)) }
     {
         match hand_over(self.alloc, &mut self.follower, &mut self.line, now, actions) {
             Ok(heard) => Ok(heard),
@@ -213,6 +215,7 @@ impl<A: Allocator + Copy> Asker<A> {
         ensures line { OnOk result (self.new.line.entries.items ≡ []) }
         ensures told { OnOk result
             (told_by actions.new.items ≡ told_by actions.old.items ++ endings Ending.Expired self.old.line.entries.items) }
+        ensures same { OnErr result (view_of self.new.follower.client ≡ view_of self.old.follower.client) }
     {
         match begin(&mut self.follower, &mut self.line, timeout_ms, actions) {
             Ok(()) => Ok(()),

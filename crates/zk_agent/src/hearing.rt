@@ -23,14 +23,14 @@ fn note_answers<A: Allocator + Copy>(waits: &mut Waits<A>, input: &Input<A>)
 }
 
 impl<A: Allocator + Copy> Agent<A> {
-    ghost use Rattle.std.specs.Prelude.{◌≡◌, ◌++◌, ◌∷◌, ◌&&◌, ◌<◌, true, false, [], IfOk, OnOk, All};
+    ghost use Rattle.std.specs.Prelude.{◌≡◌, ◌++◌, ◌∷◌, ◌&&◌, ◌<◌, true, false, [], IfOk, OnErr, OnOk, All};
     ghost use Rattle.zk_session.specs.declared.states.State.TheVariants.{Connected};
     ghost use Rattle.zk_client.specs.Clients.{view_of};
     ghost use Rattle.zk_turns.specs.Turns.{Cut};
     ghost use Rattle.zk_client.specs.Views.{input_view};
     ghost use Rattle.zk_dialler.specs.Dialling.{is_open, Ends};
     ghost use Rattle.zk_follow.specs.Following.{IsFollowed};
-    ghost use Rattle.zk_agent.specs.Agents.{noted, row_after, trail_of, Comes, Hears, HearsSo, LetsGo};
+    ghost use Rattle.zk_agent.specs.Agents.{noted, row_after, trail_of, Comes, Hears, HearsSo, IsBroken, LetsGo};
     ghost use Rattle.zk_agent.specs.inner.Agents.{MayTake};
     ghost use Rattle.zk_agent.specs.inner.Calls.{how_many_wait, IsDone};
     ghost use Rattle.zk_agent.specs.Calls.{IsInTime};
@@ -143,6 +143,7 @@ impl<A: Allocator + Copy> Agent<A> {
             (trail_of self.new actions.new.items)) × (hears.heard.is_lost ≡ is_lost)) }
         ensures followed { OnOk result
             (All (IsFollowed now (view_of self.new.asker.follower.client)) self.new.asker.follower.subjects.items) }
+        ensures broke { OnErr result (IsBroken self.old self.new) }
     {
         note_answers(&mut self.waits, &input);
         let heard = self.asker.step(now, input, actions)?;
@@ -159,6 +160,7 @@ impl<A: Allocator + Copy> Agent<A> {
         ensures hears { OnOk result (HearsSo now Cut (trail_of self.old actions.old.items) (trail_of self.new actions.new.items)) }
         ensures followed { OnOk result
             (All (IsFollowed now (view_of self.new.asker.follower.client)) self.new.asker.follower.subjects.items) }
+        ensures broke { OnErr result (IsBroken self.old self.new) }
     {
         let _is_lost = self.hear_once(now, Input::Cut, actions)?;
         Ok(())
@@ -176,6 +178,7 @@ impl<A: Allocator + Copy> Agent<A> {
             (Comes now (Hears now (input_view input) ∷ []) (trail_of self.old actions.old.items) (trail_of self.new actions.new.items)) }
         ensures followed { OnOk result
             (All (IsFollowed now (view_of self.new.asker.follower.client)) self.new.asker.follower.subjects.items) }
+        ensures broke { OnErr result (IsBroken self.old self.new) }
     {
         let is_lost = self.hear_once(now, input, actions)?;
         if is_lost {

@@ -7,13 +7,13 @@ use std::alloc::Allocator;
 use zk_follow::FollowerStop;
 
 impl<A: Allocator + Copy> Agent<A> {
-    ghost use Rattle.std.specs.Prelude.{◌≡◌, ◌≢◌, ◌<◌, true, false, [], IfOk, OnOk, All};
+    ghost use Rattle.std.specs.Prelude.{◌≡◌, ◌≢◌, ◌<◌, true, false, [], IfOk, OnErr, OnOk, All};
     ghost use Rattle.zk_session.specs.declared.states.State.{State};
     ghost use Rattle.zk_session.specs.declared.states.State.TheVariants.{Connected};
     ghost use Rattle.zk_session.specs.States.{is_final};
     ghost use Rattle.zk_client.specs.Clients.{view_of};
     ghost use Rattle.zk_follow.specs.Following.{IsFollowed};
-    ghost use Rattle.zk_agent.specs.Agents.{trail_of, Comes};
+    ghost use Rattle.zk_agent.specs.Agents.{trail_of, Comes, IsBroken};
     ghost use Rattle.zk_agent.specs.inner.Agents.{Sends};
     ghost use Rattle.zk_agent.specs.inner.Calls.{how_many_wait, IsDone};
     ghost use Rattle.zk_agent.specs.Calls.{IsInTime};
@@ -26,6 +26,7 @@ impl<A: Allocator + Copy> Agent<A> {
             (λ goes_on. Sends now (trail_of self.old actions.old.items) (trail_of self.new actions.new.items) goes_on) }
         ensures followed { All (IsFollowed now (view_of self.old.asker.follower.client)) self.old.asker.follower.subjects.items
             → OnOk result (All (IsFollowed now (view_of self.new.asker.follower.client)) self.new.asker.follower.subjects.items) }
+        ensures broke { OnErr result (IsBroken self.old self.new) }
     {
         let Some(heard) = self.asker.hand_over(now, actions)? else {
             return Ok(false);
@@ -41,6 +42,7 @@ impl<A: Allocator + Copy> Agent<A> {
         ensures followed { All (IsFollowed now (view_of self.old.asker.follower.client)) self.old.asker.follower.subjects.items
             → OnOk result (All (IsFollowed now (view_of self.new.asker.follower.client)) self.new.asker.follower.subjects.items) }
         ensures same { (view_of self.old.asker.follower.client).standing.state ≢ Connected → self.new.asker ≡ self.old.asker }
+        ensures broke { OnErr result (IsBroken self.old self.new) }
     {
         if is_connected(self.state()) {
             return self.send_one(now, actions);
@@ -63,6 +65,7 @@ impl<A: Allocator + Copy> Agent<A> {
         ensures same { (view_of self.old.asker.follower.client).standing.state ≢ Connected → self.new.asker ≡ self.old.asker }
         ensures ends { (state : State) → is_final state ≡ true → OnOk result ((view_of self.new.asker.follower.client).standing.state
             ≡ state → (view_of self.old.asker.follower.client).standing.state ≡ state) }
+        ensures broke { OnErr result (IsBroken self.old self.new) }
     {
         let mut goes_on = true;
         while goes_on {

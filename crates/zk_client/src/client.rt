@@ -35,7 +35,8 @@ impl<A: Allocator + Copy> Client<A> {
     ghost use Rattle.std.specs.Prelude.{◌≡◌, ◌≤◌, ◌<◌, ◌^◌, ◌<ℤ◌, ◌≤ℤ◌, pos, unsigned_abs, length, ℕ, List, [], ◌∷◌, None, IfOk, IfSome};
     ghost use Rattle.std.specs.Prelude.{OnOk, OnErr, IsOk, IsErr, true, false, option_map};
     ghost use Rattle.zk_session.specs.Fields.{Saves};
-    ghost use Rattle.zk_limits.specs.declared.limits.TheConstants.{LONGEST_PASSWORD};
+    ghost use Rattle.zk_limits.specs.declared.limits.TheConstants.{LONGEST_PASSWORD, MOST_PENDING};
+    ghost use Rattle.zk_conversation.specs.Pending.{calls_pending};
     ghost use Rattle.zk_cache.specs.Contents.{answer_of, names_in};
     ghost use Rattle.zk_watches.specs.Lists.{side_has};
     ghost use Rattle.zk_turns.specs.Turns.{Start, Item, Turned, Forgets, Now, new_start};
@@ -317,6 +318,14 @@ impl<A: Allocator + Copy> Client<A> {
         ensures { result ≡ side_has (view_of self.now).lists side path.now }
     {
         self.core.registry.contains(side, path.as_str())
+    }
+
+    /// How many calls wait for their replies: [`MOST_PENDING`](crate::MOST_PENDING) at most. It takes constant time.
+    pub fn pending_calls(&self) -> u32
+        ensures count { result ≡ calls_pending (view_of self.now).pending }
+        ensures most { result ≤ MOST_PENDING }
+    {
+        self.core.conversation.pending().calls
     }
 
     /// The greatest zxid seen: of the replies, and of the saved session.

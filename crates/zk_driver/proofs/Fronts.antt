@@ -1,5 +1,5 @@
 -- What a read brought, or a write took, as the stream says it and as it is read: the first bytes of the buffer, as many as were counted.
-use Rattle.std.proofs.Common.{◌≡◌, ◌==◌, ◌≤◌, ℕ, Bool, true, false, List, [], Option, Some, None, ap, ◌∙◌, refl, sym, subst, take}
+use Rattle.std.proofs.Common.{◌≡◌, ◌==◌, ℕ, Bool, true, false, List, [], Option, Some, None, ap, ◌∙◌, refl, sym, subst, take}
 use Rattle.std.specs.Prelude.{if◌then◌else◌, Result, Ok, Err, unwrap_or}
 use Rattle.std.proofs.lemmas.Bool.{eqb-true}
 use Rattle.std_io.specs.IoError.{error_kind}

@@ -2,6 +2,7 @@
 pub mod Going
 pub mod Carrying
 pub mod Asking
+pub mod Breaking
 pub mod Flowed
 pub mod Running
 pub mod Fronts

@@ -15,7 +15,6 @@ use Rattle.zk_agent.specs.Agents.{given_of, heard_after, how_many_asked, how_man
 use Rattle.zk_agent.specs.Agents.{IsShut, NothingAt}
 use Rattle.zk_agent.specs.Calls.{how_many, IsInTime, IsServed}
 use Rattle.zk_agent.specs.Telling.{Told, Says, Dials, HangsUp, action_view, told_by}
-use Rattle.zk_link.specs.declared.brought.Brought.TheVariants as brought
 use Rattle.zk_link.specs.Written.{IsLeftOf}
 use Rattle.zk_driver.specs.declared.channel.Attempt.{Attempt}
 use Rattle.zk_driver.specs.declared.channel.Channel.{Channel}

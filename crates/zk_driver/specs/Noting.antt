@@ -6,7 +6,6 @@ use Rattle.zk_agent.specs.declared.action.Action.{Action}
 use Rattle.zk_agent.specs.declared.input.AgentInput.{AgentInput}
 use Rattle.zk_agent.specs.declared.input.AgentInput.TheVariants as happens
 use Rattle.zk_agent.specs.Agents.{IsLed}
-use Rattle.zk_driver.specs.declared.turn.Event.TheVariants as event
 use Rattle.zk_driver.specs.declared.turn.Turn.{Turn}
 use Rattle.zk_driver.specs.declared.turn.Turn.TheVariants as turn
 use Rattle.zk_driver.specs.Driving.{AreFollowed, Course, Does, IsShutAgent, Move, Written, Looked, Noted}

@@ -5,6 +5,7 @@ ghost use Rattle.std.specs.Prelude.{OnOk};
 ghost use Rattle.zk_turns.specs.Turns.{new_start};
 ghost use Rattle.zk_turns.specs.View.{view_at};
 ghost use Rattle.zk_client.specs.Clients.{view_of};
+ghost use Rattle.zk_agent.specs.Agents.{IsBroken};
 ghost use Rattle.zk_agent.specs.Telling.{told_by};
 ghost use Rattle.zk_agent.specs.declared.input.AgentInput.TheVariants as happens;
 ghost use Rattle.zk_driver.specs.Driving.{channel_view, closed, course_of, AreFollowed, Extends, Goes, Hands, IsAsked, IsShutAgent};
@@ -120,6 +121,7 @@ impl<'a, A: Allocator + Copy, D: Dial + Drop, C: Clock + Drop> Driver<'a, A, D, 
         ensures flows { OnOk result (Flows (flow_of D.Stream.remaining D.Stream.contents D.Stream.far D.Stream.state self.old.engine None)
             (flow_of D.Stream.remaining D.Stream.contents D.Stream.far D.Stream.state self.new.engine None)) }
         ensures kept { Extends (told_by self.old.engine.waiting.items) (told_by self.new.engine.waiting.items) }
+        ensures broke { OnErr result (IsBroken self.old.engine.agent self.new.engine.agent) }
     {
         self.hand(AgentInput::Follow { ticket, side, path })
     }
@@ -130,6 +132,7 @@ impl<'a, A: Allocator + Copy, D: Dial + Drop, C: Clock + Drop> Driver<'a, A, D, 
         ensures flows { OnOk result (Flows (flow_of D.Stream.remaining D.Stream.contents D.Stream.far D.Stream.state self.old.engine None)
             (flow_of D.Stream.remaining D.Stream.contents D.Stream.far D.Stream.state self.new.engine None)) }
         ensures kept { Extends (told_by self.old.engine.waiting.items) (told_by self.new.engine.waiting.items) }
+        ensures broke { OnErr result (IsBroken self.old.engine.agent self.new.engine.agent) }
     {
         self.hand(AgentInput::Unfollow { ticket })
     }
@@ -142,6 +145,7 @@ impl<'a, A: Allocator + Copy, D: Dial + Drop, C: Clock + Drop> Driver<'a, A, D, 
         ensures flows { OnOk result (Flows (flow_of D.Stream.remaining D.Stream.contents D.Stream.far D.Stream.state self.old.engine None)
             (flow_of D.Stream.remaining D.Stream.contents D.Stream.far D.Stream.state self.new.engine None)) }
         ensures kept { Extends (told_by self.old.engine.waiting.items) (told_by self.new.engine.waiting.items) }
+        ensures broke { OnErr result (IsBroken self.old.engine.agent self.new.engine.agent) }
     {
         self.hand(AgentInput::Call {
             ticket,
@@ -157,6 +161,7 @@ impl<'a, A: Allocator + Copy, D: Dial + Drop, C: Clock + Drop> Driver<'a, A, D, 
         ensures flows { OnOk result (Flows (flow_of D.Stream.remaining D.Stream.contents D.Stream.far D.Stream.state self.old.engine None)
             (flow_of D.Stream.remaining D.Stream.contents D.Stream.far D.Stream.state self.new.engine None)) }
         ensures kept { Extends (told_by self.old.engine.waiting.items) (told_by self.new.engine.waiting.items) }
+        ensures broke { OnErr result (IsBroken self.old.engine.agent self.new.engine.agent) }
     {
         self.addresses = addresses;
         self.hand(AgentInput::Addresses(addresses.len()))
@@ -170,6 +175,7 @@ impl<'a, A: Allocator + Copy, D: Dial + Drop, C: Clock + Drop> Driver<'a, A, D, 
         ensures flows { OnOk result (Flows (flow_of D.Stream.remaining D.Stream.contents D.Stream.far D.Stream.state self.old.engine None)
             (flow_of D.Stream.remaining D.Stream.contents D.Stream.far D.Stream.state self.new.engine None)) }
         ensures kept { Extends (told_by self.old.engine.waiting.items) (told_by self.new.engine.waiting.items) }
+        ensures broke { OnErr result (IsBroken self.old.engine.agent self.new.engine.agent) }
     {
         let now = self.now();
         let moment = self.engine.moment_of_hand(now);
@@ -196,6 +202,7 @@ impl<'a, A: Allocator + Copy, D: Dial + Drop, C: Clock + Drop> Driver<'a, A, D, 
         ensures come { IfOk result (λ passed. IfNone passed (until ≤ self.new.engine.agent.latest)) }
         ensures none { IfOk result (λ passed. IfNone passed (self.new.engine.waiting.items ≡ [])) }
         ensures kept { OnErr result (Extends (told_by self.old.engine.waiting.items) (told_by self.new.engine.waiting.items)) }
+        ensures broke { OnErr result (IsBroken self.old.engine.agent self.new.engine.agent) }
     {
         for _ in 0..u64::MAX {
             if let Some(action) = self.engine.pop() {
@@ -223,6 +230,7 @@ impl<'a, A: Allocator + Copy, D: Dial + Drop, C: Clock + Drop> Driver<'a, A, D, 
         ensures come { IfOk result (λ turn. is_come turn ≡ true → until ≤ self.new.engine.agent.latest) }
         ensures none { IfOk result (λ turn. is_come turn ≡ true → self.new.engine.waiting.items ≡ []) }
         ensures kept { OnErr result (Extends (told_by self.old.engine.waiting.items) (told_by self.new.engine.waiting.items)) }
+        ensures broke { OnErr result (IsBroken self.old.engine.agent self.new.engine.agent) }
     {
         if let Some(action) = self.engine.pop() {
             return Ok(Turn::Told(action));
@@ -275,6 +283,7 @@ impl<'a, A: Allocator + Copy, D: Dial + Drop, C: Clock + Drop> Driver<'a, A, D, 
             (flow_of D.Stream.remaining D.Stream.contents D.Stream.far D.Stream.state self.new.engine None)) }
         ensures told { IfOk result (λ round. round.0 ≤ self.new.engine.agent.latest) }
         ensures kept { Extends (told_by self.old.engine.waiting.items) (told_by self.new.engine.waiting.items) }
+        ensures broke { OnErr result (IsBroken self.old.engine.agent self.new.engine.agent) }
     {
         match self.engine.channel.attempt {
             Some(attempt) => self.attempt(attempt),
@@ -308,6 +317,7 @@ impl<'a, A: Allocator + Copy, D: Dial + Drop, C: Clock + Drop> Driver<'a, A, D, 
             (flow_of D.Stream.remaining D.Stream.contents D.Stream.far D.Stream.state self.new.engine None)) }
         ensures told { IfOk result (λ round. round.0 ≤ self.new.engine.agent.latest) }
         ensures kept { Extends (told_by self.old.engine.waiting.items) (told_by self.new.engine.waiting.items) }
+        ensures broke { OnErr result (IsBroken self.old.engine.agent self.new.engine.agent) }
     {
         let stream = self.dial(attempt);
         let now = self.now();
@@ -326,6 +336,7 @@ impl<'a, A: Allocator + Copy, D: Dial + Drop, C: Clock + Drop> Driver<'a, A, D, 
             (flow_of D.Stream.remaining D.Stream.contents D.Stream.far D.Stream.state self.new.engine None)) }
         ensures told { IfOk result (λ round. round.0 ≤ self.new.engine.agent.latest) }
         ensures kept { Extends (told_by self.old.engine.waiting.items) (told_by self.new.engine.waiting.items) }
+        ensures broke { OnErr result (IsBroken self.old.engine.agent self.new.engine.agent) }
     {
         let now = self.now();
         let ms = self.engine.wait_ms(now, until);
@@ -352,6 +363,7 @@ impl<'a, A: Allocator + Copy, D: Dial + Drop, C: Clock + Drop> Driver<'a, A, D, 
         ensures open { IfOk result (λ glance. glance.is_again ≡ true → is_some self.new.engine.channel.stream ≡ true) }
         ensures quiet { IfOk result (λ glance. glance.is_again ≡ true → notes_of_event glance.event ≡ []) }
         ensures kept { Extends (told_by self.old.engine.waiting.items) (told_by self.new.engine.waiting.items) }
+        ensures broke { OnErr result (IsBroken self.old.engine.agent self.new.engine.agent) }
     {
         let Ok(brought) = self
             .engine
@@ -392,6 +404,7 @@ impl<'a, A: Allocator + Copy, D: Dial + Drop, C: Clock + Drop> Driver<'a, A, D, 
             (flow_of D.Stream.remaining D.Stream.contents D.Stream.far D.Stream.state self.new.engine None)) }
         ensures told { IfOk result (λ round. round.0 ≤ self.new.engine.agent.latest) }
         ensures kept { Extends (told_by self.old.engine.waiting.items) (told_by self.new.engine.waiting.items) }
+        ensures broke { OnErr result (IsBroken self.old.engine.agent self.new.engine.agent) }
     {
         let mut glance = self.read(began, false, ms)?;
         for _ in 1..MOST_READS {

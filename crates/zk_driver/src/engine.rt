@@ -1,8 +1,8 @@
 //! An agent with the connection that it has, and what its program is told.
 
-ghost use Rattle.std.specs.Prelude.{◌≡◌, ◌≤◌, ◌<◌, ◌+◌, ◌++◌, ◌∷◌, ◌-◌, [], ℕ, None, fold, is_some, false, true, IfNone, IfOk, OnOk};
+ghost use Rattle.std.specs.Prelude.{◌≡◌, ◌≤◌, ◌<◌, ◌+◌, ◌++◌, ◌∷◌, ◌-◌, [], ℕ, None, fold, is_some, false, true, IfNone, IfOk, OnErr, OnOk};
 ghost use Rattle.std.specs.List.{filter};
-ghost use Rattle.zk_agent.specs.Agents.{NothingAt};
+ghost use Rattle.zk_agent.specs.Agents.{IsBroken, NothingAt};
 ghost use Rattle.zk_agent.specs.Telling.{action_view, told_by};
 ghost use Rattle.zk_agent.specs.declared.input.AgentInput.TheVariants as happens;
 ghost use Rattle.zk_driver.specs.Driving.{carried, channel_view, closed, course_of, is_passed, Extends, Goes, Hands, IsOverdue};
@@ -121,6 +121,7 @@ impl<A: Allocator + Copy, S: Stream> Engine<A, S> {
         ensures told { IfOk result (λ moment. moment ≤ self.new.agent.latest) }
         ensures noted { OnOk result (now ≤ self.new.agent.latest) }
         ensures kept { Extends (told_by self.old.waiting.items) (told_by self.new.waiting.items) }
+        ensures broke { OnErr result (IsBroken self.old.agent self.new.agent) }
     {
         let actions = match self.agent.step(now, input) {
             Ok(actions) => actions,
@@ -143,6 +144,7 @@ impl<A: Allocator + Copy, S: Stream> Engine<A, S> {
             (flow_of S.remaining S.contents S.far S.state self.new None)) }
         ensures told { IfOk result (λ moment. moment ≤ self.new.agent.latest) }
         ensures kept { Extends (told_by self.old.waiting.items) (told_by self.new.waiting.items) }
+        ensures broke { OnErr result (IsBroken self.old.agent self.new.agent) }
     {
         self.channel.hold(stream);
         self.hand(now, AgentInput::Opened)
@@ -158,6 +160,7 @@ impl<A: Allocator + Copy, S: Stream> Engine<A, S> {
         ensures told { IfOk result (λ moment. moment ≤ self.new.agent.latest) }
         ensures noted { OnOk result (now ≤ self.new.agent.latest) }
         ensures kept { Extends (told_by self.old.waiting.items) (told_by self.new.waiting.items) }
+        ensures broke { OnErr result (IsBroken self.old.agent self.new.agent) }
     {
         self.channel.close();
         self.hand(now, AgentInput::Failed)
@@ -175,6 +178,7 @@ impl<A: Allocator + Copy, S: Stream> Engine<A, S> {
         ensures shut { OnOk result (is_some self.new.channel.stream ≡ false) }
         ensures told { IfOk result (λ moment. moment ≤ self.new.agent.latest) }
         ensures kept { Extends (told_by self.old.waiting.items) (told_by self.new.waiting.items) }
+        ensures broke { OnErr result (IsBroken self.old.agent self.new.agent) }
     {
         let moment = self.moment_of_bytes(now);
         self.channel.close();
@@ -192,6 +196,7 @@ impl<A: Allocator + Copy, S: Stream> Engine<A, S> {
             (flow_of S.remaining S.contents S.far S.state self.new None)) }
         ensures told { IfOk result (λ moment. moment ≤ self.new.agent.latest) }
         ensures kept { Extends (told_by self.old.waiting.items) (told_by self.new.waiting.items) }
+        ensures broke { OnErr result (IsBroken self.old.agent self.new.agent) }
     {
         let told = self.end(now)?;
         if told == now {
@@ -211,6 +216,7 @@ impl<A: Allocator + Copy, S: Stream> Engine<A, S> {
         ensures told { IfOk result (λ moment. moment ≤ self.new.agent.latest) }
         ensures noted { OnOk result (now ≤ self.new.agent.latest) }
         ensures kept { Extends (told_by self.old.waiting.items) (told_by self.new.waiting.items) }
+        ensures broke { OnErr result (IsBroken self.old.agent self.new.agent) }
     {
         self.hand(now, AgentInput::Moment)
     }
@@ -328,6 +334,7 @@ impl<A: Allocator + Copy, S: Stream> Engine<A, S> {
             (flow_of S.remaining S.contents S.far S.state self.new None)) }
         ensures told { IfOk result (λ moment. moment ≤ self.new.agent.latest) }
         ensures kept { Extends (told_by self.old.waiting.items) (told_by self.new.waiting.items) }
+        ensures broke { OnErr result (IsBroken self.old.agent self.new.agent) }
     {
         let moment = self.moment_of_bytes(now);
         let told = self.hand(moment, AgentInput::Bytes(bytes))?;
@@ -345,6 +352,7 @@ impl<A: Allocator + Copy, S: Stream> Engine<A, S> {
             (flow_of S.remaining S.contents S.far S.state self.new None)) }
         ensures told { IfOk result (λ moment. moment ≤ self.new.agent.latest) }
         ensures kept { Extends (told_by self.old.waiting.items) (told_by self.new.waiting.items) }
+        ensures broke { OnErr result (IsBroken self.old.agent self.new.agent) }
     {
         if self.channel.attempt.is_some() || self.is_to_be_read(now) {
             return Ok(told);
@@ -364,6 +372,7 @@ impl<A: Allocator + Copy, S: Stream> Engine<A, S> {
             (flow_of S.remaining S.contents S.far S.state self.new None)) }
         ensures told { IfOk result (λ moment. moment ≤ self.new.agent.latest) }
         ensures kept { Extends (told_by self.old.waiting.items) (told_by self.new.waiting.items) }
+        ensures broke { OnErr result (IsBroken self.old.agent self.new.agent) }
     {
         match brought {
             Brought::Piece(bytes) => self.bytes(now, bytes),
@@ -380,6 +389,7 @@ impl<A: Allocator + Copy, S: Stream> Engine<A, S> {
             (flow_of S.remaining S.contents S.far S.state self.new None)) }
         ensures told { OnOk result (now ≤ self.new.agent.latest) }
         ensures kept { Extends (told_by self.old.waiting.items) (told_by self.new.waiting.items) }
+        ensures broke { OnErr result (IsBroken self.old.agent self.new.agent) }
     {
         match self.channel.attempt {
             Some(_) => self.fail(now),
@@ -399,6 +409,7 @@ impl<A: Allocator + Copy, S: Stream> Engine<A, S> {
             (flow_of S.remaining S.contents S.far S.state self.new None)) }
         ensures told { OnOk result (now ≤ self.new.agent.latest) }
         ensures kept { Extends (told_by self.old.waiting.items) (told_by self.new.waiting.items) }
+        ensures broke { OnErr result (IsBroken self.old.agent self.new.agent) }
     {
         match self.channel.attempt {
             Some(_) => self.fail(now),

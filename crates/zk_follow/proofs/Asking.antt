@@ -1,6 +1,7 @@
 -- What comes of a read that is asked of a client that is connected: it is sent and waits, or it is refused. Then as many calls wait as may,
 -- or the moment to read the subject again is after this one. Other subjects are followed as they were, and so is one that is not due.
-use Rattle.std.proofs.Common.{◌≡◌, ◌≢◌, ◌<◌, ◌^◌, ◌+◌, ◌⊎◌, inl, inr, ℕ, pos, Bool, true, false, cond, List, [], ◌∷◌, ◌++◌, Option, Some}
+use Rattle.std.proofs.Common.{◌≡◌, ◌≢◌, ◌<◌, ◌≤◌, ◌^◌, ◌+◌, ◌⊎◌, inl, inr, ℕ, pos, Bool, true, false, cond, List, [], ◌∷◌, ◌++◌, Option}
+use Rattle.std.proofs.Common.{Some}
 use Rattle.std.proofs.Common.{None, refl, sym, ap, subst, ◌∙◌, arith, eq-eqb}
 use Rattle.std.proofs.lemmas.List.{append-nil, length-append}
 use Rattle.std.proofs.lemmas.List.Elements.{filter-append}
@@ -21,11 +22,12 @@ use Rattle.zk_turns.specs.Rule.{next, after_all, says_all, Rule}
 use Rattle.zk_turns.proofs.Cases.{by_cond}
 use Rattle.zk_turns.proofs.Words.{refusal_in, calls}
 use Rattle.zk_limits.specs.declared.limits.TheConstants.{LONGEST_OUTGOING, MOST_PENDING}
+use Rattle.zk_follow.specs.declared.reads.TheConstants.{MOST_READS}
 use Rattle.zk_follow.specs.declared.subject.Subject.{Subject}
 use Rattle.zk_follow.specs.declared.progress.Progress.{Progress}
 use Rattle.zk_follow.specs.declared.progress.Progress.TheVariants.{Due, Reading, Refused}
 use Rattle.zk_follow.specs.Following.{progress_after, answered, heard, heard_all, is_shown, read_of, rested, rested_progress, woken}
-use Rattle.zk_follow.specs.Following.{woken_progress, IsAhead, IsBeingRead, IsCounted, IsRefused, IsFollowed, IsFull}
+use Rattle.zk_follow.specs.Following.{woken_progress, IsAhead, IsBeingRead, IsBusy, IsCounted, IsRefused, IsFollowed, LeavesRoom}
 use Rattle.zk_follow.specs.inner.Following.{Asks, VisitsAnd}
 use Rattle.zk_follow.specs.Following.{is_read_by}
 use Rattle.zk_follow.proofs.Hearing.{no_answer}
@@ -59,13 +61,15 @@ of_refusal view call =
     by_test true rest e h = e
     by_test false rest e h = h
 
-full_by : (view : View) → nat_le MOST_PENDING (calls_pending view.pending) ≡ true → IsFull view
-full_by view e = grind (arith, nat_tests)
+busy_by : (view : View) → nat_le MOST_PENDING (calls_pending view.pending) ≡ true → IsBusy view
+busy_by view e =
+    let all : MOST_PENDING ≤ calls_pending view.pending = grind (arith, nat_tests) in
+    omega (arith, all)
 
 refused_later : (now : ℕ) → now < 2 ^ 64 → (was_there : Bool) (view : View) (why : Outcome)
-    → IsDenial view why → IsFull view ⊎ IsRefused now (progress_after now was_there why)
+    → IsDenial view why → IsBusy view ⊎ IsRefused now (progress_after now was_there why)
 refused_later now fits was_there view TooManyWatches d = inr (omega arith)
-refused_later now fits was_there view TooManyPending d = inl (full_by view d)
+refused_later now fits was_there view TooManyPending d = inl (busy_by view d)
 refused_later now fits was_there view TooLarge d = inr (omega arith)
 refused_later now fits was_there view SessionClosed d = inr (omega arith)
 refused_later now fits was_there view _ d = absurd d
@@ -75,14 +79,14 @@ is_due_now Due = true
 is_due_now _ = false
 
 -- where it is to be read at once, as many calls wait as may
-full_where_due : (now : ℕ) (was_there : Bool) (view : View) (why : Outcome)
-    → IsDenial view why → progress_after now was_there why ≡ Due → IsFull view
+busy_where_due : (now : ℕ) (was_there : Bool) (view : View) (why : Outcome)
+    → IsDenial view why → progress_after now was_there why ≡ Due → IsBusy view
 unfolding is_due_now
-full_where_due now was_there view TooManyWatches d e = let f : false ≡ true = ap is_due_now e in cc
-full_where_due now was_there view TooManyPending d e = full_by view d
-full_where_due now was_there view TooLarge d e = let f : false ≡ true = ap is_due_now e in cc
-full_where_due now was_there view SessionClosed d e = let f : false ≡ true = ap is_due_now e in cc
-full_where_due now was_there view _ d e = absurd d
+busy_where_due now was_there view TooManyWatches d e = let f : false ≡ true = ap is_due_now e in cc
+busy_where_due now was_there view TooManyPending d e = busy_by view d
+busy_where_due now was_there view TooLarge d e = let f : false ≡ true = ap is_due_now e in cc
+busy_where_due now was_there view SessionClosed d e = let f : false ≡ true = ap is_due_now e in cc
+busy_where_due now was_there view _ d e = absurd d
 
 -- ---- the turn of a call
 
@@ -120,12 +124,15 @@ being_read_on view after asks ticket side path read =
     ap (list_any (is_read_by ticket side path)) asks.pending ∙ list_any-append (is_read_by ticket side path) view.pending asks.more
     ∙ ap (λ b. b || list_any (is_read_by ticket side path) asks.more) read
 
-pub full_on : (view after : View) → Asks view after → IsFull view → IsFull after
-full_on view after asks full =
+pub calls_on : (view after : View) → Asks view after → calls_pending view.pending ≤ calls_pending after.pending
+calls_on view after asks =
     let more : calls_pending after.pending ≡ calls_pending view.pending + calls_pending asks.more =
     ap calls_pending asks.pending ∙ ap length (filter-append is_call view.pending asks.more)
     ∙ length-append (filter is_call view.pending) (filter is_call asks.more) in
-    omega arith
+    omega (arith, more)
+
+busy_on : (view after : View) → Asks view after → IsBusy view → IsBusy after
+busy_on view after asks busy = omega (arith, calls_on view after asks, busy)
 
 module _ {A : Type 0} (view after : View) (asks : Asks view after) where
   pub others_counted : (subject : Subject A) → IsCounted view subject → IsCounted after subject
@@ -136,7 +143,7 @@ module _ {A : Type 0} (view after : View) (asks : Asks view after) where
   pub others_followed : (now : ℕ) (subject : Subject A) → IsFollowed now view subject → IsFollowed now after subject
   others_followed now subject (inl shown) = inl (ap (λ cache. is_shown cache subject.side subject.path) asks.cache ∙ shown)
   others_followed now subject (inr (inl read)) = inr (inl (being_read_on view after asks subject.ticket subject.side subject.path read))
-  others_followed now subject (inr (inr (inl full))) = inr (inr (inl (full_on view after asks full)))
+  others_followed now subject (inr (inr (inl busy))) = inr (inr (inl (busy_on view after asks busy)))
   others_followed now subject (inr (inr (inr (inl away)))) =
       inr (inr (inr (inl (λ there. away (sym (ap (λ s. s.state) asks.standing) ∙ there)))))
   others_followed now subject (inr (inr (inr (inr refused)))) = inr (inr (inr (inr refused)))
@@ -148,15 +155,29 @@ no_calls view = record { standing = refl; cache = refl; lists = refl; more = [];
 
 abbrev pub IsSettled : {A : Type 0} → ℕ → View → View → Subject A → Type 0
 IsSettled now view after subject =
-    IsFollowed now after subject × IsCounted after subject × Asks view after × (subject.progress ≡ Due → IsFull after)
+    IsFollowed now after subject × IsCounted after subject × Asks view after × (subject.progress ≡ Due → IsBusy after) × LeavesRoom after
+
+one_more : (view after : View) (made : Pending) → calls_pending (made ∷ []) ≡ 1 → after.pending ≡ view.pending ++ made ∷ []
+    → calls_pending view.pending < MOST_READS → LeavesRoom after
+one_more view after made one pending room =
+    let sum : calls_pending after.pending ≡ calls_pending view.pending + calls_pending (made ∷ []) =
+    ap calls_pending pending ∙ ap length (filter-append is_call view.pending (made ∷ []))
+    ∙ length-append (filter is_call view.pending) (filter is_call (made ∷ [])) in
+    omega (arith, sum, one)
 
 module _ {A : Type 0} (now : ℕ) (fits : now < 2 ^ 64) (subject : Subject A) (reads : subject.progress ≡ Reading)
     (call : Asked_call) (is_missing : Bool)
-    (read : question_of call ≡ read_of subject.side is_missing subject.path) (view after : View) (outputs : List Output) where
+    (read : question_of call ≡ read_of subject.side is_missing subject.path) (view after : View) (outputs : List Output)
+    (room : calls_pending view.pending < MOST_READS) where
   sent_read : IsSent view subject.ticket call outputs after → IsSettled now view after (heard_all now subject outputs)
   sent_read sent =
-      subst (λ said. IsSettled now view after (heard_all now subject said)) (sym sent.0)
-      (inr (inl waits), (λ goes_on reading. waits), asks, λ due. absurd (let e : Due ≡ Reading = sym due ∙ reads in cc))
+      subst (λ said. IsSettled now view after (heard_all now subject said)) (sym sent.0) (
+        inr (inl waits),
+        (λ goes_on reading. waits),
+        asks,
+        (λ due. absurd (let e : Due ≡ Reading = sym due ∙ reads in cc)),
+        one_more view after call_made refl pending room,
+      )
     where
       call_made : Pending
       call_made = call_waits view.xid subject.ticket call
@@ -187,12 +208,13 @@ module _ {A : Type 0} (now : ℕ) (fits : now < 2 ^ 64) (subject : Subject A) (r
       (subst (IsSettled now view after)
       (sym (ap (λ b. cond b (answered now denied.0 subject) subject) (eq-eqb subject.ticket subject.ticket refl))) (
         elim (refused_later now fits subject.is_there view denied.0 denied.1) [
-          | inl full ↦ inr (inr (inl (subst IsFull (sym denied.3) full)))
+          | inl busy ↦ inr (inr (inl (subst IsBusy (sym denied.3) busy)))
           | inr refused ↦ inr (inr (inr (inr refused)))
         ],
         (λ goes_on reading. absurd (no_answer now subject.is_there denied.0 reading)),
         subst (Asks view) (sym denied.3) (no_calls view),
-        λ due. subst IsFull (sym denied.3) (full_where_due now subject.is_there view denied.0 denied.1 due),
+        (λ due. subst IsBusy (sym denied.3) (busy_where_due now subject.is_there view denied.0 denied.1 due)),
+        subst LeavesRoom (sym denied.3) (omega arith),
       ))
 
   pub read_asked : Rule view (record { input = Call subject.ticket call; outputs = outputs }) after → view.standing.state ≡ Connected
@@ -242,12 +264,15 @@ pub asked_visits : {A : Type 0} (now : ℕ) (view : View) (given : List Output) 
     (after : View) (given_after : List Output) (new : Subject A)
     (call : Asked_call) → subject ≡ heard → question_of call ≡ read_of subject.side subject.is_missing subject.path
     → (outputs : List Output) × Rule view (record { input = Call subject.ticket call; outputs = outputs }) after
-    × (new ≡ heard_all now (record subject { progress = Reading }) outputs) × (given_after ≡ given ++ outputs)
+    × (new ≡ heard_all now (record subject { progress = Reading }) outputs) × (given_after ≡ given ++ outputs) × LeavesRoom after
     → VisitsAnd now view given heard after given_after new
 asked_visits now view given subject heard after given_after new call same read asked =
     let turn : Turn = record { input = Call subject.ticket call; outputs = asked.0 } in
-    subst (λ before. VisitsAnd now view given before after given_after new) same
-    (turn ∷ [], inr (turn, refl, (call, refl, read), asked.1, asked.2), asked.3 ∙ ap (λ outputs. given ++ outputs) (nothing_more asked.0))
+    subst (λ before. VisitsAnd now view given before after given_after new) same (
+      turn ∷ [],
+      inr (turn, refl, (call, refl, read), asked.1, asked.2, asked.4),
+      asked.3 ∙ ap (λ outputs. given ++ outputs) (nothing_more asked.0),
+    )
 
 -- ---- a subject that rests
 

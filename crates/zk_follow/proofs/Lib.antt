@@ -5,6 +5,7 @@ pub mod Staying
 pub mod Reading
 pub mod Hearing
 pub mod Asking
+pub mod Breaking
 pub mod Visiting
 pub mod Telling
 pub mod Forgetting

@@ -1,8 +1,8 @@
 -- A subject that rests stays as it is by a visit, where outputs say nothing of it, and there is nothing more to tell of it.
-use Rattle.std.proofs.Common.{◌≡◌, ◌≢◌, ◌<◌, ◌≤◌, ◌+◌, ◌++◌, suc, map, ℕ, Bool, true, false, not, cond, ◌&&◌, ◌||◌, List, [], ◌∷◌, Option}
+use Rattle.std.proofs.Common.{◌≡◌, ◌≢◌, ◌<◌, ◌+◌, suc, map, ℕ, Bool, true, false, not, cond, ◌&&◌, ◌||◌, List, [], ◌∷◌, Option}
 use Rattle.std.proofs.Common.{Some, None}
-use Rattle.std.proofs.Common.{inl, inr, length, get_or, set, take, refl, sym, ap, subst, ◌∙◌, arith}
-use Rattle.std.proofs.lemmas.List.{append-nil, get_or_default, get_or-map, get_or-set_same, get_or-set_other, length-map}
+use Rattle.std.proofs.Common.{inl, length, get_or, set, refl, sym, ap, subst, ◌∙◌, arith}
+use Rattle.std.proofs.lemmas.List.{get_or_default, get_or-map, get_or-set_same, get_or-set_other, length-map}
 use Rattle.std.proofs.lemmas.Bool.Decides.{Decides-eqb}
 use Rattle.std.specs.Prelude.{◌==◌, bytes_eq}
 use Rattle.std.specs.List.{list_any}
@@ -10,7 +10,6 @@ use Rattle.zk_nodes.specs.Path.{Text}
 use Rattle.zk_nodes.specs.declared.side.Side.{Side}
 use Rattle.zk_nodes.specs.declared.side.Side.TheVariants.{Data, Child}
 use Rattle.zk_watches.specs.Lists.{side_has}
-use Rattle.zk_cache.specs.Kept.{is_marked_good}
 use Rattle.zk_turns.specs.Turns.{Output, Answer, Enters, Report, Turn}
 use Rattle.zk_turns.specs.View.{View, Cache}
 use Rattle.zk_turns.specs.Rule.{RuleAt}
@@ -87,6 +86,23 @@ shown_by : (cache : Cache) (side : Side) (path : Text) → holds cache side path
 shown_by cache Data path e = e
 shown_by cache Child path e = ap (λ b. b || is_kept says_none (cache.nodes path)) e
 
+-- what says nothing of a subject leaves it as it is
+module _ {A : Type 0} (now : ℕ) (subject : Subject A) where
+  heard_same : (output : Output) → is_about subject.ticket subject.path output ≡ false → heard now subject output ≡ subject
+  heard_same (Answer ticket outcome) e =
+      ap (λ b. cond b (answered now outcome subject) subject) (or_false (subject.ticket == ticket) (tells_fields outcome) e).0
+  heard_same (Report at side event) e = ap (λ b. cond b (record subject { is_there = false }) subject) e
+  heard_same (Enters state) e = absurd cc
+  heard_same _ e = refl
+
+  pub all_heard_same : (outputs : List Output) → list_any (is_about subject.ticket subject.path) outputs ≡ false
+      → heard_all now subject outputs ≡ subject
+  all_heard_same [] e = refl
+  all_heard_same (output ∷ outputs) e =
+      let parts = or_false (is_about subject.ticket subject.path output)
+      (list_any (is_about subject.ticket subject.path) outputs) e in
+      ap (λ (s : Subject A). heard_all now s outputs) (heard_same output parts.0) ∙ all_heard_same outputs parts.1
+
 module _ {A : Type 0} (now : ℕ) (view : View) (subject : Subject A) (rest : is_resting view subject ≡ true) where
   pub rest_shown : is_shown view.cache subject.side subject.path ≡ true
   rest_shown = shown_by view.cache subject.side subject.path (parts_of view subject rest).stays.1
@@ -98,21 +114,6 @@ module _ {A : Type 0} (now : ℕ) (view : View) (subject : Subject A) (rest : is
   rest_counted_as going reads =
       absurd (let e : Due ≡ Reading = sym (due_is subject.progress (parts_of view subject rest).due) ∙ reads in cc)
 
-  heard_same : (output : Output) → is_about subject.ticket subject.path output ≡ false → heard now subject output ≡ subject
-  heard_same (Answer ticket outcome) e =
-      ap (λ b. cond b (answered now outcome subject) subject) (or_false (subject.ticket == ticket) (tells_fields outcome) e).0
-  heard_same (Report at side event) e = ap (λ b. cond b (record subject { is_there = false }) subject) e
-  heard_same (Enters state) e = absurd cc
-  heard_same _ e = refl
-
-  all_heard_same : (outputs : List Output) → list_any (is_about subject.ticket subject.path) outputs ≡ false
-      → heard_all now subject outputs ≡ subject
-  all_heard_same [] e = refl
-  all_heard_same (output ∷ outputs) e =
-      let parts = or_false (is_about subject.ticket subject.path output)
-      (list_any (is_about subject.ticket subject.path) outputs) e in
-      ap (λ (s : Subject A). heard_all now s outputs) (heard_same output parts.0) ∙ all_heard_same outputs parts.1
-
   woken_same : woken now subject ≡ subject
   woken_same =
       let due = due_is subject.progress (parts_of view subject rest).due in
@@ -121,7 +122,7 @@ module _ {A : Type 0} (now : ℕ) (view : View) (subject : Subject A) (rest : is
 
   module _ (outputs : List Output) (silent : list_any (is_about subject.ticket subject.path) outputs ≡ false) where
     taken_same : taken now outputs subject ≡ subject
-    taken_same = ap (λ (s : Subject A). woken now s) (all_heard_same outputs silent) ∙ woken_same
+    taken_same = ap (λ (s : Subject A). woken now s) (all_heard_same now subject outputs silent) ∙ woken_same
 
     -- A visit leaves it as it is.
     pub rest_visits : (given : List Output) → VisitsAnd now view given (taken now outputs subject) view given subject

@@ -1,6 +1,6 @@
 -- What is watched and good on a side of a path stays so, turn by turn, unless an output says something of it: happening by happening, as
 -- each that ends it is said.
-use Rattle.std.proofs.Common.{◌≡◌, ◌++◌, ℕ, ℤ, Bool, true, false, not, cond, ◌&&◌, ◌||◌, List, [], ◌∷◌, Option, Some, None, refl, sym, ap}
+use Rattle.std.proofs.Common.{◌≡◌, ◌++◌, ℕ, ℤ, Bool, true, false, not, ◌&&◌, ◌||◌, List, [], ◌∷◌, Option, Some, None, refl, sym, ap}
 use Rattle.std.proofs.Common.{subst, ◌∙◌}
 use Rattle.std.specs.Prelude.{bytes_eq, ◌==◌, if◌then◌else◌}
 use Rattle.std.specs.List.{list_any}
@@ -13,11 +13,11 @@ use Rattle.zk_watches.specs.Lists.{Lists, has, with_path, without, side_has, reg
 use Rattle.zk_watches.proofs.CallerLemmas.{has-with_path, has-without}
 use Rattle.zk_cache.specs.declared.held.Kept.{Kept}
 use Rattle.zk_cache.specs.Kept.{Answer, Absent, Known, Full, Names, merged, good, stale, is_marked_good}
-use Rattle.zk_conversation.specs.Questions.{Question, Exists, GetData, GetChildren, Close}
+use Rattle.zk_conversation.specs.Questions.{Question, Exists, GetData, Close}
 use Rattle.zk_conversation.specs.Results.{Result, NoNode, Found, Read}
-use Rattle.zk_turns.specs.Turns.{Replied, Output, Report, Enters, Signal, Turn, signals_of}
+use Rattle.zk_turns.specs.Turns.{Replied, Output, Report, Signal, Turn, signals_of}
 use Rattle.zk_turns.specs.Past.{Happening, Took, Forgot, Halted, Left, Expiry, Replies, Watches_set, Notifies, leaves_data, leaves_child}
-use Rattle.zk_turns.specs.View.{View, Cache}
+use Rattle.zk_turns.specs.View.{View}
 use Rattle.zk_turns.specs.Taken.{happenings}
 use Rattle.zk_turns.specs.Rule.{says_there, with_node, with_children, keep_node, keep_children, report, next, says, after_all, says_all}
 use Rattle.zk_turns.specs.Rule.{after_signals, says_signals, Rule, RuleAt}

@@ -1,5 +1,5 @@
 -- Subjects are visited one after the other: those before are followed, and those after it are as they were.
-use Rattle.std.proofs.Common.{◌≡◌, ◌≢◌, ◌≤◌, ◌<◌, ◌^◌, ◌+◌, ◌++◌, append_assoc, cond, ℕ, ℤ, Bool, true, false, List, [], ◌∷◌, inl, inr}
+use Rattle.std.proofs.Common.{◌≡◌, ◌≢◌, ◌≤◌, ◌<◌, ◌^◌, ◌+◌, ◌++◌, ◌⊎◌, append_assoc, cond, ℕ, ℤ, Bool, true, false, List, [], ◌∷◌, inl, inr}
 use Rattle.std.proofs.Common.{length, get_or, map, set, take, refl, sym, ap, subst, ◌∙◌, arith}
 use Rattle.std.proofs.lemmas.List.{append-nil, get_or_default, get_or-set_same, get_or-set_other}
 use Rattle.std.proofs.Math.Seq.{take-append_seam}
@@ -19,7 +19,7 @@ use Rattle.zk_follow.specs.declared.subject.Subject.{Subject}
 use Rattle.zk_follow.specs.declared.progress.Progress.{Progress}
 use Rattle.zk_follow.specs.declared.progress.Progress.TheVariants.{Due, Reading, Refused}
 use Rattle.zk_follow.specs.Following.{heard_all, outputs_in, due_again, progress_after, read_of, rested_progress, taken, AreReads}
-use Rattle.zk_follow.specs.Following.{AreVisited, IsAhead, IsCounted, IsFollowed, IsReadOf, IsVisited, Steps, Visits}
+use Rattle.zk_follow.specs.Following.{AreVisited, IsAhead, IsCounted, IsFollowed, IsReadOf, IsVisited, LeavesRoom, Steps, Visits}
 use Rattle.zk_follow.specs.inner.Following.{Asks, Reads}
 use Rattle.zk_follow.specs.inner.Following.{VisitsAnd}
 use Rattle.zk_follow.specs.Following.{answered, heard}
@@ -208,9 +208,9 @@ module _ {A : Type 0} (now : ℕ) (fits : now < 2 ^ 64) where
 -- ---- the turns of the calls
 
 pub no_reads : {A : Type 0} (subjects : List (Subject A)) (view : View) (given : List Output) → Reads subjects view given view given
-no_reads subjects view given = record { calls = []; chain = refl; reads = tt; said = sym (append-nil given) }
+no_reads subjects view given = record { calls = []; chain = refl; reads = tt; said = sym (append-nil given); room = inl refl }
 
-chain_on : (calls more : List Turn) (view between after : View)
+pub chain_on : (calls more : List Turn) (view between after : View)
     → FoldsTo Rule view calls between → FoldsTo Rule between more after → FoldsTo Rule view (calls ++ more) after
 chain_on [] more view between after same rest = rw same rest
 chain_on (turn ∷ calls) more view between after chain rest = (chain.0, chain.1, chain_on calls more chain.0 between after chain.2 rest)
@@ -222,6 +222,17 @@ reads_on subjects (turn ∷ calls) more reads rest = (reads.0, reads_on subjects
 
 outputs_on : (calls more : List Turn) → outputs_in (calls ++ more) ≡ outputs_in calls ++ outputs_in more
 outputs_on calls more = flat_map-append (λ (turn : Turn). turn.outputs) calls more
+
+room_on : (calls more : List Turn) (view after : View) → (calls ≡ []) ⊎ LeavesRoom view
+    → ((more ≡ []) × (after ≡ view)) ⊎ LeavesRoom after → (calls ++ more ≡ []) ⊎ LeavesRoom after
+room_on calls more view after (inl none) (inl kept) = inl (ap (λ cs. cs ++ more) none ∙ kept.0)
+room_on calls more view after (inr room) (inl kept) = inr (subst LeavesRoom (sym kept.1) room)
+room_on calls more view after room (inr leaves) = inr leaves
+
+visit_room : {A : Type 0} (now : ℕ) (view : View) (subject : Subject A) (calls : List Turn) (after : View) (new : Subject A)
+    → Visits now view subject calls after new → ((calls ≡ []) × (after ≡ view)) ⊎ LeavesRoom after
+visit_room now view subject calls after new (inl kept) = inl (kept.1, kept.0)
+visit_room now view subject calls after new (inr asked) = inr asked.5
 
 -- what is asked by a visit of the subject at this place
 visit_calls : {A : Type 0} (now : ℕ) (subjects : List (Subject A)) (index : ℕ) (element : Subject A) (outputs : List Output) (view : View)
@@ -269,6 +280,8 @@ more_reads now first subjects index element outputs view0 view after given0 give
       reads = reads_on first reads.calls visits.0 reads.reads asked.1;
       said = visits.2 ∙ ap (λ g. g ++ outputs_in visits.0) reads.said ∙ append_assoc given0 (outputs_in reads.calls) (outputs_in visits.0)
           ∙ ap (λ os. given0 ++ os) (sym (outputs_on reads.calls visits.0));
+      room = room_on reads.calls visits.0 view after reads.room
+          (visit_room now view (taken now outputs element) visits.0 after new visits.1);
     }
 
 -- a visit, of which the turns are not asked about
@@ -291,5 +304,6 @@ steps now view input outputs between old after made given new rule reads visited
   chain = (rule.between, rule.tells, (between, rule.takes, reads.chain));
   reads = reads.reads;
   said = said ∙ ap (λ os. os ++ made) rule.outputs ∙ ap (λ os. (rule.first ++ rule.second) ++ os) reads.said;
+  room = reads.room;
   visited = subst (λ os. AreVisited now os old new) rule.outputs visited;
 }

@@ -6,7 +6,6 @@ use Rattle.std.specs.Ordering.{int_eq}
 use Rattle.zk_nodes.specs.Path.{Text}
 use Rattle.zk_nodes.specs.declared.side.Side.{Side}
 use Rattle.zk_nodes.specs.declared.side.Side.TheVariants.{Data, Child}
-use Rattle.zk_limits.specs.declared.limits.TheConstants.{MOST_PENDING}
 use Rattle.zk_conversation.specs.Pending.{Pending, Part_waits, Call_waits, calls_pending}
 use Rattle.zk_conversation.specs.Calls.{Call}
 use Rattle.zk_watches.specs.Lists.{side_has}
@@ -19,13 +18,14 @@ use Rattle.zk_turns.specs.Turns.{Outcome, Replied, TooManyWatches as Too_many_wa
 use Rattle.zk_turns.specs.Turns.{SessionClosed as Session_closed, Output, Enters, Input, Now, Turn}
 use Rattle.zk_turns.specs.Turns as turns
 use Rattle.zk_turns.specs.View.{View, Cache}
-use Rattle.zk_turns.specs.Rule.{Rule}
+use Rattle.zk_turns.specs.Rule.{Rule, HaltsAs}
 use Rattle.zk_follow.specs.declared.progress.Progress.{Progress}
 use Rattle.zk_follow.specs.declared.progress.Progress.TheVariants.{Due, Reading, Refused}
 use Rattle.zk_follow.specs.declared.progress.Refusal.{Refusal}
 use Rattle.zk_follow.specs.declared.progress.Refusal.TheVariants.{Code, TooManyWatches, TooLarge, SessionClosed}
 use Rattle.zk_follow.specs.declared.news.News.{News}
 use Rattle.zk_follow.specs.declared.news.News.TheVariants.{Shown, Refused as Denied}
+use Rattle.zk_follow.specs.declared.reads.TheConstants.{MOST_READS}
 use Rattle.zk_follow.specs.declared.subject.Subject.{Subject}
 
 -- a second later, and never after the last moment that there is
@@ -142,9 +142,13 @@ abbrev pub IsCounted : {A : Type 0} → View → Subject A → Type 0
 IsCounted view subject =
     view.standing.halted ≡ false → subject.progress ≡ Reading → IsBeingRead view subject.ticket subject.side subject.path
 
--- As many calls are on their way as may be, so that a read waits its turn.
-abbrev pub IsFull : View → Type 0
-IsFull view = MOST_PENDING ≤ calls_pending view.pending
+-- As many calls are on their way as there may be where a subject is read, so that its read waits its turn.
+abbrev pub IsBusy : View → Type 0
+IsBusy view = MOST_READS ≤ calls_pending view.pending
+
+-- No more are, so that there is room for calls of the program.
+abbrev pub LeavesRoom : View → Type 0
+LeavesRoom view = calls_pending view.pending ≤ MOST_READS
 
 -- A moment is after this one, or the last that there is.
 abbrev pub IsAfter : (now moment : ℕ) → Type 0
@@ -165,7 +169,7 @@ IsAhead now _ = ⊤
 abbrev pub IsFollowed : {A : Type 0} → (now : ℕ) → View → Subject A → Type 0
 IsFollowed now view subject =
     (is_shown view.cache subject.side subject.path ≡ true) ⊎ (IsBeingRead view subject.ticket subject.side subject.path
-    ⊎ (IsFull view ⊎ ((view.standing.state ≢ Connected) ⊎ IsRefused now subject.progress)))
+    ⊎ (IsBusy view ⊎ ((view.standing.state ≢ Connected) ⊎ IsRefused now subject.progress)))
 
 -- what is kept of a side of a path is good of itself, and not since there is no node
 abbrev pub holds : Cache → Side → Text → Bool
@@ -206,7 +210,7 @@ abbrev pub Visits : {A : Type 0} → (now : ℕ) → View → Subject A → List
 Visits now view subject calls after new =
     ((after ≡ view) × (calls ≡ []) × ((new ≡ subject) ⊎ (new ≡ rested subject)))
     ⊎ ((turn : Turn) × (calls ≡ turn ∷ []) × IsReadOf subject subject.is_missing turn × Rule view turn after
-    × (new ≡ heard_all now (record subject { progress = Reading }) turn.outputs))
+    × (new ≡ heard_all now (record subject { progress = Reading }) turn.outputs) × LeavesRoom after)
 
 -- what turns said, the oldest first
 abbrev pub outputs_in : List Turn → List Output
@@ -230,6 +234,7 @@ AreReads {A} subjects (turn ∷ more) =
 
 -- One step. The client takes its input at a moment; each subject hears what it says, and is visited. The turns are one chain from the
 -- client before to the client after it: the moment, the input, and the calls that read subjects. What is given is what they said, in order.
+-- Where any subject is read, there is room for calls of the program after it.
 pub record Steps {A : Type 0} (now : ℕ) (view : View) (input : Input) (old : List (Subject A)) (after : View) (given : List Output)
     (new : List (Subject A)) : Type 0 where
   pub first : List Output
@@ -238,7 +243,21 @@ pub record Steps {A : Type 0} (now : ℕ) (view : View) (input : Input) (old : L
   pub chain : FoldsTo Rule view (record { input = Now now; outputs = first } ∷ record { input = input; outputs = second } ∷ calls) after
   pub reads : AreReads old calls
   pub said : given ≡ (first ++ second) ++ outputs_in calls
+  pub room : (calls ≡ []) ⊎ LeavesRoom after
   pub visited : AreVisited now (first ++ second) old new
+
+-- ---- where memory runs out
+
+-- It ran out within a client that was here, which has halted then, or beside it.
+abbrev pub RunsOut : (here new : View) → Type 0
+RunsOut here new = (new ≡ here) ⊎ HaltsAs here new
+
+-- A step was broken off. The turns that were taken are one chain from the client before, and memory ran out after them.
+pub record BreaksOff (view new : View) : Type 0 where
+  pub turns : List Turn
+  pub here : View
+  pub chain : FoldsTo Rule view turns here
+  pub ends : RunsOut here new
 
 -- ---- between steps
 

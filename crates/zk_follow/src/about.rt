@@ -32,11 +32,11 @@ fn tells_fields<A: Allocator>(outcome: &Outcome<A>) -> bool
     )
 }
 
-/// How many remainders are told apart.
+/// How many remainders are told apart: so many that few subjects share one with an answer.
 fn slots(outputs: usize) -> usize
     ensures { result ≡ slots outputs }
 {
-    outputs.saturating_mul(8).saturating_add(1)
+    outputs.saturating_mul(8).saturating_add(1_000)
 }
 
 /// The remainder of a ticket.

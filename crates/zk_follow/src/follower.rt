@@ -10,7 +10,7 @@ ghost use Rattle.zk_turns.specs.Rule.{forgotten, Stands};
 ghost use Rattle.zk_client.specs.Clients.{renewed_start, view_of};
 ghost use Rattle.zk_client.specs.Views.{input_view, said};
 ghost use Rattle.zk_follow.specs.Following.{due_again, first_again, first_of, again_at, heard_all, news_in, told_of, unfollowed};
-ghost use Rattle.zk_follow.specs.Following.{AreVisited, IsAhead, IsCounted, IsFollowed, Steps};
+ghost use Rattle.zk_follow.specs.Following.{AreVisited, BreaksOff, IsAhead, IsCounted, IsFollowed, Steps};
 ghost use Rattle.zk_follow.specs.inner.Following.{Reads};
 ghost use Rattle.zk_follow.specs.Following.{AreResting};
 ghost use Rattle.zk_follow.specs.inner.Resting.{AreCovered, AreRestingBut};
@@ -70,14 +70,15 @@ fn visit_all<A: Allocator + Copy>(
     ensures rest { OnOk result (AreResting (view_of client.new) subjects.new resting.new) }
     ensures reads { OnOk result (Reads subjects.old (view_of client.old) (said made.old.items) (view_of client.new) (said made.new.items)) }
     ensures visited { OnOk result (AreVisited now (said outputs.now) subjects.old subjects.new) }
+    ensures broke { OnErr result (BreaksOff (view_of client.old) (view_of client.new)) }
 {
-    let mut is_full = false;
+    let mut is_busy = false;
     for index in 0..subjects.len() {
         let rests = resting[index];
         let visit = subjects[index].visit_where(
-            alloc, client, now, is_full, rests, about, outputs, made,
+            alloc, client, now, is_busy, rests, about, outputs, made,
         )?;
-        is_full = visit.is_full;
+        is_busy = visit.is_busy;
         resting[index] = visit.rests;
     }
     Ok(())
@@ -101,6 +102,7 @@ fn advance<A: Allocator + Copy>(
     ensures ahead { OnOk result (All (λ subject. IsAhead now subject.progress) subjects.new) }
     ensures steps { IfOk result
         (λ outputs. Steps now (view_of client.old) (input_view input) subjects.old (view_of client.new) (said outputs.items) subjects.new) }
+    ensures broke { OnErr result (BreaksOff (view_of client.old) (view_of client.new)) }
 {
     let Ok(mut outputs) = client.step_at(now, input) else {
         return Err(FollowerStop::Halted);
@@ -216,13 +218,15 @@ impl<A: Allocator + Copy> Follower<A> {
     /// Hands the client an input that is noticed at this moment, and reads each subject that is to be read. The outputs are in order; those
     /// with the ticket of a subject answer its reads, so a refusal is told by one of them.
     ///
-    /// An error means that memory ran out. Nothing is followed any more then.
+    /// An error means that memory ran out. Nothing is followed any more then. The client may have taken turns: what another session can
+    /// be resumed from is there.
     pub fn step(&mut self, now: u64, input: Input<A>) -> Result<Vec<Output<A>, A>, FollowerStop>
         ensures followed { OnOk result (All (IsFollowed now (view_of self.new.client)) self.new.subjects.items) }
         ensures ahead { OnOk result (All (λ subject. IsAhead now subject.progress) self.new.subjects.items) }
         ensures steps { IfOk result (λ outputs. Steps now (view_of self.old.client) (input_view input) self.old.subjects.items
             (view_of self.new.client) (said outputs.items) self.new.subjects.items) }
         ensures err { OnErr result (self.new.subjects.items ≡ []) }
+        ensures broke { OnErr result (BreaksOff (view_of self.old.client) (view_of self.new.client)) }
     {
         if let Err(stop) = fit_marks(&mut self.resting, self.subjects.len()) {
             self.subjects.clear();

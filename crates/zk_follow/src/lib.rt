@@ -17,5 +17,6 @@ mod subject;
 pub use follower::Follower;
 pub use news::News;
 pub use progress::{Progress, Refusal};
+pub use reads::MOST_READS;
 pub use stop::FollowerStop;
 pub use subject::Subject;

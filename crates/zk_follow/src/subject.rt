@@ -1,8 +1,9 @@
 //! One subject that is followed.
 
-ghost use Rattle.std.specs.Prelude.{◌≡◌, ◌≢◌, ◌++◌, true, false, Bool, List, None, IfOk, OnOk};
+ghost use Rattle.std.specs.Prelude.{◌≡◌, ◌≢◌, ◌<◌, ◌++◌, true, false, Bool, List, None, IfOk, OnErr, OnOk};
 ghost use Rattle.std.specs.List.{list_any};
 ghost use Rattle.zk_session.specs.declared.states.State.TheVariants.{Connected};
+ghost use Rattle.zk_conversation.specs.Pending.{calls_pending};
 ghost use Rattle.zk_conversation.specs.Questions.{question_of};
 ghost use Rattle.zk_conversation.specs.Views.{call_view};
 ghost use Rattle.zk_turns.specs.Turns.{Call as Calls, Output as Said};
@@ -11,7 +12,8 @@ ghost use Rattle.zk_client.specs.Clients.{view_of};
 ghost use Rattle.zk_client.specs.Views.{output_view, said};
 ghost use Rattle.zk_follow.specs.Following.{heard, heard_all, read_of, rested, taken, due_again, woken, IsCounted, IsFollowed};
 ghost use Rattle.zk_follow.specs.inner.Following.{Asks};
-ghost use Rattle.zk_follow.specs.Following.{IsFull};
+ghost use Rattle.zk_follow.specs.Following.{BreaksOff, IsBusy, LeavesRoom};
+ghost use Rattle.zk_follow.specs.declared.reads.TheConstants.{MOST_READS};
 ghost use Rattle.zk_follow.specs.inner.Following.{VisitsAnd};
 ghost use Rattle.zk_follow.specs.Following.{is_resting};
 ghost use Rattle.zk_follow.specs.inner.Resting.{is_about, AreCovered};
@@ -20,7 +22,7 @@ use crate::about::About;
 use crate::kept::{holds, is_shown};
 use crate::news::News;
 use crate::progress::{Progress, missing_after, progress_after, there_after};
-use crate::reads::read_of;
+use crate::reads::{MOST_READS, read_of};
 use crate::stop::FollowerStop;
 use std::alloc::Allocator;
 use zk_client::{Call, Client, Input, Output, Path, Side, State};
@@ -37,22 +39,30 @@ pub struct Subject<A: Allocator> {
     pub(crate) told: Option<News>,
 }
 
-/// What a visit has led to: whether as many calls wait for their replies as may, and whether the subject rests.
+/// What a visit has led to: whether there is no room for another read, and whether the subject rests.
 #[derive(Clone, Copy)]
 pub(crate) struct Visit {
-    pub(crate) is_full: bool,
+    pub(crate) is_busy: bool,
     pub(crate) rests: bool,
 }
 
 /// A visit of a subject that does not rest.
-fn awake(is_full: bool) -> Visit
-    ensures full { result.is_full ≡ is_full }
+fn awake(is_busy: bool) -> Visit
+    ensures busy { result.is_busy ≡ is_busy }
     ensures rests { result.rests ≡ false }
 {
     Visit {
-        is_full,
+        is_busy,
         rests: false,
     }
+}
+
+/// Whether there is room for a read.
+fn has_room<A: Allocator + Copy>(client: &Client<A>) -> bool
+    ensures yes { result ≡ true → calls_pending (view_of client.now).pending < MOST_READS }
+    ensures no { result ≡ false → IsBusy (view_of client.now) }
+{
+    client.pending_calls() < MOST_READS
 }
 
 /// Whether a server has accepted the connection.
@@ -129,11 +139,23 @@ impl<A: Allocator> Subject<A> {
         }
     }
 
+    /// Hears what the client has said at this moment, where it may be about the subject.
+    fn hear(&mut self, now: u64, about: &About<A>, outputs: &[Output<A>])
+        requires { AreCovered about.now (said outputs.now) }
+        ensures { self.new ≡ heard_all now self.old (said outputs.now) }
+    {
+        if about.leaves(self.ticket, &self.path, outputs) {
+            return;
+        }
+        self.note_outputs(now, outputs);
+    }
+
     /// Takes what the client has said at this moment.
-    fn pass_moment(&mut self, now: u64, outputs: &[Output<A>])
+    fn pass_moment(&mut self, now: u64, about: &About<A>, outputs: &[Output<A>])
+        requires { AreCovered about.now (said outputs.now) }
         ensures { self.new ≡ taken now (said outputs.now) self.old }
     {
-        self.note_outputs(now, outputs);
+        self.hear(now, about, outputs);
         self.wake(now);
     }
 
@@ -147,7 +169,7 @@ impl<A: Allocator> Subject<A> {
 }
 
 impl<A: Allocator + Copy> Subject<A> {
-    /// Asks by this call, which reads the subject. The answer is whether as many calls wait for their replies as may.
+    /// Asks by this call, which reads the subject. The answer is whether there is no room for another read.
     fn ask(
         &mut self,
         client: &mut Client<A>,
@@ -157,14 +179,16 @@ impl<A: Allocator + Copy> Subject<A> {
     ) -> Result<bool, FollowerStop>
         requires read { (is_missing : Bool) × (question_of (call_view call) ≡ read_of self.old.side is_missing self.old.path) }
         requires connected { (view_of client.old).standing.state ≡ Connected }
+        requires room { calls_pending (view_of client.old).pending < MOST_READS }
         ensures followed { OnOk result (IsFollowed now (view_of client.new) self.new) }
         ensures counted { OnOk result (IsCounted (view_of client.new) self.new) }
         ensures asks { OnOk result (Asks (view_of client.old) (view_of client.new)) }
-        ensures full { IfOk result (λ is_full. is_full ≡ true → IsFull (view_of client.new)) }
+        ensures busy { IfOk result (λ is_busy. is_busy ≡ true → IsBusy (view_of client.new)) }
         ensures asked { OnOk result ((outputs : List Said)
             × Rule (view_of client.old) (record { input = Calls self.old.ticket (call_view call); outputs = outputs }) (view_of client.new)
             × (self.new ≡ heard_all now (record self.old { progress = Progress.Reading }) outputs)
-            × (said made.new.items ≡ said made.old.items ++ outputs)) }
+            × (said made.new.items ≡ said made.old.items ++ outputs) × LeavesRoom (view_of client.new)) }
+        ensures broke { OnErr result (BreaksOff (view_of client.old) (view_of client.new)) }
     {
         self.progress = Progress::Reading;
         let Ok(mut outputs) = client.step(Input::Call(self.ticket, call)) else {
@@ -207,41 +231,47 @@ impl<A: Allocator + Copy> Subject<A> {
             && holds(client, self.side, &self.path)
     }
 
-    /// Takes what the client has said at this moment, and reads the subject where it is to be read and fewer calls wait than may.
+    /// Takes what the client has said at this moment, and reads the subject where it is to be read and there is room.
     fn visit(
         &mut self,
         alloc: A,
         client: &mut Client<A>,
         now: u64,
-        is_full: bool,
+        is_busy: bool,
+        about: &About<A>,
         outputs: &[Output<A>],
         made: &mut Vec<Output<A>, A>,
     ) -> Result<Visit, FollowerStop>
         requires counted { IsCounted (view_of client.old) (heard_all now self.old (said outputs.now)) }
         requires goes_on { (view_of client.old).standing.halted ≡ false }
-        requires full { is_full ≡ true → IsFull (view_of client.old) }
+        requires busy { is_busy ≡ true → IsBusy (view_of client.old) }
+        requires covered { AreCovered about.now (said outputs.now) }
         ensures followed { OnOk result (IsFollowed now (view_of client.new) self.new) }
         ensures counted { OnOk result (IsCounted (view_of client.new) self.new) }
         ensures asks { OnOk result (Asks (view_of client.old) (view_of client.new)) }
-        ensures full { IfOk result (λ visit. visit.is_full ≡ true → IsFull (view_of client.new)) }
+        ensures busy { IfOk result (λ visit. visit.is_busy ≡ true → IsBusy (view_of client.new)) }
         ensures visits { OnOk result (VisitsAnd now (view_of client.old) (said made.old.items) (taken now (said outputs.now) self.old)
             (view_of client.new) (said made.new.items) self.new) }
         ensures rests { IfOk result (λ visit. visit.rests ≡ true → is_resting (view_of client.new) self.new ≡ true) }
+        ensures broke { OnErr result (BreaksOff (view_of client.old) (view_of client.new)) }
     {
-        self.pass_moment(now, outputs);
+        self.pass_moment(now, about, outputs);
+        if is_busy {
+            return Ok(awake(true));
+        }
         if is_shown(client, self.side, &self.path) {
             self.rest();
             let rests = self.is_at_rest(client);
-            return Ok(Visit { is_full, rests });
-        }
-        if is_full {
-            return Ok(awake(true));
+            return Ok(Visit { is_busy, rests });
         }
         if !is_connected(client) {
             return Ok(awake(false));
         }
         if !self.is_unread() {
             return Ok(awake(false));
+        }
+        if !has_room(client) {
+            return Ok(awake(true));
         }
         match read_of(alloc, self.side, self.is_missing, &self.path) {
             Ok(call) => Ok(awake(self.ask(client, now, call, made)?)),
@@ -255,7 +285,7 @@ impl<A: Allocator + Copy> Subject<A> {
         alloc: A,
         client: &mut Client<A>,
         now: u64,
-        is_full: bool,
+        is_busy: bool,
         rests: bool,
         about: &About<A>,
         outputs: &[Output<A>],
@@ -263,21 +293,22 @@ impl<A: Allocator + Copy> Subject<A> {
     ) -> Result<Visit, FollowerStop>
         requires counted { IsCounted (view_of client.old) (heard_all now self.old (said outputs.now)) }
         requires goes_on { (view_of client.old).standing.halted ≡ false }
-        requires full { is_full ≡ true → IsFull (view_of client.old) }
+        requires busy { is_busy ≡ true → IsBusy (view_of client.old) }
         requires covered { AreCovered about.now (said outputs.now) }
         requires rests { rests ≡ true → list_any (is_about self.old.ticket self.old.path) (said outputs.now) ≡ false
             → is_resting (view_of client.old) self.old ≡ true }
         ensures followed { OnOk result (IsFollowed now (view_of client.new) self.new) }
         ensures counted { OnOk result (IsCounted (view_of client.new) self.new) }
         ensures asks { OnOk result (Asks (view_of client.old) (view_of client.new)) }
-        ensures full { IfOk result (λ visit. visit.is_full ≡ true → IsFull (view_of client.new)) }
+        ensures busy { IfOk result (λ visit. visit.is_busy ≡ true → IsBusy (view_of client.new)) }
         ensures visits { OnOk result (VisitsAnd now (view_of client.old) (said made.old.items) (taken now (said outputs.now) self.old)
             (view_of client.new) (said made.new.items) self.new) }
         ensures rests { IfOk result (λ visit. visit.rests ≡ true → is_resting (view_of client.new) self.new ≡ true) }
+        ensures broke { OnErr result (BreaksOff (view_of client.old) (view_of client.new)) }
     {
         if rests && about.leaves(self.ticket, &self.path, outputs) {
-            return Ok(Visit { is_full, rests });
+            return Ok(Visit { is_busy, rests });
         }
-        self.visit(alloc, client, now, is_full, outputs, made)
+        self.visit(alloc, client, now, is_busy, about, outputs, made)
     }
 }

@@ -14,8 +14,8 @@ const TIMEOUT: Duration = Duration::from_secs(300);
 /// How long what is awaited may take.
 const PATIENCE: Duration = Duration::from_secs(120);
 
-/// How many calls wait for their answers, at most.
-const MOST_READS: usize = 1_024;
+/// How many reads of a tree wait for their answers, at most.
+const MOST_READS: usize = 960;
 
 /// How many children a large tree has.
 const MANY: usize = 1_500;
@@ -258,8 +258,9 @@ fn a_large_tree_that_has_just_been_looked_at_is_looked_at_again_after_a_change()
     }
 }
 
-/// A server that has many children. Once as many reads of them have come as may, it tells so, and answers none before it is told to.
-fn hold_reads(line: &mut Line, are_held: &mpsc::Sender<()>, go: &mpsc::Receiver<()>) {
+/// A server that has many children, and answers no read of them before a call has come. How many it holds it tells once they are as many
+/// as may be, and when that call comes.
+fn hold_reads(line: &mut Line, holds: &mpsc::Sender<usize>) {
     let names = many_names();
     let names: Vec<_> = names.iter().map(String::as_str).collect();
     let mut held = Vec::new();
@@ -268,31 +269,34 @@ fn hold_reads(line: &mut Line, are_held: &mpsc::Sender<()>, go: &mpsc::Receiver<
         if request.kind == GET_CHILDREN_2 && !is_below(request) {
             return line.send(&listed(request, &names));
         }
-        if !is_holding || !is_below(request) {
-            return false;
+        if is_holding && is_below(request) {
+            held.push(request.clone());
+            if held.len() == MOST_READS {
+                let _ = holds.send(held.len());
+            }
+            return true;
         }
-        held.push(request.clone());
-        if held.len() == MOST_READS {
+        if is_holding && request.kind == EXISTS {
             is_holding = false;
-            let _ = are_held.send(());
-            go.recv_timeout(PATIENCE).unwrap();
-            held.drain(..).all(|read| answer(line, &read));
+            let _ = holds.send(held.len());
+            for read in held.drain(..) {
+                answer(line, &read);
+            }
         }
-        true
+        false
     });
 }
 
-/// All calls that may be on their way are reads of the tree: one that is asked meanwhile waits for its turn, and has its answer.
+/// As many reads of the tree are on their way as may be: a call has room beside them.
 #[test]
-fn the_reads_of_a_large_tree_let_a_call_have_its_turn() {
-    let (sender, are_held) = mpsc::channel();
-    let (go, told) = mpsc::channel();
-    let partner = Partner::start(move |_, mut line| hold_reads(&mut line, &sender, &told));
+fn the_reads_of_a_large_tree_leave_room_for_a_call() {
+    let (sender, held) = mpsc::channel();
+    let partner = Partner::start(move |_, mut line| hold_reads(&mut line, &sender));
     let session = Session::open(partner.address, TIMEOUT).unwrap();
     let tree = session.tree("/t").unwrap();
-    are_held.recv_timeout(PATIENCE).unwrap();
+    assert_eq!(held.recv_timeout(PATIENCE), Ok(MOST_READS));
     let asked = session.ask(Asked::exists("/x"));
-    go.send(()).unwrap();
+    assert_eq!(held.recv_timeout(PATIENCE), Ok(MOST_READS));
     assert!(asked.wait_for(PATIENCE).unwrap().is_some());
     assert_eq!(tree.wait_for(PATIENCE).unwrap().len(), MANY + 1);
 }
@@ -416,4 +420,3 @@ fn what_the_program_itself_has_read_again_is_shown() {
         read();
     }
 }
-

@@ -14,7 +14,7 @@ use Rattle.zk_agent.specs.declared.replies.Heard.{Heard}
 use Rattle.zk_agent.specs.inner.Calls.{how_many_wait, IsDone}
 use Rattle.zk_agent.specs.Calls.{IsInTime}
 use Rattle.zk_agent.specs.Telling.{Told}
-use Rattle.zk_agent.specs.Agents.{Trail, Move, Asks, Opened, TakesSo, ends_of, Comes}
+use Rattle.zk_agent.specs.Agents.{Trail, Move, Asks, TakesSo, ends_of, Comes}
 use Rattle.zk_turns.specs.Turns as turns
 
 -- what is heard and no call

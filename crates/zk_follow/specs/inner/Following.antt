@@ -1,13 +1,12 @@
 -- What contracts of private functions say: nobody has to believe it.
-use Rattle.std.specs.Prelude.{◌≡◌, ℕ, List}
-use Rattle.std.specs.Prelude.{◌++◌}
+use Rattle.std.specs.Prelude.{◌≡◌, ◌⊎◌, ◌++◌, ℕ, List, []}
 use Rattle.std.specs.List.{FoldsTo}
 use Rattle.zk_conversation.specs.Pending.{Pending}
 use Rattle.zk_turns.specs.Turns.{Output, Turn}
 use Rattle.zk_turns.specs.View.{View}
 use Rattle.zk_turns.specs.Rule.{Rule}
 use Rattle.zk_follow.specs.declared.subject.Subject.{Subject}
-use Rattle.zk_follow.specs.Following.{reads, Visits, outputs_in, AreReads}
+use Rattle.zk_follow.specs.Following.{Visits, outputs_in, AreReads, LeavesRoom}
 
 -- Calls were asked, and nothing else has happened to a client.
 pub record Asks (view after : View) : Type 0 where
@@ -29,3 +28,4 @@ pub record Reads {A : Type 0} (subjects : List (Subject A)) (view : View) (given
   pub chain : FoldsTo Rule view calls after
   pub reads : AreReads subjects calls
   pub said : given_after ≡ given ++ outputs_in calls
+  pub room : (calls ≡ []) ⊎ LeavesRoom after

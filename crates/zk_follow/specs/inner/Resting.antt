@@ -37,7 +37,7 @@ is_report _ = false
 
 -- how many remainders are told apart for a number of outputs
 abbrev pub slots : ℕ → ℕ
-slots outputs = min (min (outputs * 8) (2 ^ 64 - 1) + 1) (2 ^ 64 - 1)
+slots outputs = min (min (outputs * 8) (2 ^ 64 - 1) + 1000) (2 ^ 64 - 1)
 
 abbrev pub is_marked : List Bool → ℕ → Bool
 is_marked marks ticket = slice_index_or marks (ticket % length marks) false

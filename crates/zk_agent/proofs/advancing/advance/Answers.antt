@@ -1,7 +1,9 @@
 -- After a step each subject is followed, and stays so where news are told: `followed_told`, as `report` leaves the client.
 use Rattle.std.proofs.Common.{ap}
 use Rattle.zk_client.specs.Clients.{view_of}
+use Rattle.zk_client.specs.Views.{input_view, said}
 use Rattle.zk_agent.proofs.Moves.{followed_told}
+use Rattle.zk_follow.proofs.Breaking.{after_steps, err_always}
 use Rattle.zk_agent.proofs.advancing.advance.Goals as goal
 
 pub returns-clause-followed : goal.returns-clause-followed
@@ -9,3 +11,12 @@ returns-clause-followed g c =
     followed_told c.args.now (view_of c.step.new.self.client)
     (view_of c.report.new.follower.client) c.step.new.self.subjects.items c.report.new.follower.subjects.items
     (ap view_of c.report.ensures.client) c.in_ok-report.ensures.subjects c.in_ok-outputs.ensures.followed
+
+pub returns-in_err-report-clause-broke : goal.returns-in_err-report-clause-broke
+returns-in_err-report-clause-broke g c =
+    let old = c.args.follower.now in
+    let here = c.step.new.self in
+    err_always c.from_residual-in_err-report.result
+    (after_steps c.args.now (view_of old.client) (input_view c.args.input) old.subjects.items (view_of here.client)
+    (said c.in_ok-outputs.outputs.items) here.subjects.items (view_of c.report.new.follower.client) c.in_ok-outputs.ensures.steps
+    (ap (λ client. view_of client) c.report.ensures.client))

@@ -1,5 +1,5 @@
 -- What a write took is the front of the bytes that the stream says it took (`write_goes`), and nothing where it failed or took none.
-use Rattle.std.proofs.Common.{rules, ◌≡◌, ◌∙◌, [], Some, refl, subst, sym, take}
+use Rattle.std.proofs.Common.{rules, ◌≡◌, [], Some, refl, subst, sym, take}
 use Rattle.std.specs.Prelude.{unwrap_or}
 use Rattle.zk_link.specs.FarEnds.{Goes}
 use Rattle.zk_driver.specs.inner.Reads.{written_by}

@@ -9,6 +9,7 @@ use Rattle.zk_follow.specs.inner.Following.{Reads}
 use Rattle.zk_follow.specs.inner.Resting.{AreCovered, AreRestingBut}
 use Rattle.zk_follow.proofs.Visiting.{all_ahead, all_counted, going_at, steps}
 use Rattle.zk_follow.proofs.Resting.{resting_but}
+use Rattle.zk_follow.proofs.Breaking.{after_step, after_turns, beside, err_always, within_step}
 use Rattle.zk_follow.proofs.follower.advance.Goals as goal
 
 pub visit_all-requires-clause-counted : goal.visit_all-requires-clause-counted
@@ -52,3 +53,26 @@ returns-in-Ok-append-clause-ahead g c =
     (said c.in-Ok.outputs.items) c.args.subjects.now c.visit_all.new.subjects c.visit_all.auto.subjects
     (subst (λ outputs. AreVisited c.args.now (said outputs) c.args.subjects.now c.visit_all.new.subjects) c.as_slice-2.ensures.value
     c.in_ok-visit_all.ensures.visited)
+
+pub returns-in_default-clause-broke : goal.returns-in_default-clause-broke
+returns-in_default-clause-broke g c =
+    within_step c.args.now (view_of c.args.client.now) (view_of c.step_at.new.self) c.in_default.ensures.halt
+
+pub returns-in_default-of-clause-broke : goal.returns-in_default-of-clause-broke
+returns-in_default-of-clause-broke g c =
+    let here = view_of c.step_at.new.self in
+    after_step c.args.now (view_of c.args.client.now)
+    (turn_of c.args.input c.in-Ok.outputs.items) here here c.in-Ok.ensures.rule (beside here)
+
+pub returns-in_err-visit_all-clause-broke : goal.returns-in_err-visit_all-clause-broke
+returns-in_err-visit_all-clause-broke g c =
+    err_always c.from_residual.result (after_step c.args.now (view_of c.args.client.now) (turn_of c.args.input c.in-Ok.outputs.items)
+    (view_of c.step_at.new.self) (view_of c.visit_all.new.client) c.in-Ok.ensures.rule c.in_err-visit_all.ensures.broke)
+
+pub returns-in-Err-clause-broke : goal.returns-in-Err-clause-broke
+returns-in-Err-clause-broke g c =
+    let reads = c.in_ok-visit_all.ensures.reads in
+    let here = view_of c.step_at.new.self in
+    let new = view_of c.visit_all.new.client in
+    after_step c.args.now (view_of c.args.client.now) (turn_of c.args.input c.in-Ok.outputs.items) here new c.in-Ok.ensures.rule
+    (after_turns reads.calls here new new reads.chain (beside new))

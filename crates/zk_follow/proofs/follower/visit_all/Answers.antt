@@ -6,6 +6,7 @@ use Rattle.zk_client.specs.Views.{said}
 use Rattle.zk_follow.proofs.Asking.{no_calls}
 use Rattle.zk_follow.proofs.Visiting.{asks_on, is_visited, no_reads, more_reads, more_visited, next_counted, one_more_visited, same_after}
 use Rattle.zk_follow.proofs.Resting.{more_rest, next_rests}
+use Rattle.zk_follow.proofs.Breaking.{after_turns, err_always}
 use Rattle.zk_follow.proofs.follower.visit_all.Goals as goal
 
 pub visit_where-requires-clause-counted : goal.visit_where-requires-clause-counted
@@ -36,7 +37,7 @@ loop-index-init g c = record {
   before = λ k d within. absurd (omega arith);
   visited = λ k d within. absurd (omega arith);
   reads = no_reads c.args.subjects.now (view_of c.args.client.now) (said c.args.made.now.items);
-  full = λ e. absurd cc;
+  busy = λ e. absurd cc;
   rest_of = λ k d within. refl;
   marks = refl;
   rest = λ k d within marked. absurd (omega arith);
@@ -70,7 +71,7 @@ loop-index-preserved g c =
           (omega (arith, c.loop-index-test.true, c.loop-index.invariant.size))
           (ap (get_or subjects index) c.index-subjects-index.is) c.loop-index.invariant.rest_of
           c.loop-index.invariant.reads c.in_ok-visit.ensures.visits;
-      full = c.in_ok-visit.ensures.full;
+      busy = c.in_ok-visit.ensures.busy;
       rest_of = same_after subjects c.args.subjects.now index c.visit_where.new.self c.loop-index.invariant.rest_of;
       marks = length-set c.loop-index.resting index c.in_ok-visit.visit.rests ∙ c.loop-index.invariant.marks;
       rest = more_rest (view_of c.loop-index.client) (view_of c.visit_where.new.client) c.in_ok-visit.ensures.asks subjects
@@ -98,3 +99,9 @@ pub returns-clause-rest : goal.returns-clause-rest
 returns-clause-rest g c = λ k d within marked.
     let visited : k < c.loop-index.index = omega (arith, within, c.loop-index-test.false, c.loop-index.invariant.size) in
     c.loop-index.invariant.rest k d visited marked
+
+pub returns-in_err-visit-clause-broke : goal.returns-in_err-visit-clause-broke
+returns-in_err-visit-clause-broke g c =
+    let reads = c.loop-index.invariant.reads in
+    err_always c.from_residual.result (after_turns reads.calls (view_of c.args.client.now) (view_of c.loop-index.client)
+    (view_of c.visit_where.new.client) reads.chain c.in_err-visit.ensures.broke)

@@ -4,7 +4,7 @@ use Rattle.std.proofs.Common.{◌≡◌, length, true}
 use Rattle.zk_client.specs.Clients.{view_of}
 use Rattle.zk_client.specs.Views.{said}
 use Rattle.zk_follow.specs.inner.Following.{Asks, Reads}
-use Rattle.zk_follow.specs.Following.{IsFull}
+use Rattle.zk_follow.specs.Following.{IsBusy}
 use Rattle.zk_follow.proofs.Visiting.{AllBefore, SameFrom, StandsAt, VisitedBefore}
 use Rattle.zk_follow.proofs.Resting.{RestBefore}
 use Rattle.zk_follow.proofs.follower.visit_all.Given as goal
@@ -18,7 +18,7 @@ invariant-loop-index g l = record {
   before : AllBefore l.index (StandsAt l.now (view_of l.client)) l.subjects;
   visited : VisitedBefore l.index l.now (said l.outputs) l.fn.subjects l.subjects;
   reads : Reads l.fn.subjects (view_of l.fn.client) (said l.fn.made.items) (view_of l.client) (said l.made.items);
-  full : l.is_full ≡ true → IsFull (view_of l.client);
+  busy : l.is_busy ≡ true → IsBusy (view_of l.client);
   rest_of : SameFrom l.index l.subjects l.fn.subjects;
   rest : RestBefore l.index (view_of l.client) l.subjects l.resting;
   marks_of : SameFrom l.index l.resting l.fn.resting;

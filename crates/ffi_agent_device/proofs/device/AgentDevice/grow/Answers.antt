@@ -11,8 +11,8 @@ use Rattle.ffi_agent_device.specs.Tending.{bed_of, TakesAllOn}
 use Rattle.ffi_agent_device.proofs.Growing.{ok_grows}
 use Rattle.ffi_agent_device.proofs.device.AgentDevice.grow.Goals as goal
 
-pub returns : goal.returns
-returns c =
+pub returns-clause-grows : goal.returns-clause-grows
+returns-clause-grows c =
     let old = c.args.self.now in
     let tree = c.args.tree.now in
     let wanted = c.in_ok-wanted.wanted in
@@ -27,5 +27,5 @@ returns c =
     c.in_ok-wanted.ensures))
     c.lacks_nothing.ensures
     (subst (λ (l : List (NodeSide Global)). TakesAllOn (aims_of l) first last) c.as_slice.ensures.value
-    c.in_ok-take_all_on.ensures)
-    c.in_ok-note_bound.ensures c.note_whole.ensures
+    c.in_ok-take_all_on.ensures.takes)
+    c.in_ok-note_bound.ensures.notes c.note_whole.ensures.notes

@@ -19,7 +19,7 @@ returns-clause-joins c =
     let more : c.push.new.self.items ≡ c.args.tree.now.members.items ++ one ∷ [] = search rules in
     ok_joins c.add_subject.result c.args.ticket c.args.is_found (aim_of c.args.subject.now)
     (bed_of (voice_of old) c.args.tree.now) told new one c.push.new.self.items
-    c.in_ok-one.ensures.aim c.in_ok-one.ensures.ticket c.in_ok-one.ensures.found more c.in_ok-tell_taken_on.ensures
+    c.in_ok-one.ensures.aim c.in_ok-one.ensures.ticket c.in_ok-one.ensures.found more c.in_ok-tell_taken_on.ensures.told
     (subst (λ (p : Text). OnOk c.add_subject.result (MovesOn (Follows c.args.ticket side p) told new)) c.in_ok-path.ensures
     c.add_subject.ensures.moves)
 

@@ -16,7 +16,11 @@ loop-ticket-init c =
     let tree = c.args.tree.now in
     let are : c.drop_gone.new.members.items ≡ filter (stays (view_of old.agent.asker.follower.client)) tree.members.items =
     rw c.client-client.ensures at c.drop_gone.ensures in
-    ap (λ ws. record (bed_of (voice_of old) tree) { members = ws }) (sym are)
+    record {
+      lets = ap (λ ws. record (bed_of (voice_of old) tree) { members = ws }) (sym are);
+      client = refl;
+      timeout = refl;
+    }
 
 pub loop-ticket-preserved : goal.loop-ticket-preserved
 loop-ticket-preserved c =
@@ -27,14 +31,18 @@ loop-ticket-preserved c =
     let tickets = c.as_slice-ticket-items.result.now in
     let index = c.loop-ticket.ticket-index in
     let ticket = get_or tickets index 0 in
-    folds_next (λ at ticket after. LetsGo ticket at after) tickets index ticket
-    (record (bed_of (voice_of old) tree) { members = filter (stays (view_of old.agent.asker.follower.client)) tree.members.items })
-    (bed_of (voice_of here) left) (bed_of (voice_of c.leave.new.self) left)
-    c.loop-ticket-test.true (sym (get_or_default_zero tickets index ticket c.loop-ticket-test.true)) c.loop-ticket.invariant
-    (record { shifts = c.in_ok-leave.ensures.left; same = refl })
+    record {
+      lets = folds_next (λ at ticket after. LetsGo ticket at after) tickets index ticket
+          (record (bed_of (voice_of old) tree) { members = filter (stays (view_of old.agent.asker.follower.client)) tree.members.items })
+          (bed_of (voice_of here) left) (bed_of (voice_of c.leave.new.self) left)
+          c.loop-ticket-test.true (sym (get_or_default_zero tickets index ticket c.loop-ticket-test.true)) c.loop-ticket.invariant.lets
+          (record { shifts = c.in_ok-leave.ensures.left; same = refl });
+      client = c.leave.ensures.client ∙ c.loop-ticket.invariant.client;
+      timeout = c.leave.ensures.timeout ∙ c.loop-ticket.invariant.timeout;
+    }
 
-pub returns : goal.returns
-returns c =
+pub returns-clause-lets : goal.returns-clause-lets
+returns-clause-lets c =
     let old = c.args.self.now in
     let tree = c.args.tree.now in
     let view = view_of old.agent.asker.follower.client in
@@ -45,4 +53,4 @@ returns c =
     ∙ ap (λ v. tickets_gone v c.as_slice.result.now) c.client-client.ensures ∙ ap (λ ws. tickets_gone view ws) c.as_slice.ensures.value in
     subst (λ (l : List ℕ). FoldsTo (λ at ticket after. LetsGo ticket at after)
     (record (bed_of (voice_of old) tree) { members = filter (stays view) tree.members.items }) l
-    (bed_of (voice_of c.loop-ticket.self) (record tree { members = c.drop_gone.new.members }))) all c.loop-ticket.invariant
+    (bed_of (voice_of c.loop-ticket.self) (record tree { members = c.drop_gone.new.members }))) all c.loop-ticket.invariant.lets

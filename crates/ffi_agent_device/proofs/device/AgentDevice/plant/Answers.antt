@@ -7,8 +7,8 @@ use Rattle.ffi_agent_device.specs.Tending.{bed_of, Joins}
 use Rattle.ffi_agent_device.proofs.Chains.{plants}
 use Rattle.ffi_agent_device.proofs.device.AgentDevice.plant.Goals as goal
 
-pub returns : goal.returns
-returns c =
+pub returns-clause-plants : goal.returns-clause-plants
+returns-clause-plants c =
     let old = c.args.self.now in
     let begins = record (voice_of old) { next = c.in-Some.next } in
     let first = bed_of begins c.in_ok-tree.tree in

@@ -1,11 +1,14 @@
 -- What the agent's step promises, with its actions after those said before, and the numbers that `revise` and `count` make of them.
-use Rattle.std.proofs.Common.{◌≡◌, ◌++◌, ◌∙◌, List, ap, rules}
+use Rattle.std.proofs.Common.{◌≡◌, ◌++◌, ◌∙◌, List, [], ap, refl, rules}
 use Rattle.std.specs.declared.alloc.Global.{Global}
 use Rattle.zk_agent.specs.declared.action.Action.{Action}
 use Rattle.zk_agent.specs.Telling.{told_by}
 use Rattle.ffi_agent_device.specs.Happenings.{happening, is_bytes}
 use Rattle.ffi_agent_device.specs.Revisions.{counted, revised}
 use Rattle.ffi_agent_device.specs.Taking.{voice_of}
+use Rattle.zk_client.specs.Clients.{view_of}
+use Rattle.zk_agent.specs.Agents.{trail_of}
+use Rattle.zk_agent.proofs.Breaking.{after_comes, beside}
 use Rattle.ffi_agent_device.proofs.device.AgentDevice.step_on.Goals as goal
 
 pub returns-clause-steps : goal.returns-clause-steps
@@ -47,3 +50,10 @@ returns-clause-steps c =
           })
           changes;
     }
+
+pub returns-then-is_err-clause-broke : goal.returns-then-is_err-clause-broke
+returns-then-is_err-clause-broke c =
+    after_comes _ _ (trail_of c.args.self.now.agent []) (trail_of c.step.new.self c.in_ok-said.said.items)
+    (view_of c.step.new.self.asker.follower.client) c.in_ok-said.ensures.comes
+    (beside c.step.new.self.timeout_ms (view_of c.step.new.self.asker.follower.client)
+    (view_of c.step.new.self.asker.follower.client) refl)

@@ -8,8 +8,8 @@ use Rattle.ffi_agent_device.specs.Tending.{bed_of}
 use Rattle.ffi_agent_device.proofs.Growing.{none_taken}
 use Rattle.ffi_agent_device.proofs.device.AgentDevice.take_all_on.Goals as goal
 
-pub returns-then-is_none : goal.returns-then-is_none
-returns-then-is_none c =
+pub returns-then-is_none-clause-takes : goal.returns-then-is_none-clause-takes
+returns-then-is_none-clause-takes c =
     none_taken c.args.subjects.now (bed_of (voice_of c.args.self.now) c.args.tree.now) (sym c.is_none.ensures ∙ c.if-is_none.true)
 
 pub take_each_on-requires : goal.take_each_on-requires

@@ -1,5 +1,5 @@
 -- One more subject is taken on after those before it (`mapped_next`), and the index stays one of the members; at the end `take_all`.
-use Rattle.std.proofs.Common.{◌≤◌, List, arith, length, refl, subst}
+use Rattle.std.proofs.Common.{◌≤◌, ◌∙◌, List, arith, length, refl, subst}
 use Rattle.std.proofs.lemmas.List.{take_all}
 use Rattle.std.specs.declared.alloc.Global.{Global}
 use Rattle.zk_trees.specs.Trees.{aim_of, aims_of}
@@ -10,7 +10,7 @@ use Rattle.ffi_agent_device.specs.Tending.{bed_of, TakesAllOn, TakesOn}
 use Rattle.ffi_agent_device.proofs.device.AgentDevice.take_each_on.Goals as goal
 
 pub loop-subject-init : goal.loop-subject-init
-loop-subject-init c = record { takes = refl; index = c.requires }
+loop-subject-init c = record { takes = refl; index = c.requires; client = refl; timeout = refl }
 
 pub take_on-requires : goal.take_on-requires
 take_on-requires c = c.loop-subject.invariant.index
@@ -23,10 +23,12 @@ loop-subject-preserved c = record {
       (bed_of (voice_of c.take_on.new.self) c.take_on.new.tree)
       c.loop-subject-test.true c.subject-item.is c.loop-subject.invariant.takes c.in_ok-take_on.ensures.takes;
   index = c.in_ok-take_on.ensures.index;
+  client = c.take_on.ensures.client ∙ c.loop-subject.invariant.client;
+  timeout = c.take_on.ensures.timeout ∙ c.loop-subject.invariant.timeout;
 }
 
-pub returns : goal.returns
-returns c =
+pub returns-clause-takes : goal.returns-clause-takes
+returns-clause-takes c =
     let subjects = c.args.subjects.now in
     let past : length subjects ≤ c.loop-subject.subject-index = omega (arith, c.loop-subject-test.false) in
     subst (λ (l : List (NodeSide Global)). TakesAllOn (aims_of l) (bed_of (voice_of c.args.self.now) c.args.tree.now)

@@ -7,8 +7,8 @@ use Rattle.ffi_agent_device.specs.Taking.{voice_of}
 use Rattle.ffi_agent_device.specs.Tending.{tells}
 use Rattle.ffi_agent_device.proofs.device.AgentDevice.tell_taken_on.Goals as goal
 
-pub returns : goal.returns
-returns c =
+pub returns-clause-told : goal.returns-clause-told
+returns-clause-told c =
     let old = c.args.self.now in
     subst (λ (p : Text). OnOk c.tell.result (voice_of c.tell.new.self
     ≡ tells (news.TakenOn c.args.tree c.args.ticket c.args.side p) (voice_of old))) c.in_ok-path.ensures c.tell.ensures.told

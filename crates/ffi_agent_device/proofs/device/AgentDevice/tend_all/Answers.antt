@@ -8,6 +8,8 @@ use Rattle.ffi_agent_device.specs.Taking.{voice_of}
 use Rattle.ffi_agent_device.specs.Tending.{paced, TendsAll, TendsEach}
 use Rattle.ffi_agent_device.proofs.Growing.{ok_is}
 use Rattle.ffi_agent_device.proofs.Tended.{ok_all, whole_written}
+use Rattle.zk_agent.proofs.Breaking.{err_always, err_so}
+use Rattle.ffi_agent_device.proofs.Breaking.{from_kept, kept}
 use Rattle.ffi_agent_device.proofs.device.AgentDevice.tend_all.Goals as goal
 
 pub returns-clause-tends : goal.returns-clause-tends
@@ -20,7 +22,7 @@ returns-clause-tends c =
     let size : c.args.trees.len ≡ length news = omega (arith, c.tend_each.auto.trees, c.as_mut_slice.ensures.len) in
     let each =
     subst (λ (ts : List Tree). TendsEach olds ts old last) (sym (whole_written c.args.trees.len news (drop (length news) olds) size))
-    (rw c.as_mut_slice.ensures.value at c.in_ok-tend_each.ensures) in
+    (rw c.as_mut_slice.ensures.value at c.in_ok-tend_each.ensures.tends) in
     subst (λ (t : Trees). OnOk c.read_new.result (TendsAll c.args.now olds t.all.items old (voice_of new))) (sym c.read_new.ensures.trees)
     (ok_all c.read_new.result c.args.now olds _ old last (voice_of new) each c.read_new.ensures.reads)
 
@@ -32,3 +34,12 @@ returns-clause-pace c =
     ∙ ap (paced c.args.now c.as_slice.result.now) c.number-changes.ensures.number
     ∙ ap (λ (ts : List Tree). paced c.args.now ts changes) c.as_slice.ensures.value
     ∙ sym (ap (λ (t : Trees). paced c.args.now t.all.items changes) c.read_new.ensures.trees))
+
+pub returns-in_err-tend_each-clause-broke : goal.returns-in_err-tend_each-clause-broke
+returns-in_err-tend_each-clause-broke c =
+    err_always c.from_residual.result (kept c.args.self.now.agent c.tend_each.new.self.agent c.tend_each.ensures.client)
+
+pub returns-clause-broke : goal.returns-clause-broke
+returns-clause-broke c =
+    err_so c.read_new.result (from_kept c.args.self.now.agent c.tend_each.new.self.agent c.read_new.new.self.agent
+    c.tend_each.ensures.client c.tend_each.ensures.timeout) c.read_new.ensures.broke

@@ -13,7 +13,7 @@ use Rattle.ffi_agent_device.specs.Tending.{Shifts}
 use Rattle.ffi_agent_device.proofs.device.AgentDevice.uproot.Goals as goal
 
 pub loop-one-init : goal.loop-one-init
-loop-one-init c = record { leaves = refl; trees = refl }
+loop-one-init c = record { leaves = refl; trees = refl; client = refl; timeout = refl }
 
 pub loop-one-preserved : goal.loop-one-preserved
 loop-one-preserved c =
@@ -24,6 +24,8 @@ loop-one-preserved c =
           c.loop-one.one-index c.one-item.result (voice_of c.args.self.now) (voice_of c.loop-one.self) (voice_of c.leave.new.self)
           c.loop-one-test.true c.one-item.is c.loop-one.invariant.leaves c.in_ok-leave.ensures.left;
       trees = c.leave.ensures.trees ∙ c.loop-one.invariant.trees;
+      client = c.leave.ensures.client ∙ c.loop-one.invariant.client;
+      timeout = c.leave.ensures.timeout ∙ c.loop-one.invariant.timeout;
     }
 
 pub returns-clause-uprooted : goal.returns-clause-uprooted

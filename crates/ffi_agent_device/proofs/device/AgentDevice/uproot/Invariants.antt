@@ -13,4 +13,6 @@ invariant-loop-one l = record {
   leaves : FoldsTo (λ at ticket after. Shifts (Unfollows ticket) (news.LetGo l.tree.ticket ticket) at after) (voice_of l.fn.self)
       (map (λ one. one.ticket) (take l.one-index l.one-items)) (voice_of l.self);
   trees : l.self.trees ≡ l.fn.self.trees;
+  client : l.self.agent.asker.follower.client ≡ l.fn.self.agent.asker.follower.client;
+  timeout : l.self.agent.timeout_ms ≡ l.fn.self.agent.timeout_ms;
 }

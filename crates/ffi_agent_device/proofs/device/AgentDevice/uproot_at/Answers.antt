@@ -1,8 +1,9 @@
 -- What `uproot_and_tend` ensures between `begin_step` and `end_step`, which leave the trees as they are: `uprooted`; else `stopped`.
-use Rattle.std.proofs.Common.{subst, sym}
+use Rattle.std.proofs.Common.{ap, subst, sym}
 use Rattle.ffi_agent_device.specs.Taking.{begun, voice_of, Voice}
 use Rattle.ffi_agent_device.specs.declared.tree.Trees.{Trees}
 use Rattle.ffi_agent_device.proofs.Chains.{uprooted, stopped, UprootsAndTends}
+use Rattle.ffi_agent_device.proofs.Breaking.{between, same_agent}
 use Rattle.ffi_agent_device.proofs.device.AgentDevice.uproot_at.Goals as goal
 
 pub returns-in-Ok-clause-uprooted : goal.returns-in-Ok-clause-uprooted
@@ -18,15 +19,17 @@ returns-in-Ok-clause-uprooted c =
     (subst (λ (v : Voice). UprootsAndTends c.args.now c.args.ticket old.trees.pace old.trees.all.items last.trees.pace
     last.trees.all.items v (voice_of last)) c.begin_step.ensures.voice
     (subst (λ (t : Trees). UprootsAndTends c.args.now c.args.ticket t.pace t.all.items last.trees.pace last.trees.all.items
-    (voice_of begins) (voice_of last)) c.begin_step.ensures.trees c.in-Ok.ensures)))
+    (voice_of begins) (voice_of last)) c.begin_step.ensures.trees c.in-Ok.ensures.uproots)))
 
 pub returns-then-self-clause-stopped : goal.returns-then-self-clause-stopped
 returns-then-self-clause-stopped c =
     stopped c.args.self.now c.stop.new.self c.stop.result c.stop.ensures.halted c.stop.ensures.over c.stop.ensures.silent
-    c.stop.ensures.untold c.stop.ensures.number
+    c.stop.ensures.untold c.stop.ensures.number (same_agent c.args.self.now.agent c.stop.new.self.agent c.stop.ensures.agent)
 
 pub returns-in-Err-clause-stopped : goal.returns-in-Err-clause-stopped
 returns-in-Err-clause-stopped c =
     let stop = c.stop-in-Err in
     stopped c.args.self.now stop.new.self stop.result stop.ensures.halted stop.ensures.over stop.ensures.silent stop.ensures.untold
     stop.ensures.number
+    (between c.args.self.now.agent c.begin_step.new.self.agent c.uproot_and_tend.new.self.agent stop.new.self.agent
+    (ap (λ (v : Voice). v.agent) c.begin_step.ensures.voice) c.in-Err.ensures.broke stop.ensures.agent)

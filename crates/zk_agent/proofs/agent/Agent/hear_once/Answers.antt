@@ -9,6 +9,7 @@ use Rattle.zk_agent.specs.declared.asker.Asker.{Asker}
 use Rattle.zk_agent.specs.Agents.{trail_of}
 use Rattle.zk_agent.specs.Waits.{waited_after}
 use Rattle.zk_agent.proofs.Moves.{may_hear, not_handed, taken_and}
+use Rattle.zk_agent.proofs.Breaking.{after_steps, err_always, of_client}
 use Rattle.zk_agent.proofs.agent.Agent.hear_once.Goals as goal
 
 pub returns-clause-followed : goal.returns-clause-followed
@@ -28,3 +29,17 @@ returns-clause-hears g c =
     (ap (λ (a : Asker g.row.A.Denot). a.follower.subjects.items) c.heed.ensures.asker)
     (ap (λ (a : Asker g.row.A.Denot). a.line.entries.items) c.heed.ensures.asker) c.heed.ensures.timeout c.in_ok-heed.ensures.goes
     (c.in_ok-heed.ensures.waits ∙ ap (waited_after c.args.now c.in_ok-heard.heard.sent) c.note_answers.ensures)
+
+pub returns-in_err-heard-clause-broke : goal.returns-in_err-heard-clause-broke
+returns-in_err-heard-clause-broke g c =
+    err_always c.from_residual.result (of_client c.args.self.now.timeout_ms (view_of c.args.self.now.asker.follower.client)
+    (view_of c.step.new.self.follower.client) c.in_err-heard.ensures.broke)
+
+pub returns-in_err-heed-clause-broke : goal.returns-in_err-heed-clause-broke
+returns-in_err-heed-clause-broke g c =
+    let old = trail_of c.args.self.now c.args.actions.now.items in
+    let takes = c.in_ok-heard.ensures.takes in
+    err_always c.from_residual-in_err-heed.result
+    (after_steps c.args.self.now.timeout_ms c.args.now old.view (input_view c.args.input) old.subjects
+    (view_of c.step.new.self.follower.client) takes.given takes.stepped (view_of c.heed.new.self.asker.follower.client) takes.steps
+    (ap (λ (a : Asker g.row.A.Denot). view_of a.follower.client) c.heed.ensures.asker))

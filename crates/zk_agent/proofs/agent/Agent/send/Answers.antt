@@ -7,6 +7,7 @@ use Rattle.zk_agent.specs.Agents.{trail_of}
 use Rattle.zk_agent.specs.inner.Calls.{how_many_wait}
 use Rattle.zk_agent.proofs.Handing.{fewer_left}
 use Rattle.zk_agent.proofs.Moves.{nothing, then_none}
+use Rattle.zk_agent.proofs.Breaking.{after_comes, err_always}
 use Rattle.zk_agent.proofs.agent.Agent.send.Goals as goal
 
 pub loop-goes_on-init : goal.loop-goes_on-init
@@ -45,3 +46,9 @@ returns-clause-comes g c = c.loop-goes_on.invariant.comes
 
 pub returns-clause-done : goal.returns-clause-done
 returns-clause-done g c = c.loop-goes_on.invariant.done c.loop-goes_on-test.false
+
+pub returns-in_err-goes_on-clause-broke : goal.returns-in_err-goes_on-clause-broke
+returns-in_err-goes_on-clause-broke g c =
+    err_always c.from_residual.result (after_comes c.args.now [] (trail_of c.args.self.now c.args.actions.now.items)
+    (trail_of c.loop-goes_on.self c.loop-goes_on.actions.items) (view_of c.try_one.new.self.asker.follower.client)
+    c.loop-goes_on.invariant.comes c.in_err-goes_on.ensures.broke)

@@ -4,6 +4,8 @@ use Rattle.zk_client.specs.Clients.{view_of}
 use Rattle.zk_agent.specs.declared.asker.Asker.{Asker}
 use Rattle.zk_agent.specs.Agents.{trail_of}
 use Rattle.zk_agent.proofs.Handing.{hands_as, sends_none, sends_one}
+use Rattle.zk_turns.specs.Turns as turns
+use Rattle.zk_agent.proofs.Breaking.{after_steps, err_always, of_client}
 use Rattle.zk_agent.proofs.agent.Agent.send_one.Goals as goal
 
 pub returns-in_default-clause-sends : goal.returns-in_default-clause-sends
@@ -23,3 +25,19 @@ returns-clause-sends g c =
     (ap (λ (a : Asker g.row.A.Denot). a.follower.subjects.items) c.heed.ensures.asker)
     (ap (λ (a : Asker g.row.A.Denot). a.line.entries.items) c.heed.ensures.asker) c.heed.ensures.timeout c.in_ok-heed.ensures.goes
     c.in_ok-heed.ensures.waits
+
+pub returns-in_err-heard-clause-broke : goal.returns-in_err-heard-clause-broke
+returns-in_err-heard-clause-broke g c =
+    err_always c.from_residual.result (of_client c.args.self.now.timeout_ms (view_of c.args.self.now.asker.follower.client)
+    (view_of c.hand_over.new.self.follower.client) c.in_err-heard.ensures.broke)
+
+pub returns-in_err-heed-clause-broke : goal.returns-in_err-heed-clause-broke
+returns-in_err-heed-clause-broke g c =
+    let old = trail_of c.args.self.now c.args.actions.now.items in
+    let between = trail_of (record c.args.self.now { asker = c.hand_over.new.self }) c.hand_over.new.actions.items in
+    let hands = hands_as c.args.now old between c.in_ok-heard.field-0 _ c.in-Some.is c.in_ok-heard.ensures.hands in
+    let takes = hands.3 in
+    err_always c.from_residual-in_err-heed.result
+    (after_steps c.args.self.now.timeout_ms c.args.now old.view (turns.Call hands.0 hands.1) old.subjects between.view takes.given
+    takes.stepped (view_of c.heed.new.self.asker.follower.client) takes.steps
+    (ap (λ (a : Asker g.row.A.Denot). view_of a.follower.client) c.heed.ensures.asker))

@@ -16,6 +16,7 @@ use Rattle.zk_agent.specs.Waits.{ends_at, waited_of}
 use Rattle.zk_agent.proofs.Counting.{asks_its, calls_balance}
 use Rattle.zk_agent.proofs.Lines.{all_served}
 use Rattle.zk_agent.proofs.Moves.{in_turn}
+use Rattle.zk_agent.proofs.Breaking.{after_comes, beside, err_always}
 use Rattle.zk_agent.proofs.agent.Agent.step.Goals as goal
 
 pub returns-clause-comes : goal.returns-clause-comes
@@ -104,3 +105,79 @@ returns-clause-answers g c =
     ∙ ap (λ (w : Waits g.row.A.Denot).
     has_come now (ends_at (view_of c.tire.new.self.asker.follower.client).saved.session.timeout (waited_of w))) c.dial.ensures.waits
     ∙ c.in_ok-tire.ensures.tired.answers
+
+pub returns-in_err-renew-clause-broke : goal.returns-in_err-renew-clause-broke
+returns-in_err-renew-clause-broke g c =
+    let now = c.max-now.result in
+    let given = given_of c.args.self.now.dialler.phase now c.args.input in
+    let old = trail_of c.args.self.now [] in
+    let happened = trail_of c.apply_happening.new.self c.apply_happening.new.actions.items in
+    let first = subst (λ items. Comes now given (trail_of c.args.self.now items) happened) c.new-actions.ensures.items
+    c.in_ok-apply_happening.ensures.comes in
+    err_always c.from_residual-in_err-renew.result
+    (after_comes now given old happened (view_of c.renew.new.self.asker.follower.client) first c.in_err-renew.ensures.broke)
+
+pub returns-in_err-give_up-clause-broke : goal.returns-in_err-give_up-clause-broke
+returns-in_err-give_up-clause-broke g c =
+    let now = c.max-now.result in
+    let given = given_of c.args.self.now.dialler.phase now c.args.input in
+    let old = trail_of c.args.self.now [] in
+    let happened = trail_of c.apply_happening.new.self c.apply_happening.new.actions.items in
+    let first = subst (λ items. Comes now given (trail_of c.args.self.now items) happened) c.new-actions.ensures.items
+    c.in_ok-apply_happening.ensures.comes in
+    let new = view_of c.give_up.new.self.asker.follower.client in
+    let renewed = trail_of c.renew.new.self c.renew.new.actions.items in
+    err_always c.from_residual-in_err-give_up.result
+    (after_comes now given old happened new first (after_comes now [] happened renewed new (c.in_ok-renew.ensures.comes now)
+    (beside renewed.timeout renewed.view new (ap (λ (f : Follower g.row.A.Denot). view_of f.client) c.give_up.ensures.follower))))
+
+pub returns-in_err-send-clause-broke : goal.returns-in_err-send-clause-broke
+returns-in_err-send-clause-broke g c =
+    let now = c.max-now.result in
+    let given = given_of c.args.self.now.dialler.phase now c.args.input in
+    let old = trail_of c.args.self.now [] in
+    let happened = trail_of c.apply_happening.new.self c.apply_happening.new.actions.items in
+    let first = subst (λ items. Comes now given (trail_of c.args.self.now items) happened) c.new-actions.ensures.items
+    c.in_ok-apply_happening.ensures.comes in
+    let new = view_of c.send.new.self.asker.follower.client in
+    let renewed = trail_of c.renew.new.self c.renew.new.actions.items in
+    let left = trail_of c.give_up.new.self c.give_up.new.actions.items in
+    err_always c.from_residual-in_err-send.result
+    (after_comes now given old happened new first (after_comes now [] happened renewed new (c.in_ok-renew.ensures.comes now)
+    (after_comes now [] renewed left new c.in_ok-give_up.ensures.comes c.in_err-send.ensures.broke)))
+
+pub returns-in_err-tire-clause-broke : goal.returns-in_err-tire-clause-broke
+returns-in_err-tire-clause-broke g c =
+    let now = c.max-now.result in
+    let given = given_of c.args.self.now.dialler.phase now c.args.input in
+    let old = trail_of c.args.self.now [] in
+    let happened = trail_of c.apply_happening.new.self c.apply_happening.new.actions.items in
+    let first = subst (λ items. Comes now given (trail_of c.args.self.now items) happened) c.new-actions.ensures.items
+    c.in_ok-apply_happening.ensures.comes in
+    let new = view_of c.tire.new.self.asker.follower.client in
+    let renewed = trail_of c.renew.new.self c.renew.new.actions.items in
+    let left = trail_of c.give_up.new.self c.give_up.new.actions.items in
+    let sent = trail_of c.send.new.self c.send.new.actions.items in
+    err_always c.from_residual-in_err-tire.result
+    (after_comes now given old happened new first (after_comes now [] happened renewed new (c.in_ok-renew.ensures.comes now)
+    (after_comes now [] renewed left new c.in_ok-give_up.ensures.comes
+    (after_comes now [] left sent new c.in_ok-send.ensures.comes c.in_err-tire.ensures.broke))))
+
+pub returns-in_err-dial-clause-broke : goal.returns-in_err-dial-clause-broke
+returns-in_err-dial-clause-broke g c =
+    let now = c.max-now.result in
+    let given = given_of c.args.self.now.dialler.phase now c.args.input in
+    let old = trail_of c.args.self.now [] in
+    let happened = trail_of c.apply_happening.new.self c.apply_happening.new.actions.items in
+    let first = subst (λ items. Comes now given (trail_of c.args.self.now items) happened) c.new-actions.ensures.items
+    c.in_ok-apply_happening.ensures.comes in
+    let new = view_of c.dial.new.self.asker.follower.client in
+    let renewed = trail_of c.renew.new.self c.renew.new.actions.items in
+    let left = trail_of c.give_up.new.self c.give_up.new.actions.items in
+    let sent = trail_of c.send.new.self c.send.new.actions.items in
+    let tired = trail_of c.tire.new.self c.tire.new.actions.items in
+    err_always c.from_residual-in_err-dial.result
+    (after_comes now given old happened new first (after_comes now [] happened renewed new (c.in_ok-renew.ensures.comes now)
+    (after_comes now [] renewed left new c.in_ok-give_up.ensures.comes
+    (after_comes now [] left sent new c.in_ok-send.ensures.comes (after_comes now [] sent tired new c.in_ok-tire.ensures.tired.comes
+    (beside tired.timeout tired.view new (ap (λ (a : Asker g.row.A.Denot). view_of a.follower.client) c.dial.ensures.asker)))))))

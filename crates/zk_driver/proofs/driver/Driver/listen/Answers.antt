@@ -8,6 +8,8 @@ use Rattle.zk_driver.proofs.Carrying.{extends_on}
 use Rattle.zk_driver.specs.Flowing.{flow_of}
 use Rattle.zk_driver.proofs.Flowed.{flow_after}
 use Rattle.zk_driver.proofs.Going.{by_after}
+use Rattle.zk_agent.proofs.Breaking.{err_always}
+use Rattle.zk_driver.proofs.Breaking.{after_notes}
 use Rattle.zk_driver.proofs.driver.Driver.listen.Goals as goal
 
 pub returns-in_err-glance-2-clause-kept : goal.returns-in_err-glance-2-clause-kept
@@ -39,3 +41,9 @@ loop-preserved g c =
       quiet = c.in_ok-glance-2.ensures.quiet;
       kept = extends_on old.told so_far.told new.told c.loop.invariant.kept c.read-in-loop.ensures.kept;
     }
+
+pub returns-in_err-glance-2-clause-broke : goal.returns-in_err-glance-2-clause-broke
+returns-in_err-glance-2-clause-broke g c =
+    err_always c.from_residual-in_err-glance-2.result (after_notes c.read-in-loop.new.self.engine.agent
+    (notes_of_event c.loop.glance.event) (course_of c.args.self.now.engine None) (course_of c.loop.self.engine None)
+    c.loop.invariant.goes c.in_err-glance-2.ensures.broke)

@@ -9,6 +9,9 @@ use Rattle.zk_driver.specs.inner.Noting.{notes_of_event}
 use Rattle.zk_driver.proofs.Carrying.{always_err, extends_on}
 use Rattle.zk_driver.proofs.Flowed.{flow_after, flow_same}
 use Rattle.zk_driver.proofs.Going.{after, goes, same}
+use Rattle.zk_agent.specs.Agents.{IsBroken}
+use Rattle.zk_agent.proofs.Breaking.{err_always}
+use Rattle.zk_driver.proofs.Breaking.{after_goes}
 use Rattle.zk_driver.proofs.driver.Driver.next.Goals as goal
 
 pub loop-init : goal.loop-init
@@ -121,3 +124,17 @@ returns-clause-flows g c =
     let new = flow_of remaining contents far state c.pop-2.new.self c.pop-2.result in
     flow_after first settled new (flow_after first until settled c.loop.invariant.flows c.in_ok-settle.ensures.flows)
     (flow_same settled new (sym c.pop-2.ensures.flow))
+
+pub returns-in_err-round-clause-broke : goal.returns-in_err-round-clause-broke
+returns-in_err-round-clause-broke g c =
+    let so_far = course_of c.loop.self.engine None in
+    let new = c.round.new.self.engine.agent in
+    let there : course_of c.pop.new.self None ≡ so_far =
+    subst (λ (r : Option (Action g.row.A.Denot)). course_of c.pop.new.self r ≡ so_far) c.in_default.is c.pop.ensures.same in
+    err_always c.from_residual.result (after_goes new (course_of c.args.self.now.engine None) so_far c.loop.invariant.goes
+    (subst (λ (c : Course g.row.A.Denot). IsBroken c.agent new) there c.in_err-round.ensures.broke))
+
+pub returns-in_err-settle-clause-broke : goal.returns-in_err-settle-clause-broke
+returns-in_err-settle-clause-broke g c =
+    err_always c.from_residual-in_err-settle.result (after_goes c.settle.new.self.agent (course_of c.args.self.now.engine None)
+    (course_of c.loop.self.engine None) c.loop.invariant.goes c.in_err-settle.ensures.broke)

@@ -9,6 +9,8 @@ use Rattle.zk_driver.specs.Flowing.{flow_of}
 use Rattle.zk_driver.proofs.Carrying.{extends_on}
 use Rattle.zk_driver.proofs.Flowed.{flow_noted, ok_flow_after}
 use Rattle.zk_driver.proofs.Going.{first_so, first_then, noted_so, ok_by_after}
+use Rattle.zk_agent.proofs.Breaking.{err_so}
+use Rattle.zk_driver.proofs.Breaking.{after_hands}
 use Rattle.zk_driver.proofs.engine.Engine.bytes.Goals as goal
 
 pub returns-then-told-now-clause-goes : goal.returns-then-told-now-clause-goes
@@ -63,3 +65,8 @@ returns-clause-flows g c =
     (flow_noted (happens.Bytes c.args.bytes) old new (channel_view c.args.self.now.channel)
     (reached_of g.S.Read.remaining g.S.Write.contents g.S.Stream.far g.S.Stream.state c.args.self.now.channel.stream)
     (c.requires.none, c.requires.open, refl) refl (λ between lasts. lasts) c.in_ok-told.ensures.flows) c.catch_up.ensures.flows
+
+pub returns-clause-broke : goal.returns-clause-broke
+returns-clause-broke g c =
+    err_so c.catch_up.result (after_hands c.catch_up.new.self.agent (happens.Bytes c.args.bytes) (course_of c.args.self.now None)
+    (course_of c.hand.new.self None) c.in_ok-told.ensures.hands) c.catch_up.ensures.broke

@@ -8,6 +8,8 @@ use Rattle.zk_driver.specs.Noting.{Lost}
 use Rattle.zk_driver.proofs.Carrying.{extends_on}
 use Rattle.zk_driver.proofs.Flowed.{ok_flow_after}
 use Rattle.zk_driver.proofs.Going.{first_then, ok_by_then}
+use Rattle.zk_agent.proofs.Breaking.{err_so}
+use Rattle.zk_driver.proofs.Breaking.{after_notes}
 use Rattle.zk_driver.proofs.engine.Engine.cut.Goals as goal
 
 pub returns-clause-goes : goal.returns-clause-goes
@@ -30,3 +32,8 @@ pub returns-clause-kept : goal.returns-clause-kept
 returns-clause-kept g c =
     extends_on (told_by c.args.self.now.waiting.items) (told_by c.end.new.self.waiting.items)
     (told_by c.catch_up.new.self.waiting.items) c.end.ensures.kept c.catch_up.ensures.kept
+
+pub returns-clause-broke : goal.returns-clause-broke
+returns-clause-broke g c =
+    err_so c.catch_up.result (after_notes c.catch_up.new.self.agent (Lost ∷ []) (course_of c.args.self.now None)
+    (course_of c.end.new.self None) c.in_ok-told.ensures.goes) c.catch_up.ensures.broke

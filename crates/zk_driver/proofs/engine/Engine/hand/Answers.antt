@@ -5,6 +5,9 @@ use Rattle.zk_agent.specs.Telling.{told_by}
 use Rattle.zk_driver.specs.Driving.{channel_view}
 use Rattle.zk_link.specs.FarEnds.{reached_of}
 use Rattle.zk_link.proofs.Reaching.{reaches_none}
+use Rattle.zk_client.specs.Clients.{view_of}
+use Rattle.zk_agent.specs.Agents.{trail_of}
+use Rattle.zk_agent.proofs.Breaking.{after_comes, beside}
 use Rattle.zk_driver.proofs.engine.Engine.hand.Goals as goal
 
 pub returns-clause-hands : goal.returns-clause-hands
@@ -51,3 +54,10 @@ returns-clause-flows g c =
         refl,
       );
     }
+
+pub returns-in_default-clause-broke : goal.returns-in_default-clause-broke
+returns-in_default-clause-broke g c =
+    let new = c.step.new.self in
+    let view = view_of new.asker.follower.client in
+    after_comes _ _ (trail_of c.args.self.now.agent []) (trail_of new c.in-Ok.actions.items) view c.in-Ok.ensures.comes
+    (beside new.timeout_ms view view refl)

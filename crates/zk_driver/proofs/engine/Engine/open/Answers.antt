@@ -1,6 +1,6 @@
 -- The channel holds the stream and `Opened` is handed in: one note, by `noted`, `first` and `ok_flow_noted`. The stream's far end is one at
 -- which a connection begins.
-use Rattle.std.proofs.Common.{◌≡◌, ◌∙◌, None, ap, refl, subst, sym}
+use Rattle.std.proofs.Common.{◌∙◌, None, ap, refl, subst, sym}
 use Rattle.zk_agent.specs.declared.input.AgentInput.TheVariants as happens
 use Rattle.zk_driver.specs.Driving.{channel_view, course_of}
 use Rattle.zk_link.specs.FarEnds.{reached_of, Begun, Reached}

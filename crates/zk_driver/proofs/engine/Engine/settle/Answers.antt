@@ -8,6 +8,8 @@ use Rattle.zk_driver.specs.Noting.{Lost, Missed}
 use Rattle.zk_driver.proofs.Carrying.{extends_on}
 use Rattle.zk_driver.proofs.Flowed.{ok_flow_after}
 use Rattle.zk_driver.proofs.Going.{goes, ok_after, ok_goes}
+use Rattle.zk_agent.proofs.Breaking.{err_so}
+use Rattle.zk_driver.proofs.Breaking.{after_notes}
 use Rattle.zk_driver.proofs.engine.Engine.settle.Goals as goal
 
 pub returns-in-Some-clause-goes : goal.returns-in-Some-clause-goes
@@ -35,3 +37,8 @@ returns-in_ok-end-in-None-clause-kept g c =
 pub returns-in-None-2-clause-goes : goal.returns-in-None-2-clause-goes
 returns-in-None-2-clause-goes g c =
     ok_goes c.pass_moment.result [] (course_of c.args.self.now None) (course_of c.pass_moment.new.self None) c.pass_moment.ensures.goes
+
+pub returns-in_ok-end-in-None-clause-broke : goal.returns-in_ok-end-in-None-clause-broke
+returns-in_ok-end-in-None-clause-broke g c =
+    err_so c.settle_closed.result (after_notes c.settle_closed.new.self.agent (Lost ∷ []) (course_of c.args.self.now None)
+    (course_of c.end.new.self None) c.in_ok-end-in-None.ensures.goes) c.settle_closed.ensures.broke

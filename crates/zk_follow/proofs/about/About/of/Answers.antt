@@ -1,7 +1,5 @@
 -- One more output is noted, and what was noted stays: `covered_more`. At the end that is all of them: `all_covered`.
-use Rattle.std.proofs.Common.{◌<◌, arith, length, get_or, sym, subst}
-use Rattle.std.proofs.lemmas.List.{get_or_default}
-use Rattle.zk_client.specs.Views.{output_view}
+use Rattle.std.proofs.Common.{arith}
 use Rattle.zk_follow.proofs.Resting.{all_covered, covered_more}
 use Rattle.zk_follow.proofs.about.About.of.Goals as goal
 

@@ -1,4 +1,4 @@
--- The subject is not read: no server has accepted the connection, or it is not due.
+-- The subject is not read: no server has accepted the connection, it is not due, or there is no room for its read.
 use Rattle.std.proofs.Common.{◌∙◌, ap, refl, [], inl, inr, sym, subst}
 use Rattle.zk_client.specs.Clients.{view_of}
 use Rattle.zk_client.specs.Views.{said}
@@ -48,8 +48,8 @@ returns-in_ok-ask-in-Ok-clause-visits g c =
     asked_visits c.args.now old (said c.args.made.now.items) c.pass_moment.new.self _ new (said c.ask.new.made.items) c.ask.new.self
     (call_view c.in-Ok.call) c.pass_moment.ensures c.in-Ok.ensures c.in_ok-ask-in-Ok.ensures.asked
 
-pub returns-in_ok-ask-in-Ok-clause-full : goal.returns-in_ok-ask-in-Ok-clause-full
-returns-in_ok-ask-in-Ok-clause-full g c = λ full. c.in_ok-ask-in-Ok.ensures.full (sym c.awake-in-Ok.ensures.full ∙ full)
+pub returns-in_ok-ask-in-Ok-clause-busy : goal.returns-in_ok-ask-in-Ok-clause-busy
+returns-in_ok-ask-in-Ok-clause-busy g c = λ busy. c.in_ok-ask-in-Ok.ensures.busy (sym c.awake-in-Ok.ensures.busy ∙ busy)
 
 pub returns-then-is_shown-clause-counted : goal.returns-then-is_shown-clause-counted
 returns-then-is_shown-clause-counted g c =
@@ -58,12 +58,28 @@ returns-then-is_shown-clause-counted g c =
     (rest_counted view c.pass_moment.new.self (subst (IsCounted view) (sym c.pass_moment.ensures) (woken_counted c.args.now
     (view_of c.args.client.now) (heard_all c.args.now c.args.self.now (said c.args.outputs.now)) c.requires.counted)))
 
-pub returns-then-is_full-clause-followed : goal.returns-then-is_full-clause-followed
-returns-then-is_full-clause-followed g c = inr (inr (inl (c.requires.full c.if-is_full.true)))
+pub returns-then-is_busy-clause-followed : goal.returns-then-is_busy-clause-followed
+returns-then-is_busy-clause-followed g c = inr (inr (inl (c.requires.busy c.if-is_busy.true)))
 
-pub returns-then-is_full-clause-counted : goal.returns-then-is_full-clause-counted
-returns-then-is_full-clause-counted g c = subst (IsCounted (view_of c.args.client.now)) (sym c.pass_moment.ensures) (woken_counted
+pub returns-then-is_busy-clause-counted : goal.returns-then-is_busy-clause-counted
+returns-then-is_busy-clause-counted g c = subst (IsCounted (view_of c.args.client.now)) (sym c.pass_moment.ensures) (woken_counted
     c.args.now (view_of c.args.client.now) (heard_all c.args.now c.args.self.now (said c.args.outputs.now)) c.requires.counted)
 
-pub returns-then-is_full-clause-visits : goal.returns-then-is_full-clause-visits
-returns-then-is_full-clause-visits g c = ([], inl (refl, refl, inl c.pass_moment.ensures), nothing_more (said c.args.made.now.items))
+pub returns-then-is_busy-clause-visits : goal.returns-then-is_busy-clause-visits
+returns-then-is_busy-clause-visits g c = ([], inl (refl, refl, inl c.pass_moment.ensures), nothing_more (said c.args.made.now.items))
+
+pub returns-then-not-has_room-clause-followed : goal.returns-then-not-has_room-clause-followed
+returns-then-not-has_room-clause-followed g c = inr (inr (inl (c.has_room.ensures.no c.if-not-has_room.true)))
+
+pub returns-then-not-has_room-clause-counted : goal.returns-then-not-has_room-clause-counted
+returns-then-not-has_room-clause-counted g c = subst (IsCounted (view_of c.args.client.now)) (sym c.pass_moment.ensures) (woken_counted
+    c.args.now (view_of c.args.client.now) (heard_all c.args.now c.args.self.now (said c.args.outputs.now)) c.requires.counted)
+
+pub returns-then-not-has_room-clause-visits : goal.returns-then-not-has_room-clause-visits
+returns-then-not-has_room-clause-visits g c = ([], inl (refl, refl, inl c.pass_moment.ensures), nothing_more (said c.args.made.now.items))
+
+pub ask-requires-clause-room : goal.ask-requires-clause-room
+ask-requires-clause-room g c = c.has_room.ensures.yes c.if-not-has_room.false
+
+pub returns-then-not-has_room-clause-busy : goal.returns-then-not-has_room-clause-busy
+returns-then-not-has_room-clause-busy g c = λ busy. c.has_room.ensures.no c.if-not-has_room.true
