@@ -8,5 +8,6 @@ pub mod Asking
 pub mod Breaking
 pub mod Visiting
 pub mod Telling
+pub mod Unfollowing
 pub mod Forgetting
 pub mod Resting

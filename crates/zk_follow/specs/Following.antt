@@ -265,6 +265,18 @@ pub record BreaksOff (view new : View) : Type 0 where
 abbrev pub due_again : {A : Type 0} → Subject A → Subject A
 due_again subject = record subject { progress = Due; is_there = false }
 
+-- a subject that is followed from now on: it is to be read, and nothing is known of it
+abbrev pub fresh : {A : Type 0} → (ticket : ℕ) → Side → Text → Subject A
+fresh ticket side path = record {
+  ticket = ticket;
+  side = side;
+  path = path;
+  progress = Due;
+  is_missing = false;
+  is_there = false;
+  told = None;
+}
+
 -- those that are followed on, once this ticket is followed no more
 abbrev pub unfollowed : {A : Type 0} → (ticket : ℕ) → List (Subject A) → List (Subject A)
 unfollowed ticket subjects = filter (λ subject. not (subject.ticket == ticket)) subjects

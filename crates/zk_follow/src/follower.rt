@@ -1,15 +1,15 @@
 //! A client with the subjects that its program follows.
 
 ghost use Rattle.std.specs.Prelude.{◌≡◌, ◌++◌, ◌∷◌, ◌<ℤ◌, ◌==◌, ℕ, List, false, true, length, not, pos, map, [], None, IfOk, OnOk, OnErr};
-ghost use Rattle.std.specs.Prelude.{All, slice_index_or};
-ghost use Rattle.std.specs.List.{flat_map};
+ghost use Rattle.std.specs.Prelude.{◌≤◌, ◌<◌, All, IfSome, slice_index_or};
+ghost use Rattle.std.specs.List.{flat_map, remove};
 ghost use Rattle.std.proofs.Props.{props};
 ghost use Rattle.zk_turns.specs.Turns.{Forgets, Item, Start};
-ghost use Rattle.zk_turns.specs.View.{view_at};
+ghost use Rattle.zk_turns.specs.View.{View, view_at};
 ghost use Rattle.zk_turns.specs.Rule.{forgotten, Stands};
 ghost use Rattle.zk_client.specs.Clients.{renewed_start, view_of};
 ghost use Rattle.zk_client.specs.Views.{input_view, said};
-ghost use Rattle.zk_follow.specs.Following.{due_again, first_again, first_of, again_at, heard_all, news_in, told_of, unfollowed};
+ghost use Rattle.zk_follow.specs.Following.{due_again, first_again, first_of, again_at, fresh, heard_all, news_in, told_of, unfollowed};
 ghost use Rattle.zk_follow.specs.Following.{AreVisited, BreaksOff, IsAhead, IsCounted, IsFollowed, Steps};
 ghost use Rattle.zk_follow.specs.inner.Following.{Reads};
 ghost use Rattle.zk_follow.specs.Following.{AreResting};
@@ -127,15 +127,40 @@ fn advance<A: Allocator + Copy>(
     }
 }
 
-/// The subject of this ticket is one no more.
-fn remove<A: Allocator>(subjects: &mut Vec<Subject<A>, A>, ticket: u64)
-    ensures { subjects.new.items ≡ unfollowed ticket subjects.old.items }
+/// The place of the first subject of this ticket.
+fn place_of<A: Allocator>(subjects: &[Subject<A>], ticket: u64) -> Option<usize>
+    ensures some { IfSome result (λ place. (place < length subjects.now)
+        × ((d : Subject A) → (slice_index_or subjects.now place d).ticket ≡ ticket)) }
+    ensures none { result ≡ None → All (λ subject. not (subject.ticket == ticket) ≡ true) subjects.now }
 {
-    subjects.retain(
-        |subject: &Subject<A>| -> bool
-            ensures { result ≡ not (subject.now.ticket == ticket) }
-        { subject.ticket != ticket },
-    );
+    for index in 0..subjects.len() {
+        if subjects[index].ticket == ticket {
+            return Some(index);
+        }
+    }
+    None
+}
+
+/// The mark at this place is one no more.
+fn remove_mark<A: Allocator>(marks: &mut Vec<bool, A>, place: usize)
+    ensures there { place < length marks.old.items → marks.new.items ≡ remove marks.old.items place }
+    ensures gone { length marks.old.items ≤ place → marks.new.items ≡ marks.old.items }
+{
+    if place < marks.len() {
+        marks.remove(place);
+    }
+}
+
+/// The subject of this ticket is one no more. The others rest where they did.
+fn remove<A: Allocator>(subjects: &mut Vec<Subject<A>, A>, marks: &mut Vec<bool, A>, ticket: u64)
+    ensures subjects { subjects.new.items ≡ unfollowed ticket subjects.old.items }
+    ensures rest { (view : View) → AreResting view subjects.old.items marks.old.items
+        → AreResting view subjects.new.items marks.new.items }
+{
+    while let Some(place) = place_of(subjects.as_slice(), ticket) {
+        drop(subjects.remove(place));
+        remove_mark(marks, place);
+    }
 }
 
 /// When a subject is read again whose read was refused.
@@ -247,15 +272,7 @@ impl<A: Allocator + Copy> Follower<A> {
     /// subject that is followed after it. An error means that memory ran out, and nothing has happened then.
     pub fn follow(&mut self, ticket: u64, side: Side, path: Path<A>) -> Result<(), AllocError>
         ensures client { self.new.client ≡ self.old.client }
-        ensures subjects { OnOk result (self.new.subjects.items ≡ self.old.subjects.items ++ record {
-          ticket = ticket;
-          side = side;
-          path = path;
-          progress = Progress.Due;
-          is_missing = false;
-          is_there = false;
-          told = None;
-        } ∷ []) }
+        ensures subjects { OnOk result (self.new.subjects.items ≡ self.old.subjects.items ++ fresh ticket side path ∷ []) }
         ensures same { OnErr result (self.new.subjects.items ≡ self.old.subjects.items) }
     {
         self.resting.truncate(self.subjects.len());
@@ -270,8 +287,7 @@ impl<A: Allocator + Copy> Follower<A> {
         ensures client { self.new.client ≡ self.old.client }
         ensures subjects { self.new.subjects.items ≡ unfollowed ticket self.old.subjects.items }
     {
-        self.resting.clear();
-        remove(&mut self.subjects, ticket);
+        remove(&mut self.subjects, &mut self.resting, ticket);
     }
 
     /// Takes the stale answers out of what the client keeps. What is good stays, so each subject stays followed. It takes no memory.

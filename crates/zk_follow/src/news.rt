@@ -130,6 +130,14 @@ fn has_report<A: Allocator>(outputs: &[Output<A>]) -> bool
     outputs.iter().any(|output| is_report(output))
 }
 
+/// Whether the client has reported a path, where it is known whether it has reported any.
+fn is_reported_where<A: Allocator>(has_report: bool, path: &Path<A>, outputs: &[Output<A>]) -> bool
+    requires { has_report ≡ list_any is_report (said outputs.now) }
+    ensures { result ≡ is_reported path.now (said outputs.now) }
+{
+    has_report && is_reported(path, outputs)
+}
+
 /// Whether the mark at a place is true.
 fn is_marked(marks: &[bool], index: usize) -> bool
     ensures { result ≡ slice_index_or marks.now index false }
@@ -159,14 +167,16 @@ impl<A: Allocator + Copy> Subject<A> {
     fn report(
         &mut self,
         client: &Client<A>,
+        has_report: bool,
         outputs: &[Output<A>],
         all: &mut Vec<(u64, News), A>,
     ) -> Result<(), AllocError>
+        requires { has_report ≡ list_any is_report (said outputs.now) }
         ensures news { OnOk result (all.new.items ≡ all.old.items ++ news_in (view_of client.now) (said outputs.now) self.old) }
         ensures told { self.new ≡ told_of (view_of client.now) self.old }
     {
         let is_good = is_shown(client, self.side, &self.path);
-        let is_reported = is_reported(&self.path, outputs);
+        let is_reported = is_reported_where(has_report, &self.path, outputs);
         let news = news_about(is_good, is_reported, self.progress, self.told);
         self.told = told_after(is_good, self.progress, self.told);
         add_news(all, self.ticket, news)
@@ -204,7 +214,7 @@ impl<A: Allocator + Copy> Subject<A> {
         if rests && self.is_told(has_report, outputs) {
             return Ok(());
         }
-        self.report(client, outputs, all)
+        self.report(client, has_report, outputs, all)
     }
 }
 

@@ -10,7 +10,7 @@ ghost use Rattle.zk_turns.specs.Turns.{Call as Calls, Output as Said};
 ghost use Rattle.zk_turns.specs.Rule.{Rule};
 ghost use Rattle.zk_client.specs.Clients.{view_of};
 ghost use Rattle.zk_client.specs.Views.{output_view, said};
-ghost use Rattle.zk_follow.specs.Following.{heard, heard_all, read_of, rested, taken, due_again, woken, IsCounted, IsFollowed};
+ghost use Rattle.zk_follow.specs.Following.{fresh, heard, heard_all, read_of, rested, taken, due_again, woken, IsCounted, IsFollowed};
 ghost use Rattle.zk_follow.specs.inner.Following.{Asks};
 ghost use Rattle.zk_follow.specs.Following.{BreaksOff, IsBusy, LeavesRoom};
 ghost use Rattle.zk_follow.specs.declared.reads.TheConstants.{MOST_READS};
@@ -76,15 +76,7 @@ fn is_connected<A: Allocator + Copy>(client: &Client<A>) -> bool
 impl<A: Allocator> Subject<A> {
     /// A subject that is to be read. The tickets of its reads are this number.
     pub(crate) fn new(ticket: u64, side: Side, path: Path<A>) -> Subject<A>
-        ensures { result ≡ record {
-          ticket = ticket;
-          side = side;
-          path = path;
-          progress = Progress.Due;
-          is_missing = false;
-          is_there = false;
-          told = None;
-        } }
+        ensures { result ≡ fresh ticket side path }
     {
         Subject {
             ticket,
