@@ -1,6 +1,6 @@
 //! What is wanted of trees.
 
-ghost use Rattle.std.specs.Prelude.{◌≡◌, ◌++◌, IfOk, OnOk};
+ghost use Rattle.std.specs.Prelude.{◌≡◌, ◌++◌, ◌∷◌, [], IfOk, OnOk};
 ghost use Rattle.zk_client.specs.Clients.{view_of};
 ghost use Rattle.zk_trees.specs.Trees.{aims_at, aims_of, roots_aims, wants_of, AreWanted, IsWanted};
 
@@ -97,5 +97,22 @@ pub fn wanted_of<A: Allocator + Copy>(
     for root in roots {
         add_wanted(alloc, client, most, root, &mut wanted)?;
     }
+    Ok(wanted)
+}
+
+/// The same of one tree.
+pub(crate) fn wanted_at<A: Allocator + Copy>(
+    alloc: A,
+    client: &Client<A>,
+    most: u64,
+    root: &Path<A>,
+) -> Result<Wanted<A>, AllocError>
+    ensures { IfOk result (λ wanted. AreWanted (view_of client.now) most (root.now ∷ []) (wants_of wanted)) }
+{
+    let mut wanted = Wanted {
+        subjects: Vec::new(alloc),
+        is_bounded: false,
+    };
+    add_wanted(alloc, client, most, root, &mut wanted)?;
     Ok(wanted)
 }
