@@ -26,11 +26,11 @@ use Rattle.zk_dialler.specs.Dialling.{is_open}
 use Rattle.zk_agent.specs.declared.input.AgentInput.{AgentInput}
 use Rattle.zk_agent.specs.declared.input.AgentInput.TheVariants as happens
 use Rattle.zk_agent.specs.Agents.{Comes, Move, Hears, Hands, Renews, Follows, Unfollows, Asks, GivesUp, Tires, Opened, Ended as Over}
-use Rattle.zk_agent.specs.Agents.{HungUp, Closes, Addressed, Decides, Does, HearsSo, LeavesWhere, LetsGoWhere, Trail, bytes_at}
+use Rattle.zk_agent.specs.Agents.{HungUp, Closes, Addressed, Decides, Tends, Does, HearsSo, LeavesWhere, LetsGoWhere, Trail, bytes_at}
 use Rattle.zk_agent.specs.inner.Agents.{asks_for}
 use Rattle.zk_agent.specs.Agents.{given_of, how_many_asked, how_many_ended, is_given, opened_at}
 use Rattle.zk_agent.specs.Calls.{answers, closings, endings, handed, hears, hears_all, how_many, tells, tells_all}
-use Rattle.zk_agent.specs.Telling.{Told, Says, HangsUp, Begins, closed_told, due_told, ended_told, is_end_of, news_told}
+use Rattle.zk_agent.specs.Telling.{Told, Says, HangsUp, Begins, TellsTree, closed_told, due_told, ended_told, is_end_of, news_told}
 
 -- ---- counts
 
@@ -80,6 +80,7 @@ asks_alone ticket (GivesUp now ∷ moves) = asks_alone ticket moves
 asks_alone ticket (Tires now ∷ moves) = asks_alone ticket moves
 asks_alone ticket (Decides now due ∷ moves) = asks_alone ticket moves
 asks_alone ticket (Closes ∷ moves) = asks_alone ticket moves
+asks_alone ticket (Tends told ∷ moves) = asks_alone ticket moves
 asks_alone ticket (Hears now input ∷ moves) =
     both_more (asks_for ticket) (Hears now input) (filter is_given moves) moves (asks_alone ticket moves)
 asks_alone ticket (Follows its side path ∷ moves) =
@@ -117,6 +118,8 @@ asks_its ticket phase now (happens.Call its call until) =
     ∙ (let none : count_by (asks_for ticket) (Hears now (turns.Now now) ∷ []) ≡ 0 = refl in omega (arith, none))
 asks_its ticket phase now (happens.Follow its side path) = refl
 asks_its ticket phase now (happens.Unfollow its) = refl
+asks_its ticket phase now (happens.FollowTree its root most) = refl
+asks_its ticket phase now (happens.UnfollowTree its) = refl
 
 module _ {A : Type 0} (ticket : ℕ) where
   abbrev is_its : Entry A → Bool
@@ -324,6 +327,10 @@ module _ {A : Type 0} (ticket : ℕ) where
       let more = count_append (is_end_of ticket) old.told (closings old.line) in
       let all = count_closings old.line in
       let none : how_many {A = A} ticket [] ≡ 0 = refl in omega (arith, same, more, all, none)
+  moved (Tends told) old new does =
+      let same : total new ≡ total (record old { told = old.told ++ TellsTree told ∷ [] }) = ap total does in
+      let more = count_append (is_end_of ticket) old.told (TellsTree told ∷ []) in
+      let none : how_many_ended ticket (TellsTree told ∷ []) ≡ 0 = refl in omega (arith, same, more, none)
 
   moved_all : (moves : List Move) (old new : Trail A)
       → FoldsTo Does old moves new → total new ≡ total old + count_by (asks_for ticket) moves

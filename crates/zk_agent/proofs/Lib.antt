@@ -3,11 +3,13 @@ pub mod Breaking
 pub mod Closing
 pub mod Counting
 pub mod Deadlines
+mod Grown
 pub mod Handing
 pub mod Keeping
 pub mod Leaving
 pub mod Lines
 pub mod Moves
 pub mod Passing
+mod Resting
 pub mod Saying
 pub mod Turning

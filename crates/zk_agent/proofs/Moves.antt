@@ -3,7 +3,8 @@ use Rattle.std.proofs.Common.{◌≡◌, ◌≢◌, ◌++◌, ◌⊎◌, inl, in
 use Rattle.std.proofs.Common.{subst, ◌∙◌}
 use Rattle.std.specs.Prelude.{Result, Ok, Err, OnOk, All, is_some}
 use Rattle.std.specs.List.{filter, list_any, AllByRecursion, FoldsTo}
-use Rattle.std.proofs.lemmas.List.{append-nil}
+use Rattle.std.proofs.lemmas.List.{append_assoc, append-nil}
+use Rattle.zk_trees.specs.Tending.{shifted, shifted_by, TreeTold}
 use Rattle.std.proofs.lemmas.List.Elements.{All-map, filter-append}
 use Rattle.zk_session.specs.declared.states.State.{State}
 use Rattle.zk_session.specs.declared.states.State.TheVariants.{Idle, Expired, Closed}
@@ -25,19 +26,19 @@ use Rattle.zk_calls.specs.declared.entry.Entry.{Entry}
 use Rattle.zk_calls.specs.declared.entry.Ending.TheVariants as ending
 use Rattle.zk_agent.specs.declared.replies.Heard.{Heard}
 use Rattle.zk_agent.specs.Agents.{Trail, Move, Hears, Hands, Renews, Follows, Unfollows, Asks, GivesUp, Tires, Opened, Ended, HungUp}
-use Rattle.zk_agent.specs.Agents.{Closes, Addressed, Decides, Does, IsAt, IsLed, IsShut, Comes, HearsSo, LeavesWhere, MayHear}
+use Rattle.zk_agent.specs.Agents.{Closes, Addressed, Decides, Tends, Does, IsAt, IsLed, IsShut, Comes, HearsSo, LeavesWhere, MayHear}
 use Rattle.zk_agent.specs.inner.Agents.{MayTake}
 use Rattle.zk_agent.specs.Agents.{LetsGo, LetsGoWhere, TakesSo, is_connected, is_given, noted, opened_at, over_at, row_after}
 use Rattle.zk_agent.specs.Calls.{closings, endings, handed}
 use Rattle.zk_agent.specs.Replies.{is_over}
-use Rattle.zk_agent.specs.Telling.{Told, Begins, due_told}
+use Rattle.zk_agent.specs.Telling.{Told, Begins, TellsTree, due_told}
 use Rattle.zk_agent.specs.Waits.{Waited, heard_input, waited_after}
 use Rattle.zk_agent.proofs.Closing.{is_bytes, steps_closed}
 
 -- ---- the client stands where it was led
 
-fresh : (start : Start) → Stands start [] (view_at start [])
-fresh start = record { standing = refl; saved = refl; lists = refl; cache = refl; going = λ goes_on. refl; said = tt; asked = tt }
+unmoved : (start : Start) → Stands start [] (view_at start [])
+unmoved start = record { standing = refl; saved = refl; lists = refl; cache = refl; going = λ goes_on. refl; said = tt; asked = tt }
 
 led_on : (turns : List Turn) (old new : View) → FoldsTo Rule old turns new → (start : Start) (items : List Item)
     → Stands start items old → IsLed new
@@ -59,7 +60,7 @@ led_by (Hears now input) old new does led =
     led_leaves does.hears.heard.is_lost now does.between new does.leaves (led_hears now input old does.between does.hears led)
 led_by (Hands now ticket asked) old new does led = led_hears now (turns.Call ticket asked) old new does led
 led_by Renews old new does led =
-    subst IsLed (sym does.view) (renewed_start old.timeout old.view, [], fresh (renewed_start old.timeout old.view))
+    subst IsLed (sym does.view) (renewed_start old.timeout old.view, [], unmoved (renewed_start old.timeout old.view))
 led_by {A} (Follows ticket side path) old new does led = subst IsLed (sym (ap (λ (t : Trail A). t.view) does)) led
 led_by {A} (Unfollows ticket) old new does led = subst IsLed (sym (ap (λ (t : Trail A). t.view) does)) led
 led_by {A} (Asks ticket asked until) old new does led = subst IsLed (sym (ap (λ (t : Trail A). t.view) does.last)) led
@@ -73,6 +74,7 @@ led_by {A} HungUp old new does led = subst IsLed (sym (ap (λ (t : Trail A). t.v
 led_by {A} (Addressed count) old new does led = subst IsLed (sym (ap (λ (t : Trail A). t.view) does.1)) led
 led_by {A} (Decides now due) old new does led = subst IsLed (sym (ap (λ (t : Trail A). t.view) does.last)) led
 led_by {A} Closes old new does led = subst IsLed (sym (ap (λ (t : Trail A). t.view) does.last)) led
+led_by {A} (Tends told) old new does led = subst IsLed (sym (ap (λ (t : Trail A). t.view) does)) led
 
 led_through : {A : Type 0} (moves : List Move) (old new : Trail A) → FoldsTo Does old moves new → IsLed old.view → IsLed new.view
 led_through {A} [] old new same led = subst (λ (t : Trail A). IsLed t.view) same led
@@ -179,6 +181,7 @@ shut_by {A} (Addressed count) old new does shut =
 shut_by {A} (Decides now due) old new does shut =
     λ closed. absurd (does.goes_on (sym (ap (λ (t : Trail A). t.view.standing.state) does.last) ∙ closed))
 shut_by Closes old new does shut = subst IsShut (sym does.last) shut
+shut_by (Tends told) old new does shut = subst IsShut (sym does) shut
 
 shut_through : {A : Type 0} (moves : List Move) (old new : Trail A) → FoldsTo Does old moves new → IsShut old → IsShut new
 shut_through [] old new same shut = subst IsShut same shut
@@ -206,6 +209,7 @@ stays_by {A} HungUp old new does = ap (λ (t : Trail A). t.timeout) does
 stays_by {A} (Addressed count) old new does = ap (λ (t : Trail A). t.timeout) does.1
 stays_by {A} (Decides now due) old new does = ap (λ (t : Trail A). t.timeout) does.last
 stays_by {A} Closes old new does = ap (λ (t : Trail A). t.timeout) does.last
+stays_by {A} (Tends told) old new does = ap (λ (t : Trail A). t.timeout) does
 
 stays_through : {A : Type 0} (moves : List Move) (old new : Trail A) → FoldsTo Does old moves new → new.timeout ≡ old.timeout
 stays_through {A} [] old new same = sym (ap (λ (t : Trail A). t.timeout) same)
@@ -258,6 +262,19 @@ after now given more old between new first rest =
     (filter-append is_given first.moves rest.moves ∙ ap (λ ms. ms ++ filter is_given rest.moves) first.comes
     ∙ ap (λ ms. given ++ ms) rest.comes)
     (at_on now first.moves rest.moves first.at rest.at)
+
+-- news of trees, and the subjects that come and go with them
+abbrev told_and : {A : Type 0} → List TreeTold → Trail A → Trail A
+told_and told trail = record trail { subjects = shifted_by told trail.subjects; told = trail.told ++ map TellsTree told }
+
+pub tended : {A : Type 0} (now : ℕ) (told : List TreeTold) (old new : Trail A) → new ≡ told_and told old → Comes now [] old new
+tended {A} now [] old new is =
+    subst (Comes now [] old) (sym (is ∙ ap (λ l. record old { told = l }) (append-nil old.told))) (nothing now old)
+tended {A} now (first ∷ told) old new is =
+    let between : Trail A = record old { subjects = shifted first old.subjects; told = old.told ++ TellsTree first ∷ [] } in
+    after now [] [] old between new (one now (Tends first) old between refl tt refl)
+    (tended now told between new (is ∙ ap (λ l. record between { subjects = shifted_by told between.subjects; told = l })
+    (sym (append_assoc old.told (TellsTree first ∷ []) (map TellsTree told)))))
 
 -- what comes after it is of its own
 pub then_none : {A : Type 0} (now : ℕ) (given : List Move) (old between new : Trail A)

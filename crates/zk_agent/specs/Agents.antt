@@ -1,6 +1,6 @@
 -- How far an agent has come, move by move.
 use Rattle.std.specs.Prelude.{◌≡◌, ◌≢◌, ◌==◌, ⊤, ℕ, ℤ, ◌&&◌, Bool, true, false, if◌then◌else◌, List, [], ◌∷◌, ◌++◌, map, Option}
-use Rattle.std.specs.Prelude.{Some, None, is_some}
+use Rattle.std.specs.Prelude.{Some, is_some}
 use Rattle.std.specs.List.{count_by, filter, flat_map, AllByRecursion, FoldsTo}
 use Rattle.std.specs.List.Sorted.{IsPermutation}
 use Rattle.zk_nodes.specs.Path.{Text}
@@ -23,9 +23,9 @@ use Rattle.zk_dialler.specs.Backoffs.{connected_at, row_ended}
 use Rattle.zk_dialler.specs.Chances.{state_after}
 use Rattle.zk_dialler.specs.Dialling.{first_moment, has_come, is_due, is_open, DialsWell, Ends, Opens}
 use Rattle.zk_dialler.specs.Orders.{numbers, shuffled}
-use Rattle.zk_follow.specs.declared.progress.Progress.TheVariants as progress
 use Rattle.zk_follow.specs.declared.subject.Subject.{Subject}
-use Rattle.zk_follow.specs.Following.{due_again, first_again, news_in, told_of, unfollowed, RunsOut, Steps}
+use Rattle.zk_follow.specs.Following.{due_again, first_again, fresh, news_in, told_of, unfollowed, RunsOut, Steps}
+use Rattle.zk_trees.specs.Tending.{are_at_rest, shifted, TreeTold}
 use Rattle.zk_calls.specs.declared.entry.Entry.{Entry}
 use Rattle.zk_calls.specs.declared.entry.Ending.TheVariants as ending
 use Rattle.zk_calls.specs.Lines.{first_limit, left, next_call}
@@ -36,7 +36,7 @@ use Rattle.zk_agent.specs.declared.input.AgentInput.TheVariants as happens
 use Rattle.zk_agent.specs.declared.replies.Heard.{Heard}
 use Rattle.zk_agent.specs.Calls.{closings, endings, handed, hears_all, tells_all}
 use Rattle.zk_agent.specs.Replies.{heard_in}
-use Rattle.zk_agent.specs.Telling.{Told, HangsUp, Begins, due_told, is_end_of, news_told, told_by}
+use Rattle.zk_agent.specs.Telling.{Told, HangsUp, Begins, TellsTree, due_told, is_end_of, news_told, told_by}
 use Rattle.zk_agent.specs.Waits.{Waited, ends_at, heard_input, nothing_waits, waited_after, waited_of}
 
 -- ---- how far it has come
@@ -77,6 +77,7 @@ pub data Move : Type 0 where
   HungUp Renews Closes : Move
   Addressed : (count : ℕ) → Move
   Decides : (now : ℕ) → Option DialDue → Move
+  Tends : TreeTold → Move
 
 -- The dialler after outputs, where the client is in this state then. A row of failures ends with a reply, and with a connection that has
 -- lived for a third of the timeout.
@@ -207,17 +208,7 @@ Does old (Hears now input) new = HearsOn now input old new
 Does old (Hands now ticket asked) new = HearsSo now (turns.Call ticket asked) old new
 Does old Renews new = RenewsSo old new
 Does old (Follows ticket side path) new =
-    new ≡ record old {
-      subjects = old.subjects ++ record {
-        ticket = ticket;
-        side = side;
-        path = path;
-        progress = progress.Due;
-        is_missing = false;
-        is_there = false;
-        told = None;
-      } ∷ [];
-    }
+    new ≡ record old { subjects = old.subjects ++ fresh ticket side path ∷ [] }
 Does old (Unfollows ticket) new = new ≡ record old { subjects = unfollowed ticket old.subjects }
 Does old (Asks ticket asked until) new = AsksSo ticket asked until old new
 Does old (GivesUp now) new =
@@ -230,6 +221,7 @@ Does old HungUp new = new ≡ record old { told = old.told ++ HangsUp ∷ [] }
 Does old (Addressed count) new = AddressesSo count old.dialler new.dialler × (new ≡ record old { dialler = new.dialler })
 Does old (Decides now due) new = DecidesSo now due old new
 Does old Closes new = ClosesSo old new
+Does old (Tends one) new = new ≡ record old { subjects = shifted one old.subjects; told = old.told ++ TellsTree one ∷ [] }
 
 -- A client stands where turns by the rule have led, from what some session began with.
 abbrev pub IsLed : View → Type 0
@@ -241,8 +233,8 @@ IsShut trail = trail.view.standing.state ≡ Closed → trail.dialler.phase ≡ 
 
 -- ---- moves that come from outside, and those of its own
 
--- Of its own an agent hands calls over, begins another session, settles calls, leaves a server that does not answer, and decides about the
--- connection.
+-- Of its own an agent hands calls over, begins another session, settles calls, leaves a server that does not answer, decides about the
+-- connection, and follows what is wanted of trees.
 abbrev pub is_given : Move → Bool
 is_given (Hands now ticket asked) = false
 is_given Renews = false
@@ -250,6 +242,7 @@ is_given (GivesUp now) = false
 is_given (Tires now) = false
 is_given (Decides now due) = false
 is_given Closes = false
+is_given (Tends one) = false
 is_given _ = true
 
 -- each at this moment
@@ -288,6 +281,8 @@ given_of phase now (happens.Addresses count) = Addressed count ∷ Hears now (tu
 given_of phase now (happens.Call ticket call until) = Asks ticket (call_view call) until ∷ Hears now (turns.Now now) ∷ []
 given_of phase now (happens.Follow ticket side path) = Follows ticket side path ∷ Hears now (turns.Now now) ∷ []
 given_of phase now (happens.Unfollow ticket) = Unfollows ticket ∷ Hears now (turns.Now now) ∷ []
+given_of phase now (happens.FollowTree ticket root most) = Hears now (turns.Now now) ∷ []
+given_of phase now (happens.UnfollowTree ticket) = Hears now (turns.Now now) ∷ []
 
 -- Moves, the oldest first, all at one moment. Those that come from outside are these, and no other. A client that was led stands where it
 -- was led, after a close there is no connection, and the timeout of later sessions stays.
@@ -351,10 +346,10 @@ NothingOpen agent moment =
     × (has_come moment (first_limit agent.asker.line.entries.items) ≡ false)
     × (has_come moment (ends_at (view_of agent.asker.follower.client).saved.session.timeout (waited_of agent.waits)) ≡ false)
 
--- After a close nothing is due any more.
+-- Nor are trees to be tended. After a close nothing is due any more.
 abbrev pub NothingIn : {A : Type 0} → (is_closed : Bool) → Agent A → (moment : ℕ) → Type 0
 NothingIn true agent moment = ⊤
-NothingIn false agent moment = NothingOpen agent moment
+NothingIn false agent moment = NothingOpen agent moment × (are_at_rest moment agent.trees ≡ true)
 
 abbrev pub NothingAt : {A : Type 0} → Agent A → (moment : ℕ) → Type 0
 NothingAt agent moment = NothingIn (is_closed (view_of agent.asker.follower.client).standing.state) agent moment

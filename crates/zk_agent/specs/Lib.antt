@@ -1,8 +1,10 @@
--- How an agent comes along, move by move: what becomes of calls, what it tells a program, what waits for an answer, and since when.
+-- How an agent comes along, move by move: what becomes of calls and of trees, what it tells a program, what waits for an answer, and since
+-- when.
 pub mod Agents
 pub mod Calls
 pub mod Renewal
 pub mod Replies
 pub mod Telling
+pub mod Trees
 pub mod Waits
 pub mod inner

@@ -10,6 +10,7 @@ use Rattle.zk_follow.specs.declared.news.News.TheVariants as news
 use Rattle.zk_calls.specs.declared.entry.Ended.{Ended}
 use Rattle.zk_calls.specs.declared.entry.Ending.{Ending}
 use Rattle.zk_calls.specs.declared.entry.Ending.TheVariants as ending
+use Rattle.zk_trees.specs.Tending.{tree_told, TreeTold}
 use Rattle.zk_agent.specs.declared.action.Action.{Action}
 use Rattle.zk_agent.specs.declared.action.Action.TheVariants as action
 
@@ -20,6 +21,7 @@ pub data Told : Type 0 where
   Dials : (place within : ℕ) → Told
   TimesOut : (ticket : ℕ) → (was_sent : Bool) → Told
   HangsUp Begins : Told
+  TellsTree : TreeTold → Told
 
 abbrev pub action_view : {A : Type 0} → Action A → Told
 action_view (action.Dial place within) = Dials place within
@@ -33,6 +35,7 @@ action_view (action.GivenUp fault) = Says (turns.Drop (fault_view fault))
 action_view action.Renewed = Begins
 action_view (action.Shown ticket) = Tells ticket news.Shown
 action_view (action.Refused ticket why) = Tells ticket (news.Refused why)
+action_view (action.Tree told) = TellsTree (tree_told told)
 
 abbrev pub told_by : {A : Type 0} → List (Action A) → List Told
 told_by actions = map action_view actions

@@ -1,12 +1,15 @@
 //! What comes out of an agent.
 
 ghost use Rattle.std.specs.Prelude.{◌≡◌, ◌++◌, ◌∷◌, [], map, OnOk};
-ghost use Rattle.zk_agent.specs.Telling.{action_view, due_told, news_told, told_by};
+ghost use Rattle.zk_trees.specs.Tending.{trees_told};
+ghost use Rattle.zk_agent.specs.Telling.{action_view, due_told, news_told, told_by, TellsTree};
 
 use std::alloc::{AllocError, Allocator, Global};
+use std::collections::VecDeque;
 use zk_client::{Event, Fault, Outcome, Side, State};
 use zk_dialler::DialDue;
 use zk_follow::{News, Refusal};
+use zk_trees::TreeNews;
 
 /// What an agent asks of its program, and what it tells it.
 #[derive(Drop)]
@@ -51,6 +54,8 @@ pub enum Action<A: Allocator = Global> {
         ticket: u64,
         why: Refusal,
     },
+    /// What there is to tell of a tree: a side of a node is followed for it, or followed no more; or what is known of the whole.
+    Tree(TreeNews<A>),
 }
 
 /// Adds one.
@@ -82,6 +87,20 @@ pub(crate) fn push_news<A: Allocator>(
 {
     for one in news {
         push(actions, action_about(one.0, one.1))?;
+    }
+    Ok(())
+}
+
+/// Adds what a program is told of trees, in order.
+pub(crate) fn push_trees<A: Allocator>(
+    news: Vec<TreeNews<A>, A>,
+    actions: &mut Vec<Action<A>, A>,
+) -> Result<(), AllocError>
+    ensures { OnOk result (told_by actions.new.items ≡ told_by actions.old.items ++ map TellsTree (trees_told news.items)) }
+{
+    let mut left = VecDeque::from_vec(news);
+    while let Some(one) = left.pop_front() {
+        push(actions, Action::Tree(one))?;
     }
     Ok(())
 }

@@ -4,13 +4,15 @@ ghost use Rattle.std.specs.Prelude.{◌≡◌, ◌<ℤ◌, pos};
 
 use crate::action::{Action, push, push_due};
 use crate::asker::Asker;
+use crate::growing::note_all;
 use crate::input::{AgentInput, heard_moment};
-use crate::moments::{first_of_five, is_closed};
+use crate::moments::{first_of, first_of_five, is_closed};
 use crate::waits::Waits;
 use std::alloc::{AllocError, Allocator, Global};
 use zk_client::{Call, Client, Path, Side, State};
 use zk_dialler::Dialler;
 use zk_follow::FollowerStop;
+use zk_trees::Trees;
 
 /// What an agent begins with.
 #[derive(Clone, Copy)]
@@ -31,6 +33,7 @@ pub struct Agent<A: Allocator + Copy = Global> {
     pub(crate) dialler: Dialler<A>,
     pub(crate) asker: Asker<A>,
     pub(crate) waits: Waits<A>,
+    pub(crate) trees: Trees<A>,
     latest: u64,
     heard_at: Option<u64>,
     ghost asks: { pos 0 <ℤ timeout_ms },
@@ -53,11 +56,14 @@ impl<A: Allocator + Copy> Agent<A> {
     ghost use Rattle.zk_follow.specs.Following.{due_again, IsFollowed};
     ghost use Rattle.zk_conversation.specs.Views.{call_view};
     ghost use Rattle.zk_calls.specs.declared.entry.Ending.TheVariants as ending;
+    ghost use Rattle.zk_dialler.specs.Dialling.{has_come};
+    ghost use Rattle.zk_agent.specs.Agents.{ends_of};
     ghost use Rattle.zk_agent.specs.Agents.{bytes_at, given_of, heard_after, how_many_asked, how_many_ended, is_closed, opened_at, over_at};
     ghost use Rattle.zk_agent.specs.Agents.{trail_of, Addressed, Asks, Comes, Follows, Hears, IsAnswered, IsBroken, IsDecided, IsLed};
     ghost use Rattle.zk_agent.specs.Agents.{NothingAt, NothingOpen, Unfollows};
     ghost use Rattle.zk_agent.specs.Calls.{endings, how_many, IsInTime, IsServed};
     ghost use Rattle.zk_agent.specs.Telling.{told_by, Begins};
+    ghost use Rattle.zk_agent.specs.Trees.{GoesOn};
     ghost use Rattle.zk_agent.specs.Waits.{nothing_waits, waited_of};
 
     /// Of a client that has no connection: a new one, or one that takes up a saved session. The first step asks for a connection. An error
@@ -71,6 +77,8 @@ impl<A: Allocator + Copy> Agent<A> {
         ensures heard { IfOk result (λ agent. agent.heard_at ≡ None) }
         ensures timeout { IfOk result (λ agent. agent.timeout_ms ≡ settings.timeout_ms) }
         ensures waits { IfOk result (λ agent. waited_of agent.waits ≡ nothing_waits) }
+        ensures trees { IfOk result (λ agent. agent.trees.all.items ≡ []) }
+        ensures next { IfOk result (λ agent. agent.trees.next ≡ 2 ^ 63) }
         ensures phase { IfOk result (λ agent. agent.dialler.phase ≡ Waiting) }
         ensures order { IfOk result
             (λ agent. agent.dialler.ring.order.items ≡ shuffled settings.seed settings.addresses (numbers settings.addresses)) }
@@ -94,6 +102,7 @@ impl<A: Allocator + Copy> Agent<A> {
             dialler: Dialler::new(alloc, settings.addresses, settings.seed)?,
             asker: Asker::new(alloc, client),
             waits: Waits::new(alloc),
+            trees: Trees::new(alloc),
             latest: 0,
             heard_at: None,
         })
@@ -149,6 +158,7 @@ impl<A: Allocator + Copy> Agent<A> {
         ensures timeout { self.new.timeout_ms ≡ self.old.timeout_ms }
         ensures latest { self.new.latest ≡ self.old.latest }
         ensures heard { self.new.heard_at ≡ self.old.heard_at }
+        ensures trees { self.new.trees ≡ self.old.trees }
         ensures waits { self.new.waits ≡ self.old.waits }
     {
         self.asker.forget_stale();
@@ -165,7 +175,7 @@ impl<A: Allocator + Copy> Agent<A> {
         if self.is_closed() {
             return None;
         }
-        self.first_due()
+        first_of(self.first_due(), self.trees.deadline())
     }
 
     /// The first moment at which something is due, where the session was not closed.
@@ -208,20 +218,50 @@ impl<A: Allocator + Copy> Agent<A> {
         ensures latest { OnOk result (self.new.latest ≡ max self.old.latest now) }
         ensures heard { OnOk result
             (self.new.heard_at ≡ heard_after (is_open self.old.dialler.phase) (max self.old.latest now) input self.old.heard_at) }
+        ensures trees { IfOk result (λ actions. GoesOn (max self.old.latest now) input self.old self.new actions.items) }
         ensures broke { OnErr result (IsBroken self.old self.new) }
     {
         let now = self.latest.max(now);
         let heard_at = heard_moment(self.dialler.is_open(), now, &input, self.heard_at);
         let mut actions = Vec::new(self.alloc);
-        self.apply_happening(now, input, &mut actions)?;
-        self.renew(&mut actions)?;
-        self.give_up(now, &mut actions)?;
-        self.send(now, &mut actions)?;
-        self.tire(now, &mut actions)?;
-        self.dial(now, &mut actions)?;
+        let mut trees = std::mem::replace(&mut self.trees, Trees::new(self.alloc));
+        self.grow(now, &input, &mut trees, &mut actions)?;
+        self.take(now, input, &mut actions)?;
+        note_all(&mut trees, actions.as_slice());
+        self.trees = trees;
         self.latest = now;
         self.heard_at = heard_at;
         Ok(actions)
+    }
+
+    /// Takes what has happened, and does what is due then.
+    fn take(
+        &mut self,
+        now: u64,
+        input: AgentInput<A>,
+        actions: &mut Vec<Action<A>, A>,
+    ) -> Result<(), FollowerStop>
+        ensures comes { OnOk result (Comes now (given_of self.old.dialler.phase now input) (trail_of self.old actions.old.items)
+            (trail_of self.new actions.new.items)) }
+        ensures followed { OnOk result
+            (All (IsFollowed now (view_of self.new.asker.follower.client)) self.new.asker.follower.subjects.items) }
+        ensures served { OnOk result (All (IsServed (view_of self.new.asker.follower.client)) self.new.asker.line.entries.items) }
+        ensures limits { OnOk result (All (IsInTime now) self.new.asker.line.entries.items) }
+        ensures closed { OnOk result
+            ((view_of self.new.asker.follower.client).standing.state ≡ Closed → self.new.asker.line.entries.items ≡ []) }
+        ensures renewed { OnOk result ((view_of self.new.asker.follower.client).standing.state ≢ Expired) }
+        ensures dials { OnOk result ((view_of self.new.asker.follower.client).standing.state ≢ Closed
+            → IsDecided now (trail_of self.new actions.new.items)) }
+        ensures answers { OnOk result (has_come now (ends_of (trail_of self.new actions.new.items)) ≡ false) }
+        ensures broke { OnErr result (IsBroken self.old self.new) }
+    {
+        self.apply_happening(now, input, actions)?;
+        self.renew(actions)?;
+        self.give_up(now, actions)?;
+        self.send(now, actions)?;
+        self.tire(now, actions)?;
+        self.dial(now, actions)?;
+        Ok(())
     }
 
     /// Takes what has happened.
@@ -241,7 +281,8 @@ impl<A: Allocator + Copy> Agent<A> {
             AgentInput::Opened => self.open(now, actions),
             AgentInput::Failed | AgentInput::Cut => self.end(now, actions),
             AgentInput::Bytes(bytes) => self.bytes(now, bytes, actions),
-            AgentInput::Moment => self.step_client(now, zk_client::Input::Now(now), actions),
+            AgentInput::Moment | AgentInput::FollowTree { .. } | AgentInput::UnfollowTree { .. } =>
+                { self.step_client(now, zk_client::Input::Now(now), actions) }
             AgentInput::Addresses(count) => self.set_addresses(now, count, actions),
             AgentInput::Call {
                 ticket,

@@ -8,11 +8,13 @@ ghost use Rattle.zk_agent.specs.inner.Calls.{IsAsked};
 use crate::action::Action;
 use crate::advancing::{advance, begin, hand_over};
 use crate::calls::{close_calls, end_calls};
+use crate::input::AgentInput;
 use crate::replies::Heard;
 use std::alloc::{AllocError, Allocator, Global};
 use zk_calls::{Ending, Line};
 use zk_client::{Call, Client, Input, Path, Side};
 use zk_follow::{Follower, FollowerStop};
+use zk_trees::{TreeNews, Trees};
 
 /// A client with what it is asked for its program: subjects that are followed, and calls. Where a call counts as handed over, the client
 /// waits for its reply.
@@ -31,8 +33,9 @@ impl<A: Allocator + Copy> Asker<A> {
     ghost use Rattle.zk_turns.specs.Rule.{forgotten, Stands};
     ghost use Rattle.zk_client.specs.Clients.{renewed_start, view_of};
     ghost use Rattle.zk_client.specs.Views.{input_view};
-    ghost use Rattle.zk_follow.specs.declared.progress.Progress.TheVariants as progress;
-    ghost use Rattle.zk_follow.specs.Following.{due_again, unfollowed, BreaksOff, IsFollowed};
+    ghost use Rattle.zk_follow.specs.Following.{due_again, fresh, unfollowed, BreaksOff, IsFollowed};
+    ghost use Rattle.zk_trees.specs.Tending.{footing_in, shifted_by, trees_told, Tends};
+    ghost use Rattle.zk_agent.specs.Trees.{Alters};
     ghost use Rattle.zk_calls.specs.Lines.{left};
     ghost use Rattle.zk_agent.specs.inner.Agents.{HandsOver};
     ghost use Rattle.zk_agent.specs.Agents.{TakesSo};
@@ -113,15 +116,8 @@ impl<A: Allocator + Copy> Asker<A> {
         path: Path<A>,
     ) -> Result<(), AllocError>
         ensures client { self.new.follower.client ≡ self.old.follower.client }
-        ensures subjects { OnOk result (self.new.follower.subjects.items ≡ self.old.follower.subjects.items ++ record {
-          ticket = ticket;
-          side = side;
-          path = path;
-          progress = progress.Due;
-          is_missing = false;
-          is_there = false;
-          told = None;
-        } ∷ []) }
+        ensures subjects { OnOk result
+            (self.new.follower.subjects.items ≡ self.old.follower.subjects.items ++ fresh ticket side path ∷ []) }
         ensures same { OnErr result (self.new.follower.subjects.items ≡ self.old.follower.subjects.items) }
         ensures line { self.new.line ≡ self.old.line }
     {
@@ -149,6 +145,44 @@ impl<A: Allocator + Copy> Asker<A> {
             → All (IsFollowed now (view_of self.new.follower.client)) self.new.follower.subjects.items }
     {
         self.follower.forget_stale();
+    }
+
+    /// Trees are tended that are due: what there is to tell of them.
+    pub(crate) fn tend(
+        &mut self,
+        now: u64,
+        trees: &mut Trees<A>,
+    ) -> Result<Vec<TreeNews<A>, A>, AllocError>
+        ensures tends { IfOk result (λ all. Tends now trees.old trees.new
+            (footing_in trees.old self.old.follower []) (footing_in trees.new self.new.follower all.items)) }
+        ensures told { IfOk result (λ all.
+            self.new.follower.subjects.items ≡ shifted_by (trees_told all.items) self.old.follower.subjects.items) }
+        ensures client { self.new.follower.client ≡ self.old.follower.client }
+        ensures line { self.new.line ≡ self.old.line }
+    {
+        trees.tend(now, &mut self.follower)
+    }
+
+    /// A tree is followed, or followed no more, where an input asks for that: what there is to tell of it.
+    pub(crate) fn alter(
+        &mut self,
+        input: &AgentInput<A>,
+        trees: &mut Trees<A>,
+    ) -> Result<Vec<TreeNews<A>, A>, AllocError>
+        ensures alters { IfOk result (λ all. Alters input.now trees.old trees.new
+            (footing_in trees.old self.old.follower []) (footing_in trees.new self.new.follower all.items)) }
+        ensures told { IfOk result (λ all.
+            self.new.follower.subjects.items ≡ shifted_by (trees_told all.items) self.old.follower.subjects.items) }
+        ensures client { self.new.follower.client ≡ self.old.follower.client }
+        ensures line { self.new.line ≡ self.old.line }
+    {
+        match input {
+            AgentInput::FollowTree { ticket, root, most } => {
+                trees.plant(*ticket, root, *most, &mut self.follower)
+            }
+            AgentInput::UnfollowTree { ticket } => trees.uproot(*ticket, &mut self.follower),
+            _ => Ok(Vec::new(self.alloc)),
+        }
     }
 
     /// A call is asked.

@@ -40,6 +40,18 @@ pub enum AgentInput<A: Allocator + Copy = Global> {
     Unfollow {
         ticket: u64,
     },
+    /// This tree is followed: the data of the root, the names below it, and those of each node below it, as they come to be known. No more
+    /// are taken on where there are more than `most` nodes. The data of the root have this ticket, which no other call or subject has or
+    /// had; all else has tickets from 2^63 on, which no program uses.
+    FollowTree {
+        ticket: u64,
+        root: Path<A>,
+        most: u64,
+    },
+    /// The tree of this ticket is followed no more.
+    UnfollowTree {
+        ticket: u64,
+    },
 }
 
 /// When the server was heard last, once this has come.

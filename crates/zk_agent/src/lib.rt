@@ -13,6 +13,9 @@
 //! read whose reply is lost with its connection is asked again, in its place; a write is not.
 //!
 //! After a close nothing is asked for and nothing is due: a call is answered at once that the session is closed.
+//!
+//! A tree is followed as a subject is: of all nodes at and below its root, within a bound, the data and the names below. [`Action::Tree`]
+//! tells which sides of nodes are followed for it, and when nothing is lacking of it.
 #![tactic(auto)]
 
 mod action;
@@ -21,6 +24,7 @@ mod agent;
 mod asker;
 mod calls;
 mod frames;
+mod growing;
 mod hearing;
 mod input;
 mod moments;
@@ -28,7 +32,6 @@ mod renewal;
 mod replies;
 mod sending;
 mod sent;
-mod subjects;
 mod tiring;
 mod waits;
 

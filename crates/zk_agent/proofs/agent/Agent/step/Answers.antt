@@ -1,183 +1,95 @@
--- A step is six parts in a row, of which the first alone comes from outside (`in_turn`). Calls balance over all of them (`calls_balance`);
--- each other clause is what one part ensures, carried through those after it.
-use Rattle.std.proofs.Common.{◌≡◌, ◌+◌, [], refl, sym, ap, subst, ◌∙◌}
-use Rattle.std.specs.Prelude.{◌≢◌, All}
-use Rattle.zk_session.specs.declared.states.State.TheVariants.{Connected, Expired, Closed}
+-- First trees grow, by moves of the agent's own, and then it takes its input: both together are moves (`grown_then`), over which calls
+-- balance (`calls_balance`). What was said is noted of the trees at last. Each other clause is what `take` ensures, at the later of the two
+-- moments.
+use Rattle.std.proofs.Common.{◌+◌, [], List, ap, refl, subst, ◌∙◌}
+use Rattle.std.specs.Prelude.{◌≢◌}
+use Rattle.zk_session.specs.declared.states.State.TheVariants.{Closed}
 use Rattle.zk_client.specs.Clients.{view_of}
-use Rattle.zk_follow.specs.declared.follower.Follower.{Follower}
-use Rattle.zk_follow.specs.Following.{IsFollowed}
-use Rattle.zk_dialler.specs.Dialling.{has_come}
-use Rattle.zk_agent.specs.declared.asker.Asker.{Asker}
-use Rattle.zk_agent.specs.declared.waits.Waits.{Waits}
-use Rattle.zk_agent.specs.Agents.{given_of, trail_of, Comes, IsDecided}
-use Rattle.zk_agent.specs.Calls.{how_many, IsInTime}
-use Rattle.zk_agent.specs.inner.Calls.{IsDone}
-use Rattle.zk_agent.specs.Waits.{ends_at, waited_of}
+use Rattle.zk_dialler.specs.declared.dialler.Dialler.{Dialler}
+use Rattle.zk_trees.specs.declared.tree.Trees.{Trees}
+use Rattle.zk_dialler.specs.Dialling.{is_open}
+use Rattle.zk_agent.specs.Agents.{given_of, heard_after, trail_of, Comes, IsDecided}
+use Rattle.zk_agent.specs.Calls.{how_many}
+use Rattle.zk_agent.specs.Trees.{noted_by, Grows}
+use Rattle.zk_agent.specs.declared.action.Action.{Action}
 use Rattle.zk_agent.proofs.Counting.{asks_its, calls_balance}
-use Rattle.zk_agent.proofs.Lines.{all_served}
-use Rattle.zk_agent.proofs.Moves.{in_turn}
+use Rattle.zk_agent.proofs.Moves.{after}
 use Rattle.zk_agent.proofs.Breaking.{after_comes, beside, err_always}
 use Rattle.zk_agent.proofs.agent.Agent.step.Goals as goal
 
 pub returns-clause-comes : goal.returns-clause-comes
 returns-clause-comes g c =
     let now = c.max-now.result in
+    let old = trail_of c.args.self.now in
     let given = given_of c.args.self.now.dialler.phase now c.args.input in
-    let first = trail_of c.apply_happening.new.self c.apply_happening.new.actions.items in
-    let old = trail_of c.args.self.now [] in
-    let new = trail_of c.dial.new.self c.dial.new.actions.items in
-    subst (λ moment. Comes moment (given_of c.args.self.now.dialler.phase moment c.args.input) old new) c.max-now.ensures
-    (in_turn now given old first (trail_of c.renew.new.self c.renew.new.actions.items)
-    (trail_of c.give_up.new.self c.give_up.new.actions.items)
-    (trail_of c.send.new.self c.send.new.actions.items) (trail_of c.tire.new.self c.tire.new.actions.items) new
-    (subst (λ items. Comes now given (trail_of c.args.self.now items) first) c.new-actions.ensures.items
-    c.in_ok-apply_happening.ensures.comes) (c.in_ok-renew.ensures.comes now)
-    c.in_ok-give_up.ensures.comes c.in_ok-send.ensures.comes c.in_ok-tire.ensures.tired.comes c.in_ok-dial.ensures.comes)
+    let grown = trail_of c.grow.new.self c.grow.new.actions.items in
+    let new = trail_of c.take.new.self c.take.new.actions.items in
+    subst (λ moment. Comes moment (given_of c.args.self.now.dialler.phase moment c.args.input) (old []) new) c.max-now.ensures
+    (after now [] given (old []) grown new
+    (subst (λ items. Comes now [] (old items) grown) c.new-actions.ensures.items c.in_ok-grow.ensures.comes)
+    (subst (λ (d : Dialler g.row.A.Denot). Comes now (given_of d.phase now c.args.input) grown new) c.grow.ensures.dialler
+    c.in_ok-take.ensures.comes))
 
 pub returns-clause-calls : goal.returns-clause-calls
 returns-clause-calls g c = λ ticket.
     let now = c.max-now.result in
+    let old = trail_of c.args.self.now in
     let given = given_of c.args.self.now.dialler.phase now c.args.input in
-    let first = trail_of c.apply_happening.new.self c.apply_happening.new.actions.items in
-    let old = trail_of c.args.self.now [] in
-    let new = trail_of c.dial.new.self c.dial.new.actions.items in
-    let all = calls_balance now given old new
-    (in_turn now given old first (trail_of c.renew.new.self c.renew.new.actions.items)
-    (trail_of c.give_up.new.self c.give_up.new.actions.items)
-    (trail_of c.send.new.self c.send.new.actions.items) (trail_of c.tire.new.self c.tire.new.actions.items) new
-    (subst (λ items. Comes now given (trail_of c.args.self.now items) first) c.new-actions.ensures.items
-    c.in_ok-apply_happening.ensures.comes) (c.in_ok-renew.ensures.comes now)
-    c.in_ok-give_up.ensures.comes c.in_ok-send.ensures.comes c.in_ok-tire.ensures.tired.comes c.in_ok-dial.ensures.comes) refl ticket in
-    all ∙ ap (λ n. how_many ticket old.line + n) (asks_its ticket c.args.self.now.dialler.phase now c.args.input)
+    let grown = trail_of c.grow.new.self c.grow.new.actions.items in
+    let new = trail_of c.take.new.self c.take.new.actions.items in
+    let all = calls_balance now given (old []) new (after now [] given (old []) grown new
+    (subst (λ items. Comes now [] (old items) grown) c.new-actions.ensures.items c.in_ok-grow.ensures.comes)
+    (subst (λ (d : Dialler g.row.A.Denot). Comes now (given_of d.phase now c.args.input) grown new) c.grow.ensures.dialler
+    c.in_ok-take.ensures.comes)) refl ticket in
+    all ∙ ap (λ n. how_many ticket (old []).line + n) (asks_its ticket c.args.self.now.dialler.phase now c.args.input)
 
-pub returns-clause-followed : goal.returns-clause-followed
-returns-clause-followed g c =
+pub returns-clause-trees : goal.returns-clause-trees
+returns-clause-trees g c =
     let now = c.max-now.result in
-    let renewed = c.in_ok-renew.ensures.followed now c.in_ok-apply_happening.ensures.followed in
-    let given_up = subst (λ (f : Follower g.row.A.Denot). All (IsFollowed now (view_of f.client)) f.subjects.items)
-    (sym c.give_up.ensures.follower) renewed in
-    subst (λ (a : Asker g.row.A.Denot). All (IsFollowed now (view_of a.follower.client)) a.follower.subjects.items)
-    (sym c.dial.ensures.asker) (c.in_ok-tire.ensures.followed (c.in_ok-send.ensures.followed given_up))
+    let old = trail_of c.args.self.now in
+    let grown = trail_of c.grow.new.self c.grow.new.actions.items in
+    let new = trail_of c.take.new.self c.take.new.actions.items in
+    let grows = subst (λ (t : Trees g.row.A.Denot). Grows now c.args.input t c.grow.new.trees (old []) grown) c.replace-trees.ensures.value
+    (subst (λ items. Grows now c.args.input c.replace-trees.result c.grow.new.trees (old items) grown) c.new-actions.ensures.items
+    c.in_ok-grow.ensures.grows) in
+    let rest = subst (λ (d : Dialler g.row.A.Denot). Comes now (given_of d.phase now c.args.input) grown new) c.grow.ensures.dialler
+    c.in_ok-take.ensures.comes in
+    record {
+      grown = grown;
+      trees = c.grow.new.trees;
+      grows = subst (λ moment. Grows moment c.args.input c.args.self.now.trees c.grow.new.trees (old []) grown) c.max-now.ensures grows;
+      rest = subst (λ moment. Comes moment (given_of c.args.self.now.dialler.phase moment c.args.input) grown new) c.max-now.ensures rest;
+      noted = c.note_all.ensures.all
+          ∙ ap (λ (l : List (Action g.row.A.Denot)). noted_by l c.grow.new.trees.all.items) c.as_slice.ensures.value;
+      next = c.note_all.ensures.next;
+      due = c.note_all.ensures.due;
+    }
 
-pub returns-clause-served : goal.returns-clause-served
-returns-clause-served g c =
-    let asker = c.dial.new.self.asker in
-    all_served (view_of asker.follower.client) asker.line.entries.items asker.asked
-    (subst (λ (a : Asker g.row.A.Denot). IsDone (view_of a.follower.client) a.line.entries.items) (sym c.dial.ensures.asker)
-    (c.in_ok-tire.ensures.tired.done c.in_ok-send.ensures.done))
-
-pub returns-clause-limits : goal.returns-clause-limits
-returns-clause-limits g c =
-    subst (λ (a : Asker g.row.A.Denot). All (IsInTime c.max-now.result) a.line.entries.items) (sym c.dial.ensures.asker)
-    (c.in_ok-tire.ensures.tired.limits (c.in_ok-send.ensures.limits c.in_ok-give_up.ensures.limits))
-
-pub returns-clause-closed : goal.returns-clause-closed
-returns-clause-closed g c = λ closed.
-    let state = λ (a : Asker g.row.A.Denot). (view_of a.follower.client).standing.state in
-    let line = λ (a : Asker g.row.A.Denot). a.line.entries.items in
-    let sent : state c.send.new.self.asker ≡ Closed =
-    c.in_ok-tire.ensures.tired.ends Closed refl (sym (ap state c.dial.ensures.asker) ∙ closed) in
-    let given_up : state c.give_up.new.self.asker ≡ Closed = c.in_ok-send.ensures.ends Closed refl sent in
-    let renewed = sym (ap (λ (f : Follower g.row.A.Denot). (view_of f.client).standing.state) c.give_up.ensures.follower) ∙ given_up in
-    let same = c.send.ensures.same (λ connected. let f : Closed ≡ Connected = sym given_up ∙ connected in cc) in
-    ap line c.dial.ensures.asker ∙ c.in_ok-tire.ensures.tired.none (ap line same ∙ c.in_ok-give_up.ensures.closed renewed)
-
-pub returns-clause-renewed : goal.returns-clause-renewed
-returns-clause-renewed g c = λ expired.
-    let sent = c.in_ok-tire.ensures.tired.ends Expired refl
-    (sym (ap (λ (a : Asker g.row.A.Denot). (view_of a.follower.client).standing.state) c.dial.ensures.asker) ∙ expired) in
-    let given_up = c.in_ok-send.ensures.ends Expired refl sent in
-    c.in_ok-renew.ensures.renewed
-    (sym (ap (λ (f : Follower g.row.A.Denot). (view_of f.client).standing.state) c.give_up.ensures.follower) ∙ given_up)
+pub returns-clause-heard : goal.returns-clause-heard
+returns-clause-heard g c =
+    let old = c.args.self.now in
+    c.heard_moment-heard_at.ensures
+    ∙ ap (λ b. heard_after b c.max-now.result c.args.input old.heard_at) c.is_open.ensures
+    ∙ ap (λ now. heard_after (is_open old.dialler.phase) now c.args.input old.heard_at) c.max-now.ensures
 
 pub returns-clause-dials : goal.returns-clause-dials
 returns-clause-dials g c =
-    let new = trail_of c.dial.new.self c.dial.new.actions.items in
-    subst (λ now. (view_of c.dial.new.self.asker.follower.client).standing.state ≢ Closed → IsDecided now new) c.max-now.ensures
-    c.in_ok-dial.ensures.dials
+    let new = trail_of c.take.new.self c.take.new.actions.items in
+    subst (λ now. (view_of c.take.new.self.asker.follower.client).standing.state ≢ Closed → IsDecided now new) c.max-now.ensures
+    c.in_ok-take.ensures.dials
 
-pub returns-clause-answers : goal.returns-clause-answers
-returns-clause-answers g c =
-    let now = c.max-now.result in
-    let new = c.dial.new.self in
-    ap (λ (a : Asker g.row.A.Denot). has_come now (ends_at (view_of a.follower.client).saved.session.timeout (waited_of new.waits)))
-    c.dial.ensures.asker
-    ∙ ap (λ (w : Waits g.row.A.Denot).
-    has_come now (ends_at (view_of c.tire.new.self.asker.follower.client).saved.session.timeout (waited_of w))) c.dial.ensures.waits
-    ∙ c.in_ok-tire.ensures.tired.answers
-
-pub returns-in_err-renew-clause-broke : goal.returns-in_err-renew-clause-broke
-returns-in_err-renew-clause-broke g c =
-    let now = c.max-now.result in
-    let given = given_of c.args.self.now.dialler.phase now c.args.input in
+pub returns-in_err-grow-clause-broke : goal.returns-in_err-grow-clause-broke
+returns-in_err-grow-clause-broke g c =
     let old = trail_of c.args.self.now [] in
-    let happened = trail_of c.apply_happening.new.self c.apply_happening.new.actions.items in
-    let first = subst (λ items. Comes now given (trail_of c.args.self.now items) happened) c.new-actions.ensures.items
-    c.in_ok-apply_happening.ensures.comes in
-    err_always c.from_residual-in_err-renew.result
-    (after_comes now given old happened (view_of c.renew.new.self.asker.follower.client) first c.in_err-renew.ensures.broke)
+    err_always c.from_residual.result
+    (beside old.timeout old.view (view_of c.grow.new.self.asker.follower.client) (ap (λ client. view_of client) c.grow.ensures.client))
 
-pub returns-in_err-give_up-clause-broke : goal.returns-in_err-give_up-clause-broke
-returns-in_err-give_up-clause-broke g c =
+pub returns-in_err-take-clause-broke : goal.returns-in_err-take-clause-broke
+returns-in_err-take-clause-broke g c =
     let now = c.max-now.result in
-    let given = given_of c.args.self.now.dialler.phase now c.args.input in
-    let old = trail_of c.args.self.now [] in
-    let happened = trail_of c.apply_happening.new.self c.apply_happening.new.actions.items in
-    let first = subst (λ items. Comes now given (trail_of c.args.self.now items) happened) c.new-actions.ensures.items
-    c.in_ok-apply_happening.ensures.comes in
-    let new = view_of c.give_up.new.self.asker.follower.client in
-    let renewed = trail_of c.renew.new.self c.renew.new.actions.items in
-    err_always c.from_residual-in_err-give_up.result
-    (after_comes now given old happened new first (after_comes now [] happened renewed new (c.in_ok-renew.ensures.comes now)
-    (beside renewed.timeout renewed.view new (ap (λ (f : Follower g.row.A.Denot). view_of f.client) c.give_up.ensures.follower))))
-
-pub returns-in_err-send-clause-broke : goal.returns-in_err-send-clause-broke
-returns-in_err-send-clause-broke g c =
-    let now = c.max-now.result in
-    let given = given_of c.args.self.now.dialler.phase now c.args.input in
-    let old = trail_of c.args.self.now [] in
-    let happened = trail_of c.apply_happening.new.self c.apply_happening.new.actions.items in
-    let first = subst (λ items. Comes now given (trail_of c.args.self.now items) happened) c.new-actions.ensures.items
-    c.in_ok-apply_happening.ensures.comes in
-    let new = view_of c.send.new.self.asker.follower.client in
-    let renewed = trail_of c.renew.new.self c.renew.new.actions.items in
-    let left = trail_of c.give_up.new.self c.give_up.new.actions.items in
-    err_always c.from_residual-in_err-send.result
-    (after_comes now given old happened new first (after_comes now [] happened renewed new (c.in_ok-renew.ensures.comes now)
-    (after_comes now [] renewed left new c.in_ok-give_up.ensures.comes c.in_err-send.ensures.broke)))
-
-pub returns-in_err-tire-clause-broke : goal.returns-in_err-tire-clause-broke
-returns-in_err-tire-clause-broke g c =
-    let now = c.max-now.result in
-    let given = given_of c.args.self.now.dialler.phase now c.args.input in
-    let old = trail_of c.args.self.now [] in
-    let happened = trail_of c.apply_happening.new.self c.apply_happening.new.actions.items in
-    let first = subst (λ items. Comes now given (trail_of c.args.self.now items) happened) c.new-actions.ensures.items
-    c.in_ok-apply_happening.ensures.comes in
-    let new = view_of c.tire.new.self.asker.follower.client in
-    let renewed = trail_of c.renew.new.self c.renew.new.actions.items in
-    let left = trail_of c.give_up.new.self c.give_up.new.actions.items in
-    let sent = trail_of c.send.new.self c.send.new.actions.items in
-    err_always c.from_residual-in_err-tire.result
-    (after_comes now given old happened new first (after_comes now [] happened renewed new (c.in_ok-renew.ensures.comes now)
-    (after_comes now [] renewed left new c.in_ok-give_up.ensures.comes
-    (after_comes now [] left sent new c.in_ok-send.ensures.comes c.in_err-tire.ensures.broke))))
-
-pub returns-in_err-dial-clause-broke : goal.returns-in_err-dial-clause-broke
-returns-in_err-dial-clause-broke g c =
-    let now = c.max-now.result in
-    let given = given_of c.args.self.now.dialler.phase now c.args.input in
-    let old = trail_of c.args.self.now [] in
-    let happened = trail_of c.apply_happening.new.self c.apply_happening.new.actions.items in
-    let first = subst (λ items. Comes now given (trail_of c.args.self.now items) happened) c.new-actions.ensures.items
-    c.in_ok-apply_happening.ensures.comes in
-    let new = view_of c.dial.new.self.asker.follower.client in
-    let renewed = trail_of c.renew.new.self c.renew.new.actions.items in
-    let left = trail_of c.give_up.new.self c.give_up.new.actions.items in
-    let sent = trail_of c.send.new.self c.send.new.actions.items in
-    let tired = trail_of c.tire.new.self c.tire.new.actions.items in
-    err_always c.from_residual-in_err-dial.result
-    (after_comes now given old happened new first (after_comes now [] happened renewed new (c.in_ok-renew.ensures.comes now)
-    (after_comes now [] renewed left new c.in_ok-give_up.ensures.comes
-    (after_comes now [] left sent new c.in_ok-send.ensures.comes (after_comes now [] sent tired new c.in_ok-tire.ensures.tired.comes
-    (beside tired.timeout tired.view new (ap (λ (a : Asker g.row.A.Denot). view_of a.follower.client) c.dial.ensures.asker)))))))
+    let old = trail_of c.args.self.now in
+    let grown = trail_of c.grow.new.self c.grow.new.actions.items in
+    err_always c.from_residual-in_err-take.result
+    (after_comes now [] (old []) grown (view_of c.take.new.self.asker.follower.client)
+    (subst (λ items. Comes now [] (old items) grown) c.new-actions.ensures.items c.in_ok-grow.ensures.comes)
+    c.in_err-take.ensures.broke)
