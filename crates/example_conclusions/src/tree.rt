@@ -4,27 +4,26 @@
 use crate::Program;
 use anyhow::Result;
 use std::alloc::Global;
-use std::collections::BTreeMap;
 use std::io::Write;
-use zk_client::{Client, DataAnswer, Event, Mark, Path, Side};
-use zk_conclusions::{Lacking, NoSubtree, Subtree};
-use zk_driver::{Action, Driver};
+use zk_client::{Client, DataAnswer, Mark, Path};
+use zk_conclusions::{NoSubtree, Subtree};
+use zk_driver::{Action, Driver, TreeNews};
 use zk_fence::Fence;
 use zk_link::{Clock, Dial};
 
 /// The most nodes that there may be.
 const MOST_NODES: usize = 10_000;
 
-/// The nodes that a driver follows, each by its path with the ticket of its data, which is one below that of its names; and what was known
-/// last of all of them, at which zxid.
+/// The ticket of the tree, and of the data of its root.
+const TICKET: u64 = 0;
+
+/// A root, whether a driver follows all nodes at and below it, and what was known last of them.
 #[derive(Drop)]
 pub struct Tree {
     alloc: Global,
     root: Path,
-    followed: BTreeMap<String, u64>,
-    ticket: u64,
+    is_followed: bool,
     line: Vec<u8>,
-    zxid: Option<i64>,
 }
 
 /// Whether it is known that there is no node.
@@ -32,6 +31,15 @@ fn is_absent(client: &Client, node: &Path) -> bool {
     matches!(
         client.peek_data(node),
         Some((DataAnswer::Absent, Mark::Good))
+    )
+}
+
+/// Whether the tree may be another one by what is told: all of it is known, there are too many nodes, or there is no root.
+fn is_of_tree(action: &Action) -> bool {
+    matches!(
+        action,
+        Action::Tree(TreeNews::Whole { .. } | TreeNews::Bounded { .. })
+            | Action::Shown { ticket: TICKET }
     )
 }
 
@@ -54,10 +62,8 @@ impl Tree {
         Tree {
             alloc,
             root,
-            followed: BTreeMap::new(alloc),
-            ticket: 0,
+            is_followed: false,
             line: Vec::new(alloc),
-            zxid: None,
         }
     }
 
@@ -76,25 +82,23 @@ impl Tree {
         Ok(Some(line))
     }
 
-    /// Looks at what is known, unless all of it was known at this zxid already: then it is the same. One node that is known to be gone is
-    /// followed no more: it went before it was read, or between two sessions.
-    fn look<D: Dial + Drop, C: Clock + Drop, W: Write>(
+    /// Follows the tree, unless that is done.
+    fn follow<D: Dial + Drop, C: Clock + Drop>(
         &mut self,
         driver: &mut Driver<'_, Global, D, C>,
-        store: &mut Fence,
-        out: &mut W,
     ) -> Result<()> {
-        let zxid = driver.client().last_zxid();
-        if self.zxid == Some(zxid) {
-            return Ok(());
+        if !self.is_followed {
+            let root = Path::new(self.alloc, self.root.as_str())?;
+            driver.follow_tree(TICKET, root, MOST_NODES as u64)?;
+            self.is_followed = true;
         }
-        let Some(line) = self.shown(driver.client())? else {
-            return self.take_on_all(driver);
-        };
-        self.zxid = Some(zxid);
-        self.print_if_changed(line, zxid, store, out)?;
-        match self.gone(driver.client())? {
-            Some(node) => self.let_go(driver, node.as_str()),
+        Ok(())
+    }
+
+    /// Prints what is known, where all of it is.
+    fn look<W: Write>(&mut self, client: &Client, store: &mut Fence, out: &mut W) -> Result<()> {
+        match self.shown(client)? {
+            Some(line) => self.print_if_changed(line, client.last_zxid(), store, out),
             None => Ok(()),
         }
     }
@@ -115,64 +119,6 @@ impl Tree {
         out.write_all(self.line.as_slice())?;
         out.write_all(b"\n").map_err(From::from)
     }
-
-    /// Follows each of these that is not followed: its data, and the names below it.
-    fn take_on<D: Dial + Drop, C: Clock + Drop>(
-        &mut self,
-        driver: &mut Driver<'_, Global, D, C>,
-        nodes: Vec<Path>,
-    ) -> Result<()> {
-        for node in nodes {
-            if self.followed.contains_key(node.as_str()) {
-                continue;
-            }
-            let data = self.ticket;
-            self.ticket = data.saturating_add(2);
-            let text = String::from_str(self.alloc, node.as_str())?;
-            self.followed.insert(text, data)?;
-            let names = Path::new(self.alloc, node.as_str())?;
-            driver.follow(data, Side::Data, node)?;
-            driver.follow(data.saturating_add(1), Side::Child, names)?;
-        }
-        Ok(())
-    }
-
-    /// Follows what is lacking.
-    fn take_on_all<D: Dial + Drop, C: Clock + Drop>(
-        &mut self,
-        driver: &mut Driver<'_, Global, D, C>,
-    ) -> Result<()> {
-        let lacking = Lacking::of(driver.client(), self.alloc, &self.root, MOST_NODES)?;
-        self.take_on(driver, lacking.data)?;
-        self.take_on(driver, lacking.names)
-    }
-
-    /// Of the nodes that are followed one that is known to be gone, if there is one.
-    fn gone(&self, client: &Client) -> Result<Option<Path>> {
-        for text in self.followed.keys() {
-            let node = Path::new(self.alloc, text.as_str())?;
-            if text.as_str() != self.root.as_str() && is_absent(client, &node) {
-                return Ok(Some(node));
-            }
-        }
-        Ok(None)
-    }
-
-    /// Follows a node no more, unless it is the root.
-    fn let_go<D: Dial + Drop, C: Clock + Drop>(
-        &mut self,
-        driver: &mut Driver<'_, Global, D, C>,
-        node: &str,
-    ) -> Result<()> {
-        if node == self.root.as_str() {
-            return Ok(());
-        }
-        if let Some(data) = self.followed.remove(node) {
-            driver.unfollow(data)?;
-            driver.unfollow(data.saturating_add(1))?;
-        }
-        Ok(())
-    }
 }
 
 impl Program for Tree {
@@ -183,19 +129,11 @@ impl Program for Tree {
         store: &mut Fence,
         out: &mut W,
     ) -> Result<()> {
-        self.take_on_all(driver)?;
+        self.follow(driver)?;
         for _ in 0..u64::MAX {
             let acted = match driver.next(until)? {
-                Some(Action::Shown { .. }) => self.look(driver, store, out),
-                Some(
-                    Action::Report {
-                        path,
-                        event: Event::Deleted,
-                        ..
-                    },
-                ) => self.let_go(driver, path.as_str()),
+                Some(action) if is_of_tree(&action) => self.look(driver.client(), store, out),
                 Some(Action::Renewed) => {
-                    self.zxid = None;
                     self.line.clear();
                     out.write_all(b"another session\n").map_err(From::from)
                 }

@@ -1,5 +1,5 @@
 -- What servers in memory do, as acts: each clause of `Bench` is a step that the servers of a connection may take.
-use Rattle.std.proofs.Common.{◌≡◌, ℕ, inl, inr, true, false, [], ap, append-nil, refl, sym}
+use Rattle.std.proofs.Common.{◌≡◌, inl, inr, true, false, [], ap, append-nil, refl, sym}
 use Rattle.std.specs.Prelude.{slice_index}
 use Rattle.std.proofs.lemmas.List.{take-append-drop}
 use Rattle.theory_serving.specs.Shown.{more_requests, Open}

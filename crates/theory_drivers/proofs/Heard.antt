@@ -3,7 +3,7 @@
 use Rattle.std.proofs.Common.{◌≡◌, ◌≤◌, ◌++◌, ◌∙◌, ℕ, Bool, true, false, ◌&&◌, List, [], ◌∷◌, length, map, ap, append-nil, append_assoc}
 use Rattle.std.proofs.Common.{refl, sym, subst}
 use Rattle.std.specs.Prelude.{fold, slice_index_or}
-use Rattle.std.specs.List.{flat_map, list_any, AllByRecursion, FoldsTo}
+use Rattle.std.specs.List.{flat_map, list_any, FoldsTo}
 use Rattle.std.proofs.lemmas.List.Sums.{fold-append}
 use Rattle.zk_session.specs.declared.states.State.{State}
 use Rattle.zk_conversation.specs.Calls.{Call}

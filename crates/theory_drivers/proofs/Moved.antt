@@ -26,10 +26,11 @@ use Rattle.zk_dialler.specs.declared.dialler.DialDue.TheVariants.{Dial, GiveUp}
 use Rattle.zk_dialler.specs.Dialling.{is_open, DialsWell}
 use Rattle.zk_calls.specs.declared.entry.Ending.TheVariants as ending
 use Rattle.zk_agent.specs.Agents.{is_given, Addressed, Asks, Closes, Decides, Does, Ended, Follows, GivesUp, Hands, Hears, HearsSo, HungUp}
+use Rattle.zk_agent.specs.Agents.{Tends}
 use Rattle.zk_agent.specs.Agents.{LeavesWhere, Move, Opened, Renews, Tires, Trail, Unfollows}
 use Rattle.zk_agent.specs.Calls.{closings, endings}
 use Rattle.zk_agent.specs.Replies.{heard_in, is_lost}
-use Rattle.zk_agent.specs.Telling.{due_told, Begins, Dials, HangsUp, Says, Told}
+use Rattle.zk_agent.specs.Telling.{due_told, Begins, Dials, HangsUp, Says, TellsTree, Told}
 use Rattle.zk_agent.proofs.Moves.{ours_is_open}
 use Rattle.zk_driver.specs.Driving.{carried, ChannelView}
 use Rattle.theory_serving.specs.Shown.{connected, Shown}
@@ -189,6 +190,8 @@ module _ {A : Type 0} (channel : ChannelView) (held : List ℕ) (shown : Shown) 
   move_here Closes old new does plain later k =
       same_here old new (ap (λ (t : Trail A). t.view) does.last)
       (told_more old new (closings old.line) (ap (λ (t : Trail A). t.told) does.last) ∙ closings_keep (left_by channel old) old.line) k
+  move_here (Tends one) old new does plain later k =
+      same_here old new (ap (λ (t : Trail A). t.view) does) (told_more old new (TellsTree one ∷ []) (ap (λ (t : Trail A). t.told) does)) k
 
   -- ---- where the client has no connection
 
@@ -293,6 +296,9 @@ module _ {A : Type 0} (channel : ChannelView) (held : List ℕ) (shown : Shown) 
   move_idle Closes old new does plain k idle =
       same_idle old new (ap (λ (t : Trail A). t.view) does.last)
       (told_more old new (closings old.line) (ap (λ (t : Trail A). t.told) does.last) ∙ closings_keep (left_by channel old) old.line) idle
+  move_idle (Tends one) old new does plain k idle =
+      same_idle old new (ap (λ (t : Trail A). t.view) does)
+      (told_more old new (TellsTree one ∷ []) (ap (λ (t : Trail A). t.told) does)) idle
 
   -- ---- a connection that the client has is there
 
@@ -365,6 +371,8 @@ module _ {A : Type 0} (channel : ChannelView) (held : List ℕ) (shown : Shown) 
       due_tied due old.view.saved.session.timeout now old new does.dials (ap (λ (t : Trail A). t.view) does.last) tied
   move_tied Closes old new does free k tied =
       same_tied old new (ap (λ (t : Trail A). t.view) does.last) (ap (λ (t : Trail A). t.dialler.phase) does.last) tied
+  move_tied (Tends one) old new does free k tied =
+      same_tied old new (ap (λ (t : Trail A). t.view) does) (ap (λ (t : Trail A). t.dialler.phase) does) tied
 
 -- ---- the timeout of later sessions stays
 
@@ -388,6 +396,7 @@ stays_by {A} HungUp old new does = ap (λ (t : Trail A). t.timeout) does
 stays_by {A} (Addressed count) old new does = ap (λ (t : Trail A). t.timeout) does.1
 stays_by {A} (Decides now due) old new does = ap (λ (t : Trail A). t.timeout) does.last
 stays_by {A} Closes old new does = ap (λ (t : Trail A). t.timeout) does.last
+stays_by {A} (Tends one) old new does = ap (λ (t : Trail A). t.timeout) does
 
 -- ---- moves, one after the other
 

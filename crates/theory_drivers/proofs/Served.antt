@@ -1,5 +1,5 @@
 -- A driver's deeds, one after the other, keep its client served.
-use Rattle.std.proofs.Common.{◌≡◌, ◌≤◌, ◌++◌, ◌∙◌, ℕ, Bool, true, false, List, [], ◌∷◌, Option, Some, None, length, map, ap, append-nil}
+use Rattle.std.proofs.Common.{◌≡◌, ◌≤◌, ◌++◌, ◌∙◌, ℕ, Bool, true, false, List, [], ◌∷◌, Option, Some, None, length, ap, append-nil}
 use Rattle.std.proofs.Common.{refl, sym, subst}
 use Rattle.std.specs.Prelude.{◌&&◌, not, max}
 use Rattle.std.specs.List.{AllByRecursion, FoldsTo}
@@ -23,7 +23,6 @@ use Rattle.theory_serving.proofs.Views.{first_session, good_session}
 use Rattle.zk_conclusions.specs.Seen.{IsServedFrom}
 use Rattle.zk_agent.specs.declared.input.AgentInput.{AgentInput}
 use Rattle.zk_agent.specs.declared.input.AgentInput.TheVariants as happens
-use Rattle.zk_agent.specs.Telling.{Told}
 use Rattle.zk_agent.specs.Agents.{bytes_at, given_of, opened_at, trail_of, Ended, Hears, HungUp, Move, Opened, Trail}
 use Rattle.zk_driver.specs.Driving.{closed, opened, ChannelView, Course, Looked, Noted, Takes, Written}
 use Rattle.zk_link.specs.FarEnds.{FarEnd, Reaches}
@@ -248,6 +247,8 @@ noted_bound now (happens.Addresses count) old new before after carries meets bou
 noted_bound now (happens.Call ticket call until) old new before after carries meets bound = absurd carries.0.1
 noted_bound now (happens.Follow ticket side path) old new before after carries meets bound = absurd carries.0.1
 noted_bound now (happens.Unfollow ticket) old new before after carries meets bound = absurd carries.0.1
+noted_bound now (happens.FollowTree ticket root most) old new before after carries meets bound = absurd carries.0.1
+noted_bound now (happens.UnfollowTree ticket) old new before after carries meets bound = absurd carries.0.1
 
 asked_bound : {A : Type 0} {far : FarEnd} (now : ℕ) (input : AgentInput A) (old new : Flow A far) (before : Shown)
     (carries : Carries old (Asked now input) new) → Bound old before → Bound new before
@@ -268,6 +269,12 @@ asked_bound now (happens.Follow ticket side path) old new before carries bound =
 asked_bound now (happens.Unfollow ticket) old new before carries bound =
     plain_bound old new now (happens.Unfollow ticket) old.course.channel carries.0 carries.4 before bound _ refl
     (tt, (tt, tt)) refl carries.3
+asked_bound now (happens.FollowTree ticket root most) old new before carries bound =
+    plain_bound old new now (happens.FollowTree ticket root most) old.course.channel carries.0 carries.4 before bound _ refl
+    (tt, tt) refl carries.3
+asked_bound now (happens.UnfollowTree ticket) old new before carries bound =
+    plain_bound old new now (happens.UnfollowTree ticket) old.course.channel carries.0 carries.4 before bound _ refl
+    (tt, tt) refl carries.3
 
 deed_bound : {A : Type 0} {far : FarEnd} (deed : Deed A) (old new : Flow A far) (before after : Shown) (carries : Carries old deed new)
     → Befalls ByDriver old deed new before after → Bound old before
@@ -362,6 +369,8 @@ befalls_driver (Made (Noted now (happens.Addresses count))) old new before after
 befalls_driver (Made (Noted now (happens.Call ticket call until))) old new before after carries meets = meets
 befalls_driver (Made (Noted now (happens.Follow ticket side path))) old new before after carries meets = meets
 befalls_driver (Made (Noted now (happens.Unfollow ticket))) old new before after carries meets = meets
+befalls_driver (Made (Noted now (happens.FollowTree ticket root most))) old new before after carries meets = meets
+befalls_driver (Made (Noted now (happens.UnfollowTree ticket))) old new before after carries meets = meets
 befalls_driver (Asked now input) old new before after carries meets = meets
 
 pub meets_driver : {A : Type 0} {far : FarEnd} (steps : List (Option (Deed A))) (old new : Flow A far)

@@ -11,6 +11,8 @@ pub asked_patiently : {A : Type 0} (now : ℕ) (input : AgentInput A) (course : 
 asked_patiently now (happens.Call ticket call until) course asked quiet = quiet
 asked_patiently now (happens.Follow ticket side path) course asked quiet = quiet
 asked_patiently now (happens.Unfollow ticket) course asked quiet = quiet
+asked_patiently now (happens.FollowTree ticket root most) course asked quiet = quiet
+asked_patiently now (happens.UnfollowTree ticket) course asked quiet = quiet
 asked_patiently now (happens.Addresses count) course asked quiet = quiet
 asked_patiently now happens.Opened course asked quiet = absurd asked
 asked_patiently now happens.Failed course asked quiet = absurd asked

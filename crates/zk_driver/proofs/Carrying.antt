@@ -1,5 +1,6 @@
 -- What actions ask for, carried out one by one: what is done so far and what is left are all.
-use Rattle.std.proofs.Common.{◌≡◌, ◌++◌, append_assoc, append-nil, ℕ, Bool, true, false, List, [], ◌∷◌, Vec, refl, sym, ap, ◌∙◌}
+use Rattle.std.proofs.Common.{◌≡◌, ◌++◌, append_assoc, append-nil, ℕ, Bool, true, false, List, [], ◌∷◌, Vec, arith, length, refl, sym, ap}
+use Rattle.std.proofs.Common.{◌∙◌}
 use Rattle.std.specs.Prelude.{Option, Result, Ok, Err, OnOk, OnErr, if◌then◌else◌, fold, is_some}
 use Rattle.zk_agent.specs.Telling.{Told, action_view, told_by}
 use Rattle.zk_agent.specs.declared.action.Action.{Action}
@@ -69,3 +70,8 @@ extends_by false old new it is = ([], ap told_by is ∙ sym (append-nil (told_by
 -- a stream that is there after more is the one that was there
 pub stays_on : {S : Type 0} (a b c : Option S) → (is_some b ≡ true → b ≡ a) → (is_some c ≡ true → c ≡ b) → is_some c ≡ true → c ≡ a
 stays_on a b c first rest there = rest there ∙ first (sym (ap is_some (rest there)) ∙ there)
+
+-- what has no length is nothing
+pub none_of : {X : Type 0} (xs : List X) → length xs ≡ 0 → xs ≡ []
+none_of [] none = refl
+none_of (x ∷ xs) none = absurd (omega (arith, none))

@@ -15,6 +15,7 @@ use Rattle.zk_agent.specs.Agents.{given_of, heard_after, how_many_asked, how_man
 use Rattle.zk_agent.specs.Agents.{IsShut, NothingAt}
 use Rattle.zk_agent.specs.Calls.{how_many, IsInTime, IsServed}
 use Rattle.zk_agent.specs.Telling.{Told, Says, Dials, HangsUp, action_view, told_by}
+use Rattle.zk_agent.specs.Trees.{GoesOn}
 use Rattle.zk_link.specs.Written.{IsLeftOf}
 use Rattle.zk_driver.specs.declared.channel.Attempt.{Attempt}
 use Rattle.zk_driver.specs.declared.channel.Channel.{Channel}
@@ -127,8 +128,8 @@ IsPatient now _ course = course.channel.is_open ≡ true → 0 < now → Nothing
 
 -- The agent takes an input that was noticed at a moment, and what comes from outside is that: each subject is followed then, each call is
 -- settled once or waits, none waits past its limit or after a close, no server is kept that leaves a call or a ping without its answer for
--- two thirds of the timeout, a session that has expired is over, and what was due of the connection is done. What it says is carried out,
--- or put after what the program is told, each in its order.
+-- two thirds of the timeout, a session that has expired is over, what was due of the connection is done, and trees were tended. What it
+-- says is carried out, or put after what the program is told, each in its order.
 pub record Takes {A : Type 0} (now : ℕ) (input : AgentInput A) (old new : Course A) : Type 0 where
   pub patient : IsPatient now input old
   pub actions : List (Action A)
@@ -146,6 +147,7 @@ pub record Takes {A : Type 0} (now : ℕ) (input : AgentInput A) (old new : Cour
       → IsDecided (max old.agent.latest now) (trail_of new.agent actions)
   pub latest : new.agent.latest ≡ max old.agent.latest now
   pub heard : new.agent.heard_at ≡ heard_after (is_open old.agent.dialler.phase) (max old.agent.latest now) input old.agent.heard_at
+  pub trees : GoesOn (max old.agent.latest now) input old.agent new.agent actions
   pub channel : new.channel ≡ fold carried old.channel (told_by actions)
   pub told : new.told ≡ old.told ++ filter is_passed (told_by actions)
 
@@ -184,6 +186,8 @@ abbrev pub IsAsked : {A : Type 0} → AgentInput A → Type 0
 IsAsked (happens.Call ticket call until) = ⊤
 IsAsked (happens.Follow ticket side path) = ⊤
 IsAsked (happens.Unfollow ticket) = ⊤
+IsAsked (happens.FollowTree ticket root most) = ⊤
+IsAsked (happens.UnfollowTree ticket) = ⊤
 IsAsked (happens.Addresses count) = ⊤
 IsAsked _ = ⊥
 

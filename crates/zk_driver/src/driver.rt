@@ -137,6 +137,33 @@ impl<'a, A: Allocator + Copy, D: Dial + Drop, C: Clock + Drop> Driver<'a, A, D, 
         self.hand(AgentInput::Unfollow { ticket })
     }
 
+    /// Follows a tree: the data of the root, the names below it, and those of each node below it, as they come to be known. Where there
+    /// are more than `most` nodes, no more are taken on. [`Action::Tree`] tells which sides of nodes are followed for it, and when nothing
+    /// is lacking of it. The data of the root have this ticket, which no other call or subject has or had; all else has tickets from 2^63
+    /// on, which no program uses.
+    pub fn follow_tree(&mut self, ticket: u64, root: Path<A>, most: u64) -> Result<(), Stop>
+        ensures hands { OnOk result
+            (Hands (happens.FollowTree ticket root most) (course_of self.old.engine None) (course_of self.new.engine None)) }
+        ensures flows { OnOk result (Flows (flow_of D.Stream.remaining D.Stream.contents D.Stream.far D.Stream.state self.old.engine None)
+            (flow_of D.Stream.remaining D.Stream.contents D.Stream.far D.Stream.state self.new.engine None)) }
+        ensures kept { Extends (told_by self.old.engine.waiting.items) (told_by self.new.engine.waiting.items) }
+        ensures broke { OnErr result (IsBroken self.old.engine.agent self.new.engine.agent) }
+    {
+        self.hand(AgentInput::FollowTree { ticket, root, most })
+    }
+
+    /// Follows the tree of this ticket no more.
+    pub fn unfollow_tree(&mut self, ticket: u64) -> Result<(), Stop>
+        ensures hands { OnOk result
+            (Hands (happens.UnfollowTree ticket) (course_of self.old.engine None) (course_of self.new.engine None)) }
+        ensures flows { OnOk result (Flows (flow_of D.Stream.remaining D.Stream.contents D.Stream.far D.Stream.state self.old.engine None)
+            (flow_of D.Stream.remaining D.Stream.contents D.Stream.far D.Stream.state self.new.engine None)) }
+        ensures kept { Extends (told_by self.old.engine.waiting.items) (told_by self.new.engine.waiting.items) }
+        ensures broke { OnErr result (IsBroken self.old.engine.agent self.new.engine.agent) }
+    {
+        self.hand(AgentInput::UnfollowTree { ticket })
+    }
+
     /// Asks a call: it is answered once, by [`Action::Answer`], or times out once, at this moment of the clock where there is one. No other
     /// call or subject has or had the ticket.
     pub fn ask(&mut self, ticket: u64, call: Call<A>, until: Option<u64>) -> Result<(), Stop>

@@ -24,3 +24,4 @@ pub use stop::Stop;
 pub use turn::Turn;
 pub use zk_agent::{Action, Agent, Settings};
 pub use zk_follow::Refusal;
+pub use zk_trees::TreeNews;

@@ -29,6 +29,7 @@ returns-clause-hands g c = record {
     dials = c.in-Ok.ensures.dials;
     latest = c.in-Ok.ensures.latest;
     heard = c.in-Ok.ensures.heard;
+    trees = c.in-Ok.ensures.trees;
     channel = c.in-Ok-carry_all.ensures.channel;
     told = c.in-Ok-carry_all.ensures.waiting;
   };
