@@ -210,7 +210,7 @@ enum dw_code DW_AS_INT32 {
  *   DW_KIND_SHOWN     what is kept of the subject with this ticket is good: look it up. It was not, or its path was reported since.
  *   DW_KIND_REFUSED   a read of the subject with this ticket was refused: refusal says why, with the code of DW_REFUSAL_CODE. It is read
  *                     again after a second, and this is told once for each new reason.
- * What it says of trees comes after all else that it says of a step:
+ * It says these of trees, each in its place among the others:
  *   DW_KIND_TAKEN_ON  a side of a node is followed for the tree with the ticket tree, by this ticket: side; the text is the path.
  *   DW_KIND_LET_GO    what this ticket follows for that tree is followed no more: there is no such node, or the tree is followed no more.
  *   DW_KIND_BOUNDED   whether the tree with this ticket has more nodes than its bound is another than before: is_bounded. While it has, no more of
@@ -553,24 +553,23 @@ enum dw_result dw_session_follow_names(dw_session *handle, uint64_t now_ms, uint
 /* The subject of this ticket is followed no more. */
 enum dw_result dw_session_unfollow(dw_session *handle, uint64_t now_ms, uint64_t ticket);
 
-/* A tree is followed: all nodes at and below a path, the root, of which no more are taken on where there are more than `most`. Trees are tended in a
- * step in which something was shown or reported, or after it: then each side of a node that good names lead to from the root on, and that lacks a
- * good answer, is followed, unless it is known that there is no such node; a node below the root of which that is known is let go. Then trees rest
- * for a millisecond for each thousand sides that are followed, since tending goes over all of them, and dw_session_deadline counts that. The data
- * of the root have the ticket of the tree. All else has tickets from 2^63 on, which a program uses for nothing else. That there is no root is shown
- * by DW_KIND_SHOWN of its ticket, and its making is waited for. The root is read in the same step. DW_OK, or what dw_session_follow_data answers. */
+/* A tree is followed: all nodes at and below a path, the root, of which no more are taken on where there are more than `most`. After a step that
+ * told that a node of it was shown, or a path reported that begins with that of the root, it is tended as the next step begins, which
+ * dw_session_deadline counts as due at once: then each side of a node that good names lead to from the root on, and that lacks a good answer, is
+ * followed, unless it is known that there is no such node; a node below the root of which that is known is let go. Then trees rest for a millisecond
+ * for each thousand sides that are followed, since tending goes over all of them, and dw_session_deadline counts that too. The data of the root have
+ * the ticket of the tree. All else has tickets from 2^63 on, which a program uses for nothing else. That there is no root is shown by DW_KIND_SHOWN
+ * of its ticket, and its making is waited for. The root is read in the same step. DW_OK, or what dw_session_follow_data answers. */
 enum dw_result dw_session_follow_tree(dw_session *handle, uint64_t now_ms, uint64_t ticket, const char *path, size_t path_length,
                                       size_t most);
 
 /* The tree of this ticket is followed no more, nor is any node that was taken on for it. Where there is none, the moment alone is noticed. */
 enum dw_result dw_session_unfollow_tree(dw_session *handle, uint64_t now_ms, uint64_t ticket);
 
-/* Writes what is told next of the last step: its actions, and then what is said of trees. DW_OK, DW_NONE where all was told, DW_CLOSED; then out is
- * as it was. */
+/* Writes what is told next of the last step. DW_OK, DW_NONE where all was told, DW_CLOSED; then out is as it was. */
 enum dw_result dw_session_next(dw_session *handle, dw_output *out);
 
-/* These give the text of what was told last, and the names and the words of the action that was told last, as dw_copy, dw_name, dw_names and
- * dw_words do. */
+/* These give the text, the names and the words of what was told last, as dw_copy, dw_name, dw_names and dw_words do. */
 size_t dw_session_copy(dw_session *handle, size_t from, void *out, size_t room);
 size_t dw_session_name(dw_session *handle, size_t index, char *out, size_t room);
 enum dw_result dw_session_names(dw_session *handle, uint8_t *out, size_t room, size_t *count);

@@ -8,8 +8,7 @@ use Rattle.ffi_device.specs.declared.refusal.DeviceRefusal.TheVariants.{NotWhole
 use Rattle.ffi_device.specs.Codes.{refusal_code}
 use Rattle.ffi_agent_device.specs.declared.device.AgentDevice.{AgentDevice}
 use Rattle.ffi_agent_device.specs.Happenings.{Happening}
-use Rattle.ffi_agent_device.specs.Steps.{Plant, Steps}
-use Rattle.zk_nodes.specs.Path.{Text}
+use Rattle.ffi_agent_device.specs.Steps.{Steps}
 
 pub refuses : (Refuses : ℤ → Type 0) (now : ℕ) (what : Happening) (device : AgentDevice) (refusal : DeviceRefusal)
     → Refuses (refusal_code refusal) → (Refuses (negsuc 0) → ⊥) → Steps Refuses now what device (refusal_code refusal) device
@@ -23,16 +22,3 @@ refuses Refuses now what device NotSaved is goes_on = (is, refl)
 refuses Refuses now what device NotWhole is goes_on = (is, refl)
 refuses Refuses now what device TooMany is goes_on = (is, refl)
 refuses Refuses now what device NotTexts is goes_on = (is, refl)
-
-pub plants_none : (Refuses : ℤ → Type 0) (now ticket : ℕ) (root : Text) (most : ℕ) (device : AgentDevice) (refusal : DeviceRefusal)
-    → Refuses (refusal_code refusal) → (Refuses (negsuc 0) → ⊥) → Plant Refuses now ticket root most device (refusal_code refusal) device
-plants_none Refuses now ticket root most device Halted is goes_on = absurd (goes_on is)
-plants_none Refuses now ticket root most device Memory is goes_on = (is, refl)
-plants_none Refuses now ticket root most device NotText is goes_on = (is, refl)
-plants_none Refuses now ticket root most device NotPath is goes_on = (is, refl)
-plants_none Refuses now ticket root most device BadTimeout is goes_on = (is, refl)
-plants_none Refuses now ticket root most device NoSuchMode is goes_on = (is, refl)
-plants_none Refuses now ticket root most device NotSaved is goes_on = (is, refl)
-plants_none Refuses now ticket root most device NotWhole is goes_on = (is, refl)
-plants_none Refuses now ticket root most device TooMany is goes_on = (is, refl)
-plants_none Refuses now ticket root most device NotTexts is goes_on = (is, refl)

@@ -1,4 +1,4 @@
--- All outputs that wait to be told, as bytes: actions, and then news of trees.
+-- All outputs that wait to be told, as bytes.
 use Rattle.std.specs.Prelude.{◌≡◌, ◌≤◌, ◌<◌, ◌++◌, ℕ, ℤ, List, drop, length, map, Some}
 use Rattle.std.specs.Int.{w64, cast_signed}
 use Rattle.std.specs.List.{flat_map, AllByRecursion}
@@ -8,10 +8,9 @@ use Rattle.zk_nodes.specs.StatLayout.{stat}
 use Rattle.zk_agent.specs.declared.action.Action.{Action}
 use Rattle.ffi_device.specs.declared.flat.Flat.{Flat}
 use Rattle.ffi_device.specs.declared.flat.FlatStat.{FlatStat}
-use Rattle.ffi_agent_device.specs.Flats.{action_flat, action_text, news_flat, news_text}
+use Rattle.ffi_agent_device.specs.Flats.{action_flat, action_text}
 use Rattle.ffi_agent_device.specs.Outputs.{names_in, words_of}
 use Rattle.ffi_agent_device.specs.declared.device.AgentDevice.{AgentDevice}
-use Rattle.ffi_agent_device.specs.declared.tree.TreeNews.{TreeNews}
 
 -- ---- one output
 
@@ -82,12 +81,9 @@ bytes_of action = action_text action ++ (joined (names_in (Some action)) ++ word
 abbrev pub action_output : {A : Type 0} → Action A → Flat × List ℕ
 action_output action = (action_flat action, bytes_of action)
 
-abbrev pub news_output : TreeNews → Flat × List ℕ
-news_output news = (news_flat news, news_text news)
-
 -- the outputs that wait to be told, in the order in which they are told one at a time
-abbrev pub waiting : {A : Type 0} → (said : List (Action A)) (read : ℕ) (news : List TreeNews) (its : ℕ) → List (Flat × List ℕ)
-waiting said read news its = map action_output (drop read said) ++ map news_output (drop its news)
+abbrev pub waiting : {A : Type 0} → (said : List (Action A)) (read : ℕ) → List (Flat × List ℕ)
+waiting said read = map action_output (drop read said)
 
 -- The bytes are these outputs, one after the other.
 pub record AreOutputs (outputs : List (Flat × List ℕ)) (text : List ℕ) : Type 0 where
@@ -97,15 +93,13 @@ pub record AreOutputs (outputs : List (Flat × List ℕ)) (text : List ℕ) : Ty
 -- Where there is room for all that wait, they are written, at the front, and told. Else nothing is. The count says how much room they want.
 pub record WritesOutputs (before : AgentDevice) (room written : List ℕ) (count : ℕ) (after : AgentDevice) : Type 0 where
   pub text : List ℕ
-  pub are : AreOutputs (waiting before.said.items before.read before.news.items before.news_read) text
+  pub are : AreOutputs (waiting before.said.items before.read) text
   pub count_is : count ≡ length text
   pub whole : length text ≤ length room → written ≡ text ++ drop (length text) room
-  pub told : length text ≤ length room → (after.read ≡ length before.said.items) × (after.news_read ≡ length before.news.items)
+  pub told : length text ≤ length room → after.read ≡ length before.said.items
   pub short : length room < length text → written ≡ room
-  pub untold : length room < length text → (after.read ≡ before.read) × (after.news_read ≡ before.news_read)
+  pub untold : length room < length text → after.read ≡ before.read
   pub agent : after.agent ≡ before.agent
-  pub trees : after.trees ≡ before.trees
   pub said : after.said ≡ before.said
-  pub news : after.news ≡ before.news
   pub over : after.is_over ≡ before.is_over
   pub number : after.revision ≡ before.revision

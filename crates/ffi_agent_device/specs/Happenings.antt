@@ -15,6 +15,8 @@ pub data Happening : Type 0 where
   Calls : (ticket : ℕ) → Call → (until : Option ℕ) → Happening
   Follows : (ticket : ℕ) → Side → Text → Happening
   Unfollows : (ticket : ℕ) → Happening
+  FollowsTree : (ticket : ℕ) → Text → (most : ℕ) → Happening
+  UnfollowsTree : (ticket : ℕ) → Happening
 
 abbrev pub happening : {A : Type 0} → AgentInput A → Happening
 happening input.Opened = Opened
@@ -26,6 +28,8 @@ happening (input.Addresses count) = Addressed count
 happening (input.Call ticket call until) = Calls ticket (call_view call) until
 happening (input.Follow ticket side path) = Follows ticket side path
 happening (input.Unfollow ticket) = Unfollows ticket
+happening (input.FollowTree ticket root most) = FollowsTree ticket root most
+happening (input.UnfollowTree ticket) = UnfollowsTree ticket
 
 -- whether bytes came
 abbrev pub is_bytes : Happening → Bool

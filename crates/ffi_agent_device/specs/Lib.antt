@@ -6,4 +6,3 @@ pub mod Outputs
 pub mod Revisions
 pub mod Steps
 pub mod Taking
-pub mod Tending

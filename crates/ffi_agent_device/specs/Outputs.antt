@@ -1,4 +1,4 @@
--- What was said, one action at a time, and then what is told of trees.
+-- What was said, one action at a time.
 use Rattle.std.specs.Prelude.{ℕ, zero, suc, List, [], Option, Some, None}
 use Rattle.std.specs.Option.{option_map}
 use Rattle.std.specs.List.{slice_get}
@@ -6,35 +6,13 @@ use Rattle.zk_client.specs.FaultText.{fault_words}
 use Rattle.zk_client.specs.Views.{fault_view}
 use Rattle.zk_agent.specs.declared.action.Action.{Action}
 use Rattle.zk_agent.specs.declared.action.Action.TheVariants as action
-use Rattle.ffi_device.specs.Outputs.{outcome_name, outcome_names, read_after}
+use Rattle.ffi_device.specs.Outputs.{outcome_name, outcome_names}
 use Rattle.ffi_device.specs.declared.flat.Flat.{Flat}
-use Rattle.ffi_agent_device.specs.Flats.{action_flat, action_text, news_flat, news_text}
-use Rattle.ffi_agent_device.specs.declared.tree.TreeNews.{TreeNews}
+use Rattle.ffi_agent_device.specs.Flats.{action_flat, action_text}
 
--- ---- what is told next
-
--- the next action, as numbers
-abbrev pub next_action : {A : Type 0} → List (Action A) → (read : ℕ) → Option Flat
-next_action said read = option_map action_flat (slice_get said read)
-
--- the next news of a tree
-abbrev pub next_news : List TreeNews → (its : ℕ) → Option Flat
-next_news news its = option_map news_flat (slice_get news its)
-
--- news come after all actions
-abbrev pub first_of : (action news : Option Flat) → Option Flat
-first_of (Some flat) news = Some flat
-first_of None news = news
-
-abbrev pub next_of : {A : Type 0} → List (Action A) → (read : ℕ) → List TreeNews → (its : ℕ) → Option Flat
-next_of said read news its = first_of (next_action said read) (next_news news its)
-
--- how many news were read after one output was asked for
-abbrev pub news_read_after : (action news : Option Flat) → ℕ → ℕ
-news_read_after (Some flat) news its = its
-news_read_after None news its = read_after news its
-
--- ---- what was told last
+-- what is told next, as numbers
+abbrev pub next_of : {A : Type 0} → List (Action A) → (read : ℕ) → Option Flat
+next_of said read = option_map action_flat (slice_get said read)
 
 -- the action that was told last
 abbrev pub told : {A : Type 0} → List (Action A) → (read : ℕ) → Option (Action A)
@@ -46,18 +24,8 @@ abbrev pub text_if : {A : Type 0} → Option (Action A) → List ℕ
 text_if None = []
 text_if (Some action) = action_text action
 
--- the news that were told last
-abbrev pub told_news : List TreeNews → (its : ℕ) → Option TreeNews
-told_news news zero = None
-told_news news (suc its) = slice_get news its
-
--- the text of what was told last: of news, where some were told, since they come after all actions
-abbrev pub text_of : {A : Type 0} → Option TreeNews → Option (Action A) → List ℕ
-text_of None action = text_if action
-text_of (Some one) action = news_text one
-
-abbrev pub told_text : {A : Type 0} → List (Action A) → (read : ℕ) → List TreeNews → (its : ℕ) → List ℕ
-told_text said read news its = text_of (told_news news its) (told said read)
+abbrev pub told_text : {A : Type 0} → List (Action A) → (read : ℕ) → List ℕ
+told_text said read = text_if (told said read)
 
 -- the words of why a connection is given up, where that was told last
 abbrev pub words_of : {A : Type 0} → Option (Action A) → List ℕ

@@ -1,11 +1,9 @@
--- When the revision of a session rises, and when its trees may be other ones.
+-- When the revision of a session rises.
 use Rattle.std.specs.Prelude.{ℕ, Bool, true, false, ◌||◌, List, if◌then◌else◌}
 use Rattle.std.specs.List.{list_any}
 use Rattle.zk_turns.specs.Turns as turns
 use Rattle.zk_conclusions.specs.Revisions.{raised}
 use Rattle.zk_agent.specs.Telling.{Told, Says, Begins}
-use Rattle.zk_agent.specs.declared.action.Action.{Action}
-use Rattle.zk_agent.specs.declared.action.Action.TheVariants as action
 
 -- whether another state is told, or another session
 abbrev pub is_another : Told → Bool
@@ -17,13 +15,3 @@ is_another _ = false
 -- comes after its call has timed out, and tells neither; both come in bytes.
 abbrev pub revised : (is_bytes : Bool) → List Told → ℕ → ℕ
 revised is_bytes told number = if is_bytes || list_any is_another told then raised number else number
-
--- whether it is said that what is kept of a subject is good, or that of a path it is so no more
-abbrev pub is_news : {A : Type 0} → Action A → Bool
-is_news (action.Shown ticket) = true
-is_news (action.Report path side event) = true
-is_news _ = false
-
--- how often steps had such actions, after one that had these
-abbrev pub counted : {A : Type 0} → List (Action A) → ℕ → ℕ
-counted actions number = if list_any is_news actions then raised number else number

@@ -3,12 +3,11 @@
 ghost use Rattle.std.specs.Prelude.{◌≡◌, ◌++◌, IfOk, OnErr, OnOk, Some, drop, map};
 ghost use Rattle.std.specs.List.{flat_map, AllByRecursion};
 ghost use Rattle.ffi_agent_device.specs.Outputs.{names_in, words_of};
-ghost use Rattle.ffi_agent_device.specs.AtOnce.{action_output, joined, news_output, output_bytes, spelled, waiting};
+ghost use Rattle.ffi_agent_device.specs.AtOnce.{action_output, joined, output_bytes, spelled, waiting};
 ghost use Rattle.ffi_agent_device.specs.AtOnce.{AreOutputs, FitsOutput, IsSpelled, WritesOutputs};
 
 use crate::device::AgentDevice;
-use crate::flat::{action_flat, action_text, news_flat, news_text};
-use crate::tree::TreeNews;
+use crate::flat::{action_flat, action_text};
 use ffi_device::{Flat, copy_into, outcome_names};
 use std::alloc::{AllocError, Global};
 use zk_agent::Action;
@@ -100,17 +99,6 @@ fn write_actions(
     Ok(())
 }
 
-// Writes these news at the end of the text.
-fn write_news(all: &[TreeNews], text: &mut Vec<u8>) -> Result<(), AllocError>
-    ensures ok { OnOk result (text.new.items ≡ text.old.items ++ flat_map output_bytes (map news_output all.now)) }
-    ensures fits { OnOk result (AllByRecursion FitsOutput (map news_output all.now)) }
-{
-    for news in all {
-        write_output(&news_flat(news), news_text(news), text)?;
-    }
-    Ok(())
-}
-
 impl AgentDevice {
     // The actions that were not told yet.
     fn unread_actions(&self) -> &[Action<Global>]
@@ -120,28 +108,17 @@ impl AgentDevice {
         &said[self.read.min(said.len())..]
     }
 
-    // The news that were not told yet.
-    fn unread_news(&self) -> &[TreeNews]
-        ensures { result.now ≡ drop self.now.news_read self.now.news.items }
-    {
-        let news = self.news.as_slice();
-        &news[self.news_read.min(news.len())..]
-    }
-
     // All that waits to be told.
-    #[tactic(auto, using(crate::proofs::AtOnce::both))]
     fn outputs_text(&self, alloc: Global) -> Result<Vec<u8>, AllocError>
-        ensures { IfOk result
-            (λ text. AreOutputs (waiting self.now.said.items self.now.read self.now.news.items self.now.news_read) text.items) }
+        ensures { IfOk result (λ text. AreOutputs (waiting self.now.said.items self.now.read) text.items) }
     {
         let mut text = Vec::new(alloc);
         write_actions(alloc, self.unread_actions(), &mut text)?;
-        write_news(self.unread_news(), &mut text)?;
         Ok(text)
     }
 
-    /// Writes all actions of the last step that were not told yet, and then the news of trees, where there is room for all: then they are
-    /// told. Else nothing is. Tells how many bytes they are. An error says that memory ran out.
+    /// Writes all actions of the last step that were not told yet, where there is room for all: then they are told. Else nothing is. Tells
+    /// how many bytes they are. An error says that memory ran out.
     pub fn outputs(&mut self, alloc: Global, room: &mut [u8]) -> Result<usize, AllocError>
         ensures written { IfOk result (λ count. WritesOutputs self.old room.old room.new count self.new) }
         ensures same { OnErr result ((room.new ≡ room.old) × (self.new ≡ self.old)) }
@@ -153,7 +130,6 @@ impl AgentDevice {
         }
         copy_into(text.as_slice(), room);
         self.read = self.said.len();
-        self.news_read = self.news.len();
         Ok(wanted)
     }
 }

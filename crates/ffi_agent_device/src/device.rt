@@ -1,6 +1,7 @@
 //! An agent with the actions of its last step.
 
-ghost use Rattle.std.specs.Prelude.{◌≡◌, ◌≢◌, ◌<ℤ◌, pos, false, true, [], IfErr, IfOk, OnErr, OnOk, Ok, Err, unsigned_abs};
+ghost use Rattle.std.specs.Prelude.{◌≡◌, ◌≢◌, ◌<◌, ◌<ℤ◌, ◌^◌, ℕ, pos, true, None, IfErr, IfOk, IfSome, OnOk, Ok, Err, unsigned_abs};
+ghost use Rattle.zk_session.specs.declared.states.State.TheVariants.{Closed};
 ghost use Rattle.zk_turns.specs.Turns.{new_start};
 ghost use Rattle.zk_client.specs.Clients.{view_of};
 ghost use Rattle.zk_client.specs.SavedSessions.{PutAway, bytes_read};
@@ -12,26 +13,20 @@ ghost use Rattle.ffi_device.specs.Codes.{code_of};
 ghost use Rattle.ffi_device.specs.Refused.{RefusesMemory, RefusesNothing, RefusesTimeout};
 ghost use Rattle.ffi_device.specs.Sessions.{put_start};
 ghost use Rattle.ffi_agent_device.specs.Happenings.{happening, Addressed, Bytes, Cut, Failed, Moment, Opened};
-ghost use Rattle.zk_agent.specs.Agents as agents;
-ghost use Rattle.zk_agent.specs.Agents.{IsBroken};
-ghost use Rattle.ffi_agent_device.specs.Taking.{begun, voice_of, MovesOn, StepsOn, Voice};
-ghost use Rattle.ffi_agent_device.specs.Tending.{TendsSo};
+ghost use Rattle.zk_agent.specs.Agents.{NothingAt};
 ghost use Rattle.ffi_agent_device.specs.Steps.{Dials, Forgot, Begins, BeginsWith, Stepped, Steps, Stopped};
 
-use crate::revisions::{count, is_bytes, revise};
-use crate::tree::{TreeNews, Trees};
+use crate::revisions::{is_bytes, revise};
 use ffi_device::{Device, DeviceRefusal};
 use std::alloc::Global;
 use zk_agent::{Action, Agent, AgentInput, Settings};
-use zk_client::{Client, Path, Side};
+use zk_client::Client;
 use zk_conclusions::Revision;
-use zk_follow::FollowerStop;
 
 /// An agent, what it said at its last step, how much of that was read, whether it goes on no further, since memory ran out within a step,
-/// and a number that rises where what its client shows may change; a count of the steps after which trees may be other ones, the trees that
-/// are followed, with what is told of them after what the agent said, and how much of that was read. Its methods stand by what they are
-/// about: calls in `calls`, what is followed in `subjects`, trees in `planting`, `tending` and `pacing`, what was said in `outputs`, and
-/// here what comes from a connection. What is kept is looked up by functions of `ffi_device` over the agent's client.
+/// and a number that rises where what its client shows may change. Its methods stand by what they are about: calls in `calls`, what is
+/// followed in `subjects`, what was said in `outputs`, and here what comes from a connection. What is kept is looked up by functions of
+/// `ffi_device` over the agent's client.
 #[derive(Drop)]
 pub struct AgentDevice {
     pub agent: Agent<Global>,
@@ -39,10 +34,6 @@ pub struct AgentDevice {
     pub read: usize,
     pub is_over: bool,
     pub revision: Revision,
-    pub changes: Revision,
-    pub trees: Trees,
-    pub news: Vec<TreeNews, Global>,
-    pub news_read: usize,
 }
 
 impl AgentDevice {
@@ -120,119 +111,26 @@ impl AgentDevice {
                 read: 0,
                 is_over: false,
                 revision: Revision::new(),
-                changes: Revision::new(),
-                trees: Trees::new(alloc),
-                news: Vec::new(alloc),
-                news_read: 0,
             }),
             Err(_) => Err(DeviceRefusal::Memory),
         }
     }
 
-    // Memory ran out, within this step or an earlier one. Nothing is told, and the revision is the one after that of before the step.
-    pub(crate) fn stop(&mut self, revision: Revision) -> DeviceRefusal
+    // Memory ran out, within this step or an earlier one. Nothing is told.
+    fn stop(&mut self) -> DeviceRefusal
         ensures halted { result ≡ refusals.Halted }
         ensures over { self.new.is_over ≡ true }
-        ensures silent { self.new.said.items ≡ [] }
-        ensures untold { self.new.news.items ≡ [] }
-        ensures number { self.new.revision.number ≡ raised revision.number }
+        ensures said { self.new.said ≡ self.old.said }
+        ensures number { self.new.revision.number ≡ raised self.old.revision.number }
         ensures agent { self.new.agent ≡ self.old.agent }
     {
-        self.begin_step();
-        self.revision = revision;
+        self.is_over = true;
         self.revision.raise();
         DeviceRefusal::Halted
     }
 
-    // A step begins: what was said and told before is forgotten. Until it has ended well, the agent goes on no further.
-    pub(crate) fn begin_step(&mut self)
-        ensures voice { voice_of self.new ≡ begun (voice_of self.old) }
-        ensures trees { self.new.trees ≡ self.old.trees }
-        ensures said { self.new.said.items ≡ [] }
-        ensures news { self.new.news.items ≡ [] }
-        ensures over { self.new.is_over ≡ true }
-        ensures client { self.new.agent.asker.follower.client ≡ self.old.agent.asker.follower.client }
-        ensures timeout { self.new.agent.timeout_ms ≡ self.old.agent.timeout_ms }
-    {
-        self.said.clear();
-        self.news.clear();
-        self.is_over = true;
-    }
-
-    // A step has ended well. None of what was said was read yet.
-    pub(crate) fn end_step(&mut self)
-        ensures voice { voice_of self.new ≡ voice_of self.old }
-        ensures trees { self.new.trees ≡ self.old.trees }
-        ensures read { self.new.read ≡ 0 }
-        ensures news_read { self.new.news_read ≡ 0 }
-        ensures over { self.new.is_over ≡ false }
-    {
-        self.read = 0;
-        self.news_read = 0;
-        self.is_over = false;
-    }
-
-    // One step of the agent, whose actions come after those that were said.
-    pub(crate) fn step_on(
-        &mut self,
-        now: u64,
-        input: AgentInput<Global>,
-    ) -> Result<(), FollowerStop>
-        ensures steps { OnOk result (StepsOn now input (voice_of self.old) (voice_of self.new)) }
-        ensures trees { self.new.trees ≡ self.old.trees }
-        ensures broke { OnErr result (IsBroken self.old.agent self.new.agent) }
-    {
-        let is_bytes = is_bytes(&input);
-        let mut said = self.agent.step(now, input)?;
-        revise(&mut self.revision, is_bytes, said.as_slice());
-        count(&mut self.changes, said.as_slice());
-        if self.said.append(&mut said).is_err() {
-            return Err(FollowerStop::Memory);
-        }
-        Ok(())
-    }
-
-    // A subject is followed from the agent's next step on. It is none, so that nothing is said.
-    pub(crate) fn add_subject(
-        &mut self,
-        ticket: u64,
-        side: Side,
-        path: Path<Global>,
-    ) -> Result<(), FollowerStop>
-        ensures moves { OnOk result (MovesOn (agents.Follows ticket side path) (voice_of self.old) (voice_of self.new)) }
-        ensures trees { self.new.trees ≡ self.old.trees }
-        ensures client { self.new.agent.asker.follower.client ≡ self.old.agent.asker.follower.client }
-        ensures timeout { self.new.agent.timeout_ms ≡ self.old.agent.timeout_ms }
-    {
-        if self.agent.add_subject(ticket, side, path).is_err() {
-            return Err(FollowerStop::Memory);
-        }
-        Ok(())
-    }
-
-    // A subject is followed no more. It is no step either.
-    pub(crate) fn remove_subject(&mut self, ticket: u64)
-        ensures moves { MovesOn (agents.Unfollows ticket) (voice_of self.old) (voice_of self.new) }
-        ensures trees { self.new.trees ≡ self.old.trees }
-        ensures client { self.new.agent.asker.follower.client ≡ self.old.agent.asker.follower.client }
-        ensures timeout { self.new.agent.timeout_ms ≡ self.old.agent.timeout_ms }
-    {
-        self.agent.remove_subject(ticket);
-    }
-
-    // One step of the agent, and then trees are tended.
-    fn advance(&mut self, now: u64, input: AgentInput<Global>) -> Result<(), FollowerStop>
-        ensures advances { OnOk result ((between : Voice) × StepsOn now input (voice_of self.old) between
-            × TendsSo now self.old.trees.pace self.old.trees.all.items self.new.trees.pace self.new.trees.all.items
-            between (voice_of self.new)) }
-        ensures broke { OnErr result (IsBroken self.old.agent self.new.agent) }
-    {
-        self.step_on(now, input)?;
-        self.tend(now)
-    }
-
-    /// Takes an input that is noticed at this moment, and then tends trees. What was said before is forgotten. The one refusal is `Halted`,
-    /// which each later step answers too.
+    /// Takes an input that is noticed at this moment. What was said before is forgotten. The one refusal is `Halted`, which each later step
+    /// answers too.
     pub(crate) fn step_at(
         &mut self,
         now: u64,
@@ -241,18 +139,18 @@ impl AgentDevice {
         ensures stepped { OnOk result (Stepped now (happening input) self.old self.new) }
         ensures stopped { IfErr result (λ refusal. (refusal ≡ refusals.Halted) × Stopped self.old self.new) }
     {
-        let revision = self.revision;
+        self.said.clear();
+        self.read = 0;
         if self.is_over {
-            return Err(self.stop(revision));
+            return Err(self.stop());
         }
-        self.begin_step();
-        match self.advance(now, input) {
-            Ok(()) => {
-                self.end_step();
-                Ok(())
-            }
-            Err(_) => Err(self.stop(revision)),
-        }
+        let is_bytes = is_bytes(&input);
+        let Ok(said) = self.agent.step(now, input) else {
+            return Err(self.stop());
+        };
+        revise(&mut self.revision, is_bytes, said.as_slice());
+        self.said = said;
+        Ok(())
     }
 
     /// The connection that was asked for is there.
@@ -296,6 +194,17 @@ impl AgentDevice {
         ensures { Forgot self.old self.new }
     {
         self.agent.forget_stale();
+    }
+
+    /// The first moment at which something is due: at the latest then a step is to be made, if nothing else happens. It may be past, and
+    /// there is none where nothing will be due, as after a close.
+    pub fn deadline(&self) -> Option<u64>
+        ensures before { IfSome result (λ first. (moment : ℕ) → moment < 2 ^ 64 → moment < first → NothingAt self.now.agent moment) }
+        ensures due { IfSome result (λ first. ¬ (NothingAt self.now.agent first)) }
+        ensures never { result ≡ None → (moment : ℕ) → moment < 2 ^ 64 → NothingAt self.now.agent moment }
+        ensures closed { (view_of self.now.agent.asker.follower.client).standing.state ≡ Closed → result ≡ None }
+    {
+        self.agent.deadline()
     }
 
     /// The list of addresses is another one, of this many.

@@ -4,7 +4,6 @@ ghost use Rattle.std.specs.Prelude.{◌≡◌, pos};
 ghost use Rattle.ffi_device.specs.Flats.{plain, side_number};
 ghost use Rattle.ffi_agent_device.specs.Flats.{action_flat, action_text, news_flat, news_text, refusal_flat};
 
-use crate::tree::TreeNews;
 use ffi_device::{
     Flat, answer_flat, drop_flat, outcome_text, plain, report_flat, send_flat, state_flat,
 };
@@ -12,6 +11,7 @@ use std::alloc::Global;
 use zk_agent::Action;
 use zk_client::Side;
 use zk_follow::Refusal;
+use zk_trees::TreeNews;
 
 // An action of this kind that is about the call or the subject of a ticket.
 fn about(flat: Flat, ticket: u64) -> Flat
@@ -48,42 +48,6 @@ fn dial_flat(place: usize, within_ms: u64) -> Flat
     flat
 }
 
-/// An action, as numbers.
-pub(crate) fn action_flat(action: &Action<Global>) -> Flat
-    ensures { result ≡ action_flat action.now }
-{
-    match action {
-        Action::Dial { place, within_ms } => dial_flat(*place, *within_ms),
-        Action::HangUp => plain(7, 0),
-        Action::Send(bytes) => send_flat(bytes.as_slice()),
-        Action::Answer { ticket, outcome } => answer_flat(*ticket, outcome),
-        Action::TimedOut { ticket, was_sent } => {
-            let mut flat = about(plain(8, 0), *ticket);
-            flat.is_null = *was_sent;
-            flat
-        }
-        Action::Report { path, side, event } => report_flat(path.as_bytes(), *side, *event),
-        Action::State(state) => state_flat(*state),
-        Action::GivenUp(fault) => drop_flat(*fault),
-        Action::Renewed => plain(9, 0),
-        Action::Shown { ticket } => about(plain(10, 0), *ticket),
-        Action::Refused { ticket, why } => about(refusal_flat(*why), *ticket),
-    }
-}
-
-/// The text of an action: a frame, data, a path or the code of a fault, and else nothing.
-pub(crate) fn action_text(action: &Action<Global>) -> &[u8]
-    ensures { result.now ≡ action_text action.now }
-{
-    match action {
-        Action::Send(bytes) => bytes.as_slice(),
-        Action::Answer { outcome, .. } => outcome_text(outcome),
-        Action::Report { path, .. } => path.as_bytes(),
-        Action::GivenUp(fault) => fault.code().as_bytes(),
-        _ => b"",
-    }
-}
-
 // The number of a side.
 fn side_number(side: Side) -> i32
     ensures { result ≡ side_number side }
@@ -113,8 +77,8 @@ fn taken_on_flat(tree: u64, ticket: u64, side: Side, length: usize) -> Flat
     flat
 }
 
-/// News of a tree, as numbers.
-pub(crate) fn news_flat(news: &TreeNews) -> Flat
+// News of a tree, as numbers.
+fn news_flat(news: &TreeNews<Global>) -> Flat
     ensures { result ≡ news_flat news.now }
 {
     match news {
@@ -134,12 +98,50 @@ pub(crate) fn news_flat(news: &TreeNews) -> Flat
     }
 }
 
-/// The text of what is told of a tree: the path of what is taken on, and else nothing.
-pub(crate) fn news_text(news: &TreeNews) -> &[u8]
+// The text of what is told of a tree: the path of what is taken on, and else nothing.
+fn news_text(news: &TreeNews<Global>) -> &[u8]
     ensures { result.now ≡ news_text news.now }
 {
     match news {
         TreeNews::TakenOn { path, .. } => path.as_str().as_bytes(),
+        _ => b"",
+    }
+}
+
+/// An action, as numbers.
+pub(crate) fn action_flat(action: &Action<Global>) -> Flat
+    ensures { result ≡ action_flat action.now }
+{
+    match action {
+        Action::Dial { place, within_ms } => dial_flat(*place, *within_ms),
+        Action::HangUp => plain(7, 0),
+        Action::Send(bytes) => send_flat(bytes.as_slice()),
+        Action::Answer { ticket, outcome } => answer_flat(*ticket, outcome),
+        Action::TimedOut { ticket, was_sent } => {
+            let mut flat = about(plain(8, 0), *ticket);
+            flat.is_null = *was_sent;
+            flat
+        }
+        Action::Report { path, side, event } => report_flat(path.as_bytes(), *side, *event),
+        Action::State(state) => state_flat(*state),
+        Action::GivenUp(fault) => drop_flat(*fault),
+        Action::Renewed => plain(9, 0),
+        Action::Shown { ticket } => about(plain(10, 0), *ticket),
+        Action::Refused { ticket, why } => about(refusal_flat(*why), *ticket),
+        Action::Tree(news) => news_flat(news),
+    }
+}
+
+/// The text of an action: a frame, data, a path or the code of a fault, and else nothing.
+pub(crate) fn action_text(action: &Action<Global>) -> &[u8]
+    ensures { result.now ≡ action_text action.now }
+{
+    match action {
+        Action::Send(bytes) => bytes.as_slice(),
+        Action::Answer { outcome, .. } => outcome_text(outcome),
+        Action::Report { path, .. } => path.as_bytes(),
+        Action::GivenUp(fault) => fault.code().as_bytes(),
+        Action::Tree(news) => news_text(news),
         _ => b"",
     }
 }

@@ -8,12 +8,7 @@ mod calls;
 mod device;
 mod flat;
 mod outputs;
-mod pacing;
-mod planting;
 mod revisions;
 mod subjects;
-mod tending;
-mod tree;
 
 pub use device::AgentDevice;
-pub use tree::{Tree, TreeNews, Trees};

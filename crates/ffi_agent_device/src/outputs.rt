@@ -1,31 +1,25 @@
-//! What was said, one action at a time, and then what is told of trees.
+//! What was said, one action at a time.
 
 ghost use Rattle.std.specs.Prelude.{◌≡◌, ◌++◌, IfOk, OnErr, drop, length, string_bytes, take};
 ghost use Rattle.std.specs.Option.{option_map};
 ghost use Rattle.ffi_device.specs.Kept.{WritesText};
 ghost use Rattle.ffi_device.specs.Outputs.{read_after};
 ghost use Rattle.ffi_device.specs.Texts.{AreTexts};
-ghost use Rattle.ffi_agent_device.specs.Outputs.{news_read_after, next_action, next_news, next_of, text_if, told, told_name, told_names};
-ghost use Rattle.ffi_agent_device.specs.Outputs.{told_news, told_text, told_words};
+ghost use Rattle.ffi_agent_device.specs.Outputs.{next_of, told, told_name, told_names, told_text, told_words};
 
 use crate::device::AgentDevice;
-use crate::flat::{action_flat, action_text, news_flat, news_text};
-use crate::tree::TreeNews;
+use crate::flat::{action_flat, action_text};
 use ffi_device::{Flat, copy_into, outcome_name, outcome_names};
 use std::alloc::{AllocError, Global};
 use zk_agent::Action;
 
 impl AgentDevice {
-    /// The next action of the last step, as numbers; where all were told, the next news of a tree. The one before is over.
+    /// The next action of the last step, as numbers. The one before is over.
     pub fn next(&mut self) -> Option<Flat>
-        ensures next { result ≡ next_of self.old.said.items self.old.read self.old.news.items self.old.news_read }
+        ensures next { result ≡ next_of self.old.said.items self.old.read }
         ensures agent { self.new.agent ≡ self.old.agent }
-        ensures trees { self.new.trees ≡ self.old.trees }
         ensures said { self.new.said ≡ self.old.said }
-        ensures news { self.new.news ≡ self.old.news }
-        ensures read { self.new.read ≡ read_after (next_action self.old.said.items self.old.read) self.old.read }
-        ensures news_read { self.new.news_read ≡ news_read_after (next_action self.old.said.items self.old.read)
-            (next_news self.old.news.items self.old.news_read) self.old.news_read }
+        ensures read { self.new.read ≡ read_after result self.old.read }
         ensures over { self.new.is_over ≡ self.old.is_over }
         ensures number { self.new.revision ≡ self.old.revision }
     {
@@ -33,28 +27,6 @@ impl AgentDevice {
             Some(action) => {
                 let flat = action_flat(action);
                 self.read += 1;
-                Some(flat)
-            }
-            None => self.next_news(),
-        }
-    }
-
-    // The next news of a tree, as numbers.
-    fn next_news(&mut self) -> Option<Flat>
-        ensures next { result ≡ next_news self.old.news.items self.old.news_read }
-        ensures agent { self.new.agent ≡ self.old.agent }
-        ensures trees { self.new.trees ≡ self.old.trees }
-        ensures said { self.new.said ≡ self.old.said }
-        ensures news { self.new.news ≡ self.old.news }
-        ensures read { self.new.read ≡ self.old.read }
-        ensures news_read { self.new.news_read ≡ read_after result self.old.news_read }
-        ensures over { self.new.is_over ≡ self.old.is_over }
-        ensures number { self.new.revision ≡ self.old.revision }
-    {
-        match self.news.as_slice().get(self.news_read) {
-            Some(news) => {
-                let flat = news_flat(news);
-                self.news_read += 1;
                 Some(flat)
             }
             None => None,
@@ -72,8 +44,8 @@ impl AgentDevice {
     }
 
     // The text of the action that was told last, and nothing where none was told.
-    fn action_text(&self) -> &[u8]
-        ensures { result.now ≡ text_if (told self.now.said.items self.now.read) }
+    fn told_text(&self) -> &[u8]
+        ensures { result.now ≡ told_text self.now.said.items self.now.read }
     {
         match self.told() {
             Some(action) => action_text(action),
@@ -81,39 +53,18 @@ impl AgentDevice {
         }
     }
 
-    // The news that were told last.
-    fn told_news(&self) -> Option<&TreeNews>
-        ensures { option_map (λ news. news.now) result ≡ told_news self.now.news.items self.now.news_read }
-    {
-        if self.news_read == 0 {
-            return None;
-        }
-        self.news.as_slice().get(self.news_read - 1)
-    }
-
-    // The text of what was told last, and nothing where nothing was told.
-    fn told_text(&self) -> &[u8]
-        ensures { result.now ≡ told_text self.now.said.items self.now.read self.now.news.items self.now.news_read }
-    {
-        match self.told_news() {
-            Some(news) => news_text(news),
-            None => self.action_text(),
-        }
-    }
-
-    /// Copies the text of what was told last, from this place on, as much of it as there is room for, and tells how many
+    /// Copies the text of the action that was told last, from this place on, as much of it as there is room for, and tells how many
     /// bytes there are from there on.
     pub fn copy_text(&self, from: usize, room: &mut [u8]) -> usize
-        ensures count { result ≡ length (drop from (told_text self.now.said.items self.now.read self.now.news.items self.now.news_read)) }
-        ensures copied { room.new
-            ≡ take (length room.old) (drop from (told_text self.now.said.items self.now.read self.now.news.items self.now.news_read))
-            ++ drop (length (drop from (told_text self.now.said.items self.now.read self.now.news.items self.now.news_read))) room.old }
+        ensures count { result ≡ length (drop from (told_text self.now.said.items self.now.read)) }
+        ensures copied { room.new ≡ take (length room.old) (drop from (told_text self.now.said.items self.now.read))
+            ++ drop (length (drop from (told_text self.now.said.items self.now.read))) room.old }
     {
         let text = self.told_text();
         copy_into(&text[from.min(text.len())..], room)
     }
 
-    /// The words of why a connection is given up, where that is the action that was told last. An error says that memory ran out.
+    /// The words of why a connection is given up, where that was told last. An error says that memory ran out.
     pub fn words(&self, alloc: Global) -> Result<String<Global>, AllocError>
         ensures { IfOk result (λ words. string_bytes words ≡ told_words self.now.said.items self.now.read) }
     {

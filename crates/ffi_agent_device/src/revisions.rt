@@ -1,9 +1,9 @@
-//! When the revision of a session rises, and when its trees may be other ones.
+//! When the revision of a session rises.
 
 ghost use Rattle.std.specs.Prelude.{◌≡◌};
 ghost use Rattle.std.specs.List.{list_any};
 ghost use Rattle.zk_agent.specs.Telling.{action_view, told_by};
-ghost use Rattle.ffi_agent_device.specs.Revisions.{counted, is_another, is_news, revised};
+ghost use Rattle.ffi_agent_device.specs.Revisions.{is_another, revised};
 ghost use Rattle.ffi_agent_device.specs.Steps.{happening, is_bytes};
 
 use std::alloc::Global;
@@ -36,27 +36,5 @@ pub(crate) fn revise(revision: &mut Revision, is_bytes: bool, actions: &[Action<
 {
     if is_bytes || has_another(actions) {
         revision.raise();
-    }
-}
-
-/// Whether it is said that what is kept of a subject is good, or that of a path it is so no more.
-fn is_news(action: &Action<Global>) -> bool
-    ensures { result ≡ is_news action.now }
-{
-    matches!(action, Action::Shown { .. } | Action::Report { .. })
-}
-
-fn has_news(actions: &[Action<Global>]) -> bool
-    ensures { result ≡ list_any is_news actions.now }
-{
-    actions.iter().any(|action| is_news(action))
-}
-
-/// Counts a step that had such actions.
-pub(crate) fn count(changes: &mut Revision, actions: &[Action<Global>])
-    ensures { changes.new.number ≡ counted actions.now changes.old.number }
-{
-    if has_news(actions) {
-        changes.raise();
     }
 }

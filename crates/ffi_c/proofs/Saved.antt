@@ -1,5 +1,5 @@
 -- Bytes that are no saved session are so for another reason than want of memory.
-use Rattle.std.proofs.Common.{◌≡◌, Bool, true, false, List, [], ◌∷◌, ◌++◌, ℕ, ℤ, pos, Option, Some, None, length, refl, sym, ap, subst, ◌∙◌}
+use Rattle.std.proofs.Common.{◌≡◌, Bool, true, false, List, [], ◌∷◌, ℕ, ℤ, pos, Some, None, length, refl, sym, ap, ◌∙◌}
 use Rattle.std.proofs.Common.{true≢false}
 use Rattle.std.specs.Prelude.{◌≢◌, Result, Ok, Err, if◌then◌else◌, int_lt, nat_lt}
 use Rattle.zk_jute.specs.Layout.{Value}

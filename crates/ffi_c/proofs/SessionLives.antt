@@ -1,38 +1,30 @@
 -- The whole life of a session's handle, use by use: each leaves a session that is sound, by what its agent's calls ensure.
-use Rattle.std.proofs.Common.{◌≡◌, ◌++◌, ℕ, zero, suc, ℤ, pos, negsuc, List, [], ◌∷◌, Option, Some, None, refl, sym, ap, subst, ◌∙◌}
+use Rattle.std.proofs.Common.{◌≡◌, ℕ, zero, suc, ℤ, pos, negsuc, List, [], ◌∷◌, Option, Some, None, refl, sym, ap, subst, ◌∙◌}
 use Rattle.std.proofs.Common.{true≢false}
 use Rattle.std.proofs.lemmas.List.Elements.{All-nil}
-use Rattle.std.specs.Prelude.{◌==◌, Bool, true, false, Result, Ok, Err, IfSome, All, unsigned_abs}
+use Rattle.std.specs.Prelude.{Bool, true, false, Result, Ok, Err, IfSome, All, unsigned_abs}
 use Rattle.zk_turns.specs.Turns.{Start, new_start}
 use Rattle.zk_turns.specs.View.{View, view_at}
 use Rattle.zk_turns.specs.Rule.{Stands}
 use Rattle.zk_client.specs.Clients.{view_of}
 use Rattle.zk_client.specs.SavedSessions.{PutAway, bytes_read}
 use Rattle.zk_client.specs.declared.saved_fault.SavedFault.{SavedFault}
-use Rattle.std.specs.declared.alloc.Global.{Global}
-use Rattle.zk_nodes.specs.Path.{Text}
-use Rattle.zk_nodes.specs.declared.side.Side.{Side}
 use Rattle.zk_agent.specs.declared.agent.Agent.{Agent}
-use Rattle.zk_agent.specs.declared.input.AgentInput.{AgentInput}
-use Rattle.zk_agent.specs.declared.input.AgentInput.TheVariants as input
-use Rattle.zk_agent.specs.Agents.{Follows, IsLed, Trail, Unfollows}
+use Rattle.zk_agent.specs.Agents.{IsLed}
 use Rattle.zk_agent.specs.Calls.{IsInTime, IsServed}
 use Rattle.zk_calls.specs.declared.line.Line.{Line}
 use Rattle.zk_follow.specs.Following.{IsFollowed}
-use Rattle.ffi_device.specs.Refused.{RefusesPath, RefusesTimeout}
+use Rattle.ffi_device.specs.Refused.{RefusesTimeout}
 use Rattle.ffi_device.specs.Sessions.{put_start}
 use Rattle.ffi_device.specs.declared.flat.Flat.{Flat}
 use Rattle.ffi_agent_device.specs.Happenings.{Happening}
-use Rattle.ffi_agent_device.specs.Taking as taking
-use Rattle.ffi_agent_device.specs.Taking.{voice_of, AgentMoved, AreFollowed, StepsOn, Voice}
-use Rattle.ffi_agent_device.specs.Tending.{are_at_rest, bed_of, found, left}
+use Rattle.ffi_agent_device.specs.Taking.{AreFollowed}
 use Rattle.ffi_agent_device.specs.Steps as step
-use Rattle.ffi_agent_device.specs.Steps.{BeginsWith, Planted, Stepped, Uprooted}
-use Rattle.ffi_agent_device.proofs.Keeping.{all_keeps, each_followed, is_kept, plants_keep, so_followed, so_keeps, uproots_keep}
+use Rattle.ffi_agent_device.specs.Steps.{BeginsWith, Stepped}
 use Rattle.ffi_agent_device.specs.declared.device.AgentDevice.{AgentDevice}
 use Rattle.ffi_c.specs.Held.{Holds}
 use Rattle.ffi_c.specs.Sessions.{Makes, Tells, TellsAll, ForgetsStale}
-use Rattle.ffi_c.specs.SessionLives.{Use, Opens, Resumes, Steps, Plants, Uproots, Reads, ReadsAll, Forgets, Looks, Frees, Does}
+use Rattle.ffi_c.specs.SessionLives.{Use, Opens, Resumes, Steps, Reads, ReadsAll, Forgets, Looks, Frees, Does}
 use Rattle.ffi_c.specs.SessionLives.{Used, held_after, IsLife, IsSound, RefusesHappening, SoundForLife}
 
 -- the session of a handle, if it has one that goes on, is sound
@@ -70,78 +62,15 @@ resumed timeout saved code before after (Ok put) reads does session is on =
     made (RefusesTimeout timeout) (put_start timeout put) code after (does.0 put reads) session is on
 resumed timeout saved code before after (Err fault) reads does session is on = empty_holds_none session after (does.1 fault reads) is
 
--- what is sound of a session is so of its agent, but that each subject is followed
-pub record IsUpright (agent : Agent Global) : Type 0 where
-  pub led : IsLed (view_of agent.asker.follower.client)
-  pub served : All (IsServed (view_of agent.asker.follower.client)) agent.asker.line.entries.items
-  pub limits : All (IsInTime agent.latest) agent.asker.line.entries.items
-
-stands_of : (session : AgentDevice) → IsSound session → IsUpright session.agent
-stands_of session sound = record { led = sound.led; served = sound.served; limits = sound.limits }
-
-sound_of : (session : AgentDevice) → IsUpright session.agent → AreFollowed session.agent → IsSound session
-sound_of session stands followed = record { led = stands.led; followed = followed; served = stands.served; limits = stands.limits }
-
--- it is so after each step of an agent
-keeps : (now : ℕ) (given : AgentInput Global) (old new : Voice) → StepsOn now given old new → IsUpright old.agent → IsUpright new.agent
-keeps now given old new steps stands =
-    record { led = steps.took.comes.led stands.led; served = steps.took.served; limits = steps.took.limits }
-
--- and where a subject comes or goes
-alike : (before after : Agent Global) → view_of after.asker.follower.client ≡ view_of before.asker.follower.client
-    → after.asker.line.entries.items ≡ before.asker.line.entries.items → after.latest ≡ before.latest → IsUpright before → IsUpright after
-alike before after view line latest stands = record {
-  led = subst IsLed (sym view) stands.led;
-  served = subst (All (IsServed (view_of after.asker.follower.client))) (sym line)
-      (subst (λ (v : View). All (IsServed v) before.asker.line.entries.items) (sym view) stands.served);
-  limits = subst (All (IsInTime after.latest)) (sym line)
-      (subst (λ (l : ℕ). All (IsInTime l) before.asker.line.entries.items) (sym latest) stands.limits);
-}
-
-comes : (ticket : ℕ) (side : Side) (path : Text) (before after : Agent Global) → AgentMoved (Follows ticket side path) before after
-    → IsUpright before → IsUpright after
-comes ticket side path before after moved =
-    alike before after (ap (λ (t : Trail Global). t.view) moved.does) (ap (λ (t : Trail Global). t.line) moved.does) moved.latest
-
-goes : (ticket : ℕ) (before after : Agent Global) → AgentMoved (Unfollows ticket) before after → IsUpright before → IsUpright after
-goes ticket before after moved =
-    alike before after (ap (λ (t : Trail Global). t.view) moved.does) (ap (λ (t : Trail Global). t.line) moved.does) moved.latest
-
 stepped : (now : ℕ) (what : Happening) (old session : AgentDevice) → Sound (Some old) → Stepped now what old session → IsSound session
 stepped now what old session sound does =
-    let took = does.took in
-    let stood = stands_of old (sound old refl took.went_on) in
-    let between = keeps now does.given (taking.begun (voice_of old)) took.between took.steps stood in
-    let is_rest = are_at_rest now old.trees.pace took.between.changes in
-    sound_of session (so_keeps IsUpright comes goes now (keeps now input.Moment) is_rest old.trees.pace old.trees.all.items
-    session.trees.pace session.trees.all.items took.between (voice_of session) took.tends between)
-    (so_followed is_rest now old.trees.pace old.trees.all.items session.trees.pace session.trees.all.items took.between
-    (voice_of session) took.tends took.steps.took.followed)
-
-planted : (now ticket : ℕ) (root : Text) (most : ℕ) (old session : AgentDevice) → Sound (Some old)
-    → Planted now ticket root most old session → IsSound session
-planted now ticket root most old session sound does =
-    let stood = stands_of old (sound old refl does.went_on) in
-    let seeded = plants_keep IsUpright comes goes ticket root most (taking.begun (voice_of old))
-    (bed_of does.planted does.tree) does.plants stood in
-    let between = keeps now input.Moment does.planted does.between does.steps seeded in
-    let olds = old.trees.all.items ++ does.tree ∷ [] in
-    sound_of session (all_keeps IsUpright comes goes now (keeps now input.Moment) olds session.trees.all.items does.between
-    (voice_of session) does.tends between)
-    (each_followed now olds session.trees.all.items does.between (voice_of session) does.tends does.steps.took.followed)
-
-uprooted : (now ticket : ℕ) (old session : AgentDevice) → Sound (Some old) → Uprooted now ticket old session → IsSound session
-uprooted now ticket old session sound does =
-    let stood = stands_of old (sound old refl does.went_on) in
-    let bare = uproots_keep (λ (v : Voice). IsUpright v.agent) (is_kept IsUpright comes goes) (found ticket old.trees.all.items)
-    (taking.begun (voice_of old)) does.bare does.uproots stood in
-    let between = keeps now input.Moment does.bare does.between does.steps bare in
-    let is_rest = are_at_rest now old.trees.pace does.between.changes in
-    let olds = left ticket old.trees.all.items in
-    sound_of session (so_keeps IsUpright comes goes now (keeps now input.Moment) is_rest old.trees.pace olds
-    session.trees.pace session.trees.all.items does.between (voice_of session) does.tends between)
-    (so_followed is_rest now old.trees.pace olds session.trees.pace session.trees.all.items does.between (voice_of session)
-    does.tends does.steps.took.followed)
+    let took = does.took.took in
+    record {
+      led = took.comes.led (sound old refl does.took.went_on).led;
+      followed = took.followed;
+      served = took.served;
+      limits = took.limits;
+    }
 
 over_goes_on : {P : Type 0} (is_over : Bool) → is_over ≡ true → is_over ≡ false → P
 over_goes_on is_over over on = absurd (true≢false (sym over ∙ on))
@@ -157,34 +86,6 @@ steps now what (pos (suc n)) (Some old) after sound does session is on =
     sound session (ap Some (sym (in_held (step.Steps (RefusesHappening what) now what old (pos (suc n))) session after does is).1)) on
 steps now what (negsuc (suc n)) (Some old) after sound does session is on =
     sound session (ap Some (sym (in_held (step.Steps (RefusesHappening what) now what old (negsuc (suc n))) session after does is).1)) on
-
-plants : (now ticket : ℕ) (root : Text) (most : ℕ) (code : ℤ) (before after : Option AgentDevice)
-    → Sound before → Does before (Plants now ticket root most code) after → Sound after
-plants now ticket root most code None after sound does session is on = empty_holds_none session after does.empty is
-plants now ticket root most (pos zero) (Some old) after sound does session is on =
-    planted now ticket root most old session sound
-    (in_held (step.Plant (RefusesPath root) now ticket root most old (pos zero)) session after does is)
-plants now ticket root most (negsuc zero) (Some old) after sound does session is on =
-    over_goes_on session.is_over
-    (in_held (step.Plant (RefusesPath root) now ticket root most old (negsuc zero)) session after does is).over on
-plants now ticket root most (pos (suc n)) (Some old) after sound does session is on =
-    sound session
-    (ap Some (sym (in_held (step.Plant (RefusesPath root) now ticket root most old (pos (suc n))) session after does is).1)) on
-plants now ticket root most (negsuc (suc n)) (Some old) after sound does session is on =
-    sound session
-    (ap Some (sym (in_held (step.Plant (RefusesPath root) now ticket root most old (negsuc (suc n))) session after does is).1)) on
-
-uproots : (now ticket : ℕ) (code : ℤ) (before after : Option AgentDevice)
-    → Sound before → Does before (Uproots now ticket code) after → Sound after
-uproots now ticket code None after sound does session is on = empty_holds_none session after does.empty is
-uproots now ticket (pos zero) (Some old) after sound does session is on =
-    uprooted now ticket old session sound (in_held (step.Uproot now ticket old (pos zero)) session after does is)
-uproots now ticket (negsuc zero) (Some old) after sound does session is on =
-    over_goes_on session.is_over (in_held (step.Uproot now ticket old (negsuc zero)) session after does is).over on
-uproots now ticket (pos (suc n)) (Some old) after sound does session is on =
-    absurd (in_held (step.Uproot now ticket old (pos (suc n))) session after does is)
-uproots now ticket (negsuc (suc n)) (Some old) after sound does session is on =
-    absurd (in_held (step.Uproot now ticket old (negsuc (suc n))) session after does is)
 
 -- what is sound is so by its agent alone
 same_agent : (old session : AgentDevice) → session.agent ≡ old.agent → IsSound old → IsSound session
@@ -231,8 +132,6 @@ one : (used_by : Use) (before after : Option AgentDevice) → Sound before → D
 one (Opens timeout code) before after sound does = made (RefusesTimeout timeout) (new_start (unsigned_abs timeout)) code after does
 one (Resumes timeout saved code) before after sound does = resumed timeout saved code before after (bytes_read saved) refl does
 one (Steps now what code) before after sound does = steps now what code before after sound does
-one (Plants now ticket root most code) before after sound does = plants now ticket root most code before after sound does
-one (Uproots now ticket code) before after sound does = uproots now ticket code before after sound does
 one (Reads room told code) before after sound does = reads room told code before after sound does
 one (ReadsAll room written count code) before after sound does = reads_all room written count code before after sound does
 one (Forgets code) before after sound does = forgets code before after sound does

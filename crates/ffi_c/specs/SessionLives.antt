@@ -1,7 +1,6 @@
 -- The whole life of a session's handle: the functions that were called on it, with the numbers that they answered, and how its session
 -- stands.
 use Rattle.std.specs.Prelude.{◌≡◌, ⊤, ℕ, ℤ, false, List, [], ◌∷◌, Option, Some, None, Ok, Err, All, unsigned_abs}
-use Rattle.zk_nodes.specs.Path.{Text}
 use Rattle.zk_turns.specs.Turns.{new_start}
 use Rattle.zk_client.specs.Clients.{view_of}
 use Rattle.zk_client.specs.SavedSessions.{PutAway, bytes_read}
@@ -20,15 +19,13 @@ use Rattle.ffi_c.specs.Held.{Holds, IsClosed}
 use Rattle.ffi_c.specs.Lives.{RefusesCall}
 use Rattle.ffi_c.specs.Sessions.{Makes, Tells, TellsAll, ForgetsStale}
 
--- A function that was called on a handle, with what was handed in, and the number that it answered. `Steps` is that of each input, call and
--- subject, `Plants` that of dw_session_follow_tree and `Uproots` that of dw_session_unfollow_tree, `Reads` that of dw_session_next,
--- `ReadsAll` that of dw_session_outputs, `Forgets` that of dw_session_forget; `Looks` is that of those that leave the handle as it is.
+-- A function that was called on a handle, with what was handed in, and the number that it answered. `Steps` is that of each input, call,
+-- subject and tree, `Reads` that of dw_session_next, `ReadsAll` that of dw_session_outputs, `Forgets` that of dw_session_forget; `Looks` is
+-- that of those that leave the handle as it is.
 pub data Use : Type 0 where
   Opens : (timeout code : ℤ) → Use
   Resumes : (timeout : ℤ) → (saved : List ℕ) → (code : ℤ) → Use
   Steps : (now : ℕ) → Happening → (code : ℤ) → Use
-  Plants : (now ticket : ℕ) → (root : Text) → (most : ℕ) → (code : ℤ) → Use
-  Uproots : (now ticket : ℕ) → (code : ℤ) → Use
   Reads : (room told : Flat) → (code : ℤ) → Use
   ReadsAll : (room written : List ℕ) → (count : ℕ) → (code : ℤ) → Use
   Forgets : (code : ℤ) → Use
@@ -39,6 +36,7 @@ abbrev pub RefusesHappening : Happening → ℤ → Type 0
 RefusesHappening (happens.Bytes bytes) = RefusesMemory
 RefusesHappening (happens.Calls ticket asked until) = RefusesCall asked
 RefusesHappening (happens.Follows ticket side path) = RefusesPath path
+RefusesHappening (happens.FollowsTree ticket root most) = RefusesPath root
 RefusesHappening _ = RefusesNothing
 
 -- A closed handle stays closed, which is told; of one that holds a session this is so.
@@ -54,8 +52,6 @@ Does before (Resumes timeout saved code) after =
     ((put : PutAway) → bytes_read saved ≡ Ok put → Makes (RefusesTimeout timeout) (put_start timeout put) code after)
     × ((fault : SavedFault) → bytes_read saved ≡ Err fault → after ≡ None)
 Does before (Steps now what code) after = Drives (step.Steps (RefusesHappening what) now what) before code after
-Does before (Plants now ticket root most code) after = Drives (step.Plant (RefusesPath root) now ticket root most) before code after
-Does before (Uproots now ticket code) after = Drives (step.Uproot now ticket) before code after
 Does before (Reads room told code) after = Drives (λ session code. Tells session room code told) before code after
 Does before (ReadsAll room written count code) after = Drives (λ session. TellsAll session room written count) before code after
 Does before (Forgets code) after = Drives ForgetsStale before code after

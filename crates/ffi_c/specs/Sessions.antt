@@ -2,11 +2,11 @@
 use Rattle.std.specs.Prelude.{◌≡◌, ◌<◌, ◌^◌, ℕ, zero, suc, ℤ, pos, List, [], Option, Some, None}
 use Rattle.zk_turns.specs.Turns.{Start}
 use Rattle.zk_turns.specs.View.{view_at}
+use Rattle.zk_agent.specs.Agents.{NothingAt}
 use Rattle.ffi_agent_device.specs.declared.device.AgentDevice.{AgentDevice}
 use Rattle.ffi_agent_device.specs.AtOnce.{WritesOutputs}
-use Rattle.ffi_agent_device.specs.Outputs.{news_read_after, next_action, next_news, next_of}
+use Rattle.ffi_agent_device.specs.Outputs.{next_of}
 use Rattle.ffi_agent_device.specs.Steps.{BeginsWith, Forgot}
-use Rattle.ffi_agent_device.specs.Tending.{NothingDue}
 use Rattle.ffi_device.specs.Outputs.{read_after}
 use Rattle.ffi_device.specs.Refused.{RefusesMemory}
 use Rattle.ffi_device.specs.declared.flat.Flat.{Flat}
@@ -18,16 +18,12 @@ abbrev pub Makes : (Refuses : ℤ → Type 0) → Start → ℤ → Option Agent
 Makes Refuses start (pos zero) held = Holds held (BeginsWith (view_at start []))
 Makes Refuses start code held = Refuses code × (held ≡ None)
 
--- What is told next: an action, and where all were told, news of a tree. Nothing else changes than that one more was read.
+-- The next action is told. Nothing else changes than that one more was read.
 pub record Tells (before : AgentDevice) (room : Flat) (code : ℤ) (told : Flat) (after : AgentDevice) : Type 0 where
-  pub tells : TellsOf (next_of before.said.items before.read before.news.items before.news_read) room code told
+  pub tells : TellsOf (next_of before.said.items before.read) room code told
   pub agent : after.agent ≡ before.agent
-  pub trees : after.trees ≡ before.trees
   pub said : after.said ≡ before.said
-  pub news : after.news ≡ before.news
-  pub read : after.read ≡ read_after (next_action before.said.items before.read) before.read
-  pub news_read : after.news_read ≡ news_read_after (next_action before.said.items before.read)
-      (next_news before.news.items before.news_read) before.news_read
+  pub read : after.read ≡ read_after (next_of before.said.items before.read) before.read
   pub over : after.is_over ≡ before.is_over
   pub number : after.revision ≡ before.revision
 
@@ -45,8 +41,8 @@ pub record ForgetsStale (before : AgentDevice) (code : ℤ) (after : AgentDevice
 -- The first moment at which something is due, with 0; or that nothing will be due, with 1.
 abbrev pub FirstDue : AgentDevice → ℤ → ℕ → Type 0
 FirstDue session (pos zero) first =
-    ((moment : ℕ) → moment < 2 ^ 64 → moment < first → NothingDue session moment) × ¬ (NothingDue session first)
-FirstDue session (pos (suc zero)) first = (moment : ℕ) → moment < 2 ^ 64 → NothingDue session moment
+    ((moment : ℕ) → moment < 2 ^ 64 → moment < first → NothingAt session.agent moment) × ¬ (NothingAt session.agent first)
+FirstDue session (pos (suc zero)) first = (moment : ℕ) → moment < 2 ^ 64 → NothingAt session.agent moment
 FirstDue session code first = ⊥
 
 -- A moment, with 0; or that there is none, with 1, and then 0 is written.

@@ -68,8 +68,8 @@ static WAITS: [(u64, Event); 9] = [
     (13_000, Event::Notices),
 ];
 
-/// A tree is followed whose root is there: nothing is lacking of it when both sides have come. A node is made below, and is taken on. In
-/// the end all of it is let go.
+/// A tree is followed whose root is there: nothing is lacking of it when both sides have come, which is told at the step that is due then.
+/// A node is made below, and is taken on at such a step. In the end all of it is let go.
 static TREES: [(u64, Event); 7] = [
     (100, Event::Moment),
     (200, Event::Opens),
@@ -174,6 +174,34 @@ fn pass_on_actions(
     Ok(())
 }
 
+/// Makes a step where one is due at this moment. Whether one was.
+fn catch_up(device: &mut AgentDevice, now: u64, told: &mut String) -> Result<bool> {
+    let is_due = device.deadline().is_some_and(|moment| moment <= now);
+    if is_due {
+        let done = code_of(device.tick(now));
+        writeln!(told, "due: {done}")?;
+    }
+    Ok(is_due)
+}
+
+/// The bytes of the server come, if there are any. Whether there were.
+fn hear(
+    alloc: Global,
+    now: u64,
+    bench: &mut Bench<Global>,
+    device: &mut AgentDevice,
+    told: &mut String,
+) -> Result<bool> {
+    let bytes = bench.output(usize::MAX)?;
+    if bytes.is_empty() {
+        return Ok(false);
+    }
+    let heard = device.bytes_at(alloc, now, bytes.as_slice());
+    drop(bytes);
+    writeln!(told, "bytes: {}", code_of(heard))?;
+    Ok(true)
+}
+
 /// One event, and what comes of it.
 fn go(
     alloc: Global,
@@ -190,13 +218,9 @@ fn go(
     }
     for _ in 0..ANSWERS {
         pass_on_actions(device, bench, told)?;
-        let bytes = bench.output(usize::MAX)?;
-        if bytes.is_empty() {
+        if !hear(alloc, now, bench, device, told)? && !catch_up(device, now, told)? {
             return Ok(());
         }
-        let heard = device.bytes_at(alloc, now, bytes.as_slice());
-        drop(bytes);
-        writeln!(told, "bytes: {}", code_of(heard))?;
     }
     Ok(())
 }
@@ -212,7 +236,7 @@ fn play(
     for (now, event) in events {
         go(alloc, *event, *now, bench, device, told)?;
     }
-    match device.agent.deadline() {
+    match device.deadline() {
         Some(moment) => writeln!(told, "due at {moment}").map_err(From::from),
         None => told.push_str("nothing is due\n").map_err(From::from),
     }

@@ -100,13 +100,14 @@ fn watch<A: Allocator + Copy>(peer: &mut Peer<A>, number: usize, is_names: bool)
     let is_there = is_names || number % 2 == 0;
     ask(peer, number, is_names, is_there)?;
     let (alloc, xid) = (peer.alloc, peer.xid());
-    peer.receive_spelled(if is_names {
+    let spelled = if is_names {
         names(alloc, xid, 1)
     } else if is_there {
         data(alloc, xid, 1)
     } else {
         no_node(alloc, xid)
-    })?;
+    };
+    let _came = peer.receive_spelled(spelled)?;
     Ok(())
 }
 

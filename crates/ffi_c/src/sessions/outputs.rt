@@ -16,8 +16,7 @@ use ffi_device::{DeviceRefusal, Flat, copy_into};
 use ffi_handles::{Handle, take_value};
 use std::alloc::Global;
 
-/// Writes the next action of the last step, as numbers, and after the actions the next news of a tree. The one before is over. 1 says that
-/// there is none.
+/// Writes the next action of the last step, as numbers. The one before is over. 1 says that there is none.
 #[unsafe(no_mangle)]
 pub extern "C" fn dw_session_next(alloc: Global, handle: &mut DwSession, out: &mut Flat) -> i32
     ensures closed { handle.old.slot.held ≡ None → IsClosed result handle.new.slot.held × (out.new ≡ out.old) }
@@ -37,7 +36,7 @@ pub extern "C" fn dw_session_next(alloc: Global, handle: &mut DwSession, out: &m
     }
 }
 
-/// Copies the text of what was told last, from this place on, as much of it as there is room for, and tells how many
+/// Copies the text of the action that was told last, from this place on, as much of it as there is room for, and tells how many
 /// bytes there are from there on.
 #[unsafe(no_mangle)]
 pub extern "C" fn dw_session_copy(
@@ -48,10 +47,10 @@ pub extern "C" fn dw_session_copy(
 ) -> usize
     ensures closed { handle.old.slot.held ≡ None → (result ≡ 0) × (out.new ≡ out.old) }
     ensures count { (d : AgentDevice) → handle.old.slot.held ≡ Some d
-        → result ≡ length (drop from (told_text d.said.items d.read d.news.items d.news_read)) }
+        → result ≡ length (drop from (told_text d.said.items d.read)) }
     ensures copied { (d : AgentDevice) → handle.old.slot.held ≡ Some d
-        → out.new ≡ take (length out.old) (drop from (told_text d.said.items d.read d.news.items d.news_read))
-        ++ drop (length (drop from (told_text d.said.items d.read d.news.items d.news_read))) out.old }
+        → out.new ≡ take (length out.old) (drop from (told_text d.said.items d.read))
+        ++ drop (length (drop from (told_text d.said.items d.read))) out.old }
     ensures same { handle.new.slot.held ≡ handle.old.slot.held }
 {
     let Some(session) = take_value(alloc, handle) else {

@@ -3,7 +3,7 @@
 ghost use Rattle.std.specs.Prelude.{◌≡◌, Some, None};
 ghost use Rattle.ffi_agent_device.specs.declared.device.AgentDevice.{AgentDevice};
 ghost use Rattle.zk_nodes.specs.declared.side.Side.TheVariants.{Child, Data};
-ghost use Rattle.ffi_agent_device.specs.Steps.{Follows, Plant, Steps, Unfollows, Uproot};
+ghost use Rattle.ffi_agent_device.specs.Steps.{Follows, FollowsTree, Steps, Unfollows, UnfollowsTree};
 ghost use Rattle.ffi_device.specs.Refused.{RefusesNothing, RefusesPath};
 ghost use Rattle.ffi_c.specs.Held.{Holds, IsClosed};
 
@@ -78,8 +78,8 @@ pub extern "C" fn dw_session_follow_tree(
     most: usize,
 ) -> i32
     ensures closed { handle.old.slot.held ≡ None → IsClosed result handle.new.slot.held }
-    ensures plants { (d : AgentDevice) → handle.old.slot.held ≡ Some d
-        → Holds handle.new.slot.held (Plant (RefusesPath path.now) now_ms ticket path.now most d result) }
+    ensures steps { (d : AgentDevice) → handle.old.slot.held ≡ Some d
+        → Holds handle.new.slot.held (Steps (RefusesPath path.now) now_ms (FollowsTree ticket path.now most) d result) }
 {
     let most = most as u64;
     drive(
@@ -98,7 +98,8 @@ pub extern "C" fn dw_session_unfollow_tree(
     ticket: u64,
 ) -> i32
     ensures closed { handle.old.slot.held ≡ None → IsClosed result handle.new.slot.held }
-    ensures uproots { (d : AgentDevice) → handle.old.slot.held ≡ Some d → Holds handle.new.slot.held (Uproot now_ms ticket d result) }
+    ensures steps { (d : AgentDevice) → handle.old.slot.held ≡ Some d
+        → Holds handle.new.slot.held (Steps RefusesNothing now_ms (UnfollowsTree ticket) d result) }
 {
     drive(
         alloc,

@@ -251,15 +251,29 @@ impl<'t> World<'t> {
                 self.link = Link::Apart;
                 self.device.cut_at(self.now)
             }
-            _ => return Ok(false),
+            _ => return self.catch_up(),
         };
+        self.perform_actions(done)?;
+        Ok(true)
+    }
+
+    /// A step is made where one is due already: a tree is to be tended. Whether one was.
+    fn catch_up(&mut self) -> Result<bool, AllocError> {
+        if self
+            .device
+            .deadline()
+            .is_none_or(|moment| moment > self.now)
+        {
+            return Ok(false);
+        }
+        let done = self.device.tick(self.now);
         self.perform_actions(done)?;
         Ok(true)
     }
 
     /// The moment comes at which something is due. Whether there is one.
     fn pass_time(&mut self) -> Result<bool, AllocError> {
-        let Some(moment) = self.device.agent.deadline() else {
+        let Some(moment) = self.device.deadline() else {
             return Ok(false);
         };
         self.now = self.now.max(moment);

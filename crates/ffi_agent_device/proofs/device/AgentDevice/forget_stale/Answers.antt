@@ -20,12 +20,9 @@ returns g =
       timeout = gone.timeout;
       latest = gone.latest;
       heard = gone.heard;
-      trees = refl;
+      trees = gone.trees;
       said = refl;
-      news = refl;
       read = refl;
-      news_read = refl;
       over = refl;
       number = refl;
-      changes = refl;
     }

@@ -1,6 +1,6 @@
 -- No session comes of broken bytes: `resume` refuses them, as the fault is not want of memory (`not_memory`), so the good case is absurd.
-use Rattle.std.proofs.Common.{◌≡◌, ap, of_z, rules, subst, sym, to_z, true≢false, w32}
-use Rattle.std.specs.Prelude.{◌<ℤ◌, is_ok, pos}
+use Rattle.std.proofs.Common.{ap, true≢false}
+use Rattle.std.specs.Prelude.{is_ok}
 use Rattle.ffi_c.proofs.Saved.{not_memory}
 use Rattle.ffi_c.proofs.sessions.making.dw_session_resume.Goals as goal
 

@@ -1,8 +1,0 @@
--- The loop of `take_out`: no tree before the index has the ticket, and nothing was taken out yet; so what is found first is the first.
-use Rattle.std.proofs.Common.{◌≡◌}
-use Rattle.ffi_agent_device.proofs.Finding.{Missed}
-use Rattle.ffi_agent_device.proofs.tree.Trees.take_out.Given as goal
-
--- none of those so far has the ticket
-abbrev pub invariant-loop-index : goal.invariant-loop-index
-invariant-loop-index l = record { missed : Missed l.ticket l.fn.self.all.items l.index; same : l.self ≡ l.fn.self }
