@@ -1,10 +1,10 @@
 -- How a session is ended, and that each client of which something is printed was led: move by move, as each turn leads the client from
 -- where it stood.
-use Rattle.std.proofs.Common.{Bool, true, false, ◌∙◌, ◌≡◌, ◌≢◌, ◌++◌, ℕ, List, [], ◌∷◌, Option, Some, inl, inr, refl, sym, subst}
+use Rattle.std.proofs.Common.{Bool, ◌≡◌, ◌≢◌, ◌++◌, ℕ, List, [], ◌∷◌, Option, Some, inl, inr, refl, sym, subst}
 use Rattle.std.specs.Prelude.{Result, Ok, Err, OnOk, IfErr, ◌⊎◌}
 use Rattle.std.specs.Io.KnownBytes.{Appends}
 use Rattle.std.proofs.KnownBytes.{Appends-nil, Appends-trans}
-use Rattle.std.specs.List.{filter, FoldsTo}
+use Rattle.std.specs.List.{FoldsTo}
 use Rattle.zk_link.specs.FarEnds.{FarEnd}
 use Rattle.zk_nodes.specs.Path.{Text}
 use Rattle.zk_nodes.specs.declared.side.Side.{Side}
@@ -17,11 +17,8 @@ use Rattle.zk_agent.specs.Agents.{IsLed}
 use Rattle.zk_agent.specs.declared.input.AgentInput.{AgentInput}
 use Rattle.zk_agent.specs.declared.input.AgentInput.TheVariants as happens
 use Rattle.zk_driver.specs.Driving.{Course, Hands}
-use Rattle.zk_driver.specs.Noting.{is_come}
-use Rattle.zk_agent.specs.Telling.{Told}
 use Rattle.shell_watch.specs.declared.plan.Style.{Style}
-use Rattle.zk_trees.specs.Trees.{is_settled, roots_aims, stays, tickets_gone}
-use Rattle.shell_watch.specs.Watching.{view_in, AllStood, Grows, IsTurnLed, LetsGo, TakesOn, TakesOnWhere, Tends, TendsSo, end_of, Closes}
+use Rattle.shell_watch.specs.Watching.{view_in, AllStood, PlantsAll, Prepares, end_of, Closes}
 use Rattle.shell_watch.specs.Watching.{Does, EndsFrom, FollowsAll, HasCome, IsBegun, IsOver, IsPrinted, IsWatched, Move, Prints, PrintsFrom}
 use Rattle.shell_watch.specs.Watching.{Stand, Takes}
 use Rattle.shell_watch.specs.inner.Watching.{Writes, WritesEnd, WritesOn}
@@ -89,27 +86,27 @@ ok_over (Ok x) for_ms begins ready over last a b c first comes rest = (
 )
 ok_over (Err e) for_ms begins ready over last a b c first comes rest = tt
 
-pub ends_from : {A : Type 0} {far : FarEnd} (aims : List (Side × Text)) (for_ms : Option ℕ) (first ready last : Stand A far) (text : List ℕ)
-    (is_accepted : Bool) → FollowsAll aims first ready
-    → IsOver for_ms ready last text → last.is_accepted ≡ is_accepted → EndsFrom aims for_ms first text is_accepted
-ends_from aims for_ms first ready last text is_accepted follows over accepted =
+pub ends_from : {A : Type 0} {far : FarEnd} (aims : List (Side × Text)) (roots : List Text) (for_ms : Option ℕ)
+    (first ready last : Stand A far) (text : List ℕ) (is_accepted : Bool) → Prepares aims roots first ready
+    → IsOver for_ms ready last text → last.is_accepted ≡ is_accepted → EndsFrom aims roots for_ms first text is_accepted
+ends_from aims roots for_ms first ready last text is_accepted follows over accepted =
     record { ready = ready; last = last; follows = follows; over = over; accepted = accepted }
 
-pub over_prints : {A : Type 0} {far : FarEnd} (aims : List (Side × Text)) (for_ms : Option ℕ)
+pub over_prints : {A : Type 0} {far : FarEnd} (aims : List (Side × Text)) (roots : List Text) (for_ms : Option ℕ)
     (first ready last : Stand A far) (text : List ℕ)
-    → FollowsAll aims first ready → IsOver for_ms ready last text
-    → PrintsFrom aims first text
-over_prints {A} aims for_ms first ready last text follows is = record {
+    → Prepares aims roots first ready → IsOver for_ms ready last text
+    → PrintsFrom aims roots first text
+over_prints {A} aims roots for_ms first ready last text follows is = record {
   ready = ready;
   last = last;
   follows = follows;
   prints = subst (λ (t : List ℕ). Prints ready t last) (sym is.are) (after ready is.over last is.told is.rest is.prints is.closes);
 }
 
-pub prints_from : {A : Type 0} {far : FarEnd} (aims : List (Side × Text)) (first ready : Stand A far) (a b : Option (List ℕ))
-    → FollowsAll aims first ready → WritesOn ready a b
-    → (text : List ℕ) × ((text ≡ []) ⊎ PrintsFrom aims first text) × Appends a b text
-prints_from aims first ready a b follows writes =
+pub prints_from : {A : Type 0} {far : FarEnd} (aims : List (Side × Text)) (roots : List Text) (first ready : Stand A far)
+    (a b : Option (List ℕ)) → Prepares aims roots first ready → WritesOn ready a b
+    → (text : List ℕ) × ((text ≡ []) ⊎ PrintsFrom aims roots first text) × Appends a b text
+prints_from aims roots first ready a b follows writes =
     (writes.1.0, inr (record { ready = ready; last = writes.0; follows = follows; prints = writes.1.1 }), writes.1.2)
 
 -- ---- led
@@ -119,61 +116,10 @@ hands_led : {A : Type 0} (input : AgentInput A) (old new : Course A) → Hands i
 hands_led {A} input old new hands led =
     subst (λ (c : Course A). IsLed (view_of c.agent.asker.follower.client)) (sym hands.writes.1) (hands.takes.comes.led led)
 
-lets_led : {A : Type 0} {far : FarEnd} (tickets : List ℕ) (old new : Stand A far)
-    → FoldsTo (λ at ticket after. LetsGo ticket at after) old tickets new → IsLed (view_in old) → IsLed (view_in new)
-lets_led {A} {far} [] old new same led = subst (λ (s : Stand A far). IsLed (view_in s)) same led
-lets_led (ticket ∷ tickets) old new lets led =
-    lets_led tickets lets.0 new lets.2 (hands_led (happens.Unfollow ticket) old.course lets.0.course lets.1.hands led)
-
-taken_led : {A : Type 0} {far : FarEnd} (is : Bool) (aim : Side × Text) (old new : Stand A far)
-    → TakesOnWhere is aim old new → IsLed (view_in old) → IsLed (view_in new)
-taken_led {A} {far} true aim old new same led = subst (λ (s : Stand A far). IsLed (view_in s)) (sym same) led
-taken_led false aim old new follows led = hands_led (happens.Follow _ aim.0 aim.1) old.course new.course follows.hands led
-
-takes_led : {A : Type 0} {far : FarEnd} (aims : List (Side × Text)) (old new : Stand A far)
-    → FoldsTo (λ at aim after. TakesOn aim at after) old aims new → IsLed (view_in old) → IsLed (view_in new)
-takes_led {A} {far} [] old new same led = subst (λ (s : Stand A far). IsLed (view_in s)) same led
-takes_led (aim ∷ aims) old new takes led =
-    takes_led aims takes.0 new takes.2 (taken_led (is_settled (view_in old) aim old.watched) aim old takes.0 takes.1 led)
-
-grown_led : {A : Type 0} {far : FarEnd} (old new : Stand A far) → Grows old new → IsLed (view_in old) → IsLed (view_in new)
-grown_led {A} {far} old new grows led =
-    subst (λ (s : Stand A far). IsLed (view_in s)) (sym grows.takes.ends)
-    (takes_led grows.wants.aims old grows.takes.last grows.takes.takes led)
-
-tends_led : {A : Type 0} {far : FarEnd} (old : Stand A far) (text : List ℕ) (new : Stand A far)
-    → Tends old text new → IsLed (view_in old) → IsLed (view_in new)
-tends_led old text new tends led =
-    grown_led tends.left new tends.grows
-    (lets_led (tickets_gone (view_in old) old.watched)
-    (record old { watched = filter (stays (view_in old)) old.watched }) tends.left tends.lets led)
-
--- where nothing waits
-quiet_led : {A : Type 0} {far : FarEnd} (old : Stand A far) (text : List ℕ) (new : Stand A far) (told : List Told)
-    → old.course.told ≡ told → TendsSo false old text new
-    → IsLed (view_in old) → IsLed (view_in new)
-quiet_led old text new [] none tends led = tends_led old text new (tends.tends refl none) led
-quiet_led {A} {far} old text new (one ∷ rest) some tends led =
-    subst (λ (s : Stand A far). IsLed (view_in s)) (sym (tends.waits (λ none. absurd (some_is_none none))).0) led
-  where
-    some_is_none : old.course.told ≡ [] → ⊥
-    some_is_none none = let e : one ∷ rest ≡ [] = sym some ∙ none in absurd cc
-
-tended_led : {A : Type 0} {far : FarEnd} (is_over : Bool) (old : Stand A far) (text : List ℕ) (new : Stand A far)
-    → TendsSo is_over old text new → IsLed (view_in old) → IsLed (view_in new)
-tended_led {A} {far} true old text new tends led = subst (λ (s : Stand A far). IsLed (view_in s)) (sym (tends.over refl).0) led
-tended_led false old text new tends led = quiet_led old text new old.course.told refl tends led
-
 does_led : {A : Type 0} {far : FarEnd} (move : Move A) (old new : Stand A far)
     → Does old move new → IsLed (view_in old) → IsLed (view_in new)
-does_led (Takes turn text) old new rounds led =
-    tended_led (is_come turn) rounds.between rounds.more new rounds.tends (rounds.turns.goes.led led)
+does_led (Takes turn text) old new turns led = turns.goes.led led
 does_led (Closes until) old new does led = hands_led (happens.Call 0 call.Close (Some until)) old.course new.course does.0 led
-
-turn_led : {A : Type 0} {far : FarEnd} (move : Move A) (old new : Stand A far) (does : Does old move new) → IsLed (view_in old)
-    → IsTurnLed move old new does
-turn_led (Takes turn text) old new rounds led = rounds.turns.goes.led led
-turn_led (Closes until) old new does led = tt
 
 all_stood : {A : Type 0} {far : FarEnd} (moves : List (Move A)) (old new : Stand A far)
     (does : FoldsTo Does old moves new) → IsLed (view_in old)
@@ -181,43 +127,54 @@ all_stood : {A : Type 0} {far : FarEnd} (moves : List (Move A)) (old new : Stand
 all_stood [] old new does led = tt
 all_stood (move ∷ moves) old new does led =
     let next = does_led move old does.0 does.1 led in
-    (turn_led move old does.0 does.1 led, next, all_stood moves does.0 new does.2 next)
+    (next, all_stood moves does.0 new does.2 next)
 
 led_on : {A : Type 0} {far : FarEnd} (moves : List (Move A)) (old new : Stand A far)
     → FoldsTo Does old moves new → IsLed (view_in old) → IsLed (view_in new)
 led_on {A} {far} [] old new same led = subst (λ (s : Stand A far). IsLed (view_in s)) same led
 led_on (move ∷ moves) old new does led = led_on moves does.0 new does.2 (does_led move old does.0 does.1 led)
 
-follows_led : {A : Type 0} {far : FarEnd} (aims : List (Side × Text)) (first ready : Stand A far)
+subjects_led : {A : Type 0} {far : FarEnd} (aims : List (Side × Text)) (first ready : Stand A far)
     → FollowsAll aims first ready → IsLed (view_in first) → IsLed (view_in ready)
-follows_led {A} {far} [] first ready same led = subst (λ (s : Stand A far). IsLed (view_in s)) same led
-follows_led (aim ∷ aims) first ready all led =
-    follows_led aims all.0 ready all.2 (hands_led (happens.Follow _ aim.0 aim.1) first.course all.0.course all.1.hands led)
+subjects_led {A} {far} [] first ready same led = subst (λ (s : Stand A far). IsLed (view_in s)) same led
+subjects_led (aim ∷ aims) first ready all led =
+    subjects_led aims all.0 ready all.2 (hands_led (happens.Follow _ aim.0 aim.1) first.course all.0.course all.1.hands led)
+
+trees_led : {A : Type 0} {far : FarEnd} (roots : List Text) (first ready : Stand A far)
+    → PlantsAll roots first ready → IsLed (view_in first) → IsLed (view_in ready)
+trees_led {A} {far} [] first ready same led = subst (λ (s : Stand A far). IsLed (view_in s)) same led
+trees_led (root ∷ roots) first ready all led =
+    trees_led roots all.0 ready all.2 (hands_led (happens.FollowTree _ root _) first.course all.0.course all.1.hands led)
+
+prepared_led : {A : Type 0} {far : FarEnd} (aims : List (Side × Text)) (roots : List Text) (first ready : Stand A far)
+    → Prepares aims roots first ready → IsLed (view_in first) → IsLed (view_in ready)
+prepared_led aims roots first ready prepares led =
+    trees_led roots prepares.between ready prepares.plants (subjects_led aims first prepares.between prepares.follows led)
 
 -- a new client
 fresh : (start : Start) → IsLed (view_at start [])
 fresh start = (start, [], record { standing = refl; saved = refl; lists = refl; cache = refl; going = λ _. refl; said = tt; asked = tt })
 
-begun_led : {A : Type 0} {far : FarEnd} (style : Style) (roots : List Text) (most : ℕ) (first : Stand A far)
-    → IsBegun style roots most first → IsLed (view_in first)
-begun_led style roots most first begun = subst IsLed (sym begun.client) (fresh (new_start begun.timeout))
+begun_led : {A : Type 0} {far : FarEnd} (style : Style) (most : ℕ) (first : Stand A far)
+    → IsBegun style most first → IsLed (view_in first)
+begun_led style most first begun = subst IsLed (sym begun.client) (fresh (new_start begun.timeout))
 
 -- ---- the whole
 
 module _ {A : Type 0} {far : FarEnd} (style : Style) (aims : List (Side × Text)) (roots : List Text) (most : ℕ)
     (first : Stand A far) (text : List ℕ) where
-  pub printed : IsBegun style roots most first → (text ≡ []) ⊎ PrintsFrom (aims ++ roots_aims roots) first text
+  pub printed : IsBegun style most first → (text ≡ []) ⊎ PrintsFrom aims roots first text
       → IsPrinted A far style aims roots most text
   printed begun (inl none) = inl none
   printed begun (inr from) =
-      let led = follows_led (aims ++ roots_aims roots) first from.ready from.follows (begun_led style roots most first begun) in
+      let led = prepared_led aims roots first from.ready from.follows (begun_led style most first begun) in
       inr (first, begun, from, all_stood from.prints.moves from.ready from.last from.prints.does led)
 
   pub watched : (for_ms : Option ℕ) (is_accepted : Bool)
-      → IsBegun style roots most first → EndsFrom (aims ++ roots_aims roots) for_ms first text is_accepted
+      → IsBegun style most first → EndsFrom aims roots for_ms first text is_accepted
       → IsWatched A far style aims roots most for_ms text is_accepted
   watched for_ms is_accepted begun from =
-      let led = follows_led (aims ++ roots_aims roots) first from.ready from.follows (begun_led style roots most first begun) in
+      let led = prepared_led aims roots first from.ready from.follows (begun_led style most first begun) in
       let over = from.over in (
         first,
         begun,

@@ -5,5 +5,4 @@ mod Pieces
 mod Printing
 mod Showing
 mod Telling
-mod Tending
 pub mod Running

@@ -1,12 +1,11 @@
 -- What is printed, one move after another: lists of moves join, and their texts with them; where a move fails, what was written stays.
-use Rattle.std.proofs.Common.{◌≡◌, ◌≤◌, ◌<◌, ◌+◌, ◌++◌, ◌∙◌, ℕ, Bool, true, false, List, [], ◌∷◌, length, get_or, take, Option, refl, sym}
+use Rattle.std.proofs.Common.{◌≡◌, ◌≤◌, ◌<◌, ◌+◌, ◌++◌, ◌∙◌, ℕ, Bool, true, List, [], ◌∷◌, length, get_or, take, Option, refl, sym}
 use Rattle.std.proofs.Common.{ap, subst, append_assoc, append-nil}
-use Rattle.std.proofs.lemmas.List.{map-append, take_more}
 use Rattle.std.specs.Prelude.{Result, Ok, Err, OnOk, IfErr}
 use Rattle.std.proofs.KnownBytes.{Appends-nil, Appends-trans}
 use Rattle.std.specs.Io.KnownBytes.{Appends}
 use Rattle.std.specs.List.{flat_map, FoldsTo}
-use Rattle.std.specs.Prelude.{◌||◌, None, string_bytes}
+use Rattle.std.specs.Prelude.{◌||◌, None}
 use Rattle.zk_client.specs.Clients.{view_of}
 use Rattle.zk_agent.specs.Telling.{told_by}
 use Rattle.zk_driver.specs.declared.engine.Engine.{Engine}
@@ -16,20 +15,19 @@ use Rattle.zk_driver.specs.Driving.{course_of, Hands}
 use Rattle.zk_driver.specs.Flowing.{flow_of, Flows}
 use Rattle.zk_driver.proofs.Running.{calls_run, next_runs}
 use Rattle.zk_driver.specs.Noting.{is_come, notes_of, passed_in, GoesBy}
-use Rattle.zk_trees.specs.declared.member.Member.{Member}
-use Rattle.std.specs.declared.string.String.{String}
+use Rattle.shell_watch.specs.declared.growth.Growth.{Growth}
+use Rattle.shell_watch.specs.declared.shown.Watched.{Watched}
+use Rattle.shell_watch.specs.Trees.{fresh, grown_after}
 use Rattle.zk_link.specs.FarEnds.{FarEnd}
 use Rattle.zk_nodes.specs.Path.{Text}
 use Rattle.zk_nodes.specs.declared.side.Side.{Side}
 use Rattle.shell_watch.specs.declared.plan.Style.{Style}
 use Rattle.zk_trees.specs.declared.subject.NodeSide.{NodeSide}
-use Rattle.shell_watch.specs.declared.trees.Trees.{Trees}
-use Rattle.shell_watch.specs.inner.Trees.{growth_of}
 use Rattle.zk_trees.proofs.Growing.{mapped_next}
-use Rattle.shell_watch.specs.Lines.{none_words}
-use Rattle.shell_watch.specs.Watching.{accepts, aim_of, aims_of, text_of, FollowsAll, FollowsSo, TellsTurn, TendsSo, Does}
+use Rattle.shell_watch.specs.Watching.{accepts, aim_of, aims_of, text_of, FollowsAll, FollowsSo, PlantsAll, PlantsSo, Prepares}
+use Rattle.shell_watch.specs.Watching.{TellsTurn, Does}
 use Rattle.shell_watch.specs.inner.Watching.{stand_of}
-use Rattle.shell_watch.specs.Watching.{HasCome, Move, Prints, Stand, Takes}
+use Rattle.shell_watch.specs.Watching.{Move, Prints, Stand, Takes}
 use Rattle.shell_watch.specs.inner.Watching.{Heard, Writes, WritesOn}
 
 pub does_on : {A : Type 0} {far : FarEnd} (moves more : List (Move A)) (old between new : Stand A far)
@@ -83,30 +81,10 @@ pub on_after : {A : Type 0} {far : FarEnd} (old between : Stand A far) (a b c : 
     → Writes old between a b → WritesOn between b c → WritesOn old a c
 on_after old between a b c first rest = (rest.0, writes_after old between rest.0 a b c first rest.1)
 
--- one turn, and what becomes of the trees
-pub rounds : {A : Type 0} {far : FarEnd} (until : ℕ) (is_over : Bool) (old between new : Stand A far)
-    (told more : List ℕ) (a b : Option (List ℕ))
-    → Heard until is_over old told between
-    → TendsSo is_over between more new → Appends a b (told ++ more) → Writes old new a b
-rounds {A} until is_over old between new told more a b heard tends adds = (
-  told ++ more,
-  one (Takes heard.turn (told ++ more)) old new (record {
-    between = between;
-    told = told;
-    more = more;
-    turns = heard.turns;
-    tends = subst (λ (o : Bool). TendsSo o between more new) heard.over tends;
-    are = refl;
-  }),
-  adds,
-)
-
--- where the moment has come, it still has
-pub come : {A : Type 0} {far : FarEnd} (until : ℕ) (is_over : Bool) (old between new : Stand A far) (told more : List ℕ)
-    → Heard until is_over old told between → TendsSo is_over between more new
-    → is_over ≡ true → HasCome until new
-come {A} {far} until is_over old between new told more heard tends is =
-    subst (λ (s : Stand A far). HasCome until s) (sym (tends.over is).0) (heard.comes is)
+-- one turn
+pub turned : {A : Type 0} {far : FarEnd} (until : ℕ) (is_over : Bool) (old new : Stand A far) (text : List ℕ) (a b : Option (List ℕ))
+    → Heard until is_over old text new → Appends a b text → Writes old new a b
+turned until is_over old new text a b heard adds = (text, one (Takes heard.turn text) old new heard.turns, adds)
 
 -- where what comes after may end otherwise
 pub err_after : {A X E : Type 0} {far : FarEnd} (P : E → Type 0) (result : Result X E) (old between : Stand A far) (a b c : Option (List ℕ))
@@ -121,55 +99,69 @@ err_after P (Err e) old between a b c first rest = λ well. on_after old between
 pub follows_more : {A : Type 0} {far : FarEnd} (subjects : List (NodeSide A)) (index : ℕ) (subject : NodeSide A)
     (first here new : Stand A far)
     → index < length subjects → subject ≡ get_or subjects index subject
-    → FollowsAll (aims_of (take index subjects)) first here → FollowsSo false (aim_of subject) here new
+    → FollowsAll (aims_of (take index subjects)) first here → FollowsSo (aim_of subject) here new
     → FollowsAll (aims_of (take (index + 1) subjects)) first new
 follows_more {A} subjects index subject first here new within is follows next =
-    mapped_next (λ at aim after. FollowsSo false aim at after) aim_of subjects index subject first here new within is follows next
+    mapped_next (λ at aim after. FollowsSo aim at after) aim_of subjects index subject first here new within is follows next
 
 pub ok_follows : {A S X E : Type 0} (remaining contents : S → Option (List ℕ)) (far : FarEnd) (state : S → far.State) (result : Result X E)
-    (is_found : Bool) (aim : Side × Text)
-    (first last : Engine A S) (olds news : List (Member A (String A))) (one : Member A (String A)) (is_accepted : Bool) (style : Style)
-    (trees : Trees A) (next : ℕ) → aim_of one.subject ≡ aim → string_bytes one.note ≡ none_words aim.0 → one.ticket ≡ trees.ticket
-    → one.is_found ≡ is_found → news ≡ olds ++ one ∷ []
-    → next ≡ trees.ticket + 1 → OnOk result (Hands (happens.Follow trees.ticket aim.0 aim.1) (course_of first None) (course_of last None))
+    (aim : Side × Text) (first last : Engine A S) (olds news : List (Watched A)) (is_accepted : Bool) (style : Style)
+    (growth next : Growth) → news ≡ olds ++ fresh growth.ticket aim ∷ [] → next ≡ record growth { ticket = growth.ticket + 1 }
+    → OnOk result (Hands (happens.Follow growth.ticket aim.0 aim.1) (course_of first None) (course_of last None))
     → OnOk result (Flows (flow_of remaining contents far state first None) (flow_of remaining contents far state last None))
-    → OnOk result (FollowsSo is_found aim (stand_of remaining contents far state first olds is_accepted style trees)
-    (stand_of remaining contents far state last news is_accepted style (record trees { ticket = next })))
-ok_follows {A} remaining contents far state
-    (Ok x) is_found aim first last olds news one is_accepted style trees next is words ticket part more after hands flows = record {
-      hands = hands;
-      runs = calls_run (flow_of remaining contents far state first None) (flow_of remaining contents far state last None) flows;
-      one = one;
-      its_aim = is;
-      its_words = words;
-      its_ticket = ticket;
-      its_part = part;
-      watched = more;
-      accepted = refl;
-      style = refl;
-      growth = ap (λ n. record (growth_of trees) { ticket = n }) after;
-    }
-ok_follows remaining contents far state
-    (Err e) is_found aim first last olds news one is_accepted style trees next is words ticket part more after hands flows = tt
+    → OnOk result (FollowsSo aim (stand_of remaining contents far state first olds is_accepted style growth)
+    (stand_of remaining contents far state last news is_accepted style next))
+ok_follows remaining contents far state (Ok x) aim first last olds news is_accepted style growth next more after hands flows = record {
+  hands = hands;
+  runs = calls_run (flow_of remaining contents far state first None) (flow_of remaining contents far state last None) flows;
+  watched = more;
+  accepted = refl;
+  style = refl;
+  growth = after;
+}
+ok_follows remaining contents far state (Err e) aim first last olds news is_accepted style growth next more after hands flows = tt
+
+pub ok_plants : {A S X E : Type 0} (remaining contents : S → Option (List ℕ)) (far : FarEnd) (state : S → far.State) (result : Result X E)
+    (root : Text) (first last : Engine A S) (watched : List (Watched A)) (is_accepted : Bool) (style : Style)
+    (growth next : Growth) → next ≡ record growth { ticket = growth.ticket + 1 }
+    → OnOk result (Hands (happens.FollowTree growth.ticket root growth.most) (course_of first None) (course_of last None))
+    → OnOk result (Flows (flow_of remaining contents far state first None) (flow_of remaining contents far state last None))
+    → OnOk result (PlantsSo root (stand_of remaining contents far state first watched is_accepted style growth)
+    (stand_of remaining contents far state last watched is_accepted style next))
+ok_plants remaining contents far state (Ok x) root first last watched is_accepted style growth next after hands flows = record {
+  hands = hands;
+  runs = calls_run (flow_of remaining contents far state first None) (flow_of remaining contents far state last None) flows;
+  watched = refl;
+  accepted = refl;
+  style = refl;
+  growth = after;
+}
+ok_plants remaining contents far state (Err e) root first last watched is_accepted style growth next after hands flows = tt
+
+-- subjects, and then trees
+pub ok_prepares : {A X E : Type 0} {far : FarEnd} (result : Result X E) (aims : List (Side × Text)) (roots : List Text)
+    (old between new : Stand A far) → FollowsAll aims old between → OnOk result (PlantsAll roots between new)
+    → OnOk result (Prepares aims roots old new)
+ok_prepares (Ok x) aims roots old between new follows plants = record { between = between; follows = follows; plants = plants }
+ok_prepares (Err e) aims roots old between new follows plants = tt
 
 -- ---- one turn, heard
 
 -- what a driver has come to, with what it hands on
 pub heard_so : {A S : Type 0} (remaining contents : S → Option (List ℕ)) (far : FarEnd) (state : S → far.State) (until : ℕ)
-    (is_over : Bool) (turn : Turn A)
-    (first between last : Engine A S) (olds news : List (Member A (String A))) (was is : Bool) (style : Style) (trees : Trees A)
-    (text : List ℕ) → last ≡ between
+    (is_over : Bool) (turn : Turn A) (first between last : Engine A S) (olds news : List (Watched A)) (was is : Bool) (style : Style)
+    (growth grown : Growth) (text : List ℕ) → last ≡ between
     → GoesBy (notes_of turn) (course_of first None) (course_of between (passed_in turn))
     → Flows (flow_of remaining contents far state first None) (flow_of remaining contents far state between (passed_in turn))
-    → TellsTurn style turn (view_of between.agent.asker.follower.client) (told_by between.waiting.items) olds news text
-    → is ≡ (was || accepts turn) → is_over ≡ is_come turn
+    → TellsTurn style turn (view_of between.agent.asker.follower.client) (told_by between.waiting.items) growth olds news text
+    → is ≡ (was || accepts turn) → grown ≡ grown_after turn growth → is_over ≡ is_come turn
     → (is_come turn ≡ true → until ≤ between.agent.latest) → (is_come turn ≡ true → between.waiting.items ≡ [])
-    → Heard until is_over (stand_of remaining contents far state first olds was style trees) text
-    (stand_of remaining contents far state last news is style trees)
-heard_so {A} {S} remaining contents far state until is_over turn first between last olds news was is style trees text same goes flows tells
-    accepted over comes waits =
-    subst (λ (e : Engine A S). Heard until is_over (stand_of remaining contents far state first olds was style trees) text
-    (stand_of remaining contents far state e news is style trees)) (sym same) (record {
+    → Heard until is_over (stand_of remaining contents far state first olds was style growth) text
+    (stand_of remaining contents far state last news is style grown)
+heard_so {A} {S} remaining contents far state until is_over turn first between last olds news was is style growth grown text same goes flows
+    tells accepted grows over comes waits =
+    subst (λ (e : Engine A S). Heard until is_over (stand_of remaining contents far state first olds was style growth) text
+    (stand_of remaining contents far state e news is style grown)) (sym same) (record {
       turn = turn;
       turns =
           record {
@@ -178,20 +170,21 @@ heard_so {A} {S} remaining contents far state until is_over turn first between l
             tells = tells;
             accepted = accepted;
             style = refl;
-            growth = refl;
+            growth = grows;
           };
       over = over;
       comes = λ is_so. (comes (sym over ∙ is_so), ap told_by (waits (sym over ∙ is_so)));
     })
 
 -- the same of a driver that is the same, and of the same subjects
-pub same_tells : {A S : Type 0} (style : Style) (turn : Turn A) (text : List ℕ) (engine other : Engine A S)
-    (olds others news nexts : List (Member A (String A))) → other ≡ engine → others ≡ olds → nexts ≡ news
-    → TellsTurn style turn (view_of other.agent.asker.follower.client) (told_by other.waiting.items) others news text
-    → TellsTurn style turn (view_of engine.agent.asker.follower.client) (told_by engine.waiting.items) olds nexts text
-same_tells {A} {S} style turn text engine other olds others news nexts is was now tells =
-    subst (λ (e : Engine A S). TellsTurn style turn (view_of e.agent.asker.follower.client) (told_by e.waiting.items) olds nexts text) is
-    (subst (λ (ws : List (Member A (String A))).
-    TellsTurn style turn (view_of other.agent.asker.follower.client) (told_by other.waiting.items) ws nexts text) was
-    (subst (λ (ws : List (Member A (String A))).
-    TellsTurn style turn (view_of other.agent.asker.follower.client) (told_by other.waiting.items) others ws text) (sym now) tells))
+pub same_tells : {A S : Type 0} (style : Style) (turn : Turn A) (growth : Growth) (text : List ℕ) (engine other : Engine A S)
+    (olds others news nexts : List (Watched A)) → other ≡ engine → others ≡ olds → nexts ≡ news
+    → TellsTurn style turn (view_of other.agent.asker.follower.client) (told_by other.waiting.items) growth others news text
+    → TellsTurn style turn (view_of engine.agent.asker.follower.client) (told_by engine.waiting.items) growth olds nexts text
+same_tells {A} {S} style turn growth text engine other olds others news nexts is was now tells =
+    subst
+    (λ (e : Engine A S). TellsTurn style turn (view_of e.agent.asker.follower.client) (told_by e.waiting.items) growth olds nexts text)
+    is (subst (λ (ws : List (Watched A)).
+    TellsTurn style turn (view_of other.agent.asker.follower.client) (told_by other.waiting.items) growth ws nexts text) was
+    (subst (λ (ws : List (Watched A)).
+    TellsTurn style turn (view_of other.agent.asker.follower.client) (told_by other.waiting.items) growth others ws text) (sym now) tells))

@@ -35,8 +35,7 @@ use Rattle.script_replay.specs.Played.{DoesClient}
 use Rattle.script_replay.specs.Shown.{drop_words, mark_word, state_word}
 use Rattle.shell_watch.specs.declared.plan.Style.{Style}
 use Rattle.shell_watch.specs.declared.plan.Style.TheVariants as style_is
-use Rattle.zk_trees.specs.declared.member.Member.{Member}
-use Rattle.std.specs.declared.string.String.{String}
+use Rattle.shell_watch.specs.declared.shown.Watched.{Watched}
 
 -- ---- a line
 
@@ -253,15 +252,23 @@ why_text TooLarge = codes " refused K6 the path is too long"
 why_text SessionClosed = codes " refused K3 the session is being closed"
 
 -- the path of the subject that has a ticket
-abbrev pub path_in : {A : Type 0} → Option (Member A (String A)) → Text
+abbrev pub path_in : {A : Type 0} → Option (Watched A) → Text
 path_in None = []
 path_in (Some one) = one.subject.path
 
-abbrev pub path_of : {A : Type 0} → List (Member A (String A)) → (ticket : ℕ) → Text
+abbrev pub path_of : {A : Type 0} → List (Watched A) → (ticket : ℕ) → Text
 path_of watched ticket = path_in (find (λ one. one.ticket == ticket) watched)
+
+-- whether a subject has it
+abbrev pub has_ticket : {A : Type 0} → (ticket : ℕ) → List (Watched A) → Bool
+has_ticket ticket watched = list_any (λ one. one.ticket == ticket) watched
 
 abbrev pub refusal_words : Text → Refusal → List ℕ
 refusal_words path why = text_word (Some path) ++ why_text why
+
+-- of a subject that is watched
+abbrev pub refused_words : {A : Type 0} → List (Watched A) → (ticket : ℕ) → Refusal → List ℕ
+refused_words watched ticket why = if has_ticket ticket watched then refusal_words (path_of watched ticket) why else []
 
 -- the address, the session's number, and the timeout that was granted
 abbrev pub connected_words : (at : Text) → View → List ℕ
@@ -277,18 +284,19 @@ state_words at view state = codes "state" ++ spaced (state_word state)
 abbrev pub drop_text : (at : Text) → Fault → List ℕ
 drop_text at fault = codes "drop" ++ (drop_words fault ++ (spaced at ++ spaced (fault_words fault)))
 
--- Of what the agent tells: each state, each connection that is given up, each session that begins after another, and each refusal. That a
--- subject is good, and reports, are seen by what is kept; the answer to the call that ends the session is its state.
-abbrev pub action_words : {A : Type 0} → List (Member A (String A)) → (at : Text) → View → Told → List ℕ
+-- Of what the agent tells: each state, each connection that is given up, each session that begins after another, and each refusal of a
+-- subject that is watched. That a subject is good, and reports, are seen by what is kept; the answer to the call that ends the session is
+-- its state; and what is told of trees is seen by what is watched.
+abbrev pub action_words : {A : Type 0} → List (Watched A) → (at : Text) → View → Told → List ℕ
 action_words watched at view (Says (Enters state)) = state_words at view state
 action_words watched at view (Says (Drop fault)) = drop_text at fault
 action_words watched at view Begins = codes "session new"
-action_words watched at view (Tells ticket (news.Refused why)) = refusal_words (path_of watched ticket) why
+action_words watched at view (Tells ticket (news.Refused why)) = refused_words watched ticket why
 action_words watched at view told = []
 
 -- Of a turn: what the agent tells; each address that is dialled, each that could not be, and each connection that has ended, with the
 -- reason.
-abbrev pub turn_words : {A : Type 0} → List (Member A (String A)) → (at : Text) → View → Turn A → List ℕ
+abbrev pub turn_words : {A : Type 0} → List (Watched A) → (at : Text) → View → Turn A → List ℕ
 turn_words watched at view (turn.Told action) = action_words watched at view (action_view action)
 turn_words watched at view turn.Dials = codes "dial" ++ spaced at
 turn_words watched at view (turn.Failed why) = codes "failed" ++ (spaced at ++ spaced (reason_words why))
@@ -298,19 +306,22 @@ turn_words watched at view turn = []
 -- ---- what a driver tells, as JSON
 
 -- what a line tells of what the agent tells, and nothing where it is not printed
-abbrev pub action_kind : Told → List ℕ
-action_kind (Says (Enters state)) = codes "state"
-action_kind (Says (Drop fault)) = codes "drop"
-action_kind Begins = codes "renewed"
-action_kind (Tells ticket (news.Refused why)) = codes "refused"
-action_kind told = []
+abbrev pub refused_kind : {A : Type 0} → (ticket : ℕ) → List (Watched A) → List ℕ
+refused_kind ticket watched = if has_ticket ticket watched then codes "refused" else []
 
-abbrev pub turn_kind : {A : Type 0} → Turn A → List ℕ
-turn_kind (turn.Told action) = action_kind (action_view action)
-turn_kind turn.Dials = codes "dial"
-turn_kind (turn.Failed why) = codes "failed"
-turn_kind (turn.Ended why) = codes "ended"
-turn_kind turn = []
+abbrev pub action_kind : {A : Type 0} → List (Watched A) → Told → List ℕ
+action_kind watched (Says (Enters state)) = codes "state"
+action_kind watched (Says (Drop fault)) = codes "drop"
+action_kind watched Begins = codes "renewed"
+action_kind watched (Tells ticket (news.Refused why)) = refused_kind ticket watched
+action_kind watched told = []
+
+abbrev pub turn_kind : {A : Type 0} → List (Watched A) → Turn A → List ℕ
+turn_kind watched (turn.Told action) = action_kind watched (action_view action)
+turn_kind watched turn.Dials = codes "dial"
+turn_kind watched (turn.Failed why) = codes "failed"
+turn_kind watched (turn.Ended why) = codes "ended"
+turn_kind watched turn = []
 
 abbrev pub address_members : (at : Text) → List json.Token
 address_members at = text_members (codes "address") at
@@ -341,13 +352,13 @@ abbrev pub state_members : (at : Text) → View → State → List json.Token
 state_members at view Connected = text_members (codes "state") (state_word Connected) ++ (address_members at ++ session_members view)
 state_members at view state = text_members (codes "state") (state_word state)
 
-abbrev pub action_members : {A : Type 0} → List (Member A (String A)) → (at : Text) → View → Told → List json.Token
+abbrev pub action_members : {A : Type 0} → List (Watched A) → (at : Text) → View → Told → List json.Token
 action_members watched at view (Says (Enters state)) = state_members at view state
 action_members watched at view (Says (Drop fault)) = address_members at ++ fault_members (fault_code fault) (fault_words fault)
 action_members watched at view (Tells ticket (news.Refused why)) = text_members (codes "path") (path_of watched ticket) ++ why_members why
 action_members watched at view told = []
 
-abbrev pub turn_members : {A : Type 0} → List (Member A (String A)) → (at : Text) → View → Turn A → List json.Token
+abbrev pub turn_members : {A : Type 0} → List (Watched A) → (at : Text) → View → Turn A → List json.Token
 turn_members watched at view (turn.Told action) = action_members watched at view (action_view action)
 turn_members watched at view turn.Dials = address_members at
 turn_members watched at view (turn.Failed why) = address_members at ++ reason_members (reason_words why)
@@ -356,6 +367,6 @@ turn_members watched at view turn = []
 
 -- ---- the line of a turn, in each style
 
-abbrev pub turn_line : {A : Type 0} → Style → (ms : ℕ) → List (Member A (String A)) → (at : Text) → View → Turn A → List ℕ
-turn_line style_is.Json ms watched at view turn = object_line ms (turn_kind turn) (turn_members watched at view turn)
+abbrev pub turn_line : {A : Type 0} → Style → (ms : ℕ) → List (Watched A) → (at : Text) → View → Turn A → List ℕ
+turn_line style_is.Json ms watched at view turn = object_line ms (turn_kind watched turn) (turn_members watched at view turn)
 turn_line style ms watched at view turn = line_of (stamp_of ms) (turn_words watched at view turn)

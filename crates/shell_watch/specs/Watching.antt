@@ -1,8 +1,7 @@
 -- What a watch does, and what it prints.
 use Rattle.std.specs.Prelude.{◌≡◌, ◌≢◌, ◌<◌, ◌≤◌, ◌+◌, ◌||◌, min, ◌^◌, ◌-◌, ◌⊎◌, ⊤, ℕ, Bool, true, false, bytes_eq, List, [], ◌∷◌, ◌++◌}
-use Rattle.std.specs.Prelude.{length}
-use Rattle.std.specs.Prelude.{map, Option, Some, None, string_bytes, unsigned_abs}
-use Rattle.std.specs.List.{filter, flat_map, FoldsTo}
+use Rattle.std.specs.Prelude.{Option, Some, None, unsigned_abs}
+use Rattle.std.specs.List.{flat_map, FoldsTo}
 use Rattle.zk_nodes.specs.Path.{Text}
 use Rattle.zk_nodes.specs.declared.side.Side.{Side}
 use Rattle.zk_session.specs.declared.states.State.TheVariants.{Connected}
@@ -16,17 +15,15 @@ use Rattle.zk_agent.specs.declared.input.AgentInput.TheVariants as happens
 use Rattle.zk_driver.specs.Driving.{closed, passed_by, AreFollowed, Course, Hands}
 use Rattle.zk_link.specs.FarEnds.{FarEnd, Reached}
 use Rattle.zk_driver.specs.Flowing.{Flow, Runs}
-use Rattle.zk_driver.specs.Noting.{is_come, notes_of, passed_in, GoesBy}
+use Rattle.zk_driver.specs.Noting.{notes_of, passed_in, GoesBy}
 use Rattle.zk_driver.specs.declared.turn.Turn.{Turn}
 use Rattle.zk_driver.specs.declared.turn.Turn.TheVariants as turn
-use Rattle.shell_watch.specs.Lines.{none_words, turn_line, IsSubjectLine, Looks}
-pub use Rattle.zk_trees.specs.Trees.{aim_of, aims_of}
-use Rattle.zk_trees.specs.Trees.{is_settled, roots_aims, stays, tickets_gone, AreWanted, Wants}
-use Rattle.shell_watch.specs.Trees.{bound_text, Growth}
+use Rattle.shell_watch.specs.Lines.{turn_line, IsSubjectLine, Looks}
+pub use Rattle.shell_watch.specs.Trees.{aim_of, aims_of}
+use Rattle.shell_watch.specs.Trees.{bound_text, fresh, grown_after, has_bounded, printed, staying, watched_after}
+use Rattle.shell_watch.specs.declared.growth.Growth.{Growth}
 use Rattle.shell_watch.specs.declared.plan.Style.{Style}
-use Rattle.zk_trees.specs.declared.subject.NodeSide.{NodeSide}
-use Rattle.zk_trees.specs.declared.member.Member.{Member}
-use Rattle.std.specs.declared.string.String.{String}
+use Rattle.shell_watch.specs.declared.shown.Watched.{Watched}
 
 -- ---- what is shown of subjects
 
@@ -36,16 +33,15 @@ PrintsChange true style ms side path view words text = text ≡ []
 PrintsChange false style ms side path view words text = IsSubjectLine style ms side path view words text
 
 -- A subject is shown: what was printed of it last is the look-up then, and it is printed where it was not.
-pub record ShowsSo {A : Type 0} (style : Style) (ms : ℕ) (view : View) (old new : Member A (String A)) (text : List ℕ) : Type 0 where
+pub record ShowsSo {A : Type 0} (style : Style) (ms : ℕ) (view : View) (old new : Watched A) (text : List ℕ) : Type 0 where
   pub aim : aim_of new.subject ≡ aim_of old.subject
   pub ticket : new.ticket ≡ old.ticket
-  pub found : new.is_found ≡ old.is_found
-  pub looks : Looks new.subject.side new.subject.path view (string_bytes new.note)
-  pub line : PrintsChange (bytes_eq (string_bytes new.note) (string_bytes old.note)) style ms new.subject.side new.subject.path view
-      (string_bytes new.note) text
+  pub leaving : new.is_leaving ≡ old.is_leaving
+  pub looks : Looks new.subject.side new.subject.path view (printed new)
+  pub line : PrintsChange (bytes_eq (printed new) (printed old)) style ms new.subject.side new.subject.path view (printed new) text
 
 -- Each is, in order.
-abbrev pub ShowsAll : {A : Type 0} → Style → (ms : ℕ) → View → (old new : List (Member A (String A))) → (text : List ℕ) → Type 0
+abbrev pub ShowsAll : {A : Type 0} → Style → (ms : ℕ) → View → (old new : List (Watched A)) → (text : List ℕ) → Type 0
 ShowsAll style ms view [] [] text = text ≡ []
 ShowsAll style ms view (old ∷ olds) (new ∷ news) text =
     (first rest : List ℕ) × ShowsSo style ms view old new first × ShowsAll style ms view olds news rest × (text ≡ first ++ rest)
@@ -54,11 +50,11 @@ ShowsAll style ms view olds news text = ⊥
 -- ---- how far a watch has come
 
 -- The agent and its connection, with what it has told that was not taken yet; what is known of the connection; the subjects with
--- what was printed of each last; whether a server has accepted a session; how it is printed; and how far its trees are known.
+-- what was printed of each last; whether a server has accepted a session; how it is printed; and how its trees grow.
 pub record Stand (A : Type 0) (far : FarEnd) : Type 0 where
   pub course : Course A
   pub known : Reached far
-  pub watched : List (Member A (String A))
+  pub watched : List (Watched A)
   pub is_accepted : Bool
   pub style : Style
   pub growth : Growth
@@ -79,102 +75,62 @@ abbrev pub accepts : {A : Type 0} → Turn A → Bool
 accepts (turn.Told action) = accepts_by (action_view action)
 accepts turn = false
 
--- What is printed of a turn: its words, after some time. Where nothing waits to be told then, each subject is printed after them of which
--- what the client keeps is not what was printed last: so what was printed last of each subject is the look-up then.
-pub record TellsTurn {A : Type 0} (style : Style) (turn : Turn A) (view : View) (waits : List Told) (old new : List (Member A (String A)))
-    (text : List ℕ) : Type 0 where
+-- What is printed of a turn: its words, after some time, and that a tree has more nodes than the most, where none had. What is told of a
+-- tree decides what is watched. Where nothing waits to be told then, each subject is printed after them of which what the client keeps is
+-- not what was printed last: so what was printed last of each subject is the look-up then. What was let go is watched no more after that.
+pub record TellsTurn {A : Type 0} (style : Style) (turn : Turn A) (view : View) (waits : List Told) (growth : Growth)
+    (old new : List (Watched A)) (text : List ℕ) : Type 0 where
   pub ms : ℕ
   pub at : Text
+  pub here : List (Watched A)
   pub shown : List ℕ
-  pub shows : waits ≡ [] → ShowsAll style ms view old new shown
-  pub rests : waits ≢ [] → (new ≡ old) × (shown ≡ [])
-  pub are : text ≡ turn_line style ms old at view turn ++ shown
+  pub shows : waits ≡ [] → ShowsAll style ms view (watched_after turn growth old) here shown × (new ≡ staying here)
+  pub rests : waits ≢ [] → (new ≡ watched_after turn growth old) × (shown ≡ [])
+  pub are : text ≡ turn_line style ms old at view turn
+      ++ (bound_text (has_bounded growth) (has_bounded (grown_after turn growth)) style ms growth.most ++ shown)
 
 -- One turn of the driver, and what is printed of it. What waits to be told is neither lost nor told twice. Byte by byte it is a run.
 pub record Turns {A : Type 0} {far : FarEnd} (turn : Turn A) (old : Stand A far) (text : List ℕ) (new : Stand A far) : Type 0 where
   pub goes : GoesBy (notes_of turn) old.course (record new.course { told = passed_by (passed_in turn) ++ new.course.told })
   pub runs : Runs (flow_in old) (flow_in new)
-  pub tells : TellsTurn old.style turn (view_in new) new.course.told old.watched new.watched text
+  pub tells : TellsTurn old.style turn (view_in new) new.course.told old.growth old.watched new.watched text
   pub accepted : new.is_accepted ≡ (old.is_accepted || accepts turn)
   pub style : new.style ≡ old.style
-  pub growth : new.growth ≡ old.growth
+  pub growth : new.growth ≡ grown_after turn old.growth
+
+-- ---- what is followed
 
 -- A subject is followed, by the next ticket: as if nothing were kept of it and that were printed.
-pub record FollowsSo {A : Type 0} {far : FarEnd} (is_found : Bool) (aim : Side × Text) (old new : Stand A far) : Type 0 where
+pub record FollowsSo {A : Type 0} {far : FarEnd} (aim : Side × Text) (old new : Stand A far) : Type 0 where
   pub hands : Hands (happens.Follow old.growth.ticket aim.0 aim.1) old.course new.course
   pub runs : Runs (flow_in old) (flow_in new)
-  pub one : Member A (String A)
-  pub its_aim : aim_of one.subject ≡ aim
-  pub its_words : string_bytes one.note ≡ none_words aim.0
-  pub its_ticket : one.ticket ≡ old.growth.ticket
-  pub its_part : one.is_found ≡ is_found
-  pub watched : new.watched ≡ old.watched ++ one ∷ []
+  pub watched : new.watched ≡ old.watched ++ fresh old.growth.ticket aim ∷ []
   pub accepted : new.is_accepted ≡ old.is_accepted
   pub style : new.style ≡ old.style
   pub growth : new.growth ≡ record old.growth { ticket = old.growth.ticket + 1 }
 
--- Each of these is, in order. None was found below a root.
+-- Each of these is, in order.
 abbrev pub FollowsAll : {A : Type 0} {far : FarEnd} → List (Side × Text) → (old new : Stand A far) → Type 0
-FollowsAll aims old new = FoldsTo (λ at aim after. FollowsSo false aim at after) old aims new
+FollowsAll aims old new = FoldsTo (λ at aim after. FollowsSo aim at after) old aims new
 
--- ---- what becomes of trees
-
--- The subject of this ticket is followed no more.
-pub record LetsGo {A : Type 0} {far : FarEnd} (ticket : ℕ) (old new : Stand A far) : Type 0 where
-  pub hands : Hands (happens.Unfollow ticket) old.course new.course
+-- A tree is followed, by the next ticket. What the agent tells of it then decides what is watched.
+pub record PlantsSo {A : Type 0} {far : FarEnd} (root : Text) (old new : Stand A far) : Type 0 where
+  pub hands : Hands (happens.FollowTree old.growth.ticket root old.growth.most) old.course new.course
   pub runs : Runs (flow_in old) (flow_in new)
-  pub same : new ≡ record old { course = new.course; known = new.known }
+  pub watched : new.watched ≡ old.watched
+  pub accepted : new.is_accepted ≡ old.is_accepted
+  pub style : new.style ≡ old.style
+  pub growth : new.growth ≡ record old.growth { ticket = old.growth.ticket + 1 }
 
--- What is gone is watched no more: each node that was found below a root and of which it is kept and good that there is none. All others
--- stay, in their order.
-abbrev pub LetsAllGo : {A : Type 0} {far : FarEnd} → (old new : Stand A far) → Type 0
-LetsAllGo old new =
-    FoldsTo (λ at ticket after. LetsGo ticket at after) (record old { watched = filter (stays (view_in old)) old.watched })
-    (tickets_gone (view_in old) old.watched) new
+-- Each of these is, in order.
+abbrev pub PlantsAll : {A : Type 0} {far : FarEnd} → (roots : List Text) → (old new : Stand A far) → Type 0
+PlantsAll roots old new = FoldsTo (λ at root after. PlantsSo root at after) old roots new
 
--- A side of a path that is watched already stays so, and is not followed twice; that of a node of which it is kept and good that there is
--- none is left; else it is followed, as one that was found.
-abbrev pub TakesOnWhere : {A : Type 0} {far : FarEnd} → (is_settled : Bool) → Side × Text → (old new : Stand A far) → Type 0
-TakesOnWhere true aim old new = new ≡ old
-TakesOnWhere false aim old new = FollowsSo true aim old new
-
-abbrev pub TakesOn : {A : Type 0} {far : FarEnd} → Side × Text → (old new : Stand A far) → Type 0
-TakesOn aim old new = TakesOnWhere (is_settled (view_in old) aim old.watched) aim old new
-
--- Each of these is taken on, in order, and whether a tree has more nodes than the most is noted.
-pub record TakesAllOn {A : Type 0} {far : FarEnd} (wants : Wants) (old new : Stand A far) : Type 0 where
-  pub last : Stand A far
-  pub takes : FoldsTo (λ at aim after. TakesOn aim at after) old wants.aims last
-  pub ends : new ≡ record last { growth = record last.growth { is_bounded = wants.is_bounded } }
-
--- Each tree is taken on, as far as good names lead.
-pub record Grows {A : Type 0} {far : FarEnd} (old new : Stand A far) : Type 0 where
-  pub wants : Wants
-  pub wanted : AreWanted (view_in old) old.growth.most old.growth.roots wants
-  pub takes : TakesAllOn wants old new
-
--- What is gone is let go, each tree is taken on, and a line tells where one has more nodes than the most, and none had.
-pub record Tends {A : Type 0} {far : FarEnd} (old : Stand A far) (text : List ℕ) (new : Stand A far) : Type 0 where
-  pub ms : ℕ
-  pub left : Stand A far
-  pub lets : LetsAllGo old left
-  pub grows : Grows left new
-  pub bound : text ≡ bound_text old.growth.is_bounded new.growth.is_bounded new.style ms new.growth.most
-
--- That is done where nothing waits to be told, and the moment has not come at which the watch is over; else nothing is.
-pub record TendsSo {A : Type 0} {far : FarEnd} (is_over : Bool) (old : Stand A far) (text : List ℕ) (new : Stand A far) : Type 0 where
-  pub tends : is_over ≡ false → old.course.told ≡ [] → Tends old text new
-  pub over : is_over ≡ true → (new ≡ old) × (text ≡ [])
-  pub waits : old.course.told ≢ [] → (new ≡ old) × (text ≡ [])
-
--- One turn of the driver, what is printed of it, and what becomes of the trees after it.
-pub record Rounds {A : Type 0} {far : FarEnd} (turn : Turn A) (old : Stand A far) (text : List ℕ) (new : Stand A far) : Type 0 where
+-- Each subject is followed, and then each tree.
+pub record Prepares {A : Type 0} {far : FarEnd} (aims : List (Side × Text)) (roots : List Text) (old new : Stand A far) : Type 0 where
   pub between : Stand A far
-  pub told : List ℕ
-  pub more : List ℕ
-  pub turns : Turns turn old told between
-  pub tends : TendsSo (is_come turn) between more new
-  pub are : text ≡ told ++ more
+  pub follows : FollowsAll aims old between
+  pub plants : PlantsAll roots between new
 
 -- ---- how a watch goes on
 
@@ -186,13 +142,13 @@ abbrev pub text_of : {A : Type 0} → Move A → List ℕ
 text_of (Takes turn text) = text
 text_of (Closes until) = []
 
--- A turn is made and printed, and the trees are tended; or the end of the session is asked for, and no tree is tended from then on.
+-- A turn is made and printed; or the end of the session is asked for, and no tree grows from then on.
 abbrev pub Does : {A : Type 0} {far : FarEnd} → Stand A far → Move A → Stand A far → Type 0
-Does old (Takes turn text) new = Rounds turn old text new
+Does old (Takes turn text) new = Turns turn old text new
 Does old (Closes until) new =
     Hands (happens.Call 0 call.Close (Some until)) old.course new.course × Runs (flow_in old) (flow_in new) × (new.watched ≡ old.watched)
     × (new.is_accepted ≡ old.is_accepted)
-    × (new.style ≡ old.style) × (new.growth ≡ record old.growth { roots = [] })
+    × (new.style ≡ old.style) × (new.growth ≡ record old.growth { is_growing = false })
 
 -- Some moves print this.
 pub record Prints {A : Type 0} {far : FarEnd} (old : Stand A far) (text : List ℕ) (new : Stand A far) : Type 0 where
@@ -234,9 +190,9 @@ pub record IsOver {A : Type 0} {far : FarEnd} (for_ms : Option ℕ) (ready last 
 
 -- ---- the whole
 
--- A new session, which asks for a timeout above 0 and of 31 bits, as later ones will, and no connection; how it is printed; and the roots
--- of trees, of which nothing is known.
-pub record IsBegun {A : Type 0} {far : FarEnd} (style : Style) (roots : List Text) (most : ℕ) (first : Stand A far) : Type 0 where
+-- A new session, which asks for a timeout above 0 and of 31 bits, as later ones will, and no connection; how it is printed; and the most
+-- nodes of trees, of which none is followed yet.
+pub record IsBegun {A : Type 0} {far : FarEnd} (style : Style) (most : ℕ) (first : Stand A far) : Type 0 where
   pub timeout : ℕ
   pub least : 0 < timeout
   pub below : timeout < 2 ^ 31
@@ -248,33 +204,29 @@ pub record IsBegun {A : Type 0} {far : FarEnd} (style : Style) (roots : List Tex
   pub watched : first.watched ≡ []
   pub accepted : first.is_accepted ≡ false
   pub prints : first.style ≡ style
-  pub growth : first.growth ≡ record { roots = roots; most = most; is_bounded = false; ticket = 1 }
+  pub growth : first.growth ≡ record { most = most; bounded = 0; ticket = 1; is_growing = true }
 
 -- What a watch of these has printed, wherever it stopped: nothing before each is followed.
-pub record PrintsFrom {A : Type 0} {far : FarEnd} (aims : List (Side × Text)) (first : Stand A far) (text : List ℕ) : Type 0 where
+pub record PrintsFrom {A : Type 0} {far : FarEnd} (aims : List (Side × Text)) (roots : List Text) (first : Stand A far)
+    (text : List ℕ) : Type 0 where
   pub ready : Stand A far
   pub last : Stand A far
-  pub follows : FollowsAll aims first ready
+  pub follows : Prepares aims roots first ready
   pub prints : Prints ready text last
 
 -- What it has printed whose time is over, and whether a server has accepted a session.
-pub record EndsFrom {A : Type 0} {far : FarEnd} (aims : List (Side × Text)) (for_ms : Option ℕ) (first : Stand A far) (text : List ℕ)
-    (is_accepted : Bool) : Type 0 where
+pub record EndsFrom {A : Type 0} {far : FarEnd} (aims : List (Side × Text)) (roots : List Text) (for_ms : Option ℕ) (first : Stand A far)
+    (text : List ℕ) (is_accepted : Bool) : Type 0 where
   pub ready : Stand A far
   pub last : Stand A far
-  pub follows : FollowsAll aims first ready
+  pub follows : Prepares aims roots first ready
   pub over : IsOver for_ms ready last text
   pub accepted : last.is_accepted ≡ is_accepted
-
--- the client that a turn has led to, before the trees were tended
-abbrev pub IsTurnLed : {A : Type 0} {far : FarEnd} → (move : Move A) → (old new : Stand A far) → Does old move new → Type 0
-IsTurnLed (Takes turn text) old new does = IsLed (view_in does.between)
-IsTurnLed (Closes until) old new does = ⊤
 
 -- Each client that something is printed of stands where turns by the rule have led it.
 abbrev pub AllStood : {A : Type 0} {far : FarEnd} → (moves : List (Move A)) → (old new : Stand A far) → FoldsTo Does old moves new → Type 0
 AllStood [] old new does = ⊤
-AllStood (move ∷ moves) old new does = IsTurnLed move old does.0 does.1 × IsLed (view_in does.0) × AllStood moves does.0 new does.2
+AllStood (move ∷ moves) old new does = IsLed (view_in does.0) × AllStood moves does.0 new does.2
 
 abbrev pub IsStood : {A : Type 0} {far : FarEnd} → (old : Stand A far) → (text : List ℕ) → (new : Stand A far)
     → Prints old text new → Type 0
@@ -282,13 +234,13 @@ IsStood old text new prints = AllStood prints.moves old new prints.does
 
 abbrev pub IsPrinted : (A : Type 0) → FarEnd → Style → List (Side × Text) → (roots : List Text) → (most : ℕ) → List ℕ → Type 0
 IsPrinted A far style aims roots most text =
-    (text ≡ []) ⊎ ((first : Stand A far) × IsBegun style roots most first × (from : PrintsFrom (aims ++ roots_aims roots) first text)
+    (text ≡ []) ⊎ ((first : Stand A far) × IsBegun style most first × (from : PrintsFrom aims roots first text)
     × IsStood from.ready text from.last from.prints)
 
 abbrev pub IsWatched : (A : Type 0) → FarEnd → Style → List (Side × Text) → (roots : List Text) → (most : ℕ)
     → Option ℕ → List ℕ → (is_accepted : Bool) → Type 0
 IsWatched A far style aims roots most for_ms text is_accepted =
-    (first : Stand A far) × IsBegun style roots most first × (from : EndsFrom (aims ++ roots_aims roots) for_ms first text is_accepted)
+    (first : Stand A far) × IsBegun style most first × (from : EndsFrom aims roots for_ms first text is_accepted)
     × IsStood from.ready from.over.told from.over.over from.over.prints × IsStood from.over.over from.over.rest from.last from.over.closes
 
 -- ---- what follows byte by byte
@@ -298,4 +250,5 @@ abbrev pub WatchesRun : Type 0 → FarEnd → Type 0
 WatchesRun A far = (old new : Stand A far) (text : List ℕ) → Prints old text new → Runs (flow_in old) (flow_in new)
 
 abbrev pub FollowsRun : Type 0 → FarEnd → Type 0
-FollowsRun A far = (aims : List (Side × Text)) (old new : Stand A far) → FollowsAll aims old new → Runs (flow_in old) (flow_in new)
+FollowsRun A far = (aims : List (Side × Text)) (roots : List Text) (old new : Stand A far) → Prepares aims roots old new
+    → Runs (flow_in old) (flow_in new)

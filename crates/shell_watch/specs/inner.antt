@@ -1,3 +1,2 @@
 -- What contracts of private functions say: nobody has to believe it.
-pub mod Trees
 pub mod Watching

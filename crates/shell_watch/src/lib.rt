@@ -2,12 +2,14 @@
 //!
 //! [`watch`] has a driver of `zk_driver` follow each [`NodeSide`], and decides nothing of the session: it prints a line for each thing that
 //! the driver tells of the session, of its connections and of reads that are refused, and a line wherever what the client keeps of a
-//! subject is not what was printed of it last. Of a tree it has the nodes below a root followed too, as they come to be known, and lets go
-//! those that are gone.
+//! subject is not what was printed of it last. It has the driver follow trees too: of each the sides of nodes are watched that the driver
+//! takes on, until it lets them go.
 #![tactic(auto)]
 
 mod bound;
 mod end;
+mod growth;
+mod joining;
 mod kept_object;
 pub mod laws;
 mod looks;
@@ -17,7 +19,6 @@ mod planned;
 mod shown;
 mod stamp;
 mod texts;
-mod trees;
 mod turn_object;
 mod watcher;
 mod words;

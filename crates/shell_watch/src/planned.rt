@@ -5,14 +5,13 @@ ghost use Rattle.std.specs.Io.KnownBytes.{Appends};
 ghost use Rattle.shell_watch.specs.Watching.{aims_of, IsPrinted, IsWatched};
 
 use crate::end::WatchEnd;
+use crate::growth::Growth;
 use crate::plan::WatchPlan;
-use crate::trees::Trees;
 use crate::watcher::Watcher;
 use std::alloc::Allocator;
 use std::io::Write;
 use zk_driver::Driver;
 use zk_link::{Clock, Dial};
-use zk_trees::add_roots;
 
 /// Watches the subjects of a plan, and prints to `out` what changes, until its time is over or a write fails. Then the session is ended,
 /// which is waited for, a third of the timeout at most.
@@ -22,10 +21,10 @@ use zk_trees::add_roots;
 /// and the last seen zxid, where that is not what was printed of it last. At first it is as if nothing that is kept had been printed. Each
 /// line begins with the time since the watch began.
 ///
-/// Of each tree the root is followed from the first, also where it is not there yet. Where nothing waits to be told, each node is followed
-/// that good names lead to from there on, its data and the names below it, if it is not watched already; and a node that was found so is
-/// let go after it was printed that it does not exist. Where a tree has more nodes than the most, no more of it are taken on, and a line
-/// tells that.
+/// The driver follows each tree: its root from the first, also where it is not there yet, and each node that good names lead to from there
+/// on, its data and the names below it. What it takes on is watched, if it is not watched already, so that nothing is printed twice; and
+/// what it lets go is watched no more, after it was printed once more where it has changed: that it does not exist. Where a tree has more
+/// nodes than the most, no more of it are taken on, and a line tells that where none had more before.
 ///
 /// Lines are written whole, those of one turn in one write, and flushed. Where memory runs out, those of the last turn are not written.
 pub fn watch<A: Allocator + Copy, D: Dial + Drop, C: Clock + Drop, O: Write>(
@@ -52,16 +51,13 @@ pub fn watch<A: Allocator + Copy, D: Dial + Drop, C: Clock + Drop, O: Write>(
 {
     let WatchPlan {
         addresses,
-        mut subjects,
+        subjects,
         trees,
         most,
         timeout_ms,
         for_ms,
         style,
     } = plan;
-    let Ok(()) = add_roots(alloc, &mut subjects, trees.as_slice()) else {
-        return WatchEnd::Memory;
-    };
     let Ok(driver) = Driver::begin(alloc, timeout_ms.max(1), dial, clock, addresses) else {
         return WatchEnd::Memory;
     };
@@ -72,15 +68,16 @@ pub fn watch<A: Allocator + Copy, D: Dial + Drop, C: Clock + Drop, O: Write>(
         is_accepted: false,
         begins: 0,
         style,
-        trees: Trees {
-            roots: trees,
+        growth: Growth {
             most,
-            is_bounded: false,
+            bounded: 0,
             ticket: 1,
+            is_growing: true,
         },
     };
-    let end = watcher.watch_for(subjects.as_slice(), for_ms, out);
+    let end = watcher.watch_for(subjects.as_slice(), trees.as_slice(), for_ms, out);
     drop(watcher);
     drop(subjects);
+    drop(trees);
     end
 }

@@ -2,7 +2,8 @@
 
 ghost use Rattle.std.specs.Prelude.{◌≡◌, ◌++◌, ℕ, List, IfOk, OnOk, string_bytes};
 ghost use Rattle.zk_client.specs.Clients.{view_of};
-ghost use Rattle.shell_watch.specs.Lines.{none_words, subject_line, subject_words, IsSubjectLine};
+ghost use Rattle.shell_watch.specs.Lines.{subject_line, subject_words, IsSubjectLine};
+ghost use Rattle.shell_watch.specs.Trees.{fresh, printed};
 ghost use Rattle.shell_watch.specs.Watching.{aim_of, ShowsAll, ShowsSo};
 
 use crate::kept_object::subject_object;
@@ -13,11 +14,28 @@ use script_replay::words::push_spaced;
 use script_words::values::push_word;
 use script_words::words::text_to_word;
 use std::alloc::{AllocError, Allocator};
-use zk_client::Client;
-use zk_trees::{Member, NodeSide};
+use zk_client::{Client, Path, Side};
+use zk_trees::{NodeSide, copy_of};
 
-/// A subject that is watched. What is noted of it are the words that were printed of it last.
-pub(crate) type Watched<A> = Member<A, String<A>>;
+/// A subject that is watched, the ticket by which it is followed, the words that were printed of it last, if any were, and whether it is
+/// let go: then it is printed once more, where it has changed.
+#[derive(Drop)]
+pub(crate) struct Watched<A: Allocator> {
+    pub(crate) subject: NodeSide<A>,
+    pub(crate) ticket: u64,
+    pub(crate) note: Option<String<A>>,
+    pub(crate) is_leaving: bool,
+}
+
+/// The words that were printed of it last; where none were, those where nothing is kept.
+pub(crate) fn printed<A: Allocator>(one: &Watched<A>) -> &str
+    ensures { result.now ≡ printed one.now }
+{
+    match &one.note {
+        Some(words) => words.as_str(),
+        None => none_words(one.subject.side),
+    }
+}
 
 /// The words of a subject's line: the path, what is kept, and the last seen zxid.
 fn subject_words<A: Allocator + Copy>(
@@ -71,25 +89,21 @@ fn subject_line<A: Allocator + Copy>(
     }
 }
 
-/// A copy of a subject, as if nothing were kept of it and that were printed.
-pub(crate) fn watched_of<A: Allocator + Copy>(
+/// A side of a copy of a path, as if nothing were kept of it and that were printed.
+pub(crate) fn fresh<A: Allocator + Copy>(
     alloc: A,
-    subject: &NodeSide<A>,
     ticket: u64,
-    is_found: bool,
+    side: Side,
+    path: &Path<A>,
 ) -> Result<Watched<A>, AllocError>
-    ensures aim { IfOk result (λ one. aim_of one.subject ≡ aim_of subject.now) }
-    ensures ticket { IfOk result (λ one. one.ticket ≡ ticket) }
-    ensures found { IfOk result (λ one. one.is_found ≡ is_found) }
-    ensures words { IfOk result (λ one. string_bytes one.note ≡ none_words subject.now.side) }
+    ensures { IfOk result (λ one. one ≡ fresh ticket (side, path.now)) }
 {
-    let note = String::from_str(alloc, none_words(subject.side))?;
-    let subject = NodeSide::of(alloc, subject.side, &subject.path)?;
-    Ok(Member {
-        subject,
+    let path = copy_of(alloc, path)?;
+    Ok(Watched {
+        subject: NodeSide { side, path },
         ticket,
-        is_found,
-        note,
+        note: None,
+        is_leaving: false,
     })
 }
 
@@ -106,12 +120,12 @@ fn show<A: Allocator + Copy>(
         × (string_bytes text.new ≡ string_bytes text.old ++ told)) }
 {
     let words = look(alloc, client, &one.subject)?;
-    if words.as_str() == one.note.as_str() {
+    if words.as_str() == printed(one) {
         return Ok(());
     }
     let line = subject_line(alloc, style, ms, client, &one.subject, words.as_str())?;
     text.push_str(line.as_str())?;
-    one.note = words;
+    one.note = Some(words);
     Ok(())
 }
 

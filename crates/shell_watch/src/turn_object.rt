@@ -6,12 +6,12 @@ ghost use Rattle.zk_client.specs.FaultText.{fault_code, fault_words};
 ghost use Rattle.zk_client.specs.Views.{fault_view};
 ghost use Rattle.zk_agent.specs.Telling.{action_view};
 ghost use Rattle.shell_watch.specs.Lines.{action_kind, action_members, address_members, code_members, fault_members, object_line, path_of};
-ghost use Rattle.shell_watch.specs.Lines.{reason_members, reason_words, session_members, state_members, turn_kind, turn_members};
-ghost use Rattle.shell_watch.specs.Lines.{why_members};
+ghost use Rattle.shell_watch.specs.Lines.{reason_members, reason_words, refused_kind, session_members, state_members, turn_kind};
+ghost use Rattle.shell_watch.specs.Lines.{turn_members, why_members};
 
 use crate::object::{begun, ended, put_count, put_number, put_text};
 use crate::shown::Watched;
-use crate::words::{code_words, path_of, reason_words};
+use crate::words::{code_words, has_ticket, path_of, reason_words};
 use json::Writer;
 use script_replay::outputs::state_to_word;
 use script_words::values::push_value;
@@ -19,25 +19,36 @@ use std::alloc::{AllocError, Allocator};
 use zk_client::{Client, Fault, State};
 use zk_driver::{Action, Reason, Refusal, Turn};
 
+/// That a read was refused, where a subject has the ticket.
+fn refused_kind<A: Allocator>(watched: &[Watched<A>], ticket: u64) -> &'static str
+    ensures { result.now ≡ refused_kind ticket watched.now }
+{
+    if has_ticket(watched, ticket) {
+        "refused"
+    } else {
+        ""
+    }
+}
+
 /// What a line tells of what the agent tells, and nothing where it is not printed.
-fn action_kind<A: Allocator>(action: &Action<A>) -> &'static str
-    ensures { result.now ≡ action_kind (action_view action.now) }
+fn action_kind<A: Allocator>(watched: &[Watched<A>], action: &Action<A>) -> &'static str
+    ensures { result.now ≡ action_kind watched.now (action_view action.now) }
 {
     match action {
         Action::State(_) => "state",
         Action::GivenUp(_) => "drop",
         Action::Renewed => "renewed",
-        Action::Refused { .. } => "refused",
+        Action::Refused { ticket, .. } => refused_kind(watched, *ticket),
         _ => "",
     }
 }
 
 /// What a line tells of a turn, and nothing where it is not printed.
-fn turn_kind<A: Allocator>(turn: &Turn<A>) -> &'static str
-    ensures { result.now ≡ turn_kind turn.now }
+fn turn_kind<A: Allocator>(watched: &[Watched<A>], turn: &Turn<A>) -> &'static str
+    ensures { result.now ≡ turn_kind watched.now turn.now }
 {
     match turn {
-        Turn::Told(action) => action_kind(action),
+        Turn::Told(action) => action_kind(watched, action),
         Turn::Dials => "dial",
         Turn::Failed(_) => "failed",
         Turn::Ended(_) => "ended",
@@ -212,9 +223,10 @@ pub(crate) fn turn_object<A: Allocator + Copy>(
     turn: &Turn<A>,
 ) -> Result<String<A>, AllocError>
     ensures { IfOk result
-        (λ text. string_bytes text ≡ object_line ms (turn_kind turn.now) (turn_members watched.now at.now (view_of client.now) turn.now)) }
+        (λ text. string_bytes text
+        ≡ object_line ms (turn_kind watched.now turn.now) (turn_members watched.now at.now (view_of client.now) turn.now)) }
 {
-    let kind = turn_kind(turn);
+    let kind = turn_kind(watched, turn);
     if kind.is_empty() {
         return Ok(String::new(alloc));
     }

@@ -5,32 +5,31 @@ ghost use Rattle.std.specs.Io.KnownBytes.{Appends};
 ghost use Rattle.zk_agent.specs.Telling.{told_by};
 ghost use Rattle.zk_client.specs.Clients.{view_of};
 ghost use Rattle.zk_driver.specs.Noting.{is_come};
-ghost use Rattle.zk_trees.specs.Trees.{wants_of};
-ghost use Rattle.shell_watch.specs.Watching.{accepts, aim_of, aims_of, end_of, EndsFrom, FollowsAll, FollowsSo, HasCome, Closes};
-ghost use Rattle.shell_watch.specs.inner.Watching.{stand_of};
-ghost use Rattle.shell_watch.specs.Watching.{Does, Grows, IsOver, LetsAllGo, PrintsFrom, TakesAllOn, TakesOn};
-ghost use Rattle.shell_watch.specs.inner.Watching.{Heard, LinesOf, ShowsThen};
-ghost use Rattle.shell_watch.specs.Watching.{TellsTurn, Tends, TendsSo};
-ghost use Rattle.shell_watch.specs.inner.Watching.{Writes, WritesEnd, WritesOn};
+ghost use Rattle.shell_watch.specs.Trees.{grown_after, grown_by, watched_after, watched_by};
+ghost use Rattle.shell_watch.specs.Watching.{accepts, aim_of, aims_of, end_of, EndsFrom, FollowsAll, FollowsSo, HasCome, Closes, Does};
+ghost use Rattle.shell_watch.specs.Watching.{IsOver, PlantsAll, PlantsSo, Prepares, PrintsFrom, TellsTurn};
+ghost use Rattle.shell_watch.specs.inner.Watching.{stand_of, Heard, LinesOf, ShowsThen, Writes, WritesEnd, WritesOn};
+ghost use Rattle.zk_trees.specs.Tending.{tree_told};
 
 use crate::bound::bound_text;
 use crate::end::{Failure, WatchEnd};
+use crate::growth::Growth;
+use crate::joining::{drop_leaving, join, leave};
 use crate::plan::Style;
-use crate::shown::{Watched, show_all, watched_of};
-use crate::trees::Trees;
+use crate::shown::{Watched, fresh, show_all};
 use crate::words::turn_line;
 use std::alloc::{AllocError, Allocator};
 use std::io::{self, Write};
-use zk_client::{Call, State};
-use zk_driver::{Action, Driver, Stop, Turn};
+use zk_client::{Call, Path, State};
+use zk_driver::{Action, Driver, Stop, TreeNews, Turn};
 use zk_link::{Clock, Dial};
-use zk_trees::{NodeSide, Wanted, copy_of, drop_gone, is_settled, tickets_gone, wanted_of};
+use zk_trees::{NodeSide, copy_of};
 
 /// The ticket of the call that ends the session. Those of subjects begin at 1.
 const CLOSE: u64 = 0;
 
-/// A driver, what was printed of the subjects, whether a server has accepted a session, when the watch began, how it is printed, and its
-/// trees.
+/// A driver, what was printed of the subjects, whether a server has accepted a session, when the watch began, how it is printed, and how
+/// its trees grow.
 #[derive(Drop)]
 pub(crate) struct Watcher<'a, A: Allocator + Copy, D: Dial + Drop, C: Clock + Drop> {
     pub(crate) alloc: A,
@@ -39,7 +38,7 @@ pub(crate) struct Watcher<'a, A: Allocator + Copy, D: Dial + Drop, C: Clock + Dr
     pub(crate) is_accepted: bool,
     pub(crate) begins: u64,
     pub(crate) style: Style,
-    pub(crate) trees: Trees<A>,
+    pub(crate) growth: Growth,
 }
 
 /// Writes what was made, if anything was.
@@ -95,17 +94,18 @@ impl<'a, A: Allocator + Copy, D: Dial + Drop, C: Clock + Drop> Watcher<'a, A, D,
         ensures watched { self.new.watched ≡ self.old.watched }
         ensures accepted { self.new.is_accepted ≡ self.old.is_accepted }
         ensures style { self.new.style ≡ self.old.style }
-        ensures trees { self.new.trees ≡ self.old.trees }
+        ensures growth { self.new.growth ≡ self.old.growth }
     {
         self.driver.now().saturating_sub(self.begins)
     }
 
-    /// Adds each subject of which what is kept is not what was printed last, where nothing waits to be told.
+    /// Adds each subject of which what is kept is not what was printed last, where nothing waits to be told. What is let go is watched no
+    /// more then.
     fn show(&mut self, ms: u64, text: &mut String<A>) -> Result<(), AllocError>
         ensures engine { self.new.driver.engine ≡ self.old.driver.engine }
         ensures accepted { self.new.is_accepted ≡ self.old.is_accepted }
         ensures style { self.new.style ≡ self.old.style }
-        ensures trees { self.new.trees ≡ self.old.trees }
+        ensures growth { self.new.growth ≡ self.old.growth }
         ensures shows { OnOk result (ShowsThen self.old.style ms (view_of self.old.driver.engine.agent.asker.follower.client)
             (told_by self.old.driver.engine.waiting.items) self.old.watched.items self.new.watched.items (string_bytes text.old)
             (string_bytes text.new)) }
@@ -115,7 +115,9 @@ impl<'a, A: Allocator + Copy, D: Dial + Drop, C: Clock + Drop> Watcher<'a, A, D,
         }
         let client = self.driver.client();
         let watched = self.watched.as_mut_slice();
-        show_all(self.alloc, self.style, ms, client, watched, text)
+        show_all(self.alloc, self.style, ms, client, watched, text)?;
+        drop_leaving(&mut self.watched);
+        Ok(())
     }
 
     /// The line of a turn, and none where it is not printed.
@@ -129,16 +131,67 @@ impl<'a, A: Allocator + Copy, D: Dial + Drop, C: Clock + Drop> Watcher<'a, A, D,
         turn_line(self.alloc, self.style, ms, client, watched, at, turn)
     }
 
-    /// What is printed of a turn, after this time, and where nothing waits to be told after it, of what is kept.
+    /// What is told of a tree: a side of a node is watched for it or is let go, or it has more nodes than the most.
+    fn take_news(&mut self, news: &TreeNews<A>) -> Result<(), AllocError>
+        ensures engine { self.new.driver.engine ≡ self.old.driver.engine }
+        ensures accepted { self.new.is_accepted ≡ self.old.is_accepted }
+        ensures style { self.new.style ≡ self.old.style }
+        ensures watched { OnOk result (self.new.watched.items ≡ watched_by (tree_told news.now) self.old.watched.items) }
+        ensures growth { OnOk result (self.new.growth ≡ grown_by (tree_told news.now) self.old.growth) }
+    {
+        match news {
+            TreeNews::TakenOn {
+                ticket,
+                side,
+                path,
+                ..
+            } => join(self.alloc, *ticket, *side, path, &mut self.watched),
+            TreeNews::LetGo { ticket, .. } => {
+                leave(*ticket, &mut self.watched);
+                Ok(())
+            }
+            TreeNews::Bounded { is_bounded, .. } => {
+                self.growth.note_bound(*is_bounded);
+                Ok(())
+            }
+            TreeNews::Whole { .. } => Ok(()),
+        }
+    }
+
+    /// What a turn tells of trees counts, where they grow.
+    fn take(&mut self, turn: &Turn<A>) -> Result<(), AllocError>
+        ensures engine { self.new.driver.engine ≡ self.old.driver.engine }
+        ensures accepted { self.new.is_accepted ≡ self.old.is_accepted }
+        ensures style { self.new.style ≡ self.old.style }
+        ensures watched { OnOk result (self.new.watched.items ≡ watched_after turn.now self.old.growth self.old.watched.items) }
+        ensures growth { OnOk result (self.new.growth ≡ grown_after turn.now self.old.growth) }
+    {
+        if !self.growth.is_growing {
+            return Ok(());
+        }
+        match turn {
+            Turn::Told(Action::Tree(news)) => self.take_news(news),
+            _ => Ok(()),
+        }
+    }
+
+    /// What is printed of a turn, after this time, and where nothing waits to be told after it, of what is kept. A line tells where a tree
+    /// has more nodes than the most, and none had.
     fn printed_turn(&mut self, turn: &Turn<A>, ms: u64) -> Result<String<A>, AllocError>
         ensures engine { self.new.driver.engine ≡ self.old.driver.engine }
         ensures accepted { self.new.is_accepted ≡ self.old.is_accepted }
         ensures style { self.new.style ≡ self.old.style }
-        ensures trees { self.new.trees ≡ self.old.trees }
+        ensures growth { OnOk result (self.new.growth ≡ grown_after turn.now self.old.growth) }
         ensures tells { IfOk result (λ text. TellsTurn self.old.style turn.now (view_of self.old.driver.engine.agent.asker.follower.client)
-            (told_by self.old.driver.engine.waiting.items) self.old.watched.items self.new.watched.items (string_bytes text)) }
+            (told_by self.old.driver.engine.waiting.items) self.old.growth self.old.watched.items self.new.watched.items
+            (string_bytes text)) }
     {
         let mut text = self.line(turn, ms)?;
+        let (was, most) = (self.growth.has_bounded(), self.growth.most);
+        self.take(turn)?;
+        let is = self.growth.has_bounded();
+        let bound = bound_text(self.alloc, self.style, ms, was, is, most)?;
+        text.push_str(bound.as_str())?;
         self.show(ms, &mut text)?;
         Ok(text)
     }
@@ -149,7 +202,7 @@ impl<'a, A: Allocator + Copy, D: Dial + Drop, C: Clock + Drop> Watcher<'a, A, D,
         ensures engine { self.new.driver.engine ≡ self.old.driver.engine }
         ensures watched { self.new.watched ≡ self.old.watched }
         ensures style { self.new.style ≡ self.old.style }
-        ensures trees { self.new.trees ≡ self.old.trees }
+        ensures growth { self.new.growth ≡ self.old.growth }
     {
         if accepts(turn) {
             self.is_accepted = true;
@@ -160,9 +213,9 @@ impl<'a, A: Allocator + Copy, D: Dial + Drop, C: Clock + Drop> Watcher<'a, A, D,
     fn run_turn(&mut self, until: u64) -> Result<(bool, String<A>), Failure>
         ensures ok { IfOk result
             (λ heard. Heard until heard.0 (stand_of D.Stream.remaining D.Stream.contents D.Stream.far D.Stream.state self.old.driver.engine
-            self.old.watched.items self.old.is_accepted self.old.style self.old.trees) (string_bytes heard.1) (stand_of D.Stream.remaining
+            self.old.watched.items self.old.is_accepted self.old.style self.old.growth) (string_bytes heard.1) (stand_of D.Stream.remaining
             D.Stream.contents D.Stream.far D.Stream.state self.new.driver.engine self.new.watched.items self.new.is_accepted
-            self.new.style self.new.trees)) }
+            self.new.style self.new.growth)) }
         ensures err { IfErr result (λ why. why ≢ Failure.Stream) }
     {
         let turn = self.driver.turn(until)?;
@@ -172,122 +225,19 @@ impl<'a, A: Allocator + Copy, D: Dial + Drop, C: Clock + Drop> Watcher<'a, A, D,
         Ok((is_come(&turn), text))
     }
 
-    /// Follows no more what is gone.
-    fn let_go(&mut self) -> Result<(), Stop>
-        ensures { OnOk result (LetsAllGo
-            (stand_of D.Stream.remaining D.Stream.contents D.Stream.far D.Stream.state self.old.driver.engine self.old.watched.items
-            self.old.is_accepted self.old.style self.old.trees)
-            (stand_of D.Stream.remaining D.Stream.contents D.Stream.far D.Stream.state self.new.driver.engine
-            self.new.watched.items self.new.is_accepted self.new.style self.new.trees)) }
-    {
-        let client = self.driver.client();
-        let Ok(tickets) = tickets_gone(self.alloc, client, self.watched.as_slice()) else {
-            return Err(Stop::Memory);
-        };
-        drop_gone(client, &mut self.watched);
-        for ticket in tickets.as_slice() {
-            self.driver.unfollow(*ticket)?;
-        }
-        Ok(())
-    }
-
-    /// Follows a subject that was found, where it is not settled.
-    fn take_on(&mut self, subject: &NodeSide<A>) -> Result<(), Stop>
-        ensures { OnOk result
-            (TakesOn (aim_of subject.now) (stand_of D.Stream.remaining D.Stream.contents D.Stream.far D.Stream.state self.old.driver.engine
-            self.old.watched.items self.old.is_accepted self.old.style self.old.trees)
-            (stand_of D.Stream.remaining D.Stream.contents D.Stream.far D.Stream.state
-            self.new.driver.engine self.new.watched.items self.new.is_accepted self.new.style self.new.trees)) }
-    {
-        let client = self.driver.client();
-        if is_settled(client, subject, self.watched.as_slice()) {
-            return Ok(());
-        }
-        self.follow(subject, true)
-    }
-
-    /// Takes on each of these, and notes whether a tree has more nodes than the most.
-    fn take_all_on(&mut self, wanted: &Wanted<A>) -> Result<(), Stop>
-        ensures { OnOk result (TakesAllOn (wants_of wanted.now)
-            (stand_of D.Stream.remaining D.Stream.contents D.Stream.far D.Stream.state self.old.driver.engine
-            self.old.watched.items self.old.is_accepted self.old.style self.old.trees)
-            (stand_of D.Stream.remaining D.Stream.contents D.Stream.far D.Stream.state
-            self.new.driver.engine self.new.watched.items self.new.is_accepted self.new.style self.new.trees)) }
-    {
-        for subject in wanted.subjects.as_slice() {
-            self.take_on(subject)?;
-        }
-        self.trees.is_bounded = wanted.is_bounded;
-        Ok(())
-    }
-
-    /// Takes on each tree, as far as good names lead.
-    fn grow(&mut self) -> Result<(), Stop>
-        ensures { OnOk result
-            (Grows (stand_of D.Stream.remaining D.Stream.contents D.Stream.far D.Stream.state self.old.driver.engine self.old.watched.items
-            self.old.is_accepted self.old.style self.old.trees)
-            (stand_of D.Stream.remaining D.Stream.contents D.Stream.far D.Stream.state self.new.driver.engine
-            self.new.watched.items self.new.is_accepted self.new.style self.new.trees)) }
-    {
-        let client = self.driver.client();
-        let (most, roots) = (self.trees.most, self.trees.roots.as_slice());
-        let Ok(wanted) = wanted_of(self.alloc, client, most, roots) else {
-            return Err(Stop::Memory);
-        };
-        self.take_all_on(&wanted)
-    }
-
-    /// Lets go what is gone, and takes on each tree. What is printed of it.
-    fn tend_all(&mut self) -> Result<String<A>, Failure>
-        ensures ok { IfOk result (λ text.
-            Tends (stand_of D.Stream.remaining D.Stream.contents D.Stream.far D.Stream.state self.old.driver.engine self.old.watched.items
-            self.old.is_accepted self.old.style self.old.trees) (string_bytes text)
-            (stand_of D.Stream.remaining D.Stream.contents D.Stream.far D.Stream.state
-            self.new.driver.engine self.new.watched.items self.new.is_accepted self.new.style self.new.trees)) }
-        ensures err { IfErr result (λ why. why ≢ Failure.Stream) }
-    {
-        let was = self.trees.is_bounded;
-        self.let_go()?;
-        self.grow()?;
-        let ms = self.elapsed();
-        let (is, most) = (self.trees.is_bounded, self.trees.most);
-        let text = bound_text(self.alloc, self.style, ms, was, is, most)?;
-        Ok(text)
-    }
-
-    /// The same where nothing waits to be told, and the watch is not over.
-    fn tend(&mut self, is_over: bool) -> Result<String<A>, Failure>
-        ensures ok { IfOk result
-            (λ text. TendsSo is_over (stand_of D.Stream.remaining D.Stream.contents D.Stream.far D.Stream.state self.old.driver.engine
-            self.old.watched.items self.old.is_accepted self.old.style self.old.trees) (string_bytes text) (stand_of D.Stream.remaining
-            D.Stream.contents D.Stream.far D.Stream.state self.new.driver.engine self.new.watched.items self.new.is_accepted
-            self.new.style self.new.trees)) }
-        ensures err { IfErr result (λ why. why ≢ Failure.Stream) }
-    {
-        if is_over {
-            return Ok(String::new(self.alloc));
-        }
-        if self.driver.has_told() {
-            return Ok(String::new(self.alloc));
-        }
-        self.tend_all()
-    }
-
-    /// One turn, which is printed, and what becomes of the trees. Whether the moment has come, and nothing waits to be told.
+    /// One turn, which is printed. Whether the moment has come, and nothing waits to be told.
     fn round<O: Write>(&mut self, until: u64, out: &mut O) -> Result<bool, Failure>
         ensures ok { OnOk result
             (Writes (stand_of D.Stream.remaining D.Stream.contents D.Stream.far D.Stream.state self.old.driver.engine self.old.watched.items
-            self.old.is_accepted self.old.style self.old.trees)
+            self.old.is_accepted self.old.style self.old.growth)
             (stand_of D.Stream.remaining D.Stream.contents D.Stream.far D.Stream.state self.new.driver.engine
-            self.new.watched.items self.new.is_accepted self.new.style self.new.trees) (O.contents out.old) (O.contents out.new)) }
+            self.new.watched.items self.new.is_accepted self.new.style self.new.growth) (O.contents out.old) (O.contents out.new)) }
         ensures come { IfOk result
             (λ is_over. is_over ≡ true → HasCome until (stand_of D.Stream.remaining D.Stream.contents D.Stream.far D.Stream.state
-            self.new.driver.engine self.new.watched.items self.new.is_accepted self.new.style self.new.trees)) }
+            self.new.driver.engine self.new.watched.items self.new.is_accepted self.new.style self.new.growth)) }
         ensures err { IfErr result (λ why. why ≢ Failure.Stream → out.new ≡ out.old) }
     {
-        let (is_over, mut text) = self.run_turn(until)?;
-        let more = self.tend(is_over)?;
-        text.push_str(more.as_str())?;
+        let (is_over, text) = self.run_turn(until)?;
         write(out, text.as_str())?;
         Ok(is_over)
     }
@@ -296,16 +246,16 @@ impl<'a, A: Allocator + Copy, D: Dial + Drop, C: Clock + Drop> Watcher<'a, A, D,
     fn run<O: Write>(&mut self, end: u64, out: &mut O) -> Result<(), Failure>
         ensures ok { OnOk result
             (Writes (stand_of D.Stream.remaining D.Stream.contents D.Stream.far D.Stream.state self.old.driver.engine self.old.watched.items
-            self.old.is_accepted self.old.style self.old.trees)
+            self.old.is_accepted self.old.style self.old.growth)
             (stand_of D.Stream.remaining D.Stream.contents D.Stream.far D.Stream.state self.new.driver.engine
-            self.new.watched.items self.new.is_accepted self.new.style self.new.trees) (O.contents out.old) (O.contents out.new)) }
+            self.new.watched.items self.new.is_accepted self.new.style self.new.growth) (O.contents out.old) (O.contents out.new)) }
         ensures come { OnOk result (HasCome end
             (stand_of D.Stream.remaining D.Stream.contents D.Stream.far D.Stream.state self.new.driver.engine self.new.watched.items
-            self.new.is_accepted self.new.style self.new.trees)) }
+            self.new.is_accepted self.new.style self.new.growth)) }
         ensures err { IfErr result
             (λ why. why ≢ Failure.Stream
             → WritesOn (stand_of D.Stream.remaining D.Stream.contents D.Stream.far D.Stream.state self.old.driver.engine
-            self.old.watched.items self.old.is_accepted self.old.style self.old.trees) (O.contents out.old) (O.contents out.new)) }
+            self.old.watched.items self.old.is_accepted self.old.style self.old.growth) (O.contents out.old) (O.contents out.new)) }
     {
         for _ in 0..u64::MAX {
             match self.round(end, out) {
@@ -321,13 +271,13 @@ impl<'a, A: Allocator + Copy, D: Dial + Drop, C: Clock + Drop> Watcher<'a, A, D,
     fn await_close<O: Write>(&mut self, until: u64, out: &mut O) -> Result<(), Failure>
         ensures ok { OnOk result
             (Writes (stand_of D.Stream.remaining D.Stream.contents D.Stream.far D.Stream.state self.old.driver.engine self.old.watched.items
-            self.old.is_accepted self.old.style self.old.trees)
+            self.old.is_accepted self.old.style self.old.growth)
             (stand_of D.Stream.remaining D.Stream.contents D.Stream.far D.Stream.state self.new.driver.engine
-            self.new.watched.items self.new.is_accepted self.new.style self.new.trees) (O.contents out.old) (O.contents out.new)) }
+            self.new.watched.items self.new.is_accepted self.new.style self.new.growth) (O.contents out.old) (O.contents out.new)) }
         ensures err { IfErr result
             (λ why. why ≢ Failure.Stream
             → WritesOn (stand_of D.Stream.remaining D.Stream.contents D.Stream.far D.Stream.state self.old.driver.engine
-            self.old.watched.items self.old.is_accepted self.old.style self.old.trees) (O.contents out.old) (O.contents out.new)) }
+            self.old.watched.items self.old.is_accepted self.old.style self.old.growth) (O.contents out.old) (O.contents out.new)) }
     {
         for _ in 0..u64::MAX {
             if !self.is_connected() && !self.driver.has_told() {
@@ -342,19 +292,19 @@ impl<'a, A: Allocator + Copy, D: Dial + Drop, C: Clock + Drop> Watcher<'a, A, D,
         Ok(())
     }
 
-    /// Asks for the end of the session, and tends no tree from then on. The answer is the moment until which it is waited for: a third of
+    /// Asks for the end of the session, and no tree grows from then on. The answer is the moment until which it is waited for: a third of
     /// the timeout.
     fn ask_close(&mut self) -> Result<u64, Stop>
         ensures { IfOk result (λ until.
             Does (stand_of D.Stream.remaining D.Stream.contents D.Stream.far D.Stream.state self.old.driver.engine self.old.watched.items
-            self.old.is_accepted self.old.style self.old.trees) (Closes until)
+            self.old.is_accepted self.old.style self.old.growth) (Closes until)
             (stand_of D.Stream.remaining D.Stream.contents D.Stream.far D.Stream.state
-            self.new.driver.engine self.new.watched.items self.new.is_accepted self.new.style self.new.trees)) }
+            self.new.driver.engine self.new.watched.items self.new.is_accepted self.new.style self.new.growth)) }
     {
         let wait = u64::from(self.driver.client().timeout_ms() / 3);
         let until = self.driver.now().saturating_add(wait);
         self.driver.ask(CLOSE, Call::Close, Some(until))?;
-        self.trees.roots = Vec::new(self.alloc);
+        self.growth.is_growing = false;
         Ok(until)
     }
 
@@ -362,13 +312,13 @@ impl<'a, A: Allocator + Copy, D: Dial + Drop, C: Clock + Drop> Watcher<'a, A, D,
     fn close<O: Write>(&mut self, out: &mut O) -> Result<(), Failure>
         ensures ok { OnOk result (WritesEnd
             (stand_of D.Stream.remaining D.Stream.contents D.Stream.far D.Stream.state self.old.driver.engine self.old.watched.items
-            self.old.is_accepted self.old.style self.old.trees)
+            self.old.is_accepted self.old.style self.old.growth)
             (stand_of D.Stream.remaining D.Stream.contents D.Stream.far D.Stream.state self.new.driver.engine
-            self.new.watched.items self.new.is_accepted self.new.style self.new.trees) (O.contents out.old) (O.contents out.new)) }
+            self.new.watched.items self.new.is_accepted self.new.style self.new.growth) (O.contents out.old) (O.contents out.new)) }
         ensures err { IfErr result
             (λ why. why ≢ Failure.Stream
             → WritesOn (stand_of D.Stream.remaining D.Stream.contents D.Stream.far D.Stream.state self.old.driver.engine
-            self.old.watched.items self.old.is_accepted self.old.style self.old.trees) (O.contents out.old) (O.contents out.new)) }
+            self.old.watched.items self.old.is_accepted self.old.style self.old.growth) (O.contents out.old) (O.contents out.new)) }
     {
         if !self.is_connected() {
             return Ok(());
@@ -390,27 +340,25 @@ impl<'a, A: Allocator + Copy, D: Dial + Drop, C: Clock + Drop> Watcher<'a, A, D,
     }
 
     /// Follows a subject, by the next ticket.
-    fn follow(&mut self, subject: &NodeSide<A>, is_found: bool) -> Result<(), Stop>
-        ensures { OnOk result (FollowsSo is_found (aim_of subject.now)
+    fn follow(&mut self, subject: &NodeSide<A>) -> Result<(), Stop>
+        ensures { OnOk result (FollowsSo (aim_of subject.now)
             (stand_of D.Stream.remaining D.Stream.contents D.Stream.far D.Stream.state self.old.driver.engine
-            self.old.watched.items self.old.is_accepted self.old.style self.old.trees)
-            (stand_of D.Stream.remaining D.Stream.contents D.Stream.far D.Stream.state
-            self.new.driver.engine self.new.watched.items self.new.is_accepted self.new.style self.new.trees)) }
+            self.old.watched.items self.old.is_accepted self.old.style self.old.growth)
+            (stand_of D.Stream.remaining D.Stream.contents D.Stream.far D.Stream.state self.new.driver.engine
+            self.new.watched.items self.new.is_accepted self.new.style self.new.growth)) }
     {
         let Ok(path) = copy_of(self.alloc, &subject.path) else {
             return Err(Stop::Memory);
         };
-        let ticket = self.trees.ticket;
-        let Some(next) = ticket.checked_add(1) else {
+        let Some(ticket) = self.growth.take_ticket() else {
             return Err(Stop::Memory);
         };
-        let Ok(one) = watched_of(self.alloc, subject, ticket, is_found) else {
+        let Ok(one) = fresh(self.alloc, ticket, subject.side, &subject.path) else {
             return Err(Stop::Memory);
         };
         if self.watched.push(one).is_err() {
             return Err(Stop::Memory);
         }
-        self.trees.ticket = next;
         self.driver.follow(ticket, subject.side, path)
     }
 
@@ -418,28 +366,72 @@ impl<'a, A: Allocator + Copy, D: Dial + Drop, C: Clock + Drop> Watcher<'a, A, D,
     fn follow_all(&mut self, subjects: &[NodeSide<A>]) -> Result<(), Stop>
         ensures { OnOk result (FollowsAll (aims_of subjects.now)
             (stand_of D.Stream.remaining D.Stream.contents D.Stream.far D.Stream.state self.old.driver.engine
-            self.old.watched.items self.old.is_accepted self.old.style self.old.trees)
-            (stand_of D.Stream.remaining D.Stream.contents D.Stream.far D.Stream.state
-            self.new.driver.engine self.new.watched.items self.new.is_accepted self.new.style self.new.trees)) }
+            self.old.watched.items self.old.is_accepted self.old.style self.old.growth)
+            (stand_of D.Stream.remaining D.Stream.contents D.Stream.far D.Stream.state self.new.driver.engine
+            self.new.watched.items self.new.is_accepted self.new.style self.new.growth)) }
     {
         for subject in subjects {
-            self.follow(subject, false)?;
+            self.follow(subject)?;
         }
         Ok(())
+    }
+
+    /// Follows a tree, by the next ticket.
+    fn plant(&mut self, root: &Path<A>) -> Result<(), Stop>
+        ensures { OnOk result (PlantsSo root.now
+            (stand_of D.Stream.remaining D.Stream.contents D.Stream.far D.Stream.state self.old.driver.engine
+            self.old.watched.items self.old.is_accepted self.old.style self.old.growth)
+            (stand_of D.Stream.remaining D.Stream.contents D.Stream.far D.Stream.state self.new.driver.engine
+            self.new.watched.items self.new.is_accepted self.new.style self.new.growth)) }
+    {
+        let Ok(root) = copy_of(self.alloc, root) else {
+            return Err(Stop::Memory);
+        };
+        let most = self.growth.most;
+        let Some(ticket) = self.growth.take_ticket() else {
+            return Err(Stop::Memory);
+        };
+        self.driver.follow_tree(ticket, root, most)
+    }
+
+    /// Follows each tree.
+    fn plant_all(&mut self, roots: &[Path<A>]) -> Result<(), Stop>
+        ensures { OnOk result (PlantsAll roots.now
+            (stand_of D.Stream.remaining D.Stream.contents D.Stream.far D.Stream.state self.old.driver.engine
+            self.old.watched.items self.old.is_accepted self.old.style self.old.growth)
+            (stand_of D.Stream.remaining D.Stream.contents D.Stream.far D.Stream.state self.new.driver.engine
+            self.new.watched.items self.new.is_accepted self.new.style self.new.growth)) }
+    {
+        for root in roots {
+            self.plant(root)?;
+        }
+        Ok(())
+    }
+
+    /// Follows each subject, and then each tree.
+    fn prepare(&mut self, subjects: &[NodeSide<A>], roots: &[Path<A>]) -> Result<(), Stop>
+        ensures { OnOk result (Prepares (aims_of subjects.now) roots.now
+            (stand_of D.Stream.remaining D.Stream.contents D.Stream.far D.Stream.state self.old.driver.engine
+            self.old.watched.items self.old.is_accepted self.old.style self.old.growth)
+            (stand_of D.Stream.remaining D.Stream.contents D.Stream.far D.Stream.state self.new.driver.engine
+            self.new.watched.items self.new.is_accepted self.new.style self.new.growth)) }
+    {
+        self.follow_all(subjects)?;
+        self.plant_all(roots)
     }
 
     /// Goes on for this many milliseconds, and then ends the session.
     fn go_on<O: Write>(&mut self, for_ms: Option<u64>, out: &mut O) -> Result<(), Failure>
         ensures ok { OnOk result ((text : List ℕ)
             × IsOver for_ms (stand_of D.Stream.remaining D.Stream.contents D.Stream.far D.Stream.state self.old.driver.engine
-            self.old.watched.items self.old.is_accepted self.old.style self.old.trees)
+            self.old.watched.items self.old.is_accepted self.old.style self.old.growth)
             (stand_of D.Stream.remaining D.Stream.contents D.Stream.far D.Stream.state
-            self.new.driver.engine self.new.watched.items self.new.is_accepted self.new.style self.new.trees) text
+            self.new.driver.engine self.new.watched.items self.new.is_accepted self.new.style self.new.growth) text
             × Appends (O.contents out.old) (O.contents out.new) text) }
         ensures err { IfErr result
             (λ why. why ≢ Failure.Stream
             → WritesOn (stand_of D.Stream.remaining D.Stream.contents D.Stream.far D.Stream.state self.old.driver.engine
-            self.old.watched.items self.old.is_accepted self.old.style self.old.trees) (O.contents out.old) (O.contents out.new)) }
+            self.old.watched.items self.old.is_accepted self.old.style self.old.growth) (O.contents out.old) (O.contents out.new)) }
     {
         self.begins = self.driver.now();
         let end = end_of(self.begins, for_ms);
@@ -461,27 +453,28 @@ impl<'a, A: Allocator + Copy, D: Dial + Drop, C: Clock + Drop> Watcher<'a, A, D,
         WatchEnd::NeverConnected
     }
 
-    /// Follows these subjects for this many milliseconds, and then ends the session.
+    /// Follows these subjects and trees for this many milliseconds, and then ends the session.
     pub(crate) fn watch_for<O: Write>(
         &mut self,
         subjects: &[NodeSide<A>],
+        roots: &[Path<A>],
         for_ms: Option<u64>,
         out: &mut O,
     ) -> WatchEnd
-        ensures over { result ≡ WatchEnd.Over → (text : List ℕ) × EndsFrom (aims_of subjects.now) for_ms (stand_of D.Stream.remaining
-            D.Stream.contents D.Stream.far D.Stream.state self.old.driver.engine self.old.watched.items self.old.is_accepted self.old.style
-            self.old.trees) text true
+        ensures over { result ≡ WatchEnd.Over → (text : List ℕ) × EndsFrom (aims_of subjects.now) roots.now for_ms
+            (stand_of D.Stream.remaining D.Stream.contents D.Stream.far D.Stream.state self.old.driver.engine self.old.watched.items
+            self.old.is_accepted self.old.style self.old.growth) text true
             × Appends (O.contents out.old) (O.contents out.new) text }
-        ensures never { result ≡ WatchEnd.NeverConnected → (text : List ℕ) × EndsFrom (aims_of subjects.now) for_ms
+        ensures never { result ≡ WatchEnd.NeverConnected → (text : List ℕ) × EndsFrom (aims_of subjects.now) roots.now for_ms
             (stand_of D.Stream.remaining D.Stream.contents D.Stream.far D.Stream.state self.old.driver.engine self.old.watched.items
             self.old.is_accepted self.old.style
-            self.old.trees) text false × Appends (O.contents out.old) (O.contents out.new) text }
+            self.old.growth) text false × Appends (O.contents out.old) (O.contents out.new) text }
         ensures printed { result ≢ WatchEnd.Stream → (text : List ℕ) × ((text ≡ [])
-            ⊎ PrintsFrom (aims_of subjects.now)
+            ⊎ PrintsFrom (aims_of subjects.now) roots.now
             (stand_of D.Stream.remaining D.Stream.contents D.Stream.far D.Stream.state self.old.driver.engine self.old.watched.items
-            self.old.is_accepted self.old.style self.old.trees) text) × Appends (O.contents out.old) (O.contents out.new) text }
+            self.old.is_accepted self.old.style self.old.growth) text) × Appends (O.contents out.old) (O.contents out.new) text }
     {
-        if let Err(stop) = self.follow_all(subjects) {
+        if let Err(stop) = self.prepare(subjects, roots) {
             return Failure::from(stop).end();
         }
         match self.go_on(for_ms, out) {

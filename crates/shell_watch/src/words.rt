@@ -1,13 +1,13 @@
 //! What a driver tells, in words.
 
 ghost use Rattle.std.specs.Prelude.{◌≡◌, ◌==◌, ◌++◌, IfOk, OnOk, string_bytes};
-ghost use Rattle.std.specs.List.{find};
+ghost use Rattle.std.specs.List.{find, list_any};
 ghost use Rattle.std.specs.Option.{option_map};
 ghost use Rattle.zk_client.specs.Clients.{view_of};
 ghost use Rattle.zk_client.specs.Views.{fault_view};
 ghost use Rattle.zk_agent.specs.Telling.{action_view};
 ghost use Rattle.shell_watch.specs.Lines.{action_words, code_words, connected_words, drop_text, path_of, reason_words, refusal_words};
-ghost use Rattle.shell_watch.specs.Lines.{state_words, turn_line, turn_words, why_text};
+ghost use Rattle.shell_watch.specs.Lines.{has_ticket, refused_words, state_words, turn_line, turn_words, why_text};
 ghost use Rattle.script_words.specs.Values.{spaced};
 
 use crate::plan::Style;
@@ -68,6 +68,13 @@ pub(crate) fn path_of<A: Allocator>(watched: &[Watched<A>], ticket: u64) -> &str
         Some(one) => one.subject.path.as_str(),
         None => "",
     }
+}
+
+/// Whether a subject has a ticket.
+pub(crate) fn has_ticket<A: Allocator>(watched: &[Watched<A>], ticket: u64) -> bool
+    ensures { result ≡ has_ticket ticket watched.now }
+{
+    watched.iter().any(|one| one.ticket == ticket)
 }
 
 /// A name and the address.
@@ -172,6 +179,21 @@ fn refusal_words<A: Allocator + Copy>(
     Ok(text)
 }
 
+/// The same of the subject that has a ticket, and nothing where none has.
+fn refused_words<A: Allocator + Copy>(
+    alloc: A,
+    watched: &[Watched<A>],
+    ticket: u64,
+    why: Refusal,
+) -> Result<String<A>, AllocError>
+    ensures { IfOk result (λ text. string_bytes text ≡ refused_words watched.now ticket why) }
+{
+    if has_ticket(watched, ticket) {
+        return refusal_words(alloc, path_of(watched, ticket), why);
+    }
+    Ok(String::new(alloc))
+}
+
 /// The words of what the agent tells, and none where it is not printed.
 fn action_words<A: Allocator + Copy>(
     alloc: A,
@@ -186,7 +208,7 @@ fn action_words<A: Allocator + Copy>(
         Action::State(state) => state_words(alloc, client, at, *state),
         Action::GivenUp(fault) => drop_words(alloc, at, fault),
         Action::Renewed => String::from_str(alloc, "session new"),
-        Action::Refused { ticket, why } => refusal_words(alloc, path_of(watched, *ticket), *why),
+        Action::Refused { ticket, why } => refused_words(alloc, watched, *ticket, *why),
         _ => Ok(String::new(alloc)),
     }
 }

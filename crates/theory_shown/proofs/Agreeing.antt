@@ -8,7 +8,6 @@ use Rattle.zk_turns.specs.View.{View}
 use Rattle.zk_turns.specs.Rule.{Stands}
 use Rattle.zk_turns.proofs.Requested.{new_resumable}
 use Rattle.theory_serving.specs.Shown.{Shown}
-use Rattle.zk_nodes.specs.Path.{Text}
 use Rattle.zk_history.specs.HistoryView.{history_of}
 use Rattle.zk_bench.specs.Served.{Served}
 use Rattle.zk_bench.specs.Served as bench
@@ -35,9 +34,9 @@ use Rattle.theory_shown.proofs.Watched.{moves_too}
 -- ---- a watch
 
 -- it begins as its laws want
-watch_begins : {A : Type 0} {far : FarEnd} (style : Style) (roots : List Text) (most : ℕ) (first : Stand A far)
-    → IsBegun style roots most first → Begins (flow_in first)
-watch_begins style roots most first begun = record {
+watch_begins : {A : Type 0} {far : FarEnd} (style : Style) (most : ℕ) (first : Stand A far)
+    → IsBegun style most first → Begins (flow_in first)
+watch_begins style most first begun = record {
   apart = ap (λ (c : ChannelView). c.is_open) begun.channel;
   start = new_start begun.timeout;
   stands = subst (λ (v : View). Stands (new_start begun.timeout) [] v) (sym begun.client)
@@ -59,10 +58,10 @@ module _ {A : Type 0} {far : FarEnd} (By : List ℕ → List ℕ → Flow A far 
 pub watch_agrees : (A : Type 0) (far : FarEnd) (By : List ℕ → List ℕ → Flow A far → Flow A far → Type 0) (after : Served)
     → PrintsCohere A far By → IsHistory (history_of after.history) → WatchAgrees A far By after
 watch_agrees A far By after cohere is style roots most aims first text begun from beside =
-    cohere aims first text from (shown_of after) (record {
+    cohere aims roots first text from (shown_of after) (record {
       ready = shown_of beside.ready;
       follows = record {
-        begins = watch_begins style roots most first begun;
+        begins = watch_begins style most first begun;
         before = shown_of beside.before;
         runs = run_servers By (flow_in first) (flow_in from.ready) beside.before beside.ready beside.follows;
       };
@@ -74,11 +73,11 @@ watch_agrees A far By after cohere is style roots most aims first text begun fro
 pub watch_end_agrees : (A : Type 0) (far : FarEnd) (By : List ℕ → List ℕ → Flow A far → Flow A far → Type 0) (after : Served)
     → EndsCohere A far By → IsHistory (history_of after.history) → WatchEndAgrees A far By after
 watch_end_agrees A far By after cohere is style roots most aims for_ms first text is_accepted begun from beside =
-    cohere aims for_ms first text is_accepted from (shown_of after) (record {
+    cohere aims roots for_ms first text is_accepted from (shown_of after) (record {
       ready = shown_of beside.ready;
       over = shown_of beside.over;
       follows = record {
-        begins = watch_begins style roots most first begun;
+        begins = watch_begins style most first begun;
         before = shown_of beside.before;
         runs = run_servers By (flow_in first) (flow_in from.ready) beside.before beside.ready beside.follows;
       };

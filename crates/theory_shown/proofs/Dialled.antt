@@ -1,6 +1,6 @@
 -- What `watch` says of itself over benches that it dials agrees with their history: it is what `linked_watch_agrees` and
 -- `linked_end_agrees` speak of.
-use Rattle.std.proofs.Common.{ℕ, Bool, List, Option, ◌++◌, inl, inr}
+use Rattle.std.proofs.Common.{ℕ, Bool, List, Option, inl, inr}
 use Rattle.zk_nodes.specs.Path.{Text}
 use Rattle.zk_nodes.specs.History.{IsHistory}
 use Rattle.zk_nodes.specs.declared.side.Side.{Side}
@@ -8,7 +8,6 @@ use Rattle.zk_history.specs.HistoryView.{history_of, HistoryView}
 use Rattle.zk_bench_dial.specs.BenchActs.{bench_end}
 use Rattle.shell_watch.specs.declared.plan.Style.{Style}
 use Rattle.shell_watch.specs.Watching.{IsPrinted, IsWatched}
-use Rattle.zk_trees.specs.Trees.{roots_aims}
 use Rattle.theory_shown.specs.Linked.{PrintsPast, WatchesPast}
 use Rattle.theory_shown.proofs.Linked.{linked_end_agrees, linked_watch_agrees}
 
@@ -21,7 +20,7 @@ prints_past A past is style aims roots most text (inr printed) = inr (record {
   begun = printed.1;
   from = printed.2;
   stood = printed.3;
-  coheres = linked_watch_agrees A past is style roots most (aims ++ roots_aims roots) printed.0 text printed.1 printed.2;
+  coheres = linked_watch_agrees A past is style roots most aims printed.0 text printed.1 printed.2;
 })
 
 pub watches_past : (A : Type 0) (past : HistoryView) → IsHistory (history_of past) → (style : Style) (aims : List (Side × Text))
@@ -29,6 +28,5 @@ pub watches_past : (A : Type 0) (past : HistoryView) → IsHistory (history_of p
     → IsWatched A (bench_end past) style aims roots most for_ms text is_accepted
     → WatchesPast A past style aims roots most for_ms text is_accepted
 watches_past A past is style aims roots most for_ms text is_accepted watched =
-    let agrees =
-    linked_end_agrees A past is style roots most (aims ++ roots_aims roots) for_ms watched.0 text is_accepted watched.1 watched.2 in
+    let agrees = linked_end_agrees A past is style roots most aims for_ms watched.0 text is_accepted watched.1 watched.2 in
     record { watched = watched; coheres = agrees.0; closes = agrees.1 }

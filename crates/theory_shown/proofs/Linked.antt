@@ -16,7 +16,6 @@ use Rattle.zk_bench.specs.Stepping.{IsReady}
 use Rattle.zk_agent.specs.declared.input.AgentInput.{AgentInput}
 use Rattle.zk_agent.specs.declared.input.AgentInput.TheVariants as happens
 use Rattle.zk_driver.specs.Driving.{ChannelView, Looked, Noted, Written}
-use Rattle.zk_driver.specs.Noting.{is_come}
 use Rattle.zk_driver.specs.Flowing.{Asked, AreWithin, Carries, Deed, Flow, Made, Passes, Runs}
 use Rattle.zk_driver.proofs.Flowed.{goes_on, open_before}
 use Rattle.theory_drivers.specs.Acts.{given_in, taken_in, Act, Takes}
@@ -25,8 +24,8 @@ use Rattle.zk_bench_dial.proofs.Acting.{goes_after, goes_first, goes_over}
 use Rattle.theory_drivers.specs.Worlds.{ByDriver}
 use Rattle.theory_drivers.proofs.Turned.{goes_nowhere}
 use Rattle.shell_watch.specs.declared.plan.Style.{Style}
-use Rattle.shell_watch.specs.Watching.{flow_in, Closes, Does, FollowsAll, IsBegun, Move, Stand, Takes as Prints}
-use Rattle.shell_watch.proofs.Running.{follows_run, tended_run}
+use Rattle.shell_watch.specs.Watching.{flow_in, Does, IsBegun, Move, Prepares, Stand}
+use Rattle.shell_watch.proofs.Running.{does_run, follows_run}
 use Rattle.theory_shown.specs.Agreeing.{RunBenches}
 use Rattle.theory_shown.specs.Benched.{BefallsBench, MeanwhileBench, MeetsBench}
 use Rattle.theory_shown.specs.Linked.{LinkedEndAgrees, LinkedWatchAgrees}
@@ -258,6 +257,8 @@ module _ (A : Type 0) (past : HistoryView) where
   noted now (happens.Call ticket call until) old new before carries beside = absurd carries.0.1
   noted now (happens.Follow ticket side path) old new before carries beside = absurd carries.0.1
   noted now (happens.Unfollow ticket) old new before carries beside = absurd carries.0.1
+  noted now (happens.FollowTree ticket root most) old new before carries beside = absurd carries.0.1
+  noted now (happens.UnfollowTree ticket) old new before carries beside = absurd carries.0.1
 
   befallen : (deed : Deed A) (old new : Linked) (before : Served) → Carries old deed new → Beside old before → Befallen old deed new before
   befallen (Made Written) old new before carries beside =
@@ -320,35 +321,23 @@ module _ (A : Type 0) (past : HistoryView) where
       → Beside (flow_in old) before → Moved moves old new does before
   moved [] old new same before beside =
       record { after = before; meets = refl; beside = subst (λ (s : Watched). Beside (flow_in s) before) same beside }
-  moved (Prints turn text ∷ moves) old new does before beside =
-      let rounds = does.1 in
-      let turned = ran (flow_in old) (flow_in rounds.between) before rounds.turns.runs beside in
-      let tended = ran (flow_in rounds.between) (flow_in does.0) turned.after
-      (tended_run (is_come turn) rounds.between rounds.more does.0 rounds.tends) turned.beside in
-      let rest = moved moves does.0 new does.2 tended.after tended.beside in
-      record {
-        after = rest.after;
-        meets = (tended.after, (turned.after, turned.benches, tended.benches), rest.meets);
-        beside = rest.beside;
-      }
-  moved (Closes until ∷ moves) old new does before beside =
-      let one = ran (flow_in old) (flow_in does.0) before does.1.1 beside in
+  moved (move ∷ moves) old new does before beside =
+      let one = ran (flow_in old) (flow_in does.0) before (does_run move old does.0 does.1) beside in
       let rest = moved moves does.0 new does.2 one.after one.beside in
       record { after = rest.after; meets = (one.after, one.benches, rest.meets); beside = rest.beside }
 
   -- it begins with no connection
-  beside_first : (style : Style) (roots : List Text) (most : ℕ) (first : Watched) → IsBegun style roots most first
-      → Beside (flow_in first) (started past)
-  beside_first style roots most first begun = record {
+  beside_first : (style : Style) (most : ℕ) (first : Watched) → IsBegun style most first → Beside (flow_in first) (started past)
+  beside_first style most first begun = record {
     history = refl;
     there = λ up. let e : true ≡ false = sym up ∙ ap (λ (c : ChannelView). c.is_open) begun.channel in cc;
   }
 
   followed : (style : Style) (roots : List Text) (most : ℕ) (aims : List (Side × Text)) (first ready : Watched)
-      → IsBegun style roots most first → FollowsAll aims first ready → Ran (flow_in first) (flow_in ready) (started past)
+      → IsBegun style most first → Prepares aims roots first ready → Ran (flow_in first) (flow_in ready) (started past)
   followed style roots most aims first ready begun follows =
-      ran (flow_in first) (flow_in ready) (started past) (follows_run A (bench_end past) aims first ready follows)
-      (beside_first style roots most first begun)
+      ran (flow_in first) (flow_in ready) (started past) (follows_run A (bench_end past) aims roots first ready follows)
+      (beside_first style most first begun)
 
 pub linked_watch_agrees : (A : Type 0) (past : HistoryView) → IsHistory (history_of past) → LinkedWatchAgrees A past
 linked_watch_agrees A past is style roots most aims first text begun from =

@@ -11,8 +11,8 @@ use Rattle.zk_driver.specs.Flowing.{Flow}
 use Rattle.theory_drivers.specs.Worlds.{ByDriver, ByStream}
 use Rattle.theory_drivers.proofs.Served.{begins_bound, held_where, Bound}
 use Rattle.theory_drivers.proofs.Turned.{goes_nowhere}
-use Rattle.shell_watch.specs.Watching.{flow_in, view_in, Closes, Does, Move, Stand, Takes}
-use Rattle.theory_shown.specs.Watched.{AllCohere, EndsCohere, FollowsMeet, IsMoveCoherent, MoveMeets, MovesMeet, PrintsCohere, RunMeets}
+use Rattle.shell_watch.specs.Watching.{flow_in, view_in, Does, Move, Stand}
+use Rattle.theory_shown.specs.Watched.{AllCohere, EndsCohere, FollowsMeet, MovesMeet, PrintsCohere, RunMeets}
 use Rattle.theory_shown.proofs.Going.{kept_coheres, run_bound, run_driver, run_on, same_on}
 
 coheres : {A : Type 0} {far : FarEnd} (stand : Stand A far) (shown : Shown) (history : History)
@@ -27,53 +27,14 @@ coheres stand shown history bound goes is =
 module _ {A World Other : Type 0} {far : FarEnd} (seen : World → Other) (Beside : (old new : Flow A far) → (before after : World) → Type 0)
     (Too : (old new : Flow A far) → (before after : Other) → Type 0)
     (each : (old new : Flow A far) (before after : World) → Beside old new before after → Too old new (seen before) (seen after)) where
-  move_too : (move : Move A) (old new : Stand A far) (does : Does old move new) (before after : World)
-      → MoveMeets Beside move old new does before after → MoveMeets Too move old new does (seen before) (seen after)
-  move_too (Takes turn text) old new does before after meets = (
-    seen meets.0,
-    each (flow_in old) (flow_in does.between) before meets.0 meets.1,
-    each (flow_in does.between) (flow_in new) meets.0 after meets.2,
-  )
-  move_too (Closes until) old new does before after meets = each (flow_in old) (flow_in new) before after meets
-
   pub moves_too : (moves : List (Move A)) (old new : Stand A far) (does : FoldsTo Does old moves new) (before after : World)
       → MovesMeet Beside moves old new does before after → MovesMeet Too moves old new does (seen before) (seen after)
   moves_too [] old new does before after same = ap seen same
   moves_too (move ∷ moves) old new does before after meets = (
     seen meets.0,
-    move_too move old does.0 does.1 before meets.0 meets.1,
+    each (flow_in old) (flow_in does.0) before meets.0 meets.1,
     moves_too moves does.0 new does.2 meets.0 after meets.2,
   )
-
--- ---- a move
-
-move_on : {A : Type 0} {far : FarEnd} (move : Move A) (old new : Stand A far) (does : Does old move new) (before after : Shown)
-    → MoveMeets (RunMeets ByDriver) move old new does before after → GoesOn before.history after.history
-move_on (Takes turn text) old new does before after meets =
-    goes_further before.history meets.0.history after.history (run_on ByDriver (flow_in old) (flow_in does.between) before meets.0 meets.1)
-    (run_on ByDriver (flow_in does.between) (flow_in new) meets.0 after meets.2)
-move_on (Closes until) old new does before after meets = run_on ByDriver (flow_in old) (flow_in new) before after meets
-
-move_bound : {A : Type 0} {far : FarEnd} (move : Move A) (old new : Stand A far) (does : Does old move new) (before after : Shown)
-    → MoveMeets (RunMeets ByDriver) move old new does before after → Bound (flow_in old) before → Bound (flow_in new) after
-move_bound (Takes turn text) old new does before after meets bound =
-    run_bound (flow_in does.between) (flow_in new) meets.0 after meets.2
-    (run_bound (flow_in old) (flow_in does.between) before meets.0 meets.1 bound)
-move_bound (Closes until) old new does before after meets bound = run_bound (flow_in old) (flow_in new) before after meets bound
-
-move_coheres : {A : Type 0} {far : FarEnd} (move : Move A) (old new : Stand A far) (does : Does old move new)
-    (before after : Shown) (history : History)
-    → MoveMeets (RunMeets ByDriver) move old new does before after → Bound (flow_in old) before
-    → GoesOn after.history history → IsHistory history → IsMoveCoherent history move old new does
-move_coheres (Takes turn text) old new does before after history meets bound goes is =
-    let between = run_bound (flow_in old) (flow_in does.between) before meets.0 meets.1 bound in
-    let later = goes_further meets.0.history after.history history
-    (run_on ByDriver (flow_in does.between) (flow_in new) meets.0 after meets.2) goes in (
-      coheres does.between meets.0 history between later is,
-      coheres new after history (run_bound (flow_in does.between) (flow_in new) meets.0 after meets.2 between) goes is,
-    )
-move_coheres (Closes until) old new does before after history meets bound goes is =
-    coheres new after history (run_bound (flow_in old) (flow_in new) before after meets bound) goes is
 
 -- ---- moves
 
@@ -82,7 +43,7 @@ moves_on : {A : Type 0} {far : FarEnd} (moves : List (Move A)) (old new : Stand 
     → MovesMeet (RunMeets ByDriver) moves old new does before after → GoesOn before.history after.history
 moves_on [] old new does before after meets = same_on before after meets
 moves_on (move ∷ moves) old new does before after meets =
-    goes_further before.history meets.0.history after.history (move_on move old does.0 does.1 before meets.0 meets.1)
+    goes_further before.history meets.0.history after.history (run_on ByDriver (flow_in old) (flow_in does.0) before meets.0 meets.1)
     (moves_on moves does.0 new does.2 meets.0 after meets.2)
 
 moves_bound : {A : Type 0} {far : FarEnd} (moves : List (Move A)) (old new : Stand A far)
@@ -92,7 +53,7 @@ moves_bound : {A : Type 0} {far : FarEnd} (moves : List (Move A)) (old new : Sta
 moves_bound [] old new same before after meets bound =
     subst (λ s. Bound (flow_in new) s) (sym meets) (subst (λ s. Bound (flow_in s) before) same bound)
 moves_bound (move ∷ moves) old new does before after meets bound =
-    moves_bound moves does.0 new does.2 meets.0 after meets.2 (move_bound move old does.0 does.1 before meets.0 meets.1 bound)
+    moves_bound moves does.0 new does.2 meets.0 after meets.2 (run_bound (flow_in old) (flow_in does.0) before meets.0 meets.1 bound)
 
 all_cohere : {A : Type 0} {far : FarEnd} (moves : List (Move A)) (old new : Stand A far)
     (does : FoldsTo Does old moves new) (before after : Shown)
@@ -100,11 +61,9 @@ all_cohere : {A : Type 0} {far : FarEnd} (moves : List (Move A)) (old new : Stan
     → GoesOn after.history history → IsHistory history → AllCohere history moves old new does
 all_cohere [] old new does before after history meets bound goes is = tt
 all_cohere (move ∷ moves) old new does before after history meets bound goes is =
-    let later = goes_further meets.0.history after.history history (moves_on moves does.0 new does.2 meets.0 after meets.2) goes in (
-      move_coheres move old does.0 does.1 before meets.0 history meets.1 bound later is,
-      all_cohere moves does.0 new does.2 meets.0 after history meets.2
-          (move_bound move old does.0 does.1 before meets.0 meets.1 bound) goes is,
-    )
+    let later = goes_further meets.0.history after.history history (moves_on moves does.0 new does.2 meets.0 after meets.2) goes in
+    let next = run_bound (flow_in old) (flow_in does.0) before meets.0 meets.1 bound in
+    (coheres does.0 meets.0 history next later is, all_cohere moves does.0 new does.2 meets.0 after history meets.2 next goes is)
 
 -- ---- the whole
 
@@ -114,12 +73,12 @@ ready_bound first ready shown meets =
     run_bound (flow_in first) (flow_in ready) meets.before shown meets.runs (begins_bound (flow_in first) meets.before meets.begins)
 
 pub prints_cohere : (A : Type 0) (far : FarEnd) → PrintsCohere A far ByDriver
-prints_cohere A far aims first text from after meets =
+prints_cohere A far aims roots first text from after meets =
     all_cohere from.prints.moves from.ready from.last from.prints.does meets.ready after after.history meets.prints
     (ready_bound first from.ready meets.ready meets.follows) (goes_nowhere after.history) meets.history
 
 pub ends_cohere : (A : Type 0) (far : FarEnd) → EndsCohere A far ByDriver
-ends_cohere A far aims for_ms first text is_accepted from after meets =
+ends_cohere A far aims roots for_ms first text is_accepted from after meets =
     let over = from.over in
     let ready = ready_bound first from.ready meets.ready meets.follows in
     let later = moves_on over.closes.moves over.over from.last over.closes.does meets.over after meets.closes in (
@@ -147,7 +106,7 @@ follows_driver first ready shown meets = record {
 }
 
 pub streams_cohere : (A : Type 0) (far : FarEnd) → PrintsCohere A far ByStream
-streams_cohere A far aims first text from after meets = prints_cohere A far aims first text from after (record {
+streams_cohere A far aims roots first text from after meets = prints_cohere A far aims roots first text from after (record {
   ready = meets.ready;
   follows = follows_driver first from.ready meets.ready meets.follows;
   prints = moves_driver from.prints.moves from.ready from.last from.prints.does meets.ready after meets.prints;
@@ -155,8 +114,8 @@ streams_cohere A far aims first text from after meets = prints_cohere A far aims
 })
 
 pub ended_cohere : (A : Type 0) (far : FarEnd) → EndsCohere A far ByStream
-ended_cohere A far aims for_ms first text is_accepted from after meets =
-    ends_cohere A far aims for_ms first text is_accepted from after (record {
+ended_cohere A far aims roots for_ms first text is_accepted from after meets =
+    ends_cohere A far aims roots for_ms first text is_accepted from after (record {
       ready = meets.ready;
       over = meets.over;
       follows = follows_driver first from.ready meets.ready meets.follows;

@@ -36,8 +36,8 @@ pub record RunBenches {A : Type 0} {far : FarEnd} (By : List ℕ → List ℕ �
 
 -- So does a watch, from its beginning on: up to where each subject is followed, and up to where it has printed this.
 pub record PrintsBench {A : Type 0} {far : FarEnd} (By : List ℕ → List ℕ → Flow A far → Flow A far → Type 0)
-    (aims : List (Side × Text)) (first : Stand A far)
-    (text : List ℕ) (from : PrintsFrom aims first text) (after : Served) : Type 0 where
+    (aims : List (Side × Text)) (roots : List Text) (first : Stand A far)
+    (text : List ℕ) (from : PrintsFrom aims roots first text) (after : Served) : Type 0 where
   pub before : Served
   pub ready : Served
   pub follows : RunBenches By (flow_in first) (flow_in from.ready) before ready
@@ -45,8 +45,8 @@ pub record PrintsBench {A : Type 0} {far : FarEnd} (By : List ℕ → List ℕ �
 
 -- And where its time is over: through the end of its session.
 pub record EndsBench {A : Type 0} {far : FarEnd} (By : List ℕ → List ℕ → Flow A far → Flow A far → Type 0)
-    (aims : List (Side × Text)) (for_ms : Option ℕ)
-    (first : Stand A far) (text : List ℕ) (is_accepted : Bool) (from : EndsFrom aims for_ms first text is_accepted) (after : Served)
+    (aims : List (Side × Text)) (roots : List Text) (for_ms : Option ℕ)
+    (first : Stand A far) (text : List ℕ) (is_accepted : Bool) (from : EndsFrom aims roots for_ms first text is_accepted) (after : Served)
     : Type 0 where
   pub before : Served
   pub ready : Served
@@ -60,16 +60,16 @@ pub record EndsBench {A : Type 0} {far : FarEnd} (By : List ℕ → List ℕ →
 abbrev pub WatchAgrees : (A : Type 0) (far : FarEnd) → (List ℕ → List ℕ → Flow A far → Flow A far → Type 0) → Served → Type 0
 WatchAgrees A far By after =
     (style : Style) (roots : List Text) (most : ℕ) (aims : List (Side × Text)) (first : Stand A far) (text : List ℕ)
-    → IsBegun style roots most first → (from : PrintsFrom aims first text)
-    → PrintsBench By aims first text from after
+    → IsBegun style most first → (from : PrintsFrom aims roots first text)
+    → PrintsBench By aims roots first text from after
     → AllCohere (history_of after.history) from.prints.moves from.ready from.last from.prints.does
 
 -- And of one whose time is over (`IsWatched`): what it has printed then, and what it prints at the end.
 abbrev pub WatchEndAgrees : (A : Type 0) (far : FarEnd) → (List ℕ → List ℕ → Flow A far → Flow A far → Type 0) → Served → Type 0
 WatchEndAgrees A far By after =
     (style : Style) (roots : List Text) (most : ℕ) (aims : List (Side × Text)) (for_ms : Option ℕ) (first : Stand A far) (text : List ℕ)
-    (is_accepted : Bool) → IsBegun style roots most first → (from : EndsFrom aims for_ms first text is_accepted)
-    → EndsBench By aims for_ms first text is_accepted from after
+    (is_accepted : Bool) → IsBegun style most first → (from : EndsFrom aims roots for_ms first text is_accepted)
+    → EndsBench By aims roots for_ms first text is_accepted from after
     → AllCohere (history_of after.history) from.over.prints.moves from.ready from.over.over from.over.prints.does
     × AllCohere (history_of after.history) from.over.closes.moves from.over.over from.last from.over.closes.does
 

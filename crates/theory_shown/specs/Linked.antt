@@ -1,12 +1,11 @@
 -- What `watch` prints over a dial whose connections lead to a server in memory, by what its streams say of their far end.
-use Rattle.std.specs.Prelude.{◌≡◌, ◌⊎◌, ◌++◌, ℕ, Bool, List, [], Option}
+use Rattle.std.specs.Prelude.{◌≡◌, ◌⊎◌, ℕ, Bool, List, [], Option}
 use Rattle.zk_nodes.specs.Path.{Text}
 use Rattle.zk_nodes.specs.declared.side.Side.{Side}
 use Rattle.zk_history.specs.HistoryView.{history_of, HistoryView}
 use Rattle.zk_bench_dial.specs.BenchActs.{bench_end}
 use Rattle.shell_watch.specs.declared.plan.Style.{Style}
 use Rattle.shell_watch.specs.Watching.{EndsFrom, IsBegun, IsStood, IsWatched, PrintsFrom, Stand}
-use Rattle.zk_trees.specs.Trees.{roots_aims}
 use Rattle.theory_shown.specs.Watched.{AllCohere}
 
 -- Each good answer of the client of which a watch prints a line is the answer of this history at the last seen zxid that this line has,
@@ -15,14 +14,14 @@ use Rattle.theory_shown.specs.Watched.{AllCohere}
 abbrev pub LinkedWatchAgrees : Type 0 → HistoryView → Type 0
 LinkedWatchAgrees A past =
     (style : Style) (roots : List Text) (most : ℕ) (aims : List (Side × Text)) (first : Stand A (bench_end past)) (text : List ℕ)
-    → IsBegun style roots most first → (from : PrintsFrom aims first text)
+    → IsBegun style most first → (from : PrintsFrom aims roots first text)
     → AllCohere (history_of past) from.prints.moves from.ready from.last from.prints.does
 
 -- And of one whose time is over (`IsWatched`): what it has printed then, and what it prints at the end.
 abbrev pub LinkedEndAgrees : Type 0 → HistoryView → Type 0
 LinkedEndAgrees A past =
     (style : Style) (roots : List Text) (most : ℕ) (aims : List (Side × Text)) (for_ms : Option ℕ) (first : Stand A (bench_end past))
-    (text : List ℕ) (is_accepted : Bool) → IsBegun style roots most first → (from : EndsFrom aims for_ms first text is_accepted)
+    (text : List ℕ) (is_accepted : Bool) → IsBegun style most first → (from : EndsFrom aims roots for_ms first text is_accepted)
     → AllCohere (history_of past) from.over.prints.moves from.ready from.over.over from.over.prints.does
     × AllCohere (history_of past) from.over.closes.moves from.over.over from.last from.over.closes.does
 
@@ -33,8 +32,8 @@ LinkedEndAgrees A past =
 pub record HasPrinted (A : Type 0) (past : HistoryView) (style : Style) (aims : List (Side × Text)) (roots : List Text) (most : ℕ)
     (text : List ℕ) : Type 0 where
   pub first : Stand A (bench_end past)
-  pub begun : IsBegun style roots most first
-  pub from : PrintsFrom (aims ++ roots_aims roots) first text
+  pub begun : IsBegun style most first
+  pub from : PrintsFrom aims roots first text
   pub stood : IsStood from.ready text from.last from.prints
   pub coheres : AllCohere (history_of past) from.prints.moves from.ready from.last from.prints.does
 

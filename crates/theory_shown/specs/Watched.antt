@@ -10,24 +10,16 @@ use Rattle.theory_serving.specs.Shown.{Shown}
 use Rattle.zk_driver.specs.Flowing.{Flow, Runs}
 use Rattle.theory_drivers.specs.ServedDrivers.{Begins}
 use Rattle.theory_drivers.specs.Worlds.{Meets}
-use Rattle.shell_watch.specs.Watching.{flow_in, view_in, Closes, Does, EndsFrom, Move, PrintsFrom, Stand, Takes}
+use Rattle.shell_watch.specs.Watching.{flow_in, view_in, Does, EndsFrom, Move, PrintsFrom, Stand}
 
 -- ---- what goes on beside a watch
 
--- Where it is known what goes on beside a driver that comes from one place to another: so it goes on beside a watch, by a move, up to where
--- the move is printed, and on.
+-- Where it is known what goes on beside a driver that comes from one place to another: so it goes on beside a watch, move by move.
 module _ {A World : Type 0} {far : FarEnd} (Beside : (old new : Flow A far) → (before after : World) → Type 0) where
-  abbrev pub MoveMeets : (move : Move A) → (old new : Stand A far) → Does old move new → (before after : World) → Type 0
-  MoveMeets (Takes turn text) old new does before after =
-      (between : World) × Beside (flow_in old) (flow_in does.between) before between
-      × Beside (flow_in does.between) (flow_in new) between after
-  MoveMeets (Closes until) old new does before after = Beside (flow_in old) (flow_in new) before after
-
-  -- and by some moves
   abbrev pub MovesMeet : (moves : List (Move A)) → (old new : Stand A far) → FoldsTo Does old moves new → (before after : World) → Type 0
   MovesMeet [] old new does before after = after ≡ before
   MovesMeet (move ∷ moves) old new does before after =
-      (between : World) × MoveMeets move old does.0 does.1 before between × MovesMeet moves does.0 new does.2 between after
+      (between : World) × Beside (flow_in old) (flow_in does.0) before between × MovesMeet moves does.0 new does.2 between after
 
 -- ---- servers beside a watch
 
@@ -46,8 +38,8 @@ pub record FollowsMeet {A : Type 0} {far : FarEnd} (By : List ℕ → List ℕ �
 
 -- From its beginning up to where it has printed this, and what servers show then has a history.
 pub record PrintsMeet {A : Type 0} {far : FarEnd} (By : List ℕ → List ℕ → Flow A far → Flow A far → Type 0)
-    (aims : List (Side × Text)) (first : Stand A far)
-    (text : List ℕ) (from : PrintsFrom aims first text) (after : Shown) : Type 0 where
+    (aims : List (Side × Text)) (roots : List Text) (first : Stand A far)
+    (text : List ℕ) (from : PrintsFrom aims roots first text) (after : Shown) : Type 0 where
   pub ready : Shown
   pub follows : FollowsMeet By first from.ready ready
   pub prints : MovesMeet (RunMeets By) from.prints.moves from.ready from.last from.prints.does ready after
@@ -55,8 +47,8 @@ pub record PrintsMeet {A : Type 0} {far : FarEnd} (By : List ℕ → List ℕ �
 
 -- And where its time is over: through the end of its session.
 pub record EndsMeet {A : Type 0} {far : FarEnd} (By : List ℕ → List ℕ → Flow A far → Flow A far → Type 0)
-    (aims : List (Side × Text)) (for_ms : Option ℕ)
-    (first : Stand A far) (text : List ℕ) (is_accepted : Bool) (from : EndsFrom aims for_ms first text is_accepted) (after : Shown)
+    (aims : List (Side × Text)) (roots : List Text) (for_ms : Option ℕ)
+    (first : Stand A far) (text : List ℕ) (is_accepted : Bool) (from : EndsFrom aims roots for_ms first text is_accepted) (after : Shown)
     : Type 0 where
   pub ready : Shown
   pub over : Shown
@@ -67,28 +59,24 @@ pub record EndsMeet {A : Type 0} {far : FarEnd} (By : List ℕ → List ℕ → 
 
 -- ---- what is printed
 
--- Each good answer of the client that a move is printed of is the history's at its last seen zxid, and so is each that it has then.
-abbrev pub IsMoveCoherent : {A : Type 0} {far : FarEnd} → History → (move : Move A) → (old new : Stand A far) → Does old move new → Type 0
-IsMoveCoherent history (Takes turn text) old new does = IsCoherentWith history (view_in does.between) × IsCoherentWith history (view_in new)
-IsMoveCoherent history (Closes until) old new does = IsCoherentWith history (view_in new)
-
+-- Each good answer of the client that a move is printed of is the history's at its last seen zxid.
 abbrev pub AllCohere : {A : Type 0} {far : FarEnd} → History → (moves : List (Move A)) → (old new : Stand A far)
     → FoldsTo Does old moves new → Type 0
 AllCohere history [] old new does = ⊤
-AllCohere history (move ∷ moves) old new does = IsMoveCoherent history move old does.0 does.1 × AllCohere history moves does.0 new does.2
+AllCohere history (move ∷ moves) old new does = IsCoherentWith history (view_in does.0) × AllCohere history moves does.0 new does.2
 
 -- Whatever a watch has printed, wherever the cuts fell: by the history as it is in the end.
 abbrev pub PrintsCohere : (A : Type 0) (far : FarEnd) → (List ℕ → List ℕ → Flow A far → Flow A far → Type 0) → Type 0
 PrintsCohere A far By =
-    (aims : List (Side × Text)) (first : Stand A far) (text : List ℕ) (from : PrintsFrom aims first text) (after : Shown)
-    → PrintsMeet By aims first text from after
+    (aims : List (Side × Text)) (roots : List Text) (first : Stand A far) (text : List ℕ) (from : PrintsFrom aims roots first text)
+    (after : Shown) → PrintsMeet By aims roots first text from after
     → AllCohere after.history from.prints.moves from.ready from.last from.prints.does
 
 -- and of one whose time is over, what it has printed then and what it prints at the end
 abbrev pub EndsCohere : (A : Type 0) (far : FarEnd) → (List ℕ → List ℕ → Flow A far → Flow A far → Type 0) → Type 0
 EndsCohere A far By =
-    (aims : List (Side × Text)) (for_ms : Option ℕ) (first : Stand A far) (text : List ℕ) (is_accepted : Bool)
-    (from : EndsFrom aims for_ms first text is_accepted) (after : Shown)
-    → EndsMeet By aims for_ms first text is_accepted from after
+    (aims : List (Side × Text)) (roots : List Text) (for_ms : Option ℕ) (first : Stand A far) (text : List ℕ) (is_accepted : Bool)
+    (from : EndsFrom aims roots for_ms first text is_accepted) (after : Shown)
+    → EndsMeet By aims roots for_ms first text is_accepted from after
     → AllCohere after.history from.over.prints.moves from.ready from.over.over from.over.prints.does
     × AllCohere after.history from.over.closes.moves from.over.over from.last from.over.closes.does

@@ -11,34 +11,33 @@ use Rattle.zk_link.specs.FarEnds.{reached_of, FarEnd}
 use Rattle.zk_driver.specs.Noting.{is_come}
 use Rattle.zk_driver.specs.declared.turn.Turn.{Turn}
 use Rattle.shell_watch.specs.Lines.{turn_line}
-use Rattle.shell_watch.specs.inner.Trees.{growth_of}
 use Rattle.shell_watch.specs.declared.plan.Style.{Style}
-use Rattle.zk_trees.specs.declared.member.Member.{Member}
-use Rattle.std.specs.declared.string.String.{String}
-use Rattle.shell_watch.specs.declared.trees.Trees.{Trees}
+use Rattle.shell_watch.specs.declared.growth.Growth.{Growth}
+use Rattle.shell_watch.specs.declared.shown.Watched.{Watched}
+use Rattle.shell_watch.specs.Trees.{staying}
 use Rattle.shell_watch.specs.Watching.{ShowsAll, Stand, Turns, Prints, EndsBy}
-use Rattle.zk_driver.specs.declared.turn.Turn.TheVariants as turn
 
 abbrev pub stand_of : {A S : Type 0} → (remaining contents : S → Option (List ℕ)) → (far : FarEnd) → (state : S → far.State)
-    → Engine A S → List (Member A (String A)) → (is_accepted : Bool) → Style → Trees A → Stand A far
-stand_of remaining contents far state engine watched is_accepted style trees = record {
+    → Engine A S → List (Watched A) → (is_accepted : Bool) → Style → Growth → Stand A far
+stand_of remaining contents far state engine watched is_accepted style growth = record {
   course = course_of engine None;
   known = reached_of remaining contents far state engine.channel.stream;
   watched = watched;
   is_accepted = is_accepted;
   style = style;
-  growth = growth_of trees;
+  growth = growth;
 }
 
 -- The line of a turn, with some address.
-abbrev pub LinesOf : {A : Type 0} → Style → (ms : ℕ) → Turn A → View → List (Member A (String A)) → List ℕ → Type 0
+abbrev pub LinesOf : {A : Type 0} → Style → (ms : ℕ) → Turn A → View → List (Watched A) → List ℕ → Type 0
 LinesOf style ms turn view watched text = (at : Text) × (text ≡ turn_line style ms watched at view turn)
 
--- Subjects are shown where nothing waits to be told, and this is added to a text.
-pub record ShowsThen {A : Type 0} (style : Style) (ms : ℕ) (view : View) (waits : List Told) (old new : List (Member A (String A)))
+-- Subjects are shown where nothing waits to be told, those that were let go are watched no more then, and this is added to a text.
+pub record ShowsThen {A : Type 0} (style : Style) (ms : ℕ) (view : View) (waits : List Told) (old new : List (Watched A))
     (before after : List ℕ) : Type 0 where
+  pub here : List (Watched A)
   pub shown : List ℕ
-  pub shows : waits ≡ [] → ShowsAll style ms view old new shown
+  pub shows : waits ≡ [] → ShowsAll style ms view old here shown × (new ≡ staying here)
   pub rests : waits ≢ [] → (new ≡ old) × (shown ≡ [])
   pub added : after ≡ before ++ shown
 

@@ -155,8 +155,7 @@ fn watched<A: Allocator + Copy, W: Write>(
 pub fn play<W: Write>(global: Global, row: &Row, out: &mut W) -> Result<()> {
     writeln!(out, "== {}", row.name)?;
     let end = watched(global, global, row, usize::MAX, out)?;
-    writeln!(out, "{end:?}")?;
-    Ok(())
+    writeln!(out, "{end:?}").map_err(From::from)
 }
 
 /// The lines of a text, each up to its zxid: which message raises it is seen where two come in one piece.

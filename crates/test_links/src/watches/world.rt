@@ -61,8 +61,9 @@ fn with_code(alloc: Global, bytes: Vec<u8>, code: i32) -> io::Result<Vec<u8>> {
 /// Adds a node to the first tree.
 fn node(alloc: Global, path: &str, data: &str, history: &mut History<Global>) -> Result<()> {
     let bytes = Vec::from_slice(alloc, data.as_bytes())?;
-    history.node(Path::new(alloc, path)?, Some(bytes), 1_000)?;
-    Ok(())
+    history
+        .node(Path::new(alloc, path)?, Some(bytes), 1_000)
+        .map_err(From::from)
 }
 
 /// What becomes of a node.

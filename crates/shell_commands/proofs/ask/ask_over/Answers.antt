@@ -1,11 +1,13 @@
--- The status is never `More`: one call is never cut off, by the case of what came of it (`never_more`).
-use Rattle.std.proofs.Common.{◌≡◌, ◌≢◌, true, false, sym, refl}
+-- What `ask` ensures of each end is what is promised of its status. It is never `More`: one call is never cut off, by the case of what came
+-- of it (`never_more`).
+use Rattle.std.proofs.Common.{◌≡◌, ◌≢◌, true, false, ap, sym, refl}
 use Rattle.shell_ask.specs.Asking.{Coming, Answered, Late}
-use Rattle.shell_ask.specs.Printing.{end_of}
+use Rattle.shell_ask.specs.Printing.{end_of, told}
 use Rattle.shell_ask.specs.declared.end.CallEnd.TheVariants as ends
 use Rattle.zk_conversation.specs.Results.{NoNode, Refused, Found, Read, Listing, Made, Done}
 use Rattle.zk_turns.specs.Turns.{Replied, ConnectionLoss, SessionExpired, SessionClosed, NotConnected, TooManyWatches, TooLarge}
 use Rattle.zk_turns.specs.Turns.{TooManyPending}
+use Rattle.shell_commands.specs.Asks.{status_of}
 use Rattle.shell_commands.proofs.ask.ask_over.Goals as goal
 
 -- one call is never cut off
@@ -31,3 +33,44 @@ pub returns-in-More-clause-more : goal.returns-in-More-clause-more
 returns-in-More-clause-more g c = λ _.
     let told = c.in-More.ensures.told tt in
     never_more told.0 (sym told.2)
+
+pub returns-in-Done-clause-done : goal.returns-in-Done-clause-done
+returns-in-Done-clause-done g c = λ _.
+    let done = c.in-Done.ensures.done refl in
+    (done.1, record { coming = done.0; comes = done.2; done = done.3; prints = done.4 }, done.5, done.6)
+
+pub returns-in-NoNode-clause-undone : goal.returns-in-NoNode-clause-undone
+returns-in-NoNode-clause-undone g c = λ _.
+    let why = c.in-NoNode.ensures.told tt in (
+      told c.args.plan.name.now why.0,
+      record { coming = why.0; comes = why.1; ends = ap status_of why.2; tells = refl },
+      why.3,
+      why.4,
+    )
+
+pub returns-in-Refused-clause-undone : goal.returns-in-Refused-clause-undone
+returns-in-Refused-clause-undone g c = λ _.
+    let why = c.in-Refused.ensures.told tt in (
+      told c.args.plan.name.now why.0,
+      record { coming = why.0; comes = why.1; ends = ap status_of why.2; tells = refl },
+      why.3,
+      why.4,
+    )
+
+pub returns-in-Unconnected-clause-undone : goal.returns-in-Unconnected-clause-undone
+returns-in-Unconnected-clause-undone g c = λ _.
+    let why = c.in-Unconnected.ensures.told tt in (
+      told c.args.plan.name.now why.0,
+      record { coming = why.0; comes = why.1; ends = ap status_of why.2; tells = refl },
+      why.3,
+      why.4,
+    )
+
+pub returns-in-Unanswered-clause-undone : goal.returns-in-Unanswered-clause-undone
+returns-in-Unanswered-clause-undone g c = λ _.
+    let why = c.in-Unanswered.ensures.told tt in (
+      told c.args.plan.name.now why.0,
+      record { coming = why.0; comes = why.1; ends = ap status_of why.2; tells = refl },
+      why.3,
+      why.4,
+    )

@@ -20,25 +20,25 @@ asks_some w z same above below = subst (λ t. (0 < unsigned_abs t) × (unsigned_
 pub returns-clause-over : goal.returns-clause-over
 returns-clause-over g c = λ is.
     let first = stand_of g.D.Stream.Read.remaining g.D.Stream.Write.contents g.D.Stream.Stream.far g.D.Stream.Stream.state
-    c.in-Ok-begin.driver.engine c.new.result.items false
-    c.args.plan.style (record { roots = c.args.plan.trees; most = c.args.plan.most; is_bounded = false; ticket = 1 }) in
+    c.in-Ok.driver.engine c.new.result.items false
+    c.args.plan.style (record { most = c.args.plan.most; bounded = 0; ticket = 1; is_growing = true }) in
     let asks =
     asks_some (to_z w32 (of_z w32 c.max.result)) c.max.result (omega (arith, ints)) (omega (arith, ints)) (omega (arith, ints)) in
-    let begun : IsBegun c.args.plan.style c.args.plan.trees.items c.args.plan.most first = record {
+    let begun : IsBegun c.args.plan.style c.args.plan.most first = record {
       timeout = unsigned_abs (to_z w32 (of_z w32 c.max.result));
       least = asks.0;
       below = asks.1;
-      later = ap unsigned_abs c.in-Ok-begin.ensures.timeout;
-      client = c.in-Ok-begin.ensures.client;
-      followed = c.in-Ok-begin.ensures.followed;
-      channel = c.in-Ok-begin.ensures.channel;
-      told = ap told_by c.in-Ok-begin.ensures.waiting;
+      later = ap unsigned_abs c.in-Ok.ensures.timeout;
+      client = c.in-Ok.ensures.client;
+      followed = c.in-Ok.ensures.followed;
+      channel = c.in-Ok.ensures.channel;
+      told = ap told_by c.in-Ok.ensures.waiting;
       watched = c.new.ensures.items;
       accepted = refl;
       prints = refl;
       growth = refl;
     } in
-    let told = rw (c.as_slice-2.ensures.value, c.in-Ok.ensures, c.as_slice.ensures.value) at (c.watch_for-end.ensures.over is) in (
+    let told = rw (c.as_slice.ensures.value, c.as_slice-2.ensures.value) at (c.watch_for-end.ensures.over is) in (
       told.0,
       watched c.args.plan.style (aims_of c.args.plan.subjects.items) c.args.plan.trees.items c.args.plan.most first told.0
           c.args.plan.for_ms true begun told.1,
@@ -48,25 +48,25 @@ returns-clause-over g c = λ is.
 pub returns-clause-never : goal.returns-clause-never
 returns-clause-never g c = λ is.
     let first = stand_of g.D.Stream.Read.remaining g.D.Stream.Write.contents g.D.Stream.Stream.far g.D.Stream.Stream.state
-    c.in-Ok-begin.driver.engine c.new.result.items false
-    c.args.plan.style (record { roots = c.args.plan.trees; most = c.args.plan.most; is_bounded = false; ticket = 1 }) in
+    c.in-Ok.driver.engine c.new.result.items false
+    c.args.plan.style (record { most = c.args.plan.most; bounded = 0; ticket = 1; is_growing = true }) in
     let asks =
     asks_some (to_z w32 (of_z w32 c.max.result)) c.max.result (omega (arith, ints)) (omega (arith, ints)) (omega (arith, ints)) in
-    let begun : IsBegun c.args.plan.style c.args.plan.trees.items c.args.plan.most first = record {
+    let begun : IsBegun c.args.plan.style c.args.plan.most first = record {
       timeout = unsigned_abs (to_z w32 (of_z w32 c.max.result));
       least = asks.0;
       below = asks.1;
-      later = ap unsigned_abs c.in-Ok-begin.ensures.timeout;
-      client = c.in-Ok-begin.ensures.client;
-      followed = c.in-Ok-begin.ensures.followed;
-      channel = c.in-Ok-begin.ensures.channel;
-      told = ap told_by c.in-Ok-begin.ensures.waiting;
+      later = ap unsigned_abs c.in-Ok.ensures.timeout;
+      client = c.in-Ok.ensures.client;
+      followed = c.in-Ok.ensures.followed;
+      channel = c.in-Ok.ensures.channel;
+      told = ap told_by c.in-Ok.ensures.waiting;
       watched = c.new.ensures.items;
       accepted = refl;
       prints = refl;
       growth = refl;
     } in
-    let told = rw (c.as_slice-2.ensures.value, c.in-Ok.ensures, c.as_slice.ensures.value) at (c.watch_for-end.ensures.never is) in (
+    let told = rw (c.as_slice.ensures.value, c.as_slice-2.ensures.value) at (c.watch_for-end.ensures.never is) in (
       told.0,
       watched c.args.plan.style (aims_of c.args.plan.subjects.items) c.args.plan.trees.items c.args.plan.most first told.0
           c.args.plan.for_ms false begun told.1,
@@ -76,25 +76,25 @@ returns-clause-never g c = λ is.
 pub returns-clause-printed : goal.returns-clause-printed
 returns-clause-printed g c = λ is.
     let first = stand_of g.D.Stream.Read.remaining g.D.Stream.Write.contents g.D.Stream.Stream.far g.D.Stream.Stream.state
-    c.in-Ok-begin.driver.engine c.new.result.items false
-    c.args.plan.style (record { roots = c.args.plan.trees; most = c.args.plan.most; is_bounded = false; ticket = 1 }) in
+    c.in-Ok.driver.engine c.new.result.items false
+    c.args.plan.style (record { most = c.args.plan.most; bounded = 0; ticket = 1; is_growing = true }) in
     let asks =
     asks_some (to_z w32 (of_z w32 c.max.result)) c.max.result (omega (arith, ints)) (omega (arith, ints)) (omega (arith, ints)) in
-    let begun : IsBegun c.args.plan.style c.args.plan.trees.items c.args.plan.most first = record {
+    let begun : IsBegun c.args.plan.style c.args.plan.most first = record {
       timeout = unsigned_abs (to_z w32 (of_z w32 c.max.result));
       least = asks.0;
       below = asks.1;
-      later = ap unsigned_abs c.in-Ok-begin.ensures.timeout;
-      client = c.in-Ok-begin.ensures.client;
-      followed = c.in-Ok-begin.ensures.followed;
-      channel = c.in-Ok-begin.ensures.channel;
-      told = ap told_by c.in-Ok-begin.ensures.waiting;
+      later = ap unsigned_abs c.in-Ok.ensures.timeout;
+      client = c.in-Ok.ensures.client;
+      followed = c.in-Ok.ensures.followed;
+      channel = c.in-Ok.ensures.channel;
+      told = ap told_by c.in-Ok.ensures.waiting;
       watched = c.new.ensures.items;
       accepted = refl;
       prints = refl;
       growth = refl;
     } in
-    let told = rw (c.as_slice-2.ensures.value, c.in-Ok.ensures, c.as_slice.ensures.value) at (c.watch_for-end.ensures.printed is) in (
+    let told = rw (c.as_slice.ensures.value, c.as_slice-2.ensures.value) at (c.watch_for-end.ensures.printed is) in (
       told.0,
       printed c.args.plan.style
           (aims_of c.args.plan.subjects.items) c.args.plan.trees.items c.args.plan.most first told.0 begun told.1,

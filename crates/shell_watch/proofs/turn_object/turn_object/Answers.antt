@@ -13,8 +13,9 @@ returns g c =
     let turn = c.args.turn.now in
     let members = turn_members c.args.watched.now c.args.at.now (view_of c.args.client.now) turn in
     let put = c.in_ok-put_turn.ensures in
-    let some : turn_kind turn ≢ [] = search rules in
+    let some : turn_kind c.args.watched.now turn ≢ [] = search rules in
     let begins = rw c.turn_kind-kind.ensures at c.in_ok-writer.ensures.tokens in
     IfOk-weaker c.ended.result _ _ (λ line is.
-    line_is c.args.ms (turn_kind turn) members c.put_turn.new.writer.tokens c.put_turn.new.writer.before (string_bytes line) some
+    line_is c.args.ms (turn_kind c.args.watched.now turn) members c.put_turn.new.writer.tokens c.put_turn.new.writer.before
+    (string_bytes line) some
     (put.0 ∙ c.in_ok-writer.ensures.before) (put.1 ∙ ap (λ (t : List json.Token). t ++ members) begins) is) c.ended.ensures

@@ -1,17 +1,15 @@
--- To ask for the close is the move `Closes`: the call is handed to the agent, which is a run by `calls_run`, and no root is left.
-use Rattle.std.proofs.Common.{None, Some, ap, refl, subst}
+-- To ask for the close is the move `Closes`: the call is handed to the agent, which is a run by `calls_run`, and no tree grows.
+use Rattle.std.proofs.Common.{None, Some, refl, subst}
 use Rattle.zk_agent.specs.declared.input.AgentInput.TheVariants as happens
 use Rattle.zk_conversation.specs.declared.call.Call.TheVariants as call
 use Rattle.zk_driver.specs.declared.engine.Engine.{Engine}
 use Rattle.zk_driver.specs.Driving.{course_of, Hands}
 use Rattle.zk_driver.specs.Flowing.{flow_of, Runs}
 use Rattle.zk_driver.proofs.Running.{calls_run}
-use Rattle.shell_watch.specs.inner.Trees.{growth_of}
 use Rattle.shell_watch.proofs.watcher.Watcher.ask_close.Goals as goal
 
 pub returns : goal.returns
 returns g c =
-    let old = c.args.self.now in
     let remaining = g.D.Stream.Read.remaining in
     let contents = g.D.Stream.Write.contents in
     let far = g.D.Stream.Stream.far in
@@ -25,4 +23,4 @@ returns g c =
     Runs (flow_of remaining contents far state e None) (flow_of remaining contents far state asked None)) c.now.ensures.engine
     (calls_run (flow_of remaining contents far state c.now.new.self.engine None)
     (flow_of remaining contents far state asked None) c.in_ok-ask.ensures.flows) in
-    (hands, runs, refl, refl, refl, ap (λ l. record (growth_of old.trees) { roots = l }) c.new.ensures.items)
+    (hands, runs, refl, refl, refl, refl)

@@ -8,14 +8,14 @@ returns-then-not-is_connected-clause-ok g c =
     let first = c.args.self.now in
     ends_none (stand_of g.D.Stream.Read.remaining g.D.Stream.Write.contents g.D.Stream.Stream.far g.D.Stream.Stream.state
     first.driver.engine first.watched.items first.is_accepted
-    first.style first.trees) (g.O.Write.contents c.args.out.now) (c.is_connected.ensures.no c.if-not-is_connected.true)
+    first.style first.growth) (g.O.Write.contents c.args.out.now) (c.is_connected.ensures.no c.if-not-is_connected.true)
 
 pub returns-in_err-until-clause-err : goal.returns-in_err-until-clause-err
 returns-in_err-until-clause-err g c =
     let first = c.args.self.now in
     let here = (stand_of g.D.Stream.Read.remaining g.D.Stream.Write.contents g.D.Stream.Stream.far g.D.Stream.Stream.state
     first.driver.engine first.watched.items first.is_accepted
-    first.style first.trees) in
+    first.style first.growth) in
     let a = g.O.Write.contents c.args.out.now in
     err_none _ c.from_residual.result here a
 
@@ -26,11 +26,11 @@ returns-clause-ok g c =
     let last = c.await_close.new.self in
     ok_ends c.await_close.result c.in_ok-until.until
     (stand_of g.D.Stream.Read.remaining g.D.Stream.Write.contents g.D.Stream.Stream.far g.D.Stream.Stream.state first.driver.engine
-    first.watched.items first.is_accepted first.style first.trees)
+    first.watched.items first.is_accepted first.style first.growth)
     (stand_of g.D.Stream.Read.remaining g.D.Stream.Write.contents g.D.Stream.Stream.far g.D.Stream.Stream.state
-    asked.driver.engine asked.watched.items asked.is_accepted asked.style asked.trees) (stand_of g.D.Stream.Read.remaining
+    asked.driver.engine asked.watched.items asked.is_accepted asked.style asked.growth) (stand_of g.D.Stream.Read.remaining
     g.D.Stream.Write.contents g.D.Stream.Stream.far g.D.Stream.Stream.state last.driver.engine last.watched.items
-    last.is_accepted last.style last.trees)
+    last.is_accepted last.style last.growth)
     (g.O.Write.contents c.args.out.now) (g.O.Write.contents c.await_close.new.out)
     (c.is_connected.ensures.yes c.if-not-is_connected.false) c.in_ok-until.ensures c.await_close.ensures.ok
 
@@ -40,7 +40,7 @@ returns-clause-err g c =
     let asked = c.ask_close.new.self in
     err_asked _ c.await_close.result c.in_ok-until.until
     (stand_of g.D.Stream.Read.remaining g.D.Stream.Write.contents g.D.Stream.Stream.far g.D.Stream.Stream.state first.driver.engine
-    first.watched.items first.is_accepted first.style first.trees)
+    first.watched.items first.is_accepted first.style first.growth)
     (stand_of g.D.Stream.Read.remaining g.D.Stream.Write.contents g.D.Stream.Stream.far g.D.Stream.Stream.state
-    asked.driver.engine asked.watched.items asked.is_accepted asked.style asked.trees)
+    asked.driver.engine asked.watched.items asked.is_accepted asked.style asked.growth)
     (g.O.Write.contents c.args.out.now) (g.O.Write.contents c.await_close.new.out) c.in_ok-until.ensures c.await_close.ensures.err

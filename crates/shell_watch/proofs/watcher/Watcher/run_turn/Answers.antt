@@ -4,7 +4,8 @@ use Rattle.std.specs.Prelude.{string_bytes, ◌||◌}
 use Rattle.zk_client.specs.Clients.{view_of}
 use Rattle.zk_agent.specs.Telling.{told_by}
 use Rattle.shell_watch.specs.declared.plan.Style.{Style}
-use Rattle.shell_watch.specs.declared.trees.Trees.{Trees}
+use Rattle.shell_watch.specs.declared.growth.Growth.{Growth}
+use Rattle.shell_watch.specs.Trees.{grown_after}
 use Rattle.shell_watch.specs.Watching.{accepts, TellsTurn}
 use Rattle.shell_watch.specs.inner.Watching.{stand_of, Heard}
 use Rattle.shell_watch.proofs.Printing.{heard_so, same_tells}
@@ -21,28 +22,24 @@ returns-clause-ok g c =
     let noted = c.note.new.self in
     let style = c.args.self.now.style in
     let same : noted.style ≡ style = c.note.ensures.style ∙ c.printed_turn.ensures.style ∙ c.elapsed-ms.ensures.style in
+    let growth = c.args.self.now.growth in
     let tells : TellsTurn style turn (view_of stamped.driver.engine.agent.asker.follower.client)
-    (told_by stamped.driver.engine.waiting.items) stamped.watched.items told.watched.items text =
-    rw c.elapsed-ms.ensures.style at c.in_ok-text.ensures.tells in
-    let trees = c.args.self.now.trees in
-    let grown : noted.trees ≡ trees = c.note.ensures.trees ∙ c.printed_turn.ensures.trees ∙ c.elapsed-ms.ensures.trees in
-    subst (λ (t : Trees g.row.A.Denot). Heard c.args.until c.is_come.result
-    (stand_of g.D.Stream.Read.remaining g.D.Stream.Write.contents g.D.Stream.Stream.far g.D.Stream.Stream.state
-    first c.args.self.now.watched.items c.args.self.now.is_accepted style trees) text (stand_of g.D.Stream.Read.remaining
-    g.D.Stream.Write.contents g.D.Stream.Stream.far g.D.Stream.Stream.state noted.driver.engine noted.watched.items noted.is_accepted
-    noted.style t)) (sym grown)
-    (subst (λ (s : Style). Heard c.args.until c.is_come.result
+    (told_by stamped.driver.engine.waiting.items) growth stamped.watched.items told.watched.items text =
+    rw (c.elapsed-ms.ensures.style, c.elapsed-ms.ensures.growth) at c.in_ok-text.ensures.tells in
+    let grown : noted.growth ≡ grown_after turn growth =
+    c.note.ensures.growth ∙ c.in_ok-text.ensures.growth ∙ ap (λ (b : Growth). grown_after turn b) c.elapsed-ms.ensures.growth in
+    subst (λ (s : Style). Heard c.args.until c.is_come.result
     (stand_of g.D.Stream.Read.remaining g.D.Stream.Write.contents g.D.Stream.Stream.far g.D.Stream.Stream.state first
-    c.args.self.now.watched.items c.args.self.now.is_accepted style trees) text (stand_of g.D.Stream.Read.remaining
+    c.args.self.now.watched.items c.args.self.now.is_accepted style growth) text (stand_of g.D.Stream.Read.remaining
     g.D.Stream.Write.contents g.D.Stream.Stream.far g.D.Stream.Stream.state noted.driver.engine noted.watched.items
-    noted.is_accepted s trees)) (sym same)
+    noted.is_accepted s noted.growth)) (sym same)
     (heard_so g.D.Stream.Read.remaining g.D.Stream.Write.contents g.D.Stream.Stream.far g.D.Stream.Stream.state c.args.until
     c.is_come.result turn first between noted.driver.engine
-    c.args.self.now.watched.items noted.watched.items c.args.self.now.is_accepted noted.is_accepted style trees text
+    c.args.self.now.watched.items noted.watched.items c.args.self.now.is_accepted noted.is_accepted style growth noted.growth text
     (c.note.ensures.engine ∙ c.printed_turn.ensures.engine ∙ c.elapsed-ms.ensures.engine) c.in_ok-turn.ensures.goes
     c.in_ok-turn.ensures.flows
-    (same_tells style turn text between stamped.driver.engine c.args.self.now.watched.items stamped.watched.items told.watched.items
-    noted.watched.items c.elapsed-ms.ensures.engine
+    (same_tells style turn growth text between stamped.driver.engine c.args.self.now.watched.items stamped.watched.items
+    told.watched.items noted.watched.items c.elapsed-ms.ensures.engine
     (ap (λ w. w.items) c.elapsed-ms.ensures.watched) (ap (λ w. w.items) c.note.ensures.watched) tells)
     (c.note.ensures.accepted ∙ ap (λ b. b || accepts turn) (c.printed_turn.ensures.accepted ∙ c.elapsed-ms.ensures.accepted))
-    c.is_come.ensures c.in_ok-turn.ensures.come c.in_ok-turn.ensures.none))
+    grown c.is_come.ensures c.in_ok-turn.ensures.come c.in_ok-turn.ensures.none)
