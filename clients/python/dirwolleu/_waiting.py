@@ -12,6 +12,7 @@ import time
 from collections.abc import Generator
 from typing import Any, Callable, Optional, Protocol, Union
 
+from dirwolleu import _ending as ending
 from dirwolleu._lane import LaneRequest
 from dirwolleu._requests import Request
 from dirwolleu._semaphore import Semaphore, has_system_threads
@@ -133,6 +134,10 @@ class Future(concurrent.futures.Future[Any]):
             self._is_begun = self.set_running_or_notify_cancel()
             return self._is_begun
         return self.running()
+
+    def result(self, timeout: Optional[float] = None) -> Any:
+        with ending.resting():
+            return super().result(timeout)
 
     def add_done_callback(self, function: Callable[[Any], object]) -> None:
         def tell(done: Any) -> None:

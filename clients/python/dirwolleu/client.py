@@ -7,13 +7,13 @@ import concurrent.futures
 import contextlib
 import functools
 import logging
-import threading
 import time
 import weakref
 from collections.abc import Generator, Sequence
 from types import TracebackType
 from typing import TYPE_CHECKING, Any, Callable, Optional, TypeVar, Union
 
+from dirwolleu import _ending as ending
 from dirwolleu import _following as following
 from dirwolleu import _lane as lane
 from dirwolleu import _plans as plans
@@ -132,6 +132,10 @@ class Client(Shown):
         Raises `TimeoutError`, and stops, where that takes longer than `timeout` seconds; None is no bound. Raises
         `AuthFailedError`, and stops, where the server refuses credentials.
         """
+        with ending.resting(timeout):
+            self._start(timeout)
+
+    def _start(self, timeout: Optional[float]) -> None:
         self._check_process()
         until = None if timeout is None else time.monotonic() + timeout
         threads: Optional[Threads] = None
@@ -432,7 +436,11 @@ class Client(Shown):
         return tree
 
     def _follow(self, subject: following.Subject[following.Told]) -> Generator[following.Told, None, None]:
-        following.begun(self._engine)
+        try:
+            following.begun(self._engine)
+        except ConnectionClosedError:
+            ending.rest()
+            raise
         news = News()
         with following.Follower(self._engine, subject, news).listening() as next_one:
             self._act()
@@ -441,7 +449,11 @@ class Client(Shown):
 
     def _call(self, request: AnyRequest[Result], timeout: Optional[float] = None) -> Result:
         if self._retry is None:
-            return self._ask(request, timeout=timeout)
+            try:
+                return self._ask(request, timeout=timeout)
+            except ZookeeperError:
+                ending.rest()
+                raise
         result: Result = self._drive(steps_of.by_policy(request, self._retry, steps_of.until_of(timeout)))
         return result
 
@@ -466,6 +478,8 @@ class Client(Shown):
         except StopIteration as end:
             result: Result = end.value
             return result
+        finally:
+            ending.rest()
 
     def _do(self, step: Step, news: News) -> Any:
         if isinstance(step, Wait):
@@ -482,19 +496,17 @@ class Client(Shown):
             self._hand_in(request, waiter, timeout)
             result: Result = waiter.result(patience)
             return result
-        except BaseException as error:
+        except BaseException:
             waiter.cancel()
-            if isinstance(error, ConnectionClosedError) and self._ends_with_program():
-                threading.Event().wait()
             raise
-
-    def _ends_with_program(self) -> bool:
-        """Whether the program ends, and this thread with it: then it has nothing to say."""
-        return self._engine.is_left and threading.current_thread() is not threading.main_thread()
 
     def _send(self, request: AnyRequest[Any]) -> Future:
         future = Future(self._tell)
-        self._hand_in(request, future)
+        try:
+            self._hand_in(request, future)
+        except ConnectionClosedError:
+            ending.rest()
+            raise
         return future
 
     def _hand_in(self, request: AnyRequest[Any], waiter: AnyWaiter, timeout: Optional[float] = None) -> None:
@@ -612,7 +624,9 @@ class Client(Shown):
         made = Threads(self._driver(), self._engine, self._sleepers, self._begin_tasks)
         threads = self._running.setdefault("threads", made)
         if threads is made:
-            _started.add(self)
+            _started[weakref.ref(self, _started.pop)] = None
+            if ending.has_come():  # after the line above: where it comes later, it finds the client
+                raise ConnectionClosedError("the program ends")
             made.start()
             return made
         made.stop(lambda: None)
@@ -640,10 +654,14 @@ class Client(Shown):
         threads.stop(self._engine.end)
 
 
-_started: weakref.WeakSet[Client] = weakref.WeakSet()
+_started: dict[weakref.ref[Client], None] = {}
+"""The clients that were started. It is listed in a single step of the interpreter, while threads may start others."""
 
 
 @atexit.register
 def _leave_all() -> None:
-    for client in list(_started):
-        client._leave()
+    ending.begin()
+    for started in list(_started):
+        client = started()
+        if client is not None:
+            client._leave()

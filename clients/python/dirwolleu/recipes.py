@@ -10,6 +10,7 @@ from types import TracebackType
 from typing import Any, Callable, Optional, TypeVar, cast, overload
 
 from dirwolleu import _contending as contending
+from dirwolleu import _ending as ending
 from dirwolleu._contending import READING, WRITING, BaseHeld, BaseLock, Holding
 from dirwolleu._counting import BaseCounter, Number
 from dirwolleu._gathering import BaseBarrier, BaseDoubleBarrier
@@ -239,7 +240,8 @@ class Registration(BaseRegistration[Client]):
     def wait(self, timeout: Optional[float] = None) -> bool:
         """Waits until the node is there, for at most this many seconds, and answers whether it is."""
         self._client._engine.check_process()
-        return self._is_there.wait(timeout)
+        with ending.resting():
+            return self._is_there.wait(timeout)
 
     def set(self, value: bytes) -> None:
         """Gives the node other data, now and in later sessions."""

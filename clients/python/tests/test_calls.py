@@ -366,6 +366,77 @@ import dirwolleu
 host = sys.argv[1]
 """
 
+ENDING = """
+import atexit, time
+from dirwolleu import _threads, client as of
+there, left, threads = threading.Event(), threading.Event(), []
+client = dirwolleu.Client(host)
+
+def hold(owner, name):
+    '''Holds up who calls this function, until the end of the program has left the client.'''
+    function = getattr(owner, name)
+    def call(*words, **named):
+        there.set()
+        left.wait()
+        return function(*words, **named)
+    setattr(owner, name, call)
+
+def begin(call):
+    def run():
+        call()
+        print("it has returned", flush=True)
+    threads.append(threading.Thread(target=run, daemon=True))
+    threads[-1].start()
+
+def end():
+    left.set()
+    until = time.monotonic() + 0.5
+    for thread in threads:
+        thread.join(max(until - time.monotonic(), 0))
+
+atexit.unregister(of._leave_all)
+atexit.register(end)
+atexit.register(of._leave_all)
+"""
+"""A program whose threads meet its end at places that are chosen: they go on when the client is left, and have half a second to say a word."""
+
+CALLS = """
+from dirwolleu.kazoo.client import KazooClient
+client.start(60)
+kazoos = KazooClient(host)
+kazoos.start(60)
+future, tree, registration = client.get_async("/"), client.tree("/"), dirwolleu.Registration(client, "/r")
+follower = client.follow("/")
+next(follower)
+for call in (
+    lambda: client.get("/"),
+    lambda: client.get_async("/"),
+    lambda: client.ensure_path("/a"),
+    lambda: client.ensure_path_async("/a").result(0),
+    lambda: future.result(0),
+    lambda: next(follower, None),
+    lambda: next(client.follow("/"), None),
+    lambda: tree.wait(0),
+    lambda: registration.wait(0),
+    lambda: dirwolleu.Lock(client, "/l").acquire(0),
+    lambda: dirwolleu.Client(host).start(0),
+    lambda: kazoos.get("/"),
+    lambda: KazooClient(host).start(0),
+):
+    begin(lambda call=call: left.wait() and call())
+
+def look():
+    try: client.get("/")
+    except dirwolleu.ConnectionClosedError: print("closed")
+    client.stop()
+    print("stopped")
+atexit.unregister(of._leave_all)
+atexit.unregister(end)
+atexit.register(look)
+atexit.register(end)
+atexit.register(of._leave_all)
+"""
+
 
 class ProgramTest(ClientCase):
     is_long = True
@@ -380,8 +451,8 @@ class ProgramTest(ClientCase):
     def test_a_program_with_an_open_client_ends_quietly(self) -> None:
         partner = self.partner()
         for text in (
-            "c = dirwolleu.Client(host); c.start(); c.create('/a' + str(c.session_id), ephemeral=True)",
-            "c = dirwolleu.Client(host); c.start(); c.exists('/x', watch=print); [c.get_async('/') for _ in range(99)]",
+            "c = dirwolleu.Client(host); c.start(60); c.create('/a' + str(c.session_id), ephemeral=True)",
+            "c = dirwolleu.Client(host); c.start(60); c.exists('/x', watch=print); [c.get_async('/') for _ in range(99)]",
             "c = dirwolleu.Client(host); threading.Thread(target=c.start, daemon=True).start()",
             "c = dirwolleu.Client('127.0.0.1:1')",
         ):
@@ -390,6 +461,44 @@ class ProgramTest(ClientCase):
         partner.do("mute")
         text = "c = dirwolleu.Client(host)\ntry: c.start(0.2)\nexcept TimeoutError: c.close()"
         self.assertEqual(self.run_program(text, partner.host), ("", ""))
+
+    def test_a_thread_that_starts_a_client_meets_the_end_of_the_program_at_each_place(self) -> None:
+        host = self.partner().host
+        for text in (
+            "hold(of.Client, '_begin_threads')",
+            "hold(of.Client, '_start_threads')",
+            "hold(_threads.Threads, 'start')",
+            "hold(_threads.Loop, 'start')",
+            "hold(_threads.Loop, 'run')",
+            "hold(of.Client, '_wait')",
+            "hold(of.Client, '_is_connected')",
+            "of.News.wait = lambda *_: there.set() or left.wait() and False",  # the time of the start has passed
+        ):
+            with self.subTest(text):
+                said = self.run_program(f"{ENDING}\n{text}\nbegin(client.start)\nthere.wait()", host)
+                self.assertEqual(said, ("", ""))
+
+    def test_a_thread_that_can_start_no_others_any_more_awaits_the_end(self) -> None:
+        """Python 3.12 and later say so before they call what was registered for the end, which may wait for the thread."""
+        text = f"""{ENDING}
+def refuse(_):
+    there.set()
+    raise RuntimeError("can't create new thread at interpreter shutdown")
+_threads.Callbacks.start = refuse
+def run(**named):
+    thread = threading.Thread(target=client.start, **named)
+    thread.start()
+    return thread
+"""
+        host = self.partner().host
+        self.assertEqual(self.run_program(text + "run(daemon=True)\nthere.wait()", host), ("", ""))
+        for others in ("run()", "run(daemon=True, args=[0.1]).join()"):
+            with self.subTest(others):
+                self.assertIn("RuntimeError: can't create new thread", self.run_program(text + others, host)[1])
+
+    def test_no_call_of_a_thread_returns_once_the_program_has_left_its_client(self) -> None:
+        """What is called in the thread in which the program ends does return."""
+        self.assertEqual(self.run_program(ENDING + CALLS, self.partner().host), ("closed\nstopped\n", ""))
 
     def test_an_exception_in_a_callback_is_seen_without_any_set_up(self) -> None:
         partner = self.partner()

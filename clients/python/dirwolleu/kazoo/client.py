@@ -12,6 +12,7 @@ import warnings
 from collections.abc import Iterable, Sequence
 from typing import Any, Callable, Optional, Union
 
+from dirwolleu import _ending as ending
 from dirwolleu import _lane as lane
 from dirwolleu import _plans as plans
 from dirwolleu import _requests as requests
@@ -350,7 +351,8 @@ class KazooClient:
         Raises the handler's `timeout_exception` after this many seconds, and `AuthFailedError` where the server refuses
         the credentials; then it is stopped.
         """
-        self.start_async().wait(timeout)
+        with ending.resting(timeout):
+            self.start_async().wait(timeout)
         if not self.connected:
             session, is_refused = self._session, self._state == KeeperState.AUTH_FAILED
             words = "" if session is None else session.no_server(timeout)
@@ -364,7 +366,7 @@ class KazooClient:
 
     def start_async(self) -> threading.Event:
         """Begins to connect, and answers an event that is set while a server has accepted the session."""
-        with self._change:
+        with ending.resting(), self._change:
             session = self._session
             if session is not None and session.is_running():
                 return self._live

@@ -10,6 +10,7 @@ import threading
 import time
 from typing import Any, Callable, Optional
 
+from dirwolleu import _ending as ending
 from dirwolleu.kazoo.protocol.states import Callback
 from dirwolleu.tls import tls_context
 
@@ -70,7 +71,7 @@ class AsyncResult:
 
     def wait(self, timeout: Optional[float] = None) -> bool:
         """Waits until it holds something, for at most this many seconds, and answers whether it does."""
-        with self._condition:
+        with ending.resting(), self._condition:
             return self._condition.wait_for(self.ready, timeout)
 
     def rawlink(self, callback: Callable[[Any], object]) -> None:
