@@ -1024,7 +1024,7 @@ static inline void dws_take_report(dws_session *s)
     }
 }
 
-/* Notes what is said of what is followed by a ticket. Which of it is of a tree is said later in the step. */
+/* Notes what is said of what is followed by a ticket, until a step has said all. */
 static inline void dws_note_seen(dws_session *s, uint64_t ticket, int32_t why)
 {
     if (s->trees == NULL) {
@@ -1949,7 +1949,7 @@ static inline void dws_free_members(struct dws_members *members)
     memset(members, 0, sizeof *members);
 }
 
-/* What is said of a tree: after all else that is said of a step. */
+/* What is said of a tree. */
 static inline void dws_take_of_tree(dws_session *s, const dw_output *told)
 {
     bool is_of_node = told->kind == DW_KIND_TAKEN_ON || told->kind == DW_KIND_LET_GO;

@@ -452,6 +452,13 @@ static void perform(enum dw_result result)
     }
 }
 
+/* Whether a step is due at this moment: a tree is to be tended. */
+static bool is_due(void)
+{
+    uint64_t due_ms;
+    return dw_session_deadline(&session, &due_ms) == DW_OK && due_ms <= now_ms;
+}
+
 /* What is under way goes on by a step. Whether there was something. */
 static bool go_on(void)
 {
@@ -466,7 +473,7 @@ static bool go_on(void)
     } else if (wire.is_there && (wire.is_leaving || !wire.is_open)) {
         hang_up();
         perform(dw_session_cut(&session, now_ms));
-    } else if (dw_session_state(&session) != DW_STATE_CONNECTED) {
+    } else if (dw_session_state(&session) != DW_STATE_CONNECTED || is_due()) {
         need(dw_session_deadline(&session, &due_ms) == DW_OK, "nothing is due");
         now_ms = due_ms > now_ms ? due_ms : now_ms;
         perform(dw_session_moment(&session, now_ms));

@@ -290,12 +290,17 @@ class Play:
         elif link.is_there and (link.is_leaving or not link.bench.is_open):
             link.hang_up()
             self._perform(session.cut(self.now))
-        elif session.state() != library.CONNECTED:
+        elif session.state() != library.CONNECTED or self._is_due():
             self.now = max(self.now, session.deadline() or 0)
             self._perform(session.moment(self.now))
         else:
             return False
         return True
+
+    def _is_due(self) -> bool:
+        """Whether a step is due at this moment: a tree is to be tended."""
+        due = self.session.deadline()
+        return due is not None and due <= self.now
 
     def _settle(self) -> None:
         for _ in range(MOST_STEPS):

@@ -75,6 +75,16 @@ static void hand_in(dw_session *session, uint64_t now_ms, const struct bytes *by
     EXPECT_NUMBER(DW_OK, dw_session_bytes(session, now_ms, bytes->at, bytes->length));
 }
 
+/* A step is due at once, in which the tree is tended. */
+static void tend(dw_session *session, uint64_t now_ms)
+{
+    uint64_t due_ms;
+    expect_no_more(session);
+    EXPECT_NUMBER(DW_OK, dw_session_deadline(session, &due_ms));
+    EXPECT(due_ms <= now_ms);
+    EXPECT_NUMBER(DW_OK, dw_session_moment(session, now_ms));
+}
+
 /* The connection is there, and a server admits the session. */
 static void connect_session(dw_session *session)
 {
@@ -134,13 +144,14 @@ static void grow(dw_session *session)
     add_names(&came, names, 6, "a", "b", &STAT);
     hand_in(session, 41, &came);
     expect_shown(session, FIRST);
-    for (int i = 0; i < 4; i++) {
-        reads[i] = expect_sent(session);
-    }
+    tend(session, 41);
     expect_taken_on(session, FIRST + 1, DW_SIDE_DATA, "/t/a");
     expect_taken_on(session, FIRST + 2, DW_SIDE_DATA, "/t/b");
     expect_taken_on(session, FIRST + 3, DW_SIDE_CHILDREN, "/t/a");
     expect_taken_on(session, FIRST + 4, DW_SIDE_CHILDREN, "/t/b");
+    for (int i = 0; i < 4; i++) {
+        reads[i] = expect_sent(session);
+    }
     expect_no_more(session);
     answer_data(session, 42, reads[0], 6);
     expect_shown(session, FIRST + 1);
@@ -153,6 +164,7 @@ static void grow(dw_session *session)
     expect_no_more(session);
     answer_no_names(session, 45, reads[3], 6);
     expect_shown(session, FIRST + 4);
+    tend(session, 45);
     expect_whole(session);
     expect_no_more(session);
 }
@@ -170,6 +182,7 @@ static void change(dw_session *session)
     expect_no_more(session);
     answer_data(session, 52, read, 7);
     expect_shown(session, FIRST + 1);
+    tend(session, 52);
     expect_whole(session);
     expect_no_more(session);
 }
@@ -194,6 +207,7 @@ static void lose(dw_session *session)
     answer_no_node(session, 56, absent_data, 8);
     expect_shown(session, FIRST + 2);
     expect_shown(session, FIRST + 4);
+    tend(session, 56);
     expect_let_go(session, FIRST + 2);
     expect_let_go(session, FIRST + 4);
     expect_no_more(session);
@@ -215,16 +229,18 @@ static void replace(dw_session *session)
     add_names(&came, names, 9, "a", "c", &STAT);
     hand_in(session, 59, &came);
     expect_shown(session, FIRST);
-    data = expect_sent(session);
-    names = expect_sent(session);
+    tend(session, 59);
     expect_taken_on(session, FIRST + 5, DW_SIDE_DATA, "/t/c");
     expect_taken_on(session, FIRST + 6, DW_SIDE_CHILDREN, "/t/c");
+    data = expect_sent(session);
+    names = expect_sent(session);
     expect_no_more(session);
     answer_data(session, 60, data, 9);
     expect_shown(session, FIRST + 5);
     expect_no_more(session);
     answer_no_names(session, 61, names, 9);
     expect_shown(session, FIRST + 6);
+    tend(session, 61);
     expect_whole(session);
     expect_no_more(session);
 }
@@ -247,10 +263,11 @@ static void uproot(dw_session *session)
 static void follow_less(dw_session *session)
 {
     EXPECT_NUMBER(DW_OK, dw_session_follow_tree(session, 80, TREE + 1, "/t", 2, MOST - 1));
+    EXPECT_NUMBER(TREE + 1, expect_next(session, DW_KIND_TAKEN_ON).tree);
+    EXPECT_NUMBER(TREE + 1, expect_next(session, DW_KIND_TAKEN_ON).tree);
     expect_shown(session, TREE + 1);
     expect_shown(session, FIRST + 7);
-    EXPECT_NUMBER(TREE + 1, expect_next(session, DW_KIND_TAKEN_ON).tree);
-    EXPECT_NUMBER(TREE + 1, expect_next(session, DW_KIND_TAKEN_ON).tree);
+    tend(session, 80);
     dw_output told = expect_next(session, DW_KIND_BOUNDED);
     EXPECT_NUMBER(TREE + 1, told.ticket);
     EXPECT(told.is_bounded);

@@ -149,6 +149,7 @@ static const struct move MOVES[] = {
     {created, STEP | REFUSES},
     {follow_tree, STEP | REFUSES},
     {named, STEP | REFUSES},
+    {moment, STEP},
     {unfollow_tree, STEP},
     {addresses, STEP},
     {peek, REFUSES},
@@ -237,9 +238,9 @@ int main(void)
 {
     static const enum dw_kind TOLD[] = {
         DW_KIND_DIAL, DW_KIND_SEND, DW_KIND_STATE, DW_KIND_STATE, DW_KIND_SEND, DW_KIND_SHOWN, DW_KIND_SEND, DW_KIND_ANSWER,
-        DW_KIND_SEND, DW_KIND_SHOWN, DW_KIND_TAKEN_ON, DW_KIND_TAKEN_ON,
-        DW_KIND_SHOWN, DW_KIND_SEND, DW_KIND_SEND, DW_KIND_SEND, DW_KIND_SEND,
+        DW_KIND_TAKEN_ON, DW_KIND_TAKEN_ON, DW_KIND_SEND, DW_KIND_SHOWN, DW_KIND_SHOWN,
         DW_KIND_TAKEN_ON, DW_KIND_TAKEN_ON, DW_KIND_TAKEN_ON, DW_KIND_TAKEN_ON,
+        DW_KIND_SEND, DW_KIND_SEND, DW_KIND_SEND, DW_KIND_SEND,
         DW_KIND_LET_GO, DW_KIND_LET_GO, DW_KIND_LET_GO, DW_KIND_LET_GO, DW_KIND_LET_GO, DW_KIND_LET_GO,
         DW_KIND_STATE,
     };

@@ -99,11 +99,6 @@ class Orders(NamedTuple):
 _NO_ORDERS = Orders(False, None, b"")
 
 
-def _comes_later(action: Action) -> bool:
-    """Whether an action is taken after those that say by which tickets a tree follows its nodes."""
-    return type(action) is not TakenOn
-
-
 def _is_auth(asked: Asked) -> bool:
     return isinstance(asked.request, LaneRequest) and asked.request.operation is lane.Operation.AUTH
 
@@ -149,7 +144,7 @@ class Engine(Keeping):
         self.refused: Optional[AuthFailedError] = None
         """Why credentials were refused on the last connection, if they were."""
         self._process: Optional[int] = None
-        self.is_running = self.is_left = False
+        self.is_running = False
         self.life = 0
         """How often it was begun."""
         self.state = State.LOST
@@ -205,7 +200,7 @@ class Engine(Keeping):
 
         Nobody is told, since the threads that wait still are those that end with the program.
         """
-        self.is_left, self.is_running = True, False
+        self.is_running = False
         self._listening = Listeners()
         self._lane = Lane()
         self._handed.clear()
@@ -276,7 +271,7 @@ class Engine(Keeping):
         """Bytes came. Each frame is a step of its own, so that what is kept can be looked up as it was with the frame.
 
         Where there are trees, over which each step goes, several are one step, if no notice follows an answer in it: so each answer that
-        was good when it came is good after the step.
+        was good when it came is good after the step, and the session tends its trees by it before the next one.
         """
         came = self._came
         pieces = came.cut(data)
@@ -289,6 +284,7 @@ class Engine(Keeping):
                 if kind is _PONG:
                     self._pong(now)
                 if self._trees:
+                    self._tend_trees(now)
                     self._grow_trees(now)
             if self._came is not came:
                 return  # the connection is over
@@ -296,6 +292,14 @@ class Engine(Keeping):
             self.contact.heard_at = now
         if self._line.waiting:
             self._send_line(now)
+
+    def _tend_trees(self, now: int) -> None:
+        """Makes the step in which the session tends its trees, where one is due already."""
+        if self._saved_at_close is not None:
+            return
+        due = self._session.deadline()
+        if due is not None and due <= now:
+            self._step(now, Session.moment)
 
     def take_orders(self) -> Orders:
         """What is to be done about the connection."""
@@ -507,10 +511,7 @@ class Engine(Keeping):
         self._written = len(self._frames)
         session = self._session
         try:
-            actions = step(session, now, *words)
-            if self._planted:
-                actions.sort(key=_comes_later)
-            for action in actions:
+            for action in step(session, now, *words):
                 _TAKERS[type(action)](self, action)
                 if self._session is not session:
                     return  # it is closed, and what else it asks for is not done

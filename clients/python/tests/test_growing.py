@@ -66,6 +66,7 @@ class GrowingTest(unittest.TestCase):
         tree = Growing(self.engine, "/t", most, lambda: None)
         self.engine.add_tree(tree)
         self.engine.take_handed(200)
+        self.engine.tick(200)
         return tree
 
     def ask(self, request: requests.Request[Any]) -> None:
@@ -160,14 +161,14 @@ class GrowingTest(unittest.TestCase):
 
     def test_a_read_that_is_refused_before_it_is_sent_is_told_with_its_path(self) -> None:
         """It is refused in the step in which the session takes the node on."""
-        tree, received = self.planted(), Session.received
+        tree, moment = self.planted(), Session.moment
 
-        def refused(session: Session, now: int, came: bytes) -> list[Action]:
-            actions = received(session, now, came)
+        def refused(session: Session, now: int) -> list[Action]:
+            actions = moment(session, now)
             tickets = [action.ticket for action in actions if isinstance(action, TakenOn)]
-            return [*(Refused(ticket, READ_TOO_MANY_WATCHES, 0) for ticket in tickets[:1]), *actions]
+            return [*actions, *(Refused(ticket, READ_TOO_MANY_WATCHES, 0) for ticket in tickets[:1])]
 
-        with mock.patch.object(Session, "received", autospec=True, side_effect=refused):
+        with mock.patch.object(Session, "moment", autospec=True, side_effect=refused):
             self.come(data(1), listed(2, "a"))
         self.assertEqual((type(tree.trouble), getattr(tree.trouble, "path", None)), (TooManyWatchesError, "/t/a"))
 

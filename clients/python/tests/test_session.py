@@ -152,13 +152,16 @@ class SessionTest(unittest.TestCase):
         session = self.connected(Root("/app"))
         tree = [TakenOn(5, 5, library.DATA_SIDE, "/a"), TakenOn(5, FIRST, library.CHILDREN_SIDE, "/a")]
         reads: list[Action] = [read(1, "/app/a", True), asked(2, 12, "/app/a", b"\1")]
-        self.assertEqual(session.follow_tree(200, 5, "/a", 2), [*reads, *tree])
+        self.assertEqual(session.follow_tree(200, 5, "/a", 2), [*tree, *reads])
         self.assertEqual(session.received(300, reply(1, 9, 0, buffer(b"one") + STAT_BYTES)), [Shown(5)])
         reads = [read(3, "/app/a/b", True), asked(4, 12, "/app/a/b", b"\1")]
         below = [TakenOn(5, FIRST + 1, library.DATA_SIDE, "/a/b"), TakenOn(5, FIRST + 2, library.CHILDREN_SIDE, "/a/b")]
-        self.assertEqual(session.received(400, reply(2, 9, 0, names("b"))), [Shown(FIRST), *reads, *below])
+        self.assertEqual(session.received(400, reply(2, 9, 0, names("b"))), [Shown(FIRST)])
+        self.assertEqual(session.deadline(), 400)
+        self.assertEqual(session.moment(400), [*below, *reads])
         self.assertEqual(session.received(500, reply(3, 9, 0, buffer(b"two") + STAT_BYTES)), [Shown(FIRST + 1)])
-        self.assertEqual(session.received(600, reply(4, 9, 0, names())), [Shown(FIRST + 2), Whole(5)])
+        self.assertEqual(session.received(600, reply(4, 9, 0, names())), [Shown(FIRST + 2)])
+        self.assertEqual(session.moment(600), [Whole(5)])
         gone = [LetGo(5, ticket) for ticket in (5, FIRST, FIRST + 1, FIRST + 2)]
         self.assertEqual(session.unfollow_tree(700, 5), gone)
         with self.assertRaises(ValueError):
@@ -168,7 +171,8 @@ class SessionTest(unittest.TestCase):
         session = self.connected()
         session.follow_tree(200, 5, "/a", 1)
         session.received(300, reply(1, 9, 0, buffer(b"one") + STAT_BYTES))
-        self.assertEqual(session.received(400, reply(2, 9, 0, names("b"))), [Shown(FIRST), Bounded(5, True)])
+        self.assertEqual(session.received(400, reply(2, 9, 0, names("b"))), [Shown(FIRST)])
+        self.assertEqual(session.moment(400), [Bounded(5, True)])
 
     def test_a_connection_is_given_up(self) -> None:
         session = self.connected()

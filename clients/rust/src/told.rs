@@ -131,7 +131,7 @@ pub(crate) struct News {
     pub(crate) reported: Vec<String>,
     /// What is told of subjects, and of nodes of trees, by their tickets.
     pub(crate) shown: Vec<(u64, Shows)>,
-    /// What is told of trees, by their tickets, after all of that.
+    /// What is told of trees, by their tickets, before all of that.
     pub(crate) trees: Vec<(u64, TreeNews)>,
 }
 

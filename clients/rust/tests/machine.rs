@@ -130,28 +130,29 @@ fn a_tree_is_followed_as_its_names_come() {
     let [first, second, third] = [FIRST, FIRST + 1, FIRST + 2];
     let actions = machine.follow_tree(START, 7, "/a", 2).unwrap();
     let root = [
-        String::from("send 4"),
-        String::from("send 12"),
         String::from("7: /a is taken on"),
         format!("{first}: /a is taken on"),
+        String::from("send 4"),
+        String::from("send 12"),
     ];
     assert_eq!(said(actions), root);
     let actions = machine.bytes(START, &data(1, 5, "one")).unwrap();
     assert_eq!(said(actions), ["7: shown"]);
     let actions = machine.bytes(START, &names(2, 5, &["b"])).unwrap();
+    assert_eq!(said(actions), [format!("{first}: shown")]);
+    assert_eq!(machine.deadline(), Some(START));
     let below = [
-        format!("{first}: shown"),
-        String::from("send 4"),
-        String::from("send 12"),
         format!("{second}: /a/b is taken on"),
         format!("{third}: /a/b is taken on"),
+        String::from("send 4"),
+        String::from("send 12"),
     ];
-    assert_eq!(said(actions), below);
+    assert_eq!(said(machine.tick(START).unwrap()), below);
     let actions = machine.bytes(START, &data(3, 5, "two")).unwrap();
     assert_eq!(said(actions), [format!("{second}: shown")]);
     let actions = machine.bytes(START, &names(4, 5, &[])).unwrap();
-    let whole = [format!("{third}: shown"), String::from("7: whole")];
-    assert_eq!(said(actions), whole);
+    assert_eq!(said(actions), [format!("{third}: shown")]);
+    assert_eq!(said(machine.tick(START).unwrap()), ["7: whole"]);
     let tickets = [7, first, second, third];
     let lines = said(machine.unfollow_tree(START, 7).unwrap());
     assert_eq!(lines, tickets.map(|ticket| format!("{ticket}: let go")));
@@ -162,8 +163,8 @@ fn a_tree_of_more_nodes_than_its_bound_is_told() {
     let mut machine = connected();
     let _ = machine.follow_tree(START, 7, "/a", 1).unwrap();
     let _ = machine.bytes(START, &data(1, 5, "one")).unwrap();
-    let mut actions = machine.bytes(START, &names(2, 5, &["b"])).unwrap();
-    assert!(matches!(actions.next(), Ok(Some(Action::Shown { .. }))));
+    let _ = machine.bytes(START, &names(2, 5, &["b"])).unwrap();
+    let mut actions = machine.tick(START).unwrap();
     let Ok(Some(Action::Bounded { tree, is_bounded })) = actions.next() else {
         panic!("the bound is not told");
     };

@@ -65,14 +65,13 @@ impl Engine {
         taken
     }
 
-    /// Notes what the machine tells of what is followed: which node of a tree has which ticket before what is told by the tickets, though it
-    /// says that last.
+    /// Notes what the machine tells of what is followed: which node of a tree has which ticket before what is told by the tickets.
     fn note_followed(&mut self, news: &mut News) {
-        for path in news.reported.drain(..) {
-            self.trees.values_mut().for_each(|tree| tree.notice(&path));
-        }
         for (tree, told) in news.trees.drain(..) {
             self.hear_tree(tree, told);
+        }
+        for path in news.reported.drain(..) {
+            self.trees.values_mut().for_each(|tree| tree.notice(&path));
         }
         for (ticket, shows) in news.shown.drain(..) {
             self.followed.hear(ticket, shows);

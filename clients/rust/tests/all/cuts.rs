@@ -450,7 +450,9 @@ impl Play {
         } else if link.is_there() && (link.stage == Stage::Leaving || !link.is_open) {
             link.hang_up();
             machine.cut(self.now)
-        } else if machine.state() != State::Connected {
+        } else if machine.state() != State::Connected
+            || machine.deadline().is_some_and(|due| due <= self.now)
+        {
             self.now = self.now.max(machine.deadline().unwrap());
             machine.tick(self.now)
         } else {
