@@ -9,7 +9,7 @@ import logging
 import os
 import ssl
 import weakref
-from typing import Any, Callable, Optional, cast
+from typing import Any, Callable, Optional, Protocol, cast
 
 from dirwolleu._clock import moment as moment
 from dirwolleu._engine import Engine
@@ -23,6 +23,7 @@ ROOM = 65536
 """How many bytes of a connection are read at once, at most."""
 MOST_TURNS = 16
 """How often what a connection has is read before the moment is told, at most."""
+_CLOSED = "the server has closed it"
 _NO_DESCRIPTOR = (errno.EMFILE, errno.ENFILE)
 
 
@@ -47,13 +48,25 @@ def _room_of(loop: asyncio.AbstractEventLoop) -> memoryview:
     return room
 
 
-class Link(asyncio.BufferedProtocol):
-    """One connection to a server, from the moment that it is dialled."""
+class Serving(Protocol):
+    """What reads a connection without a turn of the event loop for it."""
 
-    def __init__(self, driver: Driver) -> None:
+    def serve(self, descriptor: int, read: Callable[[], object]) -> None: ...
+    def leave(self, descriptor: int) -> None: ...
+
+
+class Link(asyncio.BufferedProtocol):
+    """One connection to a server, from the moment that it is dialled. `serving` is to read it, from its first bytes on."""
+
+    def __init__(self, driver: Driver, serving: Optional[Serving] = None) -> None:
         self.transport: Optional[asyncio.Transport] = None
         self._driver = driver
         self._room = _room_of(asyncio.get_running_loop())
+        self._rooms = (self._room,)
+        self._serving = serving
+        self._descriptor = -1
+        self._leave: Optional[Callable[[], None]] = None
+        """What ends that it is served, once it is."""
         self._is_over = False
 
     def connection_made(self, transport: asyncio.BaseTransport) -> None:
@@ -69,9 +82,42 @@ class Link(asyncio.BufferedProtocol):
     def buffer_updated(self, nbytes: int) -> None:
         if not self._is_over:
             self._driver.bring(self._room[:nbytes].tobytes())
+            if self._serving is not None:
+                self._be_served(self._serving)
+
+    def _be_served(self, serving: Serving) -> None:
+        """Has the connection be read by `_read` from now on. What is written, and how it ends, is the transport's as before."""
+        transport, self._serving = self.transport, None
+        if transport is None or transport.is_closing():
+            return
+        connection = transport.get_extra_info("socket")
+        if connection is not None:
+            transport.pause_reading()
+            self._descriptor = connection.fileno()
+            self._leave = functools.partial(serving.leave, self._descriptor)
+            serving.serve(self._descriptor, self._read)
+
+    def _read(self) -> None:
+        """Reads what has come. It raises nothing: what fails is told in a turn of the event loop."""
+        try:
+            count = os.readv(self._descriptor, self._rooms)
+            if count:
+                self._driver.bring(self._room[:count].tobytes())
+            else:
+                self.end(_CLOSED)
+        except BlockingIOError:
+            pass
+        except Exception as error:
+            asyncio.get_running_loop().call_soon(self._fail, error)
+
+    def _fail(self, error: Exception) -> None:
+        if not isinstance(error, OSError):
+            context = {"message": "what the server has sent has failed", "exception": error, "protocol": self}
+            asyncio.get_running_loop().call_exception_handler(context)
+        self.end(str(error))
 
     def connection_lost(self, error: Optional[Exception]) -> None:
-        self.end(str(error) if error is not None else "the server has closed it")
+        self.end(str(error) if error is not None else _CLOSED)
 
     def end(self, why: str = "") -> None:
         """Ends the connection at once, and says so."""
@@ -82,6 +128,9 @@ class Link(asyncio.BufferedProtocol):
     def close(self) -> None:
         """Ends the connection at once, or what is to become one. The engine has asked for it."""
         self._is_over = True
+        leave, self._leave = self._leave, None  # once: the number of the descriptor is another one's afterwards
+        if leave is not None:
+            leave()
         if self.transport is not None:
             self.transport.abort()
 
@@ -95,6 +144,8 @@ class Driver:
 
     def __init__(self, servers: Servers, engine: Engine, tls: Optional[ssl.SSLContext] = None) -> None:
         self._servers, self._tls = servers, tls
+        self.serving: Optional[Serving] = None
+        """What reads connections that are not of TLS, where the event loop has that."""
         self._place: Optional[Place] = None
         self._hosts: Optional[Hosts] = None
         self._engine = engine
@@ -195,7 +246,7 @@ class Driver:
 
     def _dial(self, place: int) -> None:
         """Begins an attempt to connect. The engine says when it is to be given up."""
-        link = self._link = Link(self)
+        link = self._link = Link(self, self.serving if self._tls is None else None)
         dialing = self._dialing = self._loop.create_task(self._connect(link, place))
         dialing.add_done_callback(functools.partial(self._dialed, link))
 
@@ -240,7 +291,10 @@ class Driver:
         What came may have come at any time since then.
         """
         now = moment()
-        if self._timer is None or now <= self._wakes_at or now <= self._wakes_at + self._longest_wait():
+        if self._timer is not None and now < self._wakes_at:  # which is not after what is due
+            self._awake_at = now
+            return now
+        if self._timer is None or now <= self._wakes_at + self._longest_wait():
             self._awake_at = now
         return self._engine.in_time(self._awake_at)
 

@@ -26,7 +26,7 @@ from dirwolleu._growing import Growing, TreeNews
 from dirwolleu._jute import Malformed
 from dirwolleu._keeping import Keeping
 from dirwolleu._lane import Lane, LaneRequest
-from dirwolleu._library import Answer, Closed, Drop, NoMemory, Report, Send, StateChange
+from dirwolleu._library import Answer, Closed, Drop, NoMemory, Report, Send, StateChange, made
 from dirwolleu._line import Line
 from dirwolleu._listening import Listeners
 from dirwolleu._process import this_process
@@ -59,7 +59,7 @@ _EVENTS = {
     library.CHILDREN_CHANGED: EventType.CHILD,
 }
 # end of what is made
-_LANE, _PONG = Kind.LANE, Kind.PONG  # a class of an enum takes its time
+_LANE, _PONG, _CONNECTED = Kind.LANE, Kind.PONG, State.CONNECTED  # a class of an enum takes its time
 _LATE = "an answer has taken more than two thirds of the timeout"
 _ELSEWHERE = "the server has said that the session is over or elsewhere"
 _ENDING = (SessionExpiredError.code, SessionMovedError.code)
@@ -288,7 +288,7 @@ class Engine(Keeping):
                     self._grow_trees(now)
             if self._came is not came:
                 return  # the connection is over
-        if self.state is State.CONNECTED:
+        if self.state is _CONNECTED:
             self.contact.heard_at = now
         if self._line.waiting:
             self._send_line(now)
@@ -305,7 +305,7 @@ class Engine(Keeping):
         """What is to be done about the connection."""
         if not self._frames and not self._hangs_up and self._dial is None:
             return _NO_ORDERS
-        orders = Orders(self._hangs_up, self._dial, b"".join(self._frames))
+        orders = made(Orders, (self._hangs_up, self._dial, b"".join(self._frames)))
         self._frames.clear()
         self._hangs_up, self._dial = False, None
         return orders
@@ -602,19 +602,19 @@ class Engine(Keeping):
 
     def _hand_over(self, asked: Asked, now: int) -> None:
         asked.sent_at = now
-        until = asked.ends_at
+        request, until = asked.request, asked.ends_at
         if until is None:
-            until = now + self._timeout_ms if self.state is State.CONNECTED else asked.until
+            until = now + self._timeout_ms if self.state is _CONNECTED else asked.until
         if self._due is None or until < self._due:
             self._is_recast = True
-        if isinstance(asked.request, LaneRequest):
+        if isinstance(request, LaneRequest):
             self._line.limit(asked, until)
-            return self._send_in_lane(asked, asked.request)
+            return self._send_in_lane(asked, request)
         ticket = next(self._tickets)
         asked.is_handed = True
         self._sent[ticket] = asked
         try:
-            self._step(now, asked.request.call, ticket, until)
+            self._step(now, request.call, ticket, until, *request.words)
         except (ValueError, NoMemory) as error:
             self._sent.pop(ticket, None)
             asked.fail(error)

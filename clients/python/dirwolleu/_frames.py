@@ -84,6 +84,9 @@ class Frames:
 
     def cut(self, data: bytes) -> list[Piece]:
         """The pieces of the data, with what was held back before."""
+        if not self._held and not self._left and self._is_answer(data):
+            self.answers += 1
+            return [_made(Piece, (data, _CORE))]
         data, begin = self._held + data if self._held else data, 0
         end, pieces = len(data), list[Piece]()
         while begin < end and (self._left or self._knows(data, begin)):
@@ -102,6 +105,14 @@ class Frames:
                 begin = end
         self._held = data[begin:]
         return pieces
+
+    def _is_answer(self, data: bytes) -> bool:
+        """Whether the data are one whole answer to a call of the core's, as most are."""
+        count = len(data) - 4
+        if self._is_first or not _HEADER <= count <= LONGEST_FRAME:
+            return False
+        length, xid = _head_in(data, 0)
+        return bool(length == count and xid > 0)
 
     def _knows(self, data: bytes, begin: int) -> bool:
         """Whether the first bytes of a frame, at this place, say how long it is and whose; if so, that is kept."""

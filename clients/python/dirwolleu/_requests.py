@@ -24,6 +24,8 @@ from dirwolleu.types import Stat, Watch, WatchedEvent
 
 Result = TypeVar("Result")
 
+_CODE, _DATA, _CREATED, _NAMES = library.CODE, library.DATA, library.CREATED, library.NAMES  # a module's own names are quicker
+
 # made by scripts/interface from include/interface.toml
 _ERRORS: dict[int, type[ZookeeperError]] = {
     library.LOST: ConnectionLoss,
@@ -58,21 +60,25 @@ class Request(Generic[Result]):
     Once it is asked it does not change.
     """
 
+    __slots__ = "call", "path", "words", "is_repeatable", "watcher"
+
+    is_exists = is_create = False
+
     def __init__(
         self,
-        call: Callable[[Session, int, int, int], list[Action]],
+        call: Callable[..., list[Action]],
         path: Optional[str] = None,
+        words: tuple[Any, ...] = (),
         is_repeatable: bool = False,
-        is_exists: bool = False,
-        is_create: bool = False,
         watcher: Optional[Watcher] = None,
     ) -> None:
-        self.call = call
+        self.call, self.words = call, words
+        """The step of a session, and what it is told after the moment, the ticket and the limit."""
         self.path = path
         """The path of the node that it is about."""
         self.is_repeatable = is_repeatable
         """Whether it does no harm to ask it again where it may have happened."""
-        self.is_exists, self.is_create, self.watcher = is_exists, is_create, watcher
+        self.watcher = watcher
 
     def leaves_watch(self, answer: Answer) -> bool:
         """Whether a watch that was asked for is left: where there is no node, `exists` alone leaves one."""
@@ -81,17 +87,28 @@ class Request(Generic[Result]):
 
     def result(self, answer: Answer) -> Any:
         """What the answer brings, or raises its error."""
-        if answer.lack:
-            raise _ERRORS[answer.lack]()
-        if answer.result == library.CODE:
-            if self.is_exists and answer.code == NoNodeError.code:
+        _, lack, result, code, stat, text, names, _ = answer
+        if lack:
+            raise _ERRORS[lack]()
+        if result == _DATA:
+            return text, stat
+        if result == _CODE:
+            if self.is_exists and code == NoNodeError.code:
                 return None
-            raise refusal_of(answer.code, self.path if self.is_create else None)
-        if answer.result == library.DATA:
-            return answer.text, answer.stat
-        if answer.result == library.CREATED:
-            return (answer.text or b"").decode()
-        return answer.names if answer.result == library.NAMES else answer.stat
+            raise refusal_of(code, self.path if self.is_create else None)
+        if result == _CREATED:
+            return (text or b"").decode()
+        return names if result == _NAMES else stat
+
+
+class _Exists(Request[Result]):
+    __slots__ = ()
+    is_exists = True
+
+
+class _Create(Request[Result]):
+    __slots__ = ()
+    is_create = True
 
 
 def _watcher(path: str, side: int, watch: Watch) -> Optional[Watcher]:
@@ -105,35 +122,21 @@ def _data(value: Optional[bytes]) -> Optional[bytes]:
 
 
 def exists(path: str, watch: Watch) -> Request[Optional[Stat]]:
-    return Request(
-        lambda session, now, ticket, until: session.exists(now, ticket, until, path, bool(watch)),
-        path,
-        is_repeatable=True,
-        is_exists=True,
-        watcher=_watcher(path, library.DATA_SIDE, watch),
-    )
+    return _Exists(Session.exists, path, (path, bool(watch)), True, _watcher(path, library.DATA_SIDE, watch))
 
 
 def get(path: str, watch: Watch) -> Request[tuple[Optional[bytes], Stat]]:
-    return Request(
-        lambda session, now, ticket, until: session.get_data(now, ticket, until, path, bool(watch)),
-        path,
-        is_repeatable=True,
-        watcher=_watcher(path, library.DATA_SIDE, watch),
-    )
+    return Request(Session.get_data, path, (path, bool(watch)), True, _watcher(path, library.DATA_SIDE, watch))
 
 
 def get_children(path: str, watch: Watch) -> Request[list[str]]:
-    return Request(
-        lambda session, now, ticket, until: session.get_children(now, ticket, until, path, bool(watch)),
-        path,
-        is_repeatable=True,
-        watcher=_watcher(path, library.CHILDREN_SIDE, watch),
-    )
+    return Request(Session.get_children, path, (path, bool(watch)), True, _watcher(path, library.CHILDREN_SIDE, watch))
 
 
 class _Listing(Request[Listing]):
     """Reads the names of a node's children, with the zxid of the answer."""
+
+    __slots__ = ()
 
     def result(self, answer: Answer) -> Any:
         return Listing.of(super().result(answer), answer.zxid)
@@ -141,27 +144,21 @@ class _Listing(Request[Listing]):
 
 def listing(path: str) -> Request[Listing]:
     """The names of a node's children as the core takes them, which decides by them who stands first. It leaves no watch."""
-    return _Listing(
-        lambda session, now, ticket, until: session.get_children(now, ticket, until, path, False),
-        path,
-        is_repeatable=True,
-    )
+    return _Listing(Session.get_children, path, (path, False), True)
 
 
 def set(path: str, value: Optional[bytes], version: int) -> Request[Stat]:
-    data = _data(value)
-    return Request(lambda session, now, ticket, until: session.set_data(now, ticket, until, path, data, version), path)
+    return Request(Session.set_data, path, (path, _data(value), version))
 
 
 def create(path: str, value: Optional[bytes], ephemeral: bool, sequence: bool) -> Request[str]:
-    data = _data(value)
     mode = (library.EPHEMERAL if ephemeral else 0) | (library.SEQUENTIAL if sequence else 0)
-    return Request(lambda session, now, ticket, until: session.create(now, ticket, until, path, data, mode), path, is_create=True)
+    return _Create(Session.create, path, (path, _data(value), mode))
 
 
 def delete(path: str, version: int) -> Request[None]:
-    return Request(lambda session, now, ticket, until: session.delete(now, ticket, until, path, version), path)
+    return Request(Session.delete, path, (path, version))
 
 
 def close_session() -> Request[None]:
-    return Request(lambda session, now, ticket, until: session.close_session(now, ticket, until))
+    return Request(Session.close_session)

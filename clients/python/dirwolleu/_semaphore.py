@@ -36,21 +36,25 @@ class _Moment(ctypes.Structure):
 class Semaphore:
     """An event for one thread that waits, as `News` is. It does not matter where that is interrupted."""
 
-    __slots__ = ("_room",)
+    __slots__ = ("_at",)
 
     def __init__(self) -> None:
-        self._room = _Room()
-        _init(self._room, 0, 0)
+        self._at = ctypes.byref(_Room())  # it holds what it points at
+        _init(self._at, 0, 0)
 
     def set(self) -> None:
         """Ends one wait: that of a thread that waits, or the next."""
-        _post(self._room)
+        _post(self._at)
 
-    def wait(self, timeout: Optional[float]) -> None:
-        """Waits until it is set, and clears it, for at most this many seconds. It ends at a signal too, so that its handler is called."""
+    def wait(self, timeout: Optional[float]) -> bool:
+        """Waits until it is set, and clears it, for at most this many seconds. It ends at a signal too, so that its handler is called.
+
+        Answers whether it has cleared it.
+        """
         if timeout is None:
-            _wait(self._room)
+            ended = _wait(self._at)
         elif _wait_by_clock is not None:
-            _wait_by_clock(self._room, time.CLOCK_MONOTONIC, ctypes.byref(_Moment.of(time.monotonic() + timeout)))
+            ended = _wait_by_clock(self._at, time.CLOCK_MONOTONIC, ctypes.byref(_Moment.of(time.monotonic() + timeout)))
         else:
-            _wait_by_calendar(self._room, ctypes.byref(_Moment.of(time.time() + timeout)))
+            ended = _wait_by_calendar(self._at, ctypes.byref(_Moment.of(time.time() + timeout)))
+        return bool(ended == 0)

@@ -6,14 +6,18 @@ import asyncio
 import contextlib
 import io
 import os
+import select
 import selectors
 import sys
 import threading
-from typing import Callable, Optional
+import time
+from contextvars import Context
+from typing import Any, Callable, Optional, cast
 
 from dirwolleu._driver import Driver
 from dirwolleu._engine import Engine
 from dirwolleu._process import this_process
+from dirwolleu._semaphore import has_system_threads
 from dirwolleu._waiting import Callbacks, Fate, Sleepers, ends_within
 from dirwolleu.exceptions import ConnectionClosedError
 
@@ -22,6 +26,10 @@ LONGEST_END = 5.0
 
 _ONE = (1).to_bytes(8, sys.byteorder)
 """What rings a bell: an eventfd adds it, and a pipe carries it."""
+_MOST_EVENTS = 8
+"""Of how many descriptors one wait tells, at most. There are three."""
+
+Found = list[tuple[selectors.SelectorKey, int]]
 
 
 def _bell() -> tuple[io.FileIO, io.FileIO]:
@@ -47,21 +55,26 @@ class _Waiting(selectors.DefaultSelector):
     def __init__(self, act: Callable[[], object], wake: Callable[[], object]) -> None:
         super().__init__()
         self._act, self._wake = act, wake
-        self._is_asked = self._waits = False
+        self._is_asked = self._waits = self._is_closed = False
+        self.has_more = False
+        """Whether the event loop has more to do since it waits. It says so itself."""
         self._writes, self._reads = _bell()
         self.register(self._reads, selectors.EVENT_READ)
 
-    def ask(self) -> None:
-        """Has the loop act. Any thread may say so, and what is asked is to be there before."""
+    def ask(self) -> bool:
+        """Has the loop act, and answers whether it goes on. Any thread may say so, and what is asked is to be there before."""
         self._is_asked = True
         if self._waits:
-            with contextlib.suppress(OSError, ValueError):  # it is closed
+            try:
                 self._writes.write(_ONE)  # nothing where it is full, so that the loop wakes
+            except (OSError, ValueError):  # it is closed
+                pass
+        return not self._is_closed
 
-    def select(self, timeout: Optional[float] = None) -> list[tuple[selectors.SelectorKey, int]]:
+    def select(self, timeout: Optional[float] = None) -> Found:
         self._wake()
         self._waits = True  # before it looks whether something is asked
-        found = super().select(0 if self._is_asked else timeout)
+        found = self._look(0 if self._is_asked else timeout)
         self._waits = False
         if self._is_asked:
             self._is_asked = False
@@ -73,11 +86,122 @@ class _Waiting(selectors.DefaultSelector):
                 break
         return found
 
+    def _look(self, timeout: Optional[float]) -> Found:
+        """What the event loop itself waits for, as far as it has come."""
+        return super().select(timeout)
+
     def close(self) -> None:
+        self._is_closed = True
         self._wake()
         super().close()
         self._writes.close()
         self._reads.close()
+
+
+class _Serving(_Waiting):
+    """The same, which goes on by itself while the event loop has nothing to do, and what is asked and what a connection brings is all
+    that comes: these take no turn of the loop, which takes longer than what is done in it.
+
+    The loop has its turn where it has more to do, as it says itself; where its time has come; and where one of its own descriptors
+    has something. What was to be done before a connection is read is done before: so a loop that does not wait reads it in its turn.
+    """
+
+    def __init__(self, act: Callable[[], object], wake: Callable[[], object]) -> None:
+        super().__init__(act, wake)
+        self._served: dict[int, Callable[[], object]] = {}
+        try:
+            self._epoll = select.epoll()
+        except BaseException:
+            super().close()
+            raise
+        self.unregister(self._reads)
+        self._own = cast("selectors.EpollSelector", self).fileno()  # it is one: see `_can_serve`
+        self._epoll.register(self._own, select.EPOLLIN)
+        self._epoll.register(self._reads, select.EPOLLIN | select.EPOLLET)  # told once for each ring, and never read
+        self._poll = self._epoll.poll
+
+    def serve(self, descriptor: int, read: Callable[[], object]) -> None:
+        """Has a function called whenever this descriptor can be read. It raises nothing."""
+        self._served[descriptor] = read
+        self._epoll.register(descriptor, select.EPOLLIN)
+
+    def leave(self, descriptor: int) -> None:
+        """Serves a descriptor no more. It is to be open still."""
+        if self._served.pop(descriptor, None) is not None:
+            self._epoll.unregister(descriptor)
+
+    def select(self, timeout: Optional[float] = None) -> Found:
+        until = None if timeout is None else time.monotonic() + timeout
+        self.has_more = False
+        while True:
+            self._wake()
+            self._waits = True  # before it looks whether something is asked
+            events = self._poll(0 if self._is_asked else timeout, _MOST_EVENTS)
+            self._waits = False
+            if self._is_asked:
+                self._is_asked = False
+                self._act()
+            elif not events:
+                return []
+            if timeout == 0:
+                self._serve_in_turn(events)
+                return self._look(0)
+            for descriptor, _ in events:
+                if descriptor == self._own:
+                    self.has_more = True
+                elif descriptor in self._served and not self.has_more:
+                    self._served[descriptor]()
+            if self.has_more:
+                return self._look(0)
+            if until is not None:
+                timeout = until - time.monotonic()
+                if timeout <= 0:
+                    return []
+
+    def _serve_in_turn(self, events: list[tuple[int, int]]) -> None:
+        """Has what has come be read after what the event loop is to do before, and before its timers."""
+        for descriptor, _ in events:
+            if descriptor in self._served:
+                asyncio.get_running_loop().call_soon(self._serve, descriptor)
+
+    def _serve(self, descriptor: int) -> None:
+        if descriptor in self._served:
+            self._served[descriptor]()
+
+    def close(self) -> None:
+        self._served.clear()
+        super().close()
+        self._epoll.close()
+
+
+class _EventLoop(asyncio.SelectorEventLoop):
+    """An event loop that says so where it has something to do in its next turn, or at another moment."""
+
+    def __init__(self, waiting: _Waiting) -> None:
+        self._waiting = waiting
+        super().__init__(waiting)
+
+    def call_soon(self, callback: Callable[..., object], *args: Any, context: Optional[Context] = None) -> asyncio.Handle:
+        self._waiting.has_more = True
+        return super().call_soon(callback, *args, context=context)
+
+    def call_soon_threadsafe(
+        self, callback: Callable[..., object], *args: Any, context: Optional[Context] = None
+    ) -> asyncio.Handle:
+        self._waiting.has_more = True  # for what this thread itself asks: a wait ends in any case
+        return super().call_soon_threadsafe(callback, *args, context=context)
+
+    def call_at(
+        self, when: float, callback: Callable[..., object], *args: Any, context: Optional[Context] = None
+    ) -> asyncio.TimerHandle:
+        self._waiting.has_more = True
+        return super().call_at(when, callback, *args, context=context)
+
+
+def _can_serve() -> bool:
+    """Whether the system's own ways to wait are there. gevent and eventlet take them away, and Python has no eventfd before 3.10."""
+    has_epoll = selectors.DefaultSelector is getattr(selectors, "EpollSelector", None)
+    return has_epoll and has_system_threads() and hasattr(os, "eventfd")
 
 
 class Loop(threading.Thread):
@@ -98,13 +222,19 @@ class Loop(threading.Thread):
         self._driver, self._begin, self._end, self._ended = driver, begin, end, ended
         self._fate = Fate()
         self.is_stopped = self._is_over = False
-        self._waiting = _Waiting(self._act, sleepers.wake)
+        self._waiting = self._waits_by(sleepers.wake)
         try:
-            self._loop = asyncio.SelectorEventLoop(self._waiting)
+            self._loop = _EventLoop(self._waiting)
         except BaseException:
             self._waiting.close()
             raise
         self._unclosed = [self._loop]
+
+    def _waits_by(self, wake: Callable[[], object]) -> _Waiting:
+        if not _can_serve():
+            return _Waiting(self._act, wake)
+        serving = self._driver.serving = _Serving(self._act, wake)
+        return serving
 
     def is_over(self) -> bool:
         """Whether it has ended, and does nothing more with the engine; or never begins."""
@@ -133,9 +263,9 @@ class Loop(threading.Thread):
             if not self._driver.is_stopped:
                 self._driver.stop(self._end)
 
-    def act(self) -> None:
-        """Lets the driver do what was asked."""
-        self._waiting.ask()
+    def act(self) -> bool:
+        """Lets the driver do what was asked, and answers whether it does: not where the thread has ended, or never begins."""
+        return self._waiting.ask()
 
     def _act(self) -> None:
         """Does what was asked, within a turn of the loop."""

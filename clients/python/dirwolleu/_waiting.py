@@ -56,9 +56,18 @@ class Sleepers:
 
     def __init__(self) -> None:
         self._waiters: collections.deque[Waiter] = collections.deque()
+        self.add = self._waiters.append
+        """Has a thread go on at the end of the turn."""
+        self._spare: list[Union[Semaphore, News]] = []
+        self.keep = self._spare.append
+        """Keeps what a thread has waited for, which is not set now, for another wait."""
 
-    def add(self, waiter: Waiter) -> None:
-        self._waiters.append(waiter)
+    def news(self) -> Union[Semaphore, News]:
+        """What a thread is to wait for: one that was kept, or a new one."""
+        try:
+            return self._spare.pop()
+        except IndexError:
+            return Semaphore() if has_system_threads() else News()
 
     def wake(self) -> None:
         """Has them go on. Any thread may say so, and it does not matter where it is interrupted: none is forgotten before it goes on."""
@@ -75,14 +84,15 @@ class Sleepers:
 class Waiter:
     """One thread that waits for an answer. The thread that answers waits for no lock."""
 
+    __slots__ = "_sleepers", "_news", "_answer", "_is_given_up", "_is_awake"
+
     def __init__(self, sleepers: Sleepers) -> None:
-        self._sleepers = sleepers
-        self._news: Union[Semaphore, News] = Semaphore() if has_system_threads() else News()
+        self._sleepers, self._news = sleepers, sleepers.news()
         self._answer: Optional[tuple[Any, Optional[BaseException]]] = None
         self._is_given_up = self._is_awake = False
 
     def begin(self) -> bool:
-        return not self.done()
+        return not self._is_given_up and self._answer is None
 
     def cancel(self) -> None:
         """Waits no longer. What was not handed over yet is not sent."""
@@ -106,11 +116,14 @@ class Waiter:
 
     def result(self, timeout: Optional[float]) -> Any:
         until = None if timeout is None else time.monotonic() + timeout
+        news, was_set = self._news, False
         while not self._is_awake:
             left = None if until is None else until - time.monotonic()
             if left is not None and left <= 0:
                 raise TimeoutError
-            self._news.wait(left)
+            was_set = news.wait(left)
+        if was_set:  # so it is not any more: one that `wake` has still to set ends the next wait too early, once
+            self._sleepers.keep(news)
         assert self._answer is not None
         result, error = self._answer
         if error is not None:

@@ -493,7 +493,8 @@ class Client(Shown):
     ) -> Result:
         waiter = Waiter(self._sleepers)
         try:
-            self._hand_in(request, waiter, timeout)
+            self._engine.ask(moment(), request, waiter, timeout)  # it also looks which process this is
+            self._act()
             result: Result = waiter.result(patience)
             return result
         except BaseException:
@@ -510,14 +511,16 @@ class Client(Shown):
         return future
 
     def _hand_in(self, request: AnyRequest[Any], waiter: AnyWaiter, timeout: Optional[float] = None) -> None:
-        self._engine.ask(moment(), request, waiter, timeout)  # it also looks which process this is
+        self._engine.ask(moment(), request, waiter, timeout)
         self._act()
 
     def _act(self) -> None:
         """Has the thread of the connection look for what is to be done."""
-        threads = self._threads()
-        if threads is not None:
-            threads.loop.act()
+        threads = self._running.get("threads")
+        if threads is not None and not threads.loop.act():
+            threads = self._threads()  # those have ended: there may be later ones
+            if threads is not None:
+                threads.loop.act()
 
     def _begin(
         self, begin: Callable[[AnyNews], Steps[Any]], end: Callable[[Any, Optional[BaseException]], object]

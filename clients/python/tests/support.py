@@ -129,6 +129,11 @@ class Peer:
     def send_bytes(self, data: bytes) -> None:
         self._connection.sendall(data)
 
+    def reset(self) -> None:
+        """Ends the connection by a reset, at once."""
+        self._connection.setsockopt(socket.SOL_SOCKET, socket.SO_LINGER, struct.pack("ii", 1, 0))
+        self._connection.close()
+
     def trickle(self, data: bytes, pause: float) -> None:
         """Sends a byte after the other, with pauses."""
         for byte in data:

@@ -472,7 +472,8 @@ class ProgramTest(ClientCase):
             "hold(_threads.Loop, 'run')",
             "hold(of.Client, '_wait')",
             "hold(of.Client, '_is_connected')",
-            "of.News.wait = lambda *_: there.set() or left.wait() and False",  # the time of the start has passed
+            "of.News.wait = lambda *_: there.set() or left.wait() and False\n"  # the time of the start has passed
+            "of.Client._is_connected = lambda *_: False",  # else a start that is held up before has nothing to wait for
         ):
             with self.subTest(text):
                 said = self.run_program(f"{ENDING}\n{text}\nbegin(client.start)\nthere.wait()", host)

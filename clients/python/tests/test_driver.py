@@ -34,6 +34,7 @@ from dirwolleu import Client, ConnectionClosedError, ConnectionLoss, NotConnecte
 from dirwolleu._driver import Driver
 from dirwolleu._engine import Engine
 from dirwolleu._hosts import Servers
+from dirwolleu._threads import _can_serve, _Serving
 
 HELD_UP = pathlib.Path(__file__).resolve().parent / "held_up.py"
 
@@ -289,6 +290,37 @@ class DialTest(PartnerCase):
                 patches.enter_context(mock.patch(f"dirwolleu.{module}.moment", lambda: clock[0]))
             asyncio.run(run())
 
+    @unittest.skipUnless(_can_serve(), "each of these takes a turn of the event loop here")
+    def test_calls_that_wait_take_no_turns_of_the_event_loop(self) -> None:
+        client = self.client(self.partner().host, 3600.0)  # whose timers come each 6 minutes
+        client.create("/a", b"one")
+        with mock.patch.object(_Serving, "_look", autospec=True, side_effect=_Serving._look) as looks:
+            for number in range(100):
+                client.set("/a", b"%d" % number)
+                self.assertEqual(client.get("/a")[0], b"%d" % number)
+        self.assertLess(looks.call_count, 10)
+
+    def test_how_a_connection_has_ended_is_told(self) -> None:
+        """Between two calls, or where the frame of a call meets its end."""
+
+        def closes(peer: Peer) -> None:
+            peer.admit()
+            peer.send(data_reply(peer.take(), b"one"))
+
+        def resets(peer: Peer) -> None:
+            closes(peer)
+            peer.reset()
+
+        for serve, words in ((closes, "the server has closed it"), (resets, "reset by peer|[Bb]roken pipe")):
+            with self.subTest(serve.__name__), self.assertLogs("dirwolleu.connection", "WARNING") as told:
+                server = self.raw_server(serve)
+                client = self.client(server.host, 3.0)
+                for _ in range(3):
+                    self.assertEqual(client.get("/a")[0], b"one")
+                within(lambda: len(told.output) >= 2)
+                client.close()
+                self.assertRegex(told.output[0], words)
+
     def test_a_call_may_come_before_the_loop_has_begun(self) -> None:
         engine = Engine(3.0, None, lambda function, argument: None)
         self.addCleanup(engine.close)
@@ -307,7 +339,7 @@ class DialTest(PartnerCase):
                 client.get("/a")
 
     def test_want_of_descriptors_for_the_client_itself_is_raised_by_start(self) -> None:
-        with mock.patch("asyncio.SelectorEventLoop", side_effect=OSError(errno.EMFILE, "Too many open files")):
+        with mock.patch("dirwolleu._threads._EventLoop", side_effect=OSError(errno.EMFILE, "Too many open files")):
             client = Client("127.0.0.1:1", 1.0)
             self.addCleanup(client.close)
             with self.assertRaisesRegex(OSError, "Too many open files"):

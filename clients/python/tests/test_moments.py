@@ -49,7 +49,7 @@ class PingTest(UntimedCase):
             return self.loop
 
         client_moment = mock.patch("dirwolleu.client.moment", self.loop.moment)
-        with client_moment, mock.patch("asyncio.SelectorEventLoop", loop_of):
+        with client_moment, mock.patch("dirwolleu._threads._EventLoop", loop_of):
             client = Client("127.0.0.1:1", 30.0)
             self.addCleanup(client.close)
             client.add_listener(states.append)

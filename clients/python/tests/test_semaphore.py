@@ -100,6 +100,30 @@ class WaiterTest(unittest.TestCase):
         for thread in threads:
             thread.join()
 
+    def test_who_has_waited_leaves_its_semaphore_to_the_next_one(self) -> None:
+        waiter = Waiter(self.sleepers)
+        waiter.set_result("one")
+        threading.Timer(0.05, self.sleepers.wake).start()
+        self.assertEqual(waiter.result(None), "one")
+        others = [Waiter(self.sleepers) for _ in range(2)]
+        self.assertEqual([other._news is waiter._news for other in others], [True, False])
+        self.assertRaises(TimeoutError, others[0].result, 0.01)  # it is not set
+        others[1].set_result("two")
+        self.sleepers.wake()
+        self.assertEqual(others[1].result(None), "two")  # without a wait: so it is set, and left to nobody
+        self.assertNotIn(Waiter(self.sleepers)._news, [other._news for other in others])
+
+    def test_a_semaphore_that_is_set_too_often_ends_no_wait_before_its_answer(self) -> None:
+        waiter = Waiter(self.sleepers)
+
+        def answer() -> None:
+            waiter.set_result("one")
+            self.sleepers.wake()
+
+        waiter._news.set()
+        threading.Timer(0.05, answer).start()
+        self.assertEqual(waiter.result(None), "one")
+
     def test_no_answer_in_time_is_an_error(self) -> None:
         for timeout in (0.0, 0.01):
             self.assertRaises(TimeoutError, Waiter(self.sleepers).result, timeout)

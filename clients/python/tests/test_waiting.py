@@ -4,6 +4,8 @@ from __future__ import annotations
 
 import collections
 import os
+import selectors
+import socket
 import threading
 import time
 import unittest
@@ -17,7 +19,7 @@ from dirwolleu._library import CHILDREN_SIDE, DATA_SIDE
 from dirwolleu._process import this_process
 from dirwolleu._registry import Watchers
 from dirwolleu._requests import Watcher
-from dirwolleu._threads import _Waiting
+from dirwolleu._threads import _can_serve, _EventLoop, _Serving, _Waiting
 
 
 class WaitingTest(unittest.TestCase):
@@ -74,7 +76,7 @@ class WaitingTest(unittest.TestCase):
         self.waiting.close()
         self.waiting._waits = True
         self.ask(1)
-        self.assertEqual(self.taken, [])
+        self.assertEqual((self.waiting.ask(), self.taken), (False, []))
 
 
 class PipeTest(WaitingTest):
@@ -85,6 +87,99 @@ class PipeTest(WaitingTest):
         with mock.patch("dirwolleu._threads.os", without):
             super().setUp()
         self.assertIsNot(self.waiting._reads, self.waiting._writes)
+
+
+@unittest.skipUnless(_can_serve(), "the system has no other ways to wait")
+class ServingTest(WaitingTest):
+    """The same of what goes on by itself. Here the event loop has more to do after all that is asked, but for some tests."""
+
+    has_more = True
+
+    def setUp(self) -> None:
+        super().setUp()
+        self.waiting = self.serving = _Serving(self.take, lambda: None)
+        self.addCleanup(self.waiting.close)
+        self.near, self.far = socket.socketpair()
+        self.addCleanup(self.near.close)
+        self.addCleanup(self.far.close)
+
+    def take(self) -> None:
+        super().take()
+        self.waiting.has_more = self.has_more
+
+    def read(self) -> None:
+        self.taken.append(self.near.recv(1)[0])
+
+    def test_it_goes_on_until_the_time_of_the_event_loop_has_come(self) -> None:
+        self.has_more = False
+        self.serving.serve(self.near.fileno(), self.read)
+        self.ask(1)
+        self.far.send(bytes([2, 3]))
+        threading.Timer(0.05, self.ask, (4,)).start()
+        threading.Timer(0.1, self.far.send, (bytes([5]),)).start()
+        began = time.monotonic()
+        self.assertEqual(self.waiting.select(0.2), [])
+        self.assertGreaterEqual(time.monotonic() - began, 0.19)
+        while len(self.taken) < 5:
+            self.assertEqual(self.waiting.select(0.05), [])
+        self.assertEqual(sorted(self.taken), [1, 2, 3, 4, 5])
+
+    def test_what_has_come_already_is_read_before_the_time_of_the_event_loop(self) -> None:
+        self.serving.serve(self.near.fileno(), self.read)
+        self.far.send(bytes([1]))
+        self.assertEqual((self.waiting.select(1e-6), self.taken), ([], [1]))
+
+    def loop(self) -> _EventLoop:
+        loop = _EventLoop(self.serving)
+        self.addCleanup(loop.close)
+        return loop
+
+    def test_a_loop_that_does_not_wait_reads_after_what_was_to_be_done_and_before_its_timers(self) -> None:
+        loop, order = self.loop(), list[str]()
+
+        def read() -> None:
+            order.append("read")
+            self.read()
+            loop.stop()
+
+        self.serving.serve(self.near.fileno(), read)
+        self.far.send(bytes([1]))
+        loop.call_soon(order.append, "before")
+        loop.call_later(0, order.append, "after")
+        loop.run_forever()
+        self.assertEqual((order, self.taken), (["before", "read", "after"], [1]))
+
+    def test_what_a_read_has_asked_of_the_loop_is_done_before_the_next_one(self) -> None:
+        loop, order = self.loop(), list[str]()
+        asks = iter((loop.call_soon, loop.call_soon_threadsafe, loop.call_soon))
+
+        def read() -> None:
+            order.append("read")
+            self.read()
+            next(asks)(order.append, "asked")
+            if len(self.taken) == 3:
+                loop.stop()
+
+        self.serving.serve(self.near.fileno(), read)
+        self.far.send(bytes([1, 2, 3]))
+        loop.run_forever()
+        self.assertEqual(order, 3 * ["read", "asked"])
+
+    def test_what_is_served_no_more_is_not_read(self) -> None:
+        for _ in range(2):
+            self.serving.serve(self.near.fileno(), self.read)
+            self.serving.leave(self.near.fileno())
+            self.serving.leave(self.near.fileno())
+        self.far.send(bytes([1]))
+        self.assertEqual((self.waiting.select(0.05), self.taken), ([], []))
+
+    def test_the_event_loop_has_what_it_waits_for_itself(self) -> None:
+        self.has_more = False
+        self.waiting.register(self.near, selectors.EVENT_READ)
+        self.ask(1)
+        threading.Timer(0.05, self.far.send, (bytes([2]),)).start()
+        ((key, events),) = self.waiting.select(None)
+        self.assertEqual((key.fileobj, events, self.taken), (self.near, selectors.EVENT_READ, [1]))
 
 
 class WatchersTest(unittest.TestCase):

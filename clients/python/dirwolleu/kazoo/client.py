@@ -629,9 +629,9 @@ class KazooClient:
     def get_children_async(self, path: str, watch: Watch = None, include_data: bool = False) -> AsyncResult:
         """`get_children`, which does not wait."""
         check_flags(include_data=include_data)
-        request: AnyRequest[Any] = requests.get_children(checked_path(path), self._told(watch))
+        request: Request[Any] = requests.get_children(checked_path(path), self._told(watch))
         if include_data:
-            request = _Children(**vars(request))
+            request = _Children(request.call, request.path, request.words, request.is_repeatable, request.watcher)
         return self._send(request)
 
     def create(
