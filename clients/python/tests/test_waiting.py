@@ -91,7 +91,7 @@ class PipeTest(WaitingTest):
 
 @unittest.skipUnless(_can_serve(), "the system has no other ways to wait")
 class ServingTest(WaitingTest):
-    """The same of what goes on by itself. Here the event loop has more to do after all that is asked, but for some tests."""
+    """The same of what goes on by itself. Here the event loop has more to do after all that is asked, except in some tests."""
 
     has_more = True
 

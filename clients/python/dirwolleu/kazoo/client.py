@@ -495,6 +495,8 @@ class KazooClient:
         if state == self.state:
             return
         self.state = state
+        if state == KazooState.CONNECTED:
+            self._live.set()  # before a listener hears of it, in a thread of its own
         session = self._session
         if session is not None:
             session.tell_listeners(self._tell_listeners, (state, list(self.state_listeners)))
