@@ -655,8 +655,8 @@ EOF
     outside "$1" create /trees/c one
     sees trees <<'EOF'
 ~ /trees names 1 a @child stale last @
-~ /trees names 2 a c @more good last @
 ~ bound 3 a tree has more nodes: no more of it are watched
+~ /trees names 2 a c @more good last @
 EOF
     outside "$1" delete /trees/a/b
     within 40 has_word trees '/trees/c names 0 .* good' || fail "trees does not take on a node that is below the bound again"
@@ -1206,7 +1206,7 @@ install_server || {
     echo "skipped: the package zookeeper cannot be had"
     exit 0
 }
-program=${1-} follower=${2-} conclusions=${3-}
+program=${1:+$(realpath -- "$1")} follower=${2:+$(realpath -- "$2")} conclusions=${3:+$(realpath -- "$3")}
 [[ -n $program && -n $follower && -n $conclusions ]] || build
 run_alone
 run_ensemble follower
