@@ -106,7 +106,7 @@ impl Device {
         ensures { Ticks now self.old (code_of result) self.new }
     {
         self.read = 0;
-        let Ok(()) = self.client.step_into(Input::Now(now), &mut self.said) else {
+        let Ok(()) = self.client.tick_into(now, &mut self.said) else {
             return Err(self.stop());
         };
         self.note();

@@ -1,16 +1,12 @@
 //! What a client keeps of a path, as numbers and texts.
 
-ghost use Rattle.std.specs.Prelude.{◌≡◌, ◌≢◌, ◌++◌, IfErr, IfOk, None, OnErr, OnOk, drop, length, option_map, slice_get, take};
-ghost use Rattle.std.specs.BTreeSet.{IsOrdered, btree_set_len};
-ghost use Rattle.std.specs.String.{string_cmp};
+ghost use Rattle.std.specs.Prelude.{◌≡◌, ◌≢◌, ◌++◌, ◌<◌, [], IfErr, IfOk, None, OnErr, OnOk, drop, get_or, length, option_map, take};
 ghost use Rattle.zk_cache.specs.Contents.{answer_of, names_in};
 ghost use Rattle.zk_client.specs.Clients.{view_of};
-ghost use Rattle.zk_nodes.specs.Names.{names_of};
 ghost use Rattle.zk_nodes.specs.PathFault.{IsPath};
 ghost use Rattle.ffi_device.specs.Codes.{refusal_code};
-ghost use Rattle.ffi_device.specs.Kept.{data_flat, data_stat_flat, data_text, mark_number, AreKeptNames, AreSpelled, IsKeptName};
-ghost use Rattle.ffi_device.specs.Kept.{TellsNames, WritesName, WritesNames};
-ghost use Rattle.ffi_device.specs.Outputs.{name_if};
+ghost use Rattle.ffi_device.specs.Kept.{data_flat, data_stat_flat, data_text, mark_number, AreKeptNames, AreNames};
+ghost use Rattle.ffi_device.specs.Kept.{AreSpelled, IsKeptName, TellsNames, WritesName, WritesNames};
 ghost use Rattle.ffi_device.specs.Refused.{RefusesPath};
 ghost use Rattle.zk_turns.specs.Rule.{forgotten};
 
@@ -18,7 +14,7 @@ use crate::copying::copy_into;
 use crate::paths::{path_of, refuse_no_path, text_of};
 use crate::refusal::DeviceRefusal;
 use std::alloc::{AllocError, Global};
-use zk_client::{Client, DataAnswer, DataStat, Mark, Names};
+use zk_client::{Children, Client, DataAnswer, DataStat, Mark};
 use zk_jute::Record;
 
 /// What is kept of the fields of a node that change only where a data watch fires.
@@ -137,9 +133,8 @@ fn data_text(kept: Option<(&DataAnswer<Global>, Mark)>) -> &[u8]
 }
 
 // The numbers of names with their mark.
-fn flat_names(names: &Names<Global>, mark: Mark) -> KeptNames
-    ensures flat { result ≡ record { mark = mark_number mark; count = btree_set_len names.now.names; pzxid = names.now.pzxid } }
-    ensures ordered { IsOrdered string_cmp names.now.names }
+fn flat_names(names: &Children<Global>, mark: Mark) -> KeptNames
+    ensures { AreNames (record { answer = names_in names.now; mark = mark }) result }
 {
     KeptNames {
         mark: mark_number(mark),
@@ -148,7 +143,7 @@ fn flat_names(names: &Names<Global>, mark: Mark) -> KeptNames
     }
 }
 
-fn names_flat(kept: Option<(&Names<Global>, Mark)>) -> KeptNames
+fn names_flat(kept: Option<(&Children<Global>, Mark)>) -> KeptNames
     ensures { TellsNames (option_map (λ kept. record { answer = names_in kept.0.now; mark = kept.1 }) kept.entry) result }
 {
     match kept {
@@ -161,34 +156,32 @@ fn names_flat(kept: Option<(&Names<Global>, Mark)>) -> KeptNames
     }
 }
 
-// The name of this index in byte order, and nothing where there is none.
-fn nth_name(names: &Names<Global>, index: usize) -> &[u8]
-    ensures name { result.now ≡ name_if (slice_get names.now.names.keys index) }
-    ensures ordered { IsOrdered string_cmp names.now.names }
+// The name of this index in byte order.
+fn nth_name(names: &Children<Global>, index: usize) -> &str
+    requires { index < length names.now.names }
+    ensures { result.now ≡ get_or names.now.names index [] }
 {
-    match names.names.iter().nth(index) {
-        Some(name) => name.as_bytes(),
-        None => b"",
-    }
+    names.names.get(index).unwrap()
 }
 
-// The same of what is kept.
-fn name_at(kept: Option<(&Names<Global>, Mark)>, index: usize) -> &[u8]
+// The name of this index of those that are kept, and nothing where there is none.
+fn name_at(kept: Option<(&Children<Global>, Mark)>, index: usize) -> &[u8]
     ensures { IsKeptName index (option_map (λ kept. record { answer = names_in kept.0.now; mark = kept.1 }) kept.entry) result.now }
 {
     match kept {
-        Some((names, _)) => nth_name(names, index),
-        None => b"",
+        Some((names, _)) if index < names.names.len() => nth_name(names, index).as_bytes(),
+        _ => b"",
     }
 }
 
 // The names in byte order, each after its length. An error says that memory ran out: a name from a frame is never too long.
-fn spelled_names(alloc: Global, names: &Names<Global>) -> Result<Vec<u8>, AllocError>
-    ensures { IfOk result (λ text. AreSpelled (names_of names.now.names) text.items) }
+fn spelled_names(alloc: Global, names: &Children<Global>) -> Result<Vec<u8>, AllocError>
+    ensures { IfOk result (λ text. AreSpelled (names_in names.now).names text.items) }
 {
     let mut text = Vec::new(alloc);
-    for name in &names.names {
-        let Ok(()) = name.as_str().write(&mut text) else {
+    for at in 0..names.names.len() {
+        let name = nth_name(names, at);
+        let Ok(()) = name.write(&mut text) else {
             return Err(AllocError);
         };
     }
@@ -198,7 +191,7 @@ fn spelled_names(alloc: Global, names: &Names<Global>) -> Result<Vec<u8>, AllocE
 /// The names that are kept, in byte order and each after its length. An error says that memory ran out.
 pub(crate) fn names_text(
     alloc: Global,
-    kept: Option<(&Names<Global>, Mark)>,
+    kept: Option<(&Children<Global>, Mark)>,
 ) -> Result<Vec<u8>, AllocError>
     ensures { IfOk result
         (λ text. AreKeptNames (option_map (λ kept. record { answer = names_in kept.0.now; mark = kept.1 }) kept.entry) text.items) }
@@ -232,7 +225,7 @@ fn data_at<'a>(
 fn children_at<'a>(
     client: &'a Client<Global>,
     path: &[u8],
-) -> Result<Option<(&'a Names<Global>, Mark)>, DeviceRefusal>
+) -> Result<Option<(&'a Children<Global>, Mark)>, DeviceRefusal>
     ensures found { IfOk result (λ found. option_map (λ kept. record { answer = names_in kept.0.now; mark = kept.1 }) found
         ≡ (view_of client.now).cache.children path.now) }
     ensures checked { OnOk result ((view_of client.now).cache.children path.now ≡ None → IsPath path.now) }

@@ -17,7 +17,7 @@ use crate::copying::copy_into;
 use crate::paths::path_of;
 use crate::refusal::DeviceRefusal;
 use std::alloc::{AllocError, Global};
-use zk_client::{Client, DataAnswer, DataStat, Mark, Names, Path, Side};
+use zk_client::{Children, Client, DataAnswer, DataStat, Mark, Path, Side};
 use zk_conclusions::{Lacking, NoSubtree, Subtree};
 use zk_jute::{BytesRef, PutError, Record, Then};
 
@@ -54,7 +54,7 @@ pub(crate) fn stat_in(kept: Option<(&DataAnswer<Global>, Mark)>) -> DataStat
 }
 
 /// The zxid of the last change of the names below it.
-pub(crate) fn pzxid_in(kept: Option<(&Names<Global>, Mark)>) -> i64
+pub(crate) fn pzxid_in(kept: Option<(&Children<Global>, Mark)>) -> i64
     ensures { result ≡ pzxid_in (option_map (λ kept. record { answer = names_in kept.0.now; mark = kept.1 }) kept.entry) }
 {
     match kept {

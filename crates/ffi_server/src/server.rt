@@ -121,8 +121,7 @@ impl MemoryServer {
     pub fn hear(&mut self, bytes: &[u8]) -> Result<(), Undone>
         ensures { Hears bytes.now self.old.bench result self.new.bench }
     {
-        self.bench.receive(bytes)?;
-        Ok(())
+        self.bench.receive(bytes).map_err(From::from)
     }
 
     /// The first bytes of the server go out, as many as there is room for.

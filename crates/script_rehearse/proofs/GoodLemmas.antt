@@ -1,19 +1,19 @@
--- Names that are kept, and those that a history tells: they are the same where none of either lacks in the other; and what is printed of a
--- path, its data before its names.
-use Rattle.std.proofs.Common.{◌≡◌, ◌≢◌, ℕ, Bool, true, false, ◌||◌, cond, not, List, [], ◌∷◌, ◌++◌, Bor, OnOk, refl, sym, ap, subst, ◌∙◌}
+-- Names that are kept, and those that a history tells: both are in the order of bytes, so they are the same where one by one they are; and
+-- what is printed of a path, its data before its names.
+use Rattle.std.proofs.Common.{◌≡◌, ◌≢◌, ℕ, ◌+◌, ◌≤◌, Bool, true, false, List, [], ◌∷◌, ◌++◌, length, map, drop, OnOk, refl, sym, ap, ◌∙◌}
+use Rattle.std.proofs.Common.{arith}
 use Rattle.std.proofs.Common.{append_assoc}
 use Rattle.std.proofs.lemmas.Bool.{true≢false}
-use Rattle.std.proofs.lemmas.Slice.Eq.{bytes_eq-Decides}
-use Rattle.std.proofs.lemmas.Map.Text.{is_eq-slice_cmp}
-use Rattle.std.specs.Prelude.{String, string_bytes, IsTrue, ◌↔◌, Option, Some, None, Result, Ok, Err, is_some}
-use Rattle.std.specs.BTreeSet.{BTreeSet, contains_text, IsSymmetricDifference}
-use Rattle.std.specs.Cmp.{tied_itself}
-use Rattle.std.specs.Cmp.Lexicographic.{slice_cmp}
-use Rattle.std.specs.List.{list_any}
-use Rattle.std.specs.Option.{MatchOption}
-use Rattle.std.specs.Ordering.{nat_cmp, eq_by_cmp, is_eq}
-use Rattle.std.specs.String.{string_cmp, string_cmp_total}
-use Rattle.zk_nodes.specs.Names.{names_of}
+use Rattle.std.proofs.lemmas.Cmp.{nat_list_cmp_total}
+use Rattle.std.proofs.lemmas.List.{length-drop}
+use Rattle.std.proofs.lemmas.Map.Lookups.{btree_set_from_contains, exact_bytes}
+use Rattle.std.proofs.Math.ListN.{drop_of_length-le}
+use Rattle.std.specs.Prelude.{String, string_bytes, IsTrue, ◌↔◌, Some, slice_get, Result, Ok, Err}
+use Rattle.std.specs.BTreeSet.{BTreeSet, contains_text, IsOrdered}
+use Rattle.std.specs.FinSet as set
+use Rattle.std.specs.List.Sorted.{IsStrictlySortedBy}
+use Rattle.std.specs.String.{string_cmp}
+use Rattle.zk_nodes.specs.Names.{name_cmp}
 use Rattle.zk_nodes.specs.Path.{Text}
 use Rattle.zk_nodes.specs.declared.side.Side.TheVariants.{Data, Child}
 use Rattle.zk_history.specs.HistoryView.{HistoryView}
@@ -21,84 +21,71 @@ use Rattle.zk_history.specs.Shown.{names_told}
 use Rattle.zk_nodes.specs.declared.names.Names.{Names}
 use Rattle.zk_nodes.proofs.NamesLemmas.{contains-names_of}
 use Rattle.zk_cache.specs.Contents.{names_in}
+use Rattle.zk_cache.specs.declared.children.Children.{Children}
 use Rattle.zk_turns.specs.View.{View}
+use Rattle.script_words.proofs.NamesLemmas.{sorted_map}
+use Rattle.script_replay.proofs.SetLemmas.{drop_found, first_left}
 use Rattle.script_rehearse.specs.Good.{data_verdict, AgreesNames, HasNames, TellsPath}
 use Rattle.script_rehearse.specs.inner.Good.{TellsVerdict}
 
--- whether a name is among texts
-abbrev has_text : {A : Type 0} → List (String A) → List ℕ → Bool
-has_text texts name = list_any (λ k. is_eq (slice_cmp nat_cmp name (string_bytes k))) texts
+-- ---- the loop over the texts: they are the names exactly where those that are left are
 
--- the text that it is
-found : {A : Type 0} (texts : List (String A)) (name : List ℕ) → has_text texts name ≡ true → (text : String A) × (string_bytes text ≡ name)
-found {A = A} [] name has = absurd (true≢false (sym has))
-found {A = A} (text ∷ texts) name has =
-    elim (is_eq (slice_cmp nat_cmp name (string_bytes text))) as (λ b. is_eq (slice_cmp nat_cmp name (string_bytes text)) ≡ b
-    → (b || has_text texts name) ≡ true → (text : String A) × (string_bytes text ≡ name)) [
-      | true ↦ λ same _. (text, sym ((bytes_eq-Decides name (string_bytes text)).0 (sym (is_eq-slice_cmp name (string_bytes text)) ∙ same)))
-      | false ↦ λ _ rest. found texts name rest
-    ] refl has
+module _ (names texts : List (List ℕ)) where
+  -- the names from the index on are the texts that are left
+  abbrev pub AreLeft : ℕ → List (List ℕ) → Type 0
+  AreLeft index rest = (names ≡ texts) ↔ (drop index names ≡ rest)
 
-alike : (b c : Bool) → false ≡ cond b (not c) c → b ≡ c
-alike true true none = refl
-alike false false none = refl
-alike true false none = absurd (true≢false (sym none))
-alike false true none = absurd (true≢false (sym none))
+  -- the text that comes is the name there
+  pub one_more : (index : ℕ) (text : List ℕ) (others rest : List (List ℕ)) → slice_get names index ≡ Some text → others ≡ text ∷ rest
+      → AreLeft index others → AreLeft (index + 1) rest
+  one_more index text others rest is come left =
+      let next = drop_found names index text (sym is) in (
+        (λ same. ap (drop 1) (sym next ∙ left.0 same ∙ come)),
+        (λ same. left.1 (next ∙ ap (λ (after : List (List ℕ)). text ∷ after) same ∙ sym come)),
+      )
 
-unlike : (b c : Bool) → b ≡ c → true ≡ cond b (not c) c → ⊥
-unlike true true same one = true≢false one
-unlike true false same one = true≢false same
-unlike false true same one = true≢false (sym same)
-unlike false false same one = true≢false one
+  -- the text that comes is not the name there
+  pub one_other : (index : ℕ) (text : List ℕ) (others rest : List (List ℕ)) → (slice_get names index ≡ Some text → ⊥)
+      → others ≡ text ∷ rest → AreLeft index others → IsTrue false ↔ (names ≡ texts)
+  one_other index text others rest other come left = (
+    (λ yes. absurd (true≢false (sym yes))),
+    (λ same. absurd (other (first_left names index text rest (left.0 same ∙ come)))),
+  )
 
-module _ {A : Type 0} (kept told : BTreeSet (String A)) where
-  -- the texts that one of the two has, and the other has not
-  abbrev Differ : List (String A) → Type 0
-  Differ rest = IsSymmetricDifference string_cmp kept told rest
+  -- no text is left: it depends on whether a name is
+  pub none_more : (index count : ℕ) (is_end : Bool) (others : List (List ℕ)) → index ≤ length names → count ≡ length names
+      → IsTrue is_end ↔ (index ≡ count) → others ≡ [] → AreLeft index others → IsTrue is_end ↔ (names ≡ texts)
+  none_more index count is_end others within counted end none left = (
+    (λ yes. left.1 (drop_of_length-le names (omega (arith, end.0 yes, counted)) ∙ sym none)),
+    (λ same. end.1 (omega (arith, within, counted, sym (length-drop index names) ∙ ap length (left.0 same ∙ none)))),
+  )
 
-  abbrev Same : Type 0
-  Same = (name : List ℕ) → has_text kept.keys name ≡ has_text told.keys name
-
-  none_left : Differ [] → Same
-  none_left differ name = by _ _ refl refl
-    where
-      at : (text : String A) → string_bytes text ≡ name → has_text kept.keys name ≡ has_text told.keys name
-      at text is = rw (← is) (alike _ _ (differ text))
-
-      by : (b c : Bool) → has_text kept.keys name ≡ b → has_text told.keys name ≡ c → has_text kept.keys name ≡ has_text told.keys name
-      by true c one other = let text = found kept.keys name one in at text.0 text.1
-      by false true one other = let text = found told.keys name other in at text.0 text.1
-      by false false one other = one ∙ sym other
-
-  one_left : (text : String A) (rest : List (String A)) → Differ (text ∷ rest) → Same → ⊥
-  one_left text rest differ same =
-      unlike _ _ (same (string_bytes text))
-      (sym (ap (λ b. b || list_any (eq_by_cmp string_cmp text) rest) (ap is_eq (tied_itself string_cmp_total text))) ∙ differ text)
-
-  are_same : (rest after : List (String A)) (next : Option (Bor (String A))) (is_none : Bool) → Differ rest
-      → MatchOption next ((rest ≡ []) × (after ≡ [])) (λ text. rest ≡ text.now ∷ after) → is_some next ≡ not is_none → IsTrue is_none ↔ Same
-  are_same rest after None true differ steps none = ((λ _. none_left (subst Differ steps.0 differ)), (λ _. refl))
-  are_same rest after None false differ steps none = absurd (true≢false (sym none))
-  are_same rest after (Some text) true differ steps none = absurd (true≢false none)
-  are_same rest after (Some text) false differ steps none =
-      ((λ yes. absurd (true≢false (sym yes))), (λ same. absurd (one_left text.now after (subst Differ steps differ) same)))
-
-  -- none differs exactly where the names are the same
-  pub none_differs : (rest after : List (String A)) (next : Option (Bor (String A))) (is_none : Bool) → Differ rest
-      → MatchOption next ((rest ≡ []) × (after ≡ [])) (λ text. rest ≡ text.now ∷ after) → is_some next ≡ not is_none
-      → IsTrue is_none ↔ HasNames (names_of kept) (contains_text told)
-  none_differs rest after next is_none differ steps none =
-      let same = are_same rest after next is_none differ steps none in
-      ((λ yes name. contains-names_of kept name ∙ same.0 yes name), (λ has. same.1 (λ name. sym (contains-names_of kept name) ∙ has name)))
+-- names in order are those that a set of texts has exactly where they are the texts
+pub names_are : {A : Type 0} (kept : List (List ℕ)) (told : BTreeSet (String A)) (is : Bool) → IsStrictlySortedBy name_cmp kept
+    → IsOrdered string_cmp told → IsTrue is ↔ (kept ≡ map string_bytes told.keys)
+    → IsTrue is ↔ HasNames (set.from_list kept) (contains_text told)
+names_are kept told is sorted ordered same =
+    let texts = map string_bytes told.keys in (
+      (λ yes name. ap (λ (names : List (List ℕ)). set.contains (set.from_list {R = name_cmp} names) name) (same.0 yes)
+          ∙ contains-names_of told name),
+      (λ has. same.1
+          (btree_set_from_contains nat_list_cmp_total (record { keys = kept }) (record { keys = texts }) sorted
+          (sorted_map string_bytes name_cmp told.keys ordered)
+          (λ name.
+          sym (set.contains-from_list nat_list_cmp_total kept name) ∙ has name ∙ sym (contains-names_of told name)
+          ∙ set.contains-from_list nat_list_cmp_total texts name)
+          exact_bytes)),
+    )
 
 -- where the zxid is the same, the names decide
-pub both_same : {A : Type 0} (kept told : Names A) (same : Bool)
-    → kept.pzxid ≡ told.pzxid → IsTrue same ↔ HasNames (names_of kept.names) (contains_text told.names)
+pub both_same : {A : Type 0} (kept : Children A) (told : Names A) (same : Bool)
+    → kept.pzxid ≡ told.pzxid → IsTrue same ↔ HasNames (set.from_list kept.names) (contains_text told.names)
     → AgreesNames (names_in kept) (names_told (Some told)) same
 both_same kept told same zxid names = ((λ yes. (names.0 yes, zxid)), (λ are. names.1 are.0))
 
 -- where it is another, they differ
-pub other_zxid : {A : Type 0} (kept told : Names A) → kept.pzxid ≢ told.pzxid → AgreesNames (names_in kept) (names_told (Some told)) false
+pub other_zxid : {A : Type 0} (kept : Children A) (told : Names A)
+    → kept.pzxid ≢ told.pzxid → AgreesNames (names_in kept) (names_told (Some told)) false
 other_zxid kept told other = ((λ yes. absurd (true≢false (sym yes))), (λ are. absurd (other are.1)))
 
 -- data before names

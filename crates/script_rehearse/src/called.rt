@@ -3,7 +3,7 @@
 ghost use Rattle.std.specs.Prelude.{◌≡◌, OnOk};
 ghost use Rattle.std.specs.Option.{option_copied};
 ghost use Rattle.zk_conversation.specs.Views.{call_view};
-ghost use Rattle.zk_nodes.specs.Names.{names_of};
+ghost use Rattle.zk_nodes.specs.inner.Names.{names_of};
 ghost use Rattle.script_rehearse.specs.Scenes.{named_path, with_path};
 
 use std::alloc::{AllocError, Allocator};

@@ -1,15 +1,20 @@
 //! Names, as they are printed: each once, in the order of their bytes.
 
-ghost use Rattle.std.specs.Prelude.{◌≡◌, ◌++◌, ℕ, List, IfOk, OnOk, map, string_bytes};
+ghost use Rattle.std.specs.Prelude.{◌≡◌, ◌++◌, ℕ, List, IfOk, OnOk, codes, map, string_bytes};
 ghost use Rattle.std.specs.BTreeSet.{IsOrdered};
 ghost use Rattle.std.specs.FinSet as set;
+ghost use Rattle.std.specs.Fmt.{decimal};
+ghost use Rattle.std.specs.List.Sorted.{IsStrictlySortedBy};
 ghost use Rattle.std.specs.String.{string_cmp};
-ghost use Rattle.zk_nodes.specs.Names.{names_of};
+ghost use Rattle.zk_nodes.specs.Names.{name_cmp};
+ghost use Rattle.zk_nodes.specs.inner.Names.{names_of};
+ghost use Rattle.script_words.specs.Values.{spaced, names_text};
 ghost use Rattle.script_replay.specs.Shown.{names_words, TellsSet};
 
-use script_words::values::{push_all, push_word};
+use script_words::values::{push_all, push_name, push_word};
 use std::alloc::{AllocError, Allocator};
 use std::collections::BTreeSet;
+use zk_cache::SortedNames;
 
 /// The names as a set.
 fn set_of<A: Allocator + Copy>(
@@ -25,6 +30,18 @@ fn set_of<A: Allocator + Copy>(
     Ok(set)
 }
 
+/// Adds how many names there are.
+fn push_count<A: Allocator + Copy>(
+    text: &mut String<A>,
+    alloc: A,
+    count: usize,
+) -> Result<(), AllocError>
+    ensures { OnOk result (string_bytes text.new ≡ string_bytes text.old ++ (codes "names" ++ spaced (decimal count))) }
+{
+    text.push_str("names")?;
+    push_word(text, alloc, &count)
+}
+
 /// Adds how many texts there are, and each of them.
 fn push_keys<A: Allocator + Copy>(
     text: &mut String<A>,
@@ -34,8 +51,7 @@ fn push_keys<A: Allocator + Copy>(
     ensures words { OnOk result (string_bytes text.new ≡ string_bytes text.old ++ names_words (map string_bytes names.now.keys)) }
     ensures ordered { OnOk result (IsOrdered string_cmp names.now) }
 {
-    text.push_str("names")?;
-    push_word(text, alloc, &names.len())?;
+    push_count(text, alloc, names.len())?;
     push_all(text, alloc, names)
 }
 
@@ -61,4 +77,45 @@ pub fn push_listing<A: Allocator + Copy>(
 {
     let set = set_of(alloc, names)?;
     push_set(text, alloc, &set)
+}
+
+/// Adds the names that are kept in their order, a space before each.
+fn push_sorted<A: Allocator + Copy>(
+    text: &mut String<A>,
+    alloc: A,
+    names: &SortedNames<A>,
+) -> Result<(), AllocError>
+    ensures { OnOk result (string_bytes text.new ≡ string_bytes text.old ++ names_text names.now) }
+{
+    for index in 0..names.len() {
+        if let Some(name) = names.get(index) {
+            push_name(text, alloc, name.as_bytes())?;
+        }
+    }
+    Ok(())
+}
+
+/// Adds how many names are kept, and each of them.
+fn push_counted<A: Allocator + Copy>(
+    text: &mut String<A>,
+    alloc: A,
+    names: &SortedNames<A>,
+) -> Result<(), AllocError>
+    ensures words { OnOk result (string_bytes text.new ≡ string_bytes text.old ++ names_words names.now) }
+    ensures sorted { OnOk result (IsStrictlySortedBy name_cmp names.now) }
+{
+    push_count(text, alloc, names.len())?;
+    push_sorted(text, alloc, names)
+}
+
+/// Adds the names that are kept of a node's children.
+pub(crate) fn push_kept<A: Allocator + Copy>(
+    text: &mut String<A>,
+    alloc: A,
+    names: &SortedNames<A>,
+) -> Result<(), AllocError>
+    ensures { OnOk result
+        ((told : List ℕ) × TellsSet (set.from_list names.now) told × (string_bytes text.new ≡ string_bytes text.old ++ told)) }
+{
+    push_counted(text, alloc, names)
 }

@@ -6,13 +6,12 @@ ghost use Rattle.script_words.specs.Words.{bytes_word};
 ghost use Rattle.zk_cache.specs.Contents.{answer_of, names_in};
 ghost use Rattle.script_replay.specs.Shown.{answer_text, kept_line, last_line, mark_word, saved_line, TellsKept};
 
-use crate::names::push_set;
+use crate::names::push_kept;
 use crate::words::push_spaced;
 use script_words::values::{push_data_word, push_stat, push_word};
 use script_words::words::bytes_to_word;
 use std::alloc::{AllocError, Allocator};
-use zk_cache::{DataAnswer, Mark};
-use zk_nodes::Names;
+use zk_cache::{Children, DataAnswer, Mark};
 use zk_session::Saved;
 
 /// The word for a mark.
@@ -89,13 +88,13 @@ pub fn data_line<A: Allocator + Copy>(
 fn push_found<A: Allocator + Copy>(
     text: &mut String<A>,
     alloc: A,
-    found: &Names<A>,
+    found: &Children<A>,
     mark: Mark,
 ) -> Result<(), AllocError>
     ensures { OnOk result ((told : List ℕ) × TellsKept (Some (record { answer = names_in found.now; mark = mark })) told
         × (string_bytes text.new ≡ string_bytes text.old ++ told)) }
 {
-    push_set(text, alloc, &found.names)?;
+    push_kept(text, alloc, &found.names)?;
     push_word(text, alloc, &found.pzxid)?;
     push_mark(text, mark)
 }
@@ -103,7 +102,7 @@ fn push_found<A: Allocator + Copy>(
 /// The line of names that are kept.
 fn found_line<A: Allocator + Copy>(
     alloc: A,
-    found: &Names<A>,
+    found: &Children<A>,
     mark: Mark,
 ) -> Result<String<A>, AllocError>
     ensures { IfOk result (λ text. TellsKept (Some (record { answer = names_in found.now; mark = mark })) (string_bytes text)) }
@@ -116,7 +115,7 @@ fn found_line<A: Allocator + Copy>(
 /// The line of what is kept about the names below a path.
 pub fn names_line<A: Allocator + Copy>(
     alloc: A,
-    kept: Option<(&Names<A>, Mark)>,
+    kept: Option<(&Children<A>, Mark)>,
 ) -> Result<String<A>, AllocError>
     ensures { IfOk result
         (λ text. TellsKept (option_map (λ k. record { answer = names_in k.0.now; mark = k.1 }) kept.entry) (string_bytes text)) }

@@ -5,7 +5,7 @@ ghost use Rattle.std.specs.BTreeSet.{IsOrdered};
 ghost use Rattle.std.specs.FinSet as set;
 ghost use Rattle.std.specs.List.{flat_map, list_any};
 ghost use Rattle.std.specs.String.{string_cmp};
-ghost use Rattle.zk_nodes.specs.Names.{names_of};
+ghost use Rattle.zk_nodes.specs.inner.Names.{names_of};
 ghost use Rattle.zk_nodes.specs.Path.{Text};
 ghost use Rattle.shell_ask.specs.Printing.{is_control, name_line, IsBelow, PrintsNames};
 

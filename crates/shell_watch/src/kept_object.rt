@@ -1,10 +1,10 @@
 //! What a client keeps of a subject, as an object of JSON.
 
 ghost use Rattle.std.specs.Prelude.{◌≡◌, ◌++◌, List, Some, codes, IfOk, OnOk, map, string_bytes};
-ghost use Rattle.std.specs.BTreeSet.{IsOrdered};
+ghost use Rattle.std.specs.List.Sorted.{IsStrictlySortedBy};
 ghost use Rattle.std.specs.Option.{option_map};
-ghost use Rattle.std.specs.String.{string_cmp};
 ghost use Rattle.json.specs.Token as json;
+ghost use Rattle.zk_nodes.specs.Names.{name_cmp};
 ghost use Rattle.zk_cache.specs.Contents.{answer_of, names_in};
 ghost use Rattle.zk_client.specs.Clients.{view_of};
 ghost use Rattle.zk_follow.specs.Following.{is_kept, says_none};
@@ -18,8 +18,7 @@ use crate::texts::as_utf8;
 use json::Writer;
 use script_words::words::bytes_to_word;
 use std::alloc::{AllocError, Allocator};
-use std::collections::BTreeSet;
-use zk_client::{Client, DataAnswer, DataStat, Mark, Names, Side};
+use zk_client::{Children, Client, DataAnswer, DataStat, Mark, Side, SortedNames};
 use zk_trees::{NodeSide, is_missing};
 
 /// The word for a side.
@@ -159,47 +158,49 @@ fn put_node<A: Allocator + Copy>(
     put_text(writer, "mark", mark_word(mark))
 }
 
-/// Writes each text of a set.
+/// Writes each of the names.
 fn put_each<A: Allocator + Copy>(
     writer: &mut Writer<A>,
-    texts: &BTreeSet<String<A>, A>,
+    names: &SortedNames<A>,
 ) -> Result<(), AllocError>
-    ensures written { OnOk result ((writer.new.before ≡ writer.old.before)
-        × (writer.new.tokens ≡ writer.old.tokens ++ map json.string (map string_bytes texts.now.keys))) }
-    ensures ordered { OnOk result (IsOrdered string_cmp texts.now) }
+    ensures written { OnOk result
+        ((writer.new.before ≡ writer.old.before) × (writer.new.tokens ≡ writer.old.tokens ++ map json.string names.now)) }
+    ensures sorted { OnOk result (IsStrictlySortedBy name_cmp names.now) }
 {
-    for text in texts {
-        writer.string(text.as_str())?;
+    for index in 0..names.len() {
+        if let Some(name) = names.get(index) {
+            writer.string(name)?;
+        }
     }
     Ok(())
 }
 
-/// Writes a key and an array of the texts of a set.
+/// Writes a key and an array of the names.
 fn put_array<A: Allocator + Copy>(
     writer: &mut Writer<A>,
     key: &str,
-    texts: &BTreeSet<String<A>, A>,
+    names: &SortedNames<A>,
 ) -> Result<(), AllocError>
-    ensures written { OnOk result ((writer.new.before ≡ writer.old.before)
-        × (writer.new.tokens ≡ writer.old.tokens ++ array_members key.now (map string_bytes texts.now.keys))) }
-    ensures ordered { OnOk result (IsOrdered string_cmp texts.now) }
+    ensures written { OnOk result
+        ((writer.new.before ≡ writer.old.before) × (writer.new.tokens ≡ writer.old.tokens ++ array_members key.now names.now)) }
+    ensures sorted { OnOk result (IsStrictlySortedBy name_cmp names.now) }
 {
     writer.key(key)?;
     writer.begin_array()?;
-    put_each(writer, texts)?;
+    put_each(writer, names)?;
     writer.end_array()
 }
 
 /// Writes names that are kept.
 fn put_found<A: Allocator + Copy>(
     writer: &mut Writer<A>,
-    found: &Names<A>,
+    found: &Children<A>,
     mark: Mark,
 ) -> Result<(), AllocError>
     ensures written { OnOk result ((writer.new.before ≡ writer.old.before)
-        × (writer.new.tokens ≡ writer.old.tokens ++ (array_members (codes "names") (map string_bytes found.now.names.keys)
+        × (writer.new.tokens ≡ writer.old.tokens ++ (array_members (codes "names") found.now.names
         ++ (number_members (codes "pzxid") found.now.pzxid ++ mark_members mark)))) }
-    ensures ordered { OnOk result (IsOrdered string_cmp found.now.names) }
+    ensures sorted { OnOk result (IsStrictlySortedBy name_cmp found.now.names) }
 {
     put_array(writer, "names", &found.names)?;
     put_number(writer, "pzxid", found.pzxid)?;
@@ -209,7 +210,7 @@ fn put_found<A: Allocator + Copy>(
 /// Writes names that are kept: each once, in the order of their bytes.
 fn put_listing<A: Allocator + Copy>(
     writer: &mut Writer<A>,
-    found: &Names<A>,
+    found: &Children<A>,
     mark: Mark,
 ) -> Result<(), AllocError>
     ensures { OnOk result
@@ -220,7 +221,7 @@ fn put_listing<A: Allocator + Copy>(
 }
 
 /// What is kept of the names below a node.
-fn names_kind<A: Allocator>(kept: Option<(&Names<A>, Mark)>) -> &'static str
+fn names_kind<A: Allocator>(kept: Option<(&Children<A>, Mark)>) -> &'static str
     ensures { result.now ≡ names_kind (option_map (λ k. record { answer = names_in k.0.now; mark = k.1 }) kept.entry) }
 {
     match kept {
@@ -232,7 +233,7 @@ fn names_kind<A: Allocator>(kept: Option<(&Names<A>, Mark)>) -> &'static str
 /// Writes what is kept of the names below a node.
 fn put_names<A: Allocator + Copy>(
     writer: &mut Writer<A>,
-    kept: Option<(&Names<A>, Mark)>,
+    kept: Option<(&Children<A>, Mark)>,
 ) -> Result<(), AllocError>
     ensures { OnOk result ((members : List json.Token)
         × AreNamesMembers (option_map (λ k. record { answer = names_in k.0.now; mark = k.1 }) kept.entry) members

@@ -14,7 +14,8 @@ use Rattle.zk_jute.specs.Spelling.{spelling}
 use Rattle.zk_nodes.specs.Path.{Text, NodePath, path_eq, text_of, path_of, IsPathText, Name}
 use Rattle.zk_nodes.specs.History.{History, Node, Tree, View, Contents, Absence, Children, view, contents_of, children_of, tree_at}
 use Rattle.zk_history.specs.HistoryView.{natural}
-use Rattle.zk_nodes.specs.Names.{Names, names_of as names_in}
+use Rattle.zk_nodes.specs.Names.{Names}
+use Rattle.zk_nodes.specs.inner.Names.{names_of as names_in}
 use Rattle.zk_history.specs.Shown.{IsStat, stat_of as stat_told}
 use Rattle.zk_nodes.specs.declared.side.Side.{Side}
 use Rattle.zk_nodes.specs.declared.side.Side.TheVariants.{Data, Child}

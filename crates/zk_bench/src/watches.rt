@@ -2,7 +2,7 @@
 
 ghost use Rattle.std.specs.Prelude.{◌≡◌, ◌&&◌, ◌||◌, [], OnOk, cond};
 ghost use Rattle.std.specs.FinSet as set;
-ghost use Rattle.zk_nodes.specs.Names.{names_of};
+ghost use Rattle.zk_nodes.specs.inner.Names.{names_of};
 ghost use Rattle.zk_nodes.specs.declared.side.Side.TheVariants as sides;
 ghost use Rattle.zk_records.specs.Events.{concerns};
 ghost use Rattle.zk_nodes.specs.Path.{path_of, IsPathText};

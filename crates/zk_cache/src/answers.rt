@@ -1,17 +1,13 @@
 //! What is kept of an answer.
-ghost use Rattle.std.specs.Prelude.{◌≡◌, ℕ, List, true, is_some, bytes_eq, if◌then◌else◌, IsOk, OnOk, OnErr, IfOk};
+ghost use Rattle.std.specs.Prelude.{◌≡◌, ℕ, List, true, is_some, bytes_eq, if◌then◌else◌, IsOk, OnOk, OnErr};
 ghost use Rattle.indexmap.specs.IndexMap.{get_by_text, IsUnchanged};
-ghost use Rattle.zk_nodes.specs.Names.{names_of};
 ghost use Rattle.zk_cache.specs.Kept.{same_fields};
 ghost use Rattle.zk_cache.specs.inner.Covered.{stays};
 ghost use Rattle.zk_cache.specs.Contents.{answer_of};
-ghost use Rattle.zk_cache.specs.inner.Contents.{set_of};
 ghost use Rattle.zk_cache.specs.inner.Renewed.{renewed, with_answer};
 
 use crate::held::{Held, Kept, Mark, insert, marked_good};
 use std::alloc::{AllocError, Allocator, Global};
-use std::collections::BTreeSet;
-use zk_jute::TextRef;
 use zk_nodes::DataStat;
 
 /// What a read of a node answered about the node itself.
@@ -68,18 +64,4 @@ pub(crate) fn keep<A: Allocator + Copy>(
         return Ok(());
     }
     insert(alloc, map, path, answer)
-}
-
-/// The names as a set.
-pub(crate) fn set_of<A: Allocator + Copy>(
-    alloc: A,
-    names: &[TextRef<'_>],
-) -> Result<BTreeSet<String<A>, A>, AllocError>
-    ensures { IfOk result (λ s. names_of s ≡ set_of names.now) }
-{
-    let mut set = BTreeSet::new(alloc);
-    for name in names {
-        set.insert(String::from_str(alloc, name.or_empty())?)?;
-    }
-    Ok(set)
 }

@@ -1,23 +1,26 @@
 //! The cache: an answer at each path, a side at a time.
-ghost use Rattle.std.specs.Prelude.{◌≡◌, option_map, is_some, true, IsOk, OnOk, OnErr};
+ghost use Rattle.std.specs.Prelude.{◌≡◌, map, option_map, is_some, true, IsOk, OnOk, OnErr};
+ghost use Rattle.std.specs.FinSet as set;
 ghost use Rattle.zk_cache.specs.Cache.{no_answers, data_kept, names_kept, with_data, with_names, with_stale, with_good};
 ghost use Rattle.zk_cache.specs.Contents.{answer_of, names_in};
-ghost use Rattle.zk_cache.specs.inner.Contents.{set_of};
+ghost use Rattle.zk_jute.specs.Lenient.{or_empty};
 
-use crate::answers::{DataAnswer, keep, set_of};
+use crate::answers::{DataAnswer, keep};
+use crate::children::Children;
 use crate::held::{Held, Mark, keep_good, mark_stale, peek, put};
+use crate::sorted_names::sort_names;
 use indexmap::IndexMap;
 use std::alloc::{AllocError, Allocator};
 use std::marker::Model;
 use zk_jute::TextRef;
-use zk_nodes::{Names, Path, Side};
+use zk_nodes::{Path, Side};
 
 /// The answers that a client keeps, seen as a finite map from texts a side.
 #[derive(Drop)]
 pub struct Cache<A: Allocator + Copy> {
     alloc: A,
     data_answers: Held<DataAnswer<A>, A>,
-    child_answers: Held<Names<A>, A>,
+    child_answers: Held<Children<A>, A>,
 }
 
 impl<A: Allocator + Copy> Model for Cache<A> {
@@ -65,15 +68,18 @@ impl<A: Allocator + Copy> Cache<A> {
         names: &[TextRef<'_>],
         pzxid: i64,
     ) -> Result<(), AllocError>
-        ensures ok { OnOk result (self.new ≡ with_names self.old path.now (record { names = set_of names.now; pzxid = pzxid })) }
+        ensures ok { OnOk result (self.new ≡ with_names self.old path.now (record {
+          names = set.from_list (map (λ name. or_empty (option_map (λ text. text.now) name.text)) names.now);
+          pzxid = pzxid;
+        })) }
         ensures err { OnErr result (self.new ≡ self.old) }
     {
-        let names = set_of(self.alloc, names)?;
+        let names = sort_names(self.alloc, names)?;
         put(
             self.alloc,
             &mut self.child_answers,
             path.as_str(),
-            Names { names, pzxid },
+            Children { names, pzxid },
         )
     }
 
@@ -111,7 +117,7 @@ impl<A: Allocator + Copy> Cache<A> {
     }
 
     /// What is kept about the children of a path.
-    pub fn peek_children(&self, path: &str) -> Option<(&Names<A>, Mark)>
+    pub fn peek_children(&self, path: &str) -> Option<(&Children<A>, Mark)>
         ensures { option_map (λ kept. record { answer = names_in kept.0.now; mark = kept.1 }) result ≡ names_kept self.now path.now }
     {
         peek(&self.child_answers, path)

@@ -5,9 +5,14 @@
 
 mod answers;
 mod cache;
+mod children;
 mod held;
+mod joined_texts;
 pub mod laws;
+mod sorted_names;
 
 pub use answers::DataAnswer;
 pub use cache::Cache;
+pub use children::Children;
 pub use held::{Kept, Mark};
+pub use sorted_names::SortedNames;

@@ -17,4 +17,5 @@ pub mod Holding
 pub mod Copying
 pub mod Deadlines
 pub mod Behind
+pub mod Reports
 pub mod PuttingAway

@@ -1,7 +1,7 @@
 //! What payloads bring.
 
 ghost use Rattle.std.specs.Prelude.{◌≡◌, ◌≢◌, ◌≤◌, ℕ, ℤ, List, [], ◌∷◌, ◌++◌, map, OnOk, OnErr, IfOk, length, true, false, if◌then◌else◌};
-ghost use Rattle.std.specs.Prelude.{◌≤ℤ◌, ◌<ℤ◌, pos, ◌&&◌, bytes_eq};
+ghost use Rattle.std.specs.Prelude.{◌≤ℤ◌, ◌<ℤ◌, pos, ◌&&◌, bytes_eq, Bool, Some, None, option_map, string_bytes};
 ghost use Rattle.zk_frames.specs.Frame.{frame};
 ghost use Rattle.zk_limits.specs.declared.limits.TheConstants.{LONGEST_OUTGOING};
 ghost use Rattle.zk_limits.specs.declared.limits.TheConstants.{LONGEST_INCOMING};
@@ -40,7 +40,7 @@ use zk_cache::Cache;
 use zk_conversation::{Arrival, Conversation, TalkFault};
 use zk_records::{ConnectResponseRef, Event, SetWatchesRef, Side};
 use zk_session::{Response, Session, State};
-use zk_watches::Registry;
+use zk_watches::{Fired, Registry};
 
 /// Whether the payload may be good, and memory was refused.
 fn is_memory(fault: TalkFault) -> bool
@@ -240,17 +240,10 @@ impl<A: Allocator + Copy> Core<A> {
             ++ says (while_pending pending (view_with held self.old)) (taken_of self.old.session.saved.last (Notice event path.now))) }
         ensures origin { origin self.new ≡ origin self.old }
     {
-        let fired = self.registry.fire(event, path);
+        let Fired { on_data, on_child } = self.registry.fire(event, path);
         spoil(event, path, &mut self.cache);
-        report(self.alloc, fired.on_data, Side::Data, event, path, outputs)?;
-        report(
-            self.alloc,
-            fired.on_child,
-            Side::Child,
-            event,
-            path,
-            outputs,
-        )
+        report(on_data, Side::Data, event, outputs)?;
+        report(on_child, Side::Child, event, outputs)
     }
 }
 
@@ -297,22 +290,20 @@ fn spoil_side<A: Allocator + Copy>(about: bool, side: Side, path: &str, cache: &
     }
 }
 
-// A side on which the event ended a watch gets a report.
+// A side on which the event ended a watch gets a report, with the text of the path that was watched.
 fn report<A: Allocator + Copy>(
-    alloc: A,
-    fired: bool,
+    watched: Option<String<A>>,
     side: Side,
     event: Event,
-    path: &str,
     outputs: &mut Vec<Output<A>, A>,
 ) -> Result<(), AllocError>
-    ensures { OnOk result (said outputs.new.items ≡ said outputs.old.items ++ (if fired then Report path.now side event ∷ [] else [])) }
+    ensures { OnOk result ((fired : Bool) (path : Text) → option_map string_bytes watched ≡ (if fired then Some path else None) →
+        said outputs.new.items ≡ said outputs.old.items ++ (if fired then Report path side event ∷ [] else [])) }
 {
-    if fired {
-        let path = String::from_str(alloc, path)?;
-        return say(outputs, Output::Report { path, side, event });
+    match watched {
+        Some(path) => say(outputs, Output::Report { path, side, event }),
+        None => Ok(()),
     }
-    Ok(())
 }
 
 // Sends what is watched, in parts. It answers whether there is a part.

@@ -11,10 +11,10 @@ use crate::machine::Core;
 use crate::output::Output;
 use crate::turn::{known_of_input, notice_moment, turn};
 use std::alloc::{AllocError, Allocator, Global};
-use zk_cache::{Cache, DataAnswer, Mark};
+use zk_cache::{Cache, Children, DataAnswer, Mark};
 use zk_conversation::Conversation;
 use zk_frames::FrameReader;
-use zk_nodes::{Names, Path, Side};
+use zk_nodes::{Path, Side};
 use zk_session::{Saved, Session, State};
 use zk_turns::{first_view, one_forget, one_turn};
 use zk_watches::Registry;
@@ -134,6 +134,25 @@ impl<A: Allocator + Copy> Client<A> {
         one_turn();
         outputs.clear();
         let taken = self.apply_input(input, outputs);
+        if taken.is_err() {
+            outputs.clear();
+        }
+        taken
+    }
+
+    /// Takes the moment, and nothing else: [`step_into`](Client::step_into) of [`Input::Now`], for a program that tells it often.
+    pub fn tick_into(&mut self, now: u64, outputs: &mut Vec<Output<A>, A>) -> Result<(), Halt>
+        ensures rule { OnOk result (Rule (view_of self.old) (turn_of (Input.Now now) outputs.new.items) (view_of self.new)) }
+        ensures stands { OnOk result ((start : Start) (items : List Item) → Stands start items (view_of self.old)
+            → Stands start (Turned (turn_of (Input.Now now) outputs.new.items) ∷ items) (view_of self.new)) }
+        ensures quiet { IsQuiet (view_of self.old) (Now now) → IsOk result }
+        ensures halt { OnErr result (HaltsAs (view_of self.old) (view_of self.new)) }
+        ensures silent { OnErr result (outputs.new.items ≡ []) }
+        ensures halted { (view_of self.old).standing.halted ≡ true → IsErr result }
+    {
+        one_turn();
+        outputs.clear();
+        let taken = self.tell_moment(now, outputs);
         if taken.is_err() {
             outputs.clear();
         }
@@ -288,7 +307,7 @@ impl<A: Allocator + Copy> Client<A> {
     }
 
     /// What is kept about the children of a path. It takes no memory.
-    pub fn peek_children(&self, path: &Path<A>) -> Option<(&Names<A>, Mark)>
+    pub fn peek_children(&self, path: &Path<A>) -> Option<(&Children<A>, Mark)>
         ensures { option_map (λ kept. record { answer = names_in kept.0.now; mark = kept.1 }) result
             ≡ (view_of self.now).cache.children path.now }
     {
@@ -306,7 +325,7 @@ impl<A: Allocator + Copy> Client<A> {
 
     /// What is kept about the children of the path with this text, as [`Client::peek_children`] tells it. Whether it is a path's is
     /// not looked at. It takes no memory.
-    pub fn peek_children_at(&self, text: &str) -> Option<(&Names<A>, Mark)>
+    pub fn peek_children_at(&self, text: &str) -> Option<(&Children<A>, Mark)>
         ensures { option_map (λ kept. record { answer = names_in kept.0.now; mark = kept.1 }) result
             ≡ (view_of self.now).cache.children text.now }
     {

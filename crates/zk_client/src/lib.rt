@@ -45,13 +45,13 @@ pub use recording::{Recorded, RecordedTurn};
 pub use running::run;
 pub use saved_fault::SavedFault;
 pub use saved_session::SavedSession;
-pub use zk_cache::{DataAnswer, Mark};
+pub use zk_cache::{Children, DataAnswer, Mark, SortedNames};
 pub use zk_conversation::{Call, CreateMode, TalkFault};
 pub use zk_frames::FrameFault;
 pub use zk_jute::TakeError;
 pub use zk_limits::{
     LONGEST_INCOMING, LONGEST_OUTGOING, LONGEST_PASSWORD, MOST_PATHS, MOST_PENDING,
 };
-pub use zk_nodes::{DataStat, Names, Path, PathFault, Side, Stat};
+pub use zk_nodes::{DataStat, Path, PathFault, Side, Stat};
 pub use zk_records::{Code, Event};
 pub use zk_session::{Saved, State};

@@ -1,24 +1,22 @@
 -- What is kept of one node, and its children: the texts of its set of names are the children's, each once, and a name that makes no path is
 -- found.
-use Rattle.std.proofs.Common.{ℕ, ◌≡◌, ◌≢◌, inl, inr, true, false, List, [], ◌∷◌, ◌++◌, map, Option, Some, None, refl, ap, sym, ◌∙◌, subst}
-use Rattle.std.proofs.Common.{append_assoc, string_bytes}
+use Rattle.std.proofs.Common.{ℕ, ◌≡◌, ◌≢◌, inl, inr, true, false, List, [], ◌∷◌, ◌++◌, Option, Some, None, refl, ap, sym, ◌∙◌, subst}
+use Rattle.std.proofs.Common.{append_assoc}
 use Rattle.std.proofs.lemmas.List.{map-append}
 use Rattle.std.proofs.lemmas.Cmp.{nat_list_cmp_total}
-use Rattle.std.specs.Prelude.{String, Result as Outcome, Ok, Err, IfErr}
+use Rattle.std.specs.Prelude.{Result as Outcome, Ok, Err, IfErr}
 use Rattle.std.specs.Result.{IsErrAnd, OnOk}
 use Rattle.std.specs.List.{AllByRecursion}
 use Rattle.std.specs.List.Sorted.{IsStrictlySortedBy}
 use Rattle.std.specs.Ordering.{ordering_reverse}
 use Rattle.std.specs.declared.cmp.Ordering.TheVariants.{Less}
-use Rattle.std.specs.BTreeSet.{IsOrdered}
-use Rattle.std.specs.String.{string_cmp}
 use Rattle.std.specs.FinSet as set
 use Rattle.zk_turns.specs.Meaning.{Among}
 use Rattle.zk_turns.specs.View.{Cache}
 use Rattle.zk_nodes.specs.Path.{Text, Name, child_text}
 use Rattle.zk_nodes.specs.PathFault.{child_fault}
 use Rattle.zk_nodes.specs.Names.{name_cmp}
-use Rattle.zk_nodes.specs.declared.names.Names.{Names as RustNames}
+use Rattle.zk_cache.specs.declared.children.Children.{Children}
 use Rattle.zk_cache.specs.Contents.{names_in}
 use Rattle.zk_cache.specs.declared.held.Kept.{Kept}
 use Rattle.zk_cache.specs.declared.held.Mark.{Mark}
@@ -104,7 +102,7 @@ pub at_fault : (path : Text) (names : List Name) (name : Name) (rest : List Name
 at_fault path names name rest children a fault =
     record { name = name; among = subst (Among name) (sym a.whole) (among_right name a.done (name ∷ rest) (inl refl)); fault = fault }
 
--- A set of texts and its keys
+-- Names in order, as a set
 
 less_once : (name : Name) (names : List Name) → AllByRecursion (λ y. name_cmp name y ≡ Less) names → Among name names → ⊥
 less_once name [] all there = there
@@ -115,50 +113,45 @@ less_once name (one ∷ more) all (inl e) =
     absurd cc
 less_once name (one ∷ more) all (inr there) = less_once name more all.1 there
 
+distinct_texts : (names : List Name) → IsStrictlySortedBy name_cmp names → AreDistinct names
+unfolding IsStrictlySortedBy
+distinct_texts [] sorted = tt
+distinct_texts (name ∷ names) sorted = (less_once name names sorted.0, distinct_texts names sorted.1)
+
 module _ {A : Type 0} where
-  below_texts : (k : String A) (ks : List (String A))
-      → AllByRecursion (λ y. string_cmp k y ≡ Less) ks → AllByRecursion (λ y. name_cmp (string_bytes k) y ≡ Less) (map string_bytes ks)
-  below_texts k [] below = tt
-  below_texts k (y ∷ ys) below = (below.0, below_texts k ys (below.1))
-
-  distinct_texts : (ks : List (String A)) → IsStrictlySortedBy string_cmp ks → AreDistinct (map string_bytes ks)
-  unfolding IsStrictlySortedBy
-  distinct_texts [] ordered = tt
-  distinct_texts (k ∷ ks) ordered =
-      (less_once (string_bytes k) (map string_bytes ks) (below_texts k ks (ordered.0)), distinct_texts ks (ordered.1))
-
-  listed : (kept : RustNames A) → IsOrdered string_cmp kept.names → IsListed (names_in kept).names (map string_bytes kept.names.keys)
-  listed kept ordered = record {
-    among = λ name. (set_among (map string_bytes kept.names.keys) name, among_set (map string_bytes kept.names.keys) name);
-    once = distinct_texts kept.names.keys ordered;
+  listed : (kept : Children A) → IsStrictlySortedBy name_cmp kept.names → IsListed (names_in kept).names kept.names
+  listed kept sorted = record {
+    among = λ name. (set_among kept.names name, among_set kept.names name);
+    once = distinct_texts kept.names sorted;
   }
 
-  pub has_children : (cache : Cache) (path : Text) (kept : RustNames A) (children : List Text)
-      → IsOrdered string_cmp kept.names → cache.children path ≡ good (names_in kept)
-      → Added path (map string_bytes kept.names.keys) [] children → HasChildren cache path children
-  has_children cache path kept children ordered is added =
-      record { names = names_in kept; good = is; listed = map string_bytes kept.names.keys; listing = listed kept ordered; added = added }
+  pub has_children : (cache : Cache) (path : Text) (kept : Children A) (children : List Text)
+      → IsStrictlySortedBy name_cmp kept.names → cache.children path ≡ good (names_in kept)
+      → Added path kept.names [] children → HasChildren cache path children
+  has_children cache path kept children sorted is added =
+      record { names = names_in kept; good = is; listed = kept.names; listing = listed kept sorted; added = added }
 
-  pub too_many : (cache : Cache) (path : Text) (kept : RustNames A) (room : ℕ)
-      → IsOrdered string_cmp kept.names → cache.children path ≡ good (names_in kept)
-      → HasMore path (map string_bytes kept.names.keys) room → HasTooMany cache path room
-  too_many cache path kept room ordered is more =
-      record { names = names_in kept; good = is; listed = map string_bytes kept.names.keys; listing = listed kept ordered; more = more }
+  pub too_many : (cache : Cache) (path : Text) (kept : Children A) (room : ℕ)
+      → IsStrictlySortedBy name_cmp kept.names → cache.children path ≡ good (names_in kept)
+      → HasMore path kept.names room → HasTooMany cache path room
+  too_many cache path kept room sorted is more =
+      record { names = names_in kept; good = is; listed = kept.names; listing = listed kept sorted; more = more }
 
-  pub not_whole : (cache : Cache) (path : Text) (kept : RustNames A) → IsOrdered string_cmp kept.names → IsFull cache path (names_in kept)
-      → HasFault path (map string_bytes kept.names.keys) → IsKeptWhole cache path → ⊥
-  not_whole cache path kept ordered full fault whole =
+  pub not_whole : (cache : Cache) (path : Text) (kept : Children A)
+      → IsStrictlySortedBy name_cmp kept.names → IsFull cache path (names_in kept)
+      → HasFault path kept.names → IsKeptWhole cache path → ⊥
+  not_whole cache path kept sorted full fault whole =
       let same : names_in kept ≡ whole.names =
       same_kept (as_good (names_in kept)) whole.names (cache.children path) full.children whole.full.children in
-      let has : set.contains (names_in kept).names fault.name ≡ true = ((listed kept ordered).among fault.name).1 fault.among in
+      let has : set.contains (names_in kept).names fault.name ≡ true = ((listed kept sorted).among fault.name).1 fault.among in
       fault.fault (whole.paths fault.name (subst (λ (n : Names). set.contains n.names fault.name ≡ true) same has))
 
   -- one of the good names makes no path
-  pub no_path : (cache : Cache) (path : Text) (kept : RustNames A)
-      → IsOrdered string_cmp kept.names → cache.children path ≡ good (names_in kept)
-      → HasFault path (map string_bytes kept.names.keys) → HasFaultAt cache path
-  no_path cache path kept ordered is fault = record {
+  pub no_path : (cache : Cache) (path : Text) (kept : Children A)
+      → IsStrictlySortedBy name_cmp kept.names → cache.children path ≡ good (names_in kept)
+      → HasFault path kept.names → HasFaultAt cache path
+  no_path cache path kept sorted is fault = record {
     name = fault.name;
-    has = record { names = names_in kept; there = is; has = ((listed kept ordered).among fault.name).1 fault.among };
+    has = record { names = names_in kept; there = is; has = ((listed kept sorted).among fault.name).1 fault.among };
     fault = fault.fault;
   }

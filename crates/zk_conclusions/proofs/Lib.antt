@@ -10,6 +10,7 @@ pub mod Shown
 pub mod Rooted
 pub mod Reached
 pub mod Keeping
+pub mod Places
 pub mod Walking
 pub mod Lent
 pub mod Sought

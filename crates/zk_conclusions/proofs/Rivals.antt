@@ -1,6 +1,6 @@
 -- None of some names is before another, as a test and as a set says it: name by name, the test is whether a name has the prefix and is
 -- before.
-use Rattle.std.proofs.Common.{◌≡◌, ◌↔◌, Bool, true, false, ◌||◌, not, List, [], ◌∷◌, map, refl, sym, ap, ◌∙◌, subst, drop, length}
+use Rattle.std.proofs.Common.{◌≡◌, ◌↔◌, Bool, true, false, ◌||◌, not, List, [], ◌∷◌, refl, sym, ap, ◌∙◌, subst, drop, length}
 use Rattle.std.proofs.lemmas.Bool.Decides.{Decides-eqb}
 use Rattle.std.specs.Prelude.{bytes_eq, nat_eq}
 use Rattle.std.specs.List.{list_any, starts_with}
@@ -64,29 +64,22 @@ none_of prefix own (one ∷ more) each =
         go true = refl
         go false = there
 
-any_mapped : {X : Type 0} (test : Name → Bool) (f : X → Name) (xs : List X) → list_any test (map f xs) ≡ list_any (λ x. test (f x)) xs
-any_mapped test f [] = refl
-any_mapped test f (x ∷ xs) = ap (λ b. test (f x) || b) (any_mapped test f xs)
-
 not_true : (result b : Bool) → result ≡ not b → result ≡ true → b ≡ false
 not_true result false e t = refl
 not_true result true e t = absurd cc
 
--- no rival is among the texts exactly where the name is first of their set
-pub is_first_of : {X : Type 0} (prefix own : Name) (f : X → Name) (texts : List X) (result : Bool)
-    → result ≡ not (list_any (λ text. is_rival prefix own (f text)) texts)
-    → (result ≡ true) ↔ IsFirstOf (set.from_list (map f texts)) prefix own
-is_first_of {X} prefix own f texts result e = (to, from)
+-- no rival is among the names exactly where the name is first of their set
+pub is_first_of : (prefix own : Name) (names : List Name) (result : Bool) → result ≡ not (list_any (is_rival prefix own) names)
+    → (result ≡ true) ↔ IsFirstOf (set.from_list names) prefix own
+is_first_of prefix own names result e = (to, from)
   where
-    to : result ≡ true → IsFirstOf (set.from_list (map f texts)) prefix own
+    to : result ≡ true → IsFirstOf (set.from_list names) prefix own
     to t name there starts =
-        let none : list_any (λ text. is_rival prefix own (f text)) texts ≡ false =
-        not_true result (list_any (λ text. is_rival prefix own (f text)) texts) e t in
-        not_before prefix own name (one_of prefix own name (map f texts) (any_mapped (is_rival prefix own) f texts ∙ none)
-        (members (map f texts) name ∙ there)) starts
+        let none : list_any (is_rival prefix own) names ≡ false = not_true result (list_any (is_rival prefix own) names) e t in
+        not_before prefix own name (one_of prefix own name names none (members names name ∙ there)) starts
 
-    from : IsFirstOf (set.from_list (map f texts)) prefix own → result ≡ true
+    from : IsFirstOf (set.from_list names) prefix own → result ≡ true
     from first =
-        let none : list_any (is_rival prefix own) (map f texts) ≡ false =
-        none_of prefix own (map f texts) (λ name there. no_rival prefix own name (first name (sym (members (map f texts) name) ∙ there))) in
-        e ∙ ap not (sym (any_mapped (is_rival prefix own) f texts) ∙ none)
+        let none : list_any (is_rival prefix own) names ≡ false =
+        none_of prefix own names (λ name there. no_rival prefix own name (first name (sym (members names name) ∙ there))) in
+        e ∙ ap not none

@@ -1,6 +1,5 @@
 -- How all nodes at and below a path are gone through.
 use Rattle.std.specs.Prelude.{◌≡◌, Bool, ◌&&◌, List, [], ◌∷◌, ◌++◌, ⊤}
-use Rattle.std.specs.FinSet as set
 use Rattle.std.specs.List.{list_all}
 use Rattle.zk_turns.specs.Meaning.{Among}
 use Rattle.zk_turns.specs.View.{Cache}

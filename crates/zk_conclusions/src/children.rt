@@ -1,11 +1,11 @@
 //! What is kept of one node, and its children.
 
-ghost use Rattle.std.specs.Prelude.{◌≡◌, ◌≢◌, ◌≤◌, [], true, IfErr, IfOk, IfSome, None, OnOk, length, map, string_bytes};
-ghost use Rattle.std.specs.BTreeSet.{IsOrdered};
-ghost use Rattle.std.specs.String.{string_cmp};
+ghost use Rattle.std.specs.Prelude.{◌≡◌, ◌≢◌, ◌≤◌, [], true, IfErr, IfOk, IfSome, None, OnOk, length};
+ghost use Rattle.std.specs.List.Sorted.{IsStrictlySortedBy};
 ghost use Rattle.zk_cache.specs.Contents.{names_in};
 ghost use Rattle.zk_cache.specs.Kept.{Names as KeptNames};
 ghost use Rattle.zk_client.specs.Clients.{view_of};
+ghost use Rattle.zk_nodes.specs.Names.{name_cmp};
 ghost use Rattle.zk_nodes.specs.Path.{child_text};
 ghost use Rattle.zk_nodes.specs.PathFault.{child_fault};
 ghost use Rattle.zk_conclusions.specs.Subtrees.{IsFull, IsKeptWhole, Says, is_full_good};
@@ -13,7 +13,7 @@ ghost use Rattle.zk_conclusions.specs.inner.Walks.{Added, HasChildren, HasFault,
 
 use crate::no_subtree::NoSubtree;
 use std::alloc::Allocator;
-use zk_client::{Client, DataAnswer, Mark, Names, Path, PathFault};
+use zk_client::{Children, Client, DataAnswer, Mark, Path, PathFault};
 
 /// Whether an answer about the node, with its data, is kept and good.
 pub(crate) fn has_data<A: Allocator + Copy>(client: &Client<A>, path: &Path<A>) -> bool
@@ -29,7 +29,7 @@ pub(crate) fn has_data<A: Allocator + Copy>(client: &Client<A>, path: &Path<A>) 
 fn names_if_full<'a, A: Allocator + Copy>(
     client: &'a Client<A>,
     path: &Path<A>,
-) -> Option<&'a Names<A>>
+) -> Option<&'a Children<A>>
     ensures some { IfSome result (λ names. IsFull (view_of client.now).cache path.now (names_in names.now)) }
     ensures none { result ≡ None → (names : KeptNames) → ¬ (IsFull (view_of client.now).cache path.now names) }
 {
@@ -58,18 +58,20 @@ fn child_of<A: Allocator + Copy>(alloc: A, path: &Path<A>, name: &str) -> Result
 pub(crate) fn children_of<A: Allocator + Copy>(
     alloc: A,
     path: &Path<A>,
-    names: &Names<A>,
+    names: &Children<A>,
     room: usize,
 ) -> Result<Vec<Path<A>, A>, NoSubtree>
-    ensures added { IfOk result (λ children. Added path.now (map string_bytes names.now.names.keys) [] children.items) }
+    ensures added { IfOk result (λ children. Added path.now names.now.names [] children.items) }
     ensures fits { IfOk result (λ children. length children.items ≤ room) }
-    ensures ordered { IsOrdered string_cmp names.now.names }
-    ensures refused { IfErr result (λ why. Says why (HasFault path.now (map string_bytes names.now.names.keys))
-        (HasMore path.now (map string_bytes names.now.names.keys) room)) }
+    ensures sorted { IsStrictlySortedBy name_cmp names.now.names }
+    ensures refused { IfErr result (λ why. Says why (HasFault path.now names.now.names) (HasMore path.now names.now.names room)) }
 {
     let mut children = Vec::new(alloc);
-    for name in &names.names {
-        let child = child_of(alloc, path, name.as_str())?;
+    for at in 0..names.names.len() {
+        let Some(name) = names.names.get(at) else {
+            return Ok(children);
+        };
+        let child = child_of(alloc, path, name)?;
         if children.len() >= room {
             return Err(NoSubtree::TooMany);
         }

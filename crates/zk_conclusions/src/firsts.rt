@@ -1,6 +1,6 @@
 //! Whether a name is the first of those below a path.
 
-ghost use Rattle.std.specs.Prelude.{◌≡◌, ◌↔◌, ◌∷◌, nat_eq, IsTrue, IfSome, None, string_bytes};
+ghost use Rattle.std.specs.Prelude.{◌≡◌, ◌↔◌, ◌∷◌, nat_eq, IsTrue, IfSome, None};
 ghost use Rattle.std.specs.List.{list_any, starts_with};
 ghost use Rattle.zk_cache.specs.Contents.{names_in};
 ghost use Rattle.zk_client.specs.Clients.{view_of};
@@ -10,8 +10,7 @@ ghost use Rattle.zk_conclusions.specs.inner.Holders.{is_rival, IsShownFirst};
 
 use crate::below::name_below;
 use std::alloc::Allocator;
-use std::collections::BTreeSet;
-use zk_client::{Client, Mark, Names, Path};
+use zk_client::{Children, Client, Mark, Path, SortedNames};
 
 pub(crate) fn has_prefix(name: &str, prefix: &str) -> bool
     ensures test { result ≡ starts_with nat_eq name.now prefix.now }
@@ -33,13 +32,21 @@ fn is_rival(name: &str, prefix: &str, own: &str) -> bool
     has_prefix(name, prefix) && is_before(name, own)
 }
 
-fn has_rival<A: Allocator>(names: &BTreeSet<String<A>, A>, prefix: &str, own: &str) -> bool
-    ensures { result ≡ list_any (λ key. is_rival prefix.now own.now (string_bytes key)) names.now.keys }
+fn has_rival<A: Allocator>(names: &SortedNames<A>, prefix: &str, own: &str) -> bool
+    ensures { result ≡ list_any (is_rival prefix.now own.now) names.now }
 {
-    names.iter().any(|name| is_rival(name, prefix, own))
+    for at in 0..names.len() {
+        let Some(name) = names.get(at) else {
+            return false;
+        };
+        if is_rival(name, prefix, own) {
+            return true;
+        }
+    }
+    false
 }
 
-fn is_first<A: Allocator>(names: &Names<A>, prefix: &str, own: &str) -> bool
+fn is_first<A: Allocator>(names: &Children<A>, prefix: &str, own: &str) -> bool
     ensures { IsTrue result ↔ IsFirstOf (names_in names.now).names prefix.now own.now }
 {
     !has_rival(&names.names, prefix, own)

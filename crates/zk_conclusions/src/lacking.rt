@@ -15,7 +15,7 @@ use crate::marked::has_good_names;
 use crate::no_subtree::NoSubtree;
 use crate::walk::copy_of;
 use std::alloc::{Allocator, Global};
-use zk_client::{Client, Mark, Names, Path};
+use zk_client::{Children, Client, Mark, Path};
 
 /// The reads that are lacking before there is a subtree: a getData of each of the first paths, and a getChildren of each of the second
 /// ones, all with a watch. They can be asked all at once; what lies below the second ones comes once their names are good.
@@ -29,7 +29,7 @@ pub struct Lacking<A: Allocator + Copy = Global> {
 fn good_names<'a, A: Allocator + Copy>(
     client: &'a Client<A>,
     path: &Path<A>,
-) -> Option<&'a Names<A>>
+) -> Option<&'a Children<A>>
     ensures some { IfSome result (λ names. (view_of client.now).cache.children path.now ≡ good (names_in names.now)) }
     ensures none { result ≡ None → is_marked_good ((view_of client.now).cache.children path.now) ≡ false }
 {

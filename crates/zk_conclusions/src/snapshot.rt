@@ -6,7 +6,7 @@ ghost use Rattle.zk_conclusions.specs.Snapshots.{is_whole};
 
 use crate::marked::{are_good, have_good_names};
 use std::alloc::{Allocator, Global};
-use zk_client::{Client, DataAnswer, Mark, Names, Path};
+use zk_client::{Children, Client, DataAnswer, Mark, Path};
 
 /// What a client shows of some paths, where all of it is good. So all of it is of one moment: what the history has at the client's
 /// last seen zxid, which the snapshot tells. A transaction that changes several of these nodes is seen whole or not at all.
@@ -80,7 +80,7 @@ impl<'a, A: Allocator + Copy> Snapshot<'a, A> {
     }
 
     /// The names that are kept below the path at this place of the second ones, in the same way.
-    pub fn names(&self, place: usize) -> &'a Names<A>
+    pub fn names(&self, place: usize) -> &'a Children<A>
         requires { place < length self.now.parents.now }
         ensures kept { (path : Text) → slice_get self.now.parents.now place ≡ Some path
             → (view_of self.now.client.now).cache.children path ≡ good (names_in result.now) }

@@ -8,7 +8,7 @@ use crate::children::has_data;
 use crate::no_subtree::NoSubtree;
 use crate::walk::walk;
 use std::alloc::{Allocator, Global};
-use zk_client::{Client, DataAnswer, Names, Path};
+use zk_client::{Children, Client, DataAnswer, Path};
 
 /// What a client shows of all nodes at and below a root, where all of it is good: each node with its data and the names below it, as
 /// the history has them at the client's last seen zxid, and no other node is there (`one_subtree` of [`laws`](crate::laws)).
@@ -89,7 +89,7 @@ impl<'a, A: Allocator + Copy> Subtree<'a, A> {
     }
 
     /// The names that are kept below the path at this place, in the same way.
-    pub fn names(&self, place: usize) -> &'a Names<A>
+    pub fn names(&self, place: usize) -> &'a Children<A>
         requires { place < length self.now.paths.items }
         ensures kept { (path : Text) → slice_get self.now.paths.items place ≡ Some path
             → (view_of self.now.client.now).cache.children path ≡ good (names_in result.now) }

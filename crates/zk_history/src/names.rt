@@ -5,7 +5,7 @@ ghost use Rattle.zk_nodes.specs.Path.{path_of};
 ghost use Rattle.zk_nodes.specs.PathFault.{IsPath};
 ghost use Rattle.zk_history.specs.Replay.{children_after, count_after};
 ghost use Rattle.zk_history.specs.Made.{change_of, transaction_of};
-ghost use Rattle.zk_nodes.specs.Names.{names_of};
+ghost use Rattle.zk_nodes.specs.inner.Names.{names_of};
 ghost use Rattle.zk_history.specs.Versions.{nth_change, change_at, names_by, names_told};
 ghost use Rattle.std.specs.FinSet as set;
 

@@ -13,7 +13,8 @@ use Rattle.std.proofs.lemmas.Cmp.{nat_list_cmp_total}
 use Rattle.std.proofs.lemmas.Map.Text.{btree_set_updates_text, is_eq-slice_cmp}
 use Rattle.std.proofs.lemmas.Slice.Eq.{bytes_eq-Decides}
 use Rattle.std.proofs.lemmas.Bool.Decides.{same_from_decides}
-use Rattle.zk_nodes.specs.Names.{Names, names_of}
+use Rattle.zk_nodes.specs.Names.{Names}
+use Rattle.zk_nodes.specs.inner.Names.{names_of}
 
 pub same_names : (s t : Names) → ((q : List ℕ) → set.contains s q ≡ set.contains t q) → s ≡ t
 same_names s t h = set.same_set nat_list_cmp_total (set.slice_cmp-IsAntisymmetric set.nat_cmp-IsAntisymmetric) s t h

@@ -1,6 +1,6 @@
 -- The data model: nodes and trees, and the history of transactions of which each server holds a beginning.
 -- The sections named are those of the ZooKeeper Programmer's Guide.
-use Rattle.std.specs.Prelude.{ℕ, ℤ, pos, ◌≡◌, ◌==◌, ◌<◌, ◌+◌, ◌^◌, nat_le, Bool, true, false, ◌&&◌, if◌then◌else◌, List, [], ◌∷◌, length}
+use Rattle.std.specs.Prelude.{ℕ, ℤ, pos, ◌≡◌, ◌<◌, ◌+◌, ◌^◌, nat_le, Bool, if◌then◌else◌, List, [], ◌∷◌, length}
 use Rattle.std.specs.Prelude.{filter, Option, Some, None, is_some, option_map, IsTrue, ⊤}
 use Rattle.zk_nodes.specs.Path.{Name, NodePath, path_eq}
 use Rattle.zk_nodes.specs.declared.data_stat.DataStat.{DataStat}

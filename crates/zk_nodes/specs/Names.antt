@@ -1,7 +1,4 @@
--- Sets of names in byte order, and a set of texts as one.
-use Rattle.std.specs.Prelude.{String, map}
-use Rattle.std.specs.String.{string_bytes}
-use Rattle.std.specs.BTreeSet.{BTreeSet}
+-- Sets of names in byte order.
 use Rattle.std.specs.Ordering.{nat_cmp}
 use Rattle.std.specs.declared.cmp.Ordering.{Ordering}
 use Rattle.std.specs.Cmp.Lexicographic.{slice_cmp}
@@ -15,7 +12,3 @@ name_cmp = slice_cmp nat_cmp
 -- sets of names in byte order
 abbrev pub Names : Type 0
 Names = set.FinSet name_cmp
-
--- the names that the texts are
-abbrev pub names_of : {A : Type 0} → BTreeSet (String A) → Names
-names_of kept = set.from_list (map string_bytes kept.keys)

@@ -1,6 +1,7 @@
 -- Each call keeps the lists of a registry sound.
 use Rattle.std.proofs.Common.{◌≡◌, ℕ, ◌+◌, ◌<◌, ◌≤◌, Bool, true, false, not, cond, ◌||◌, List, [], ◌∷◌, ◌++◌, length, filter, All, ◌⊎◌, inl}
-use Rattle.std.proofs.Common.{inr, bytes_eq, refl, sym, ap, subst, ◌∙◌, if◌then◌else◌, true≢false, arith, length-append}
+use Rattle.std.proofs.Common.{inr, bytes_eq, refl, sym, ap, subst, ◌∙◌, if◌then◌else◌, true≢false, arith, length-append, Option, Some, None}
+use Rattle.std.proofs.Common.{option_map, is_some}
 use Rattle.std.specs.List.{IsDistinct, AllByRecursion}
 use Rattle.std.proofs.lemmas.Slice.Eq.{bytes_eq-Decides}
 use Rattle.std.proofs.lemmas.Map.Keys.{IsDistinct-head, IsDistinct-tail, IsDistinct-cons, IsDistinct-push}
@@ -254,3 +255,9 @@ sound-none = record {
   exist_short = λ k d h. absurd (omega arith);
   child_short = λ k d h. absurd (omega arith);
 }
+
+-- what is taken out of a list was there
+pub was_there : {X : Type 0} (f : X → List ℕ) (taken : Option X) (x : X) (there : Bool) (text : List ℕ)
+    → option_map f taken ≡ (if there then Some text else None) → taken ≡ Some x → there ≡ true
+was_there f taken x true text told is = refl
+was_there f taken x false text told is = absurd (true≢false (ap is_some (sym (ap (option_map f) is) ∙ told)))

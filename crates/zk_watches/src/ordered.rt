@@ -1,5 +1,6 @@
 //! A list of texts without repeats, in the order in which they came.
-ghost use Rattle.std.specs.Prelude.{◌≡◌, [], length, true, not, IsOk, OnOk, OnErr, IfOk, map};
+ghost use Rattle.std.specs.Prelude.{◌≡◌, [], length, true, not, IsOk, OnOk, OnErr, IfOk, map, Some, None, option_map, string_bytes};
+ghost use Rattle.std.specs.Prelude.{if◌then◌else◌};
 ghost use Rattle.zk_watches.specs.Lists.{has, with_path, without};
 
 use crate::numbered::{Numbers, count, is_in, list_below, next_number, put_last, take_out};
@@ -66,9 +67,9 @@ impl<A: Allocator + Copy> Ordered<A> {
         Ok(true)
     }
 
-    /// Takes the text out, in constant time and no memory.
-    pub(crate) fn take_out(&mut self, text: &str) -> bool
-        ensures found { result ≡ has self.old text.now }
+    /// Takes the text out, in constant time and no memory, and gives it.
+    pub(crate) fn take_out(&mut self, text: &str) -> Option<String<A>>
+        ensures found { option_map string_bytes result ≡ (if has self.old text.now then Some text.now else None) }
         ensures rest { self.new ≡ without self.old text.now }
     {
         take_out(&mut self.numbers, text)

@@ -1,5 +1,6 @@
 //! The registry: three lists of paths.
-ghost use Rattle.std.specs.Prelude.{◌≡◌, ◌<◌, ◌≤◌, length, true, false, IsOk, OnOk, OnErr, IfOk};
+ghost use Rattle.std.specs.Prelude.{◌≡◌, ◌<◌, ◌≤◌, length, true, false, IsOk, OnOk, OnErr, IfOk, Some, None};
+ghost use Rattle.std.specs.Prelude.{option_map, string_bytes, if◌then◌else◌};
 ghost use Rattle.zk_watches.specs.Lists.{no_lists, has, list_has, side_has, count_of, registered, fires, fired, without, IsSound};
 ghost use Rattle.zk_limits.specs.declared.limits.TheConstants.{LONGEST_PATH, MOST_PATHS};
 
@@ -32,11 +33,12 @@ impl<A: Allocator + Copy> Model for Registry<A> {
         IsSound (record { data_watches = r.data_watches; exist_watches = r.exist_watches; child_watches = r.child_watches }) };
 }
 
-/// The sides on which an event ended a watch. A watch is one-time (ZooKeeper Programmer's Guide, "ZooKeeper Watches").
-#[derive(Clone, Copy, Debug, PartialEq, Eq)]
-pub struct Fired {
-    pub on_data: bool,
-    pub on_child: bool,
+/// The sides on which an event ended a watch, each with the text of the path, which nothing keeps any more. A watch is one-time
+/// (ZooKeeper Programmer's Guide, "ZooKeeper Watches").
+#[derive(Drop)]
+pub struct Fired<A: Allocator> {
+    pub on_data: Option<String<A>>,
+    pub on_child: Option<String<A>>,
 }
 
 impl<A: Allocator + Copy> Registry<A> {
@@ -118,19 +120,28 @@ impl<A: Allocator + Copy> Registry<A> {
 
     /// Takes the path off each side that the event concerns, in constant time and with no memory. The text may be any: a server
     /// may tell of a path that is not watched.
-    pub fn fire(&mut self, event: Event, path: &str) -> Fired
-        ensures on_data { result.on_data ≡ fires self.old event Side.Data path.now }
-        ensures on_child { result.on_child ≡ fires self.old event Side.Child path.now }
+    pub fn fire(&mut self, event: Event, path: &str) -> Fired<A>
+        ensures on_data { option_map string_bytes result.on_data
+            ≡ (if fires self.old event Side.Data path.now then Some path.now else None) }
+        ensures on_child { option_map string_bytes result.on_child
+            ≡ (if fires self.old event Side.Child path.now then Some path.now else None) }
         ensures lists { self.new ≡ fired self.old event path.now }
     {
-        Fired {
-            on_data: event.concerns(Side::Data) && self.fire_data(path),
-            on_child: event.concerns(Side::Child) && self.fire_child(path),
-        }
+        let on_data = if event.concerns(Side::Data) {
+            self.fire_data(path)
+        } else {
+            None
+        };
+        let on_child = if event.concerns(Side::Child) {
+            self.fire_child(path)
+        } else {
+            None
+        };
+        Fired { on_data, on_child }
     }
 
-    fn fire_data(&mut self, path: &str) -> bool
-        ensures was { result ≡ side_has self.old Side.Data path.now }
+    fn fire_data(&mut self, path: &str) -> Option<String<A>>
+        ensures was { option_map string_bytes result ≡ (if side_has self.old Side.Data path.now then Some path.now else None) }
         ensures lists { self.new ≡ record {
           data_watches = without self.old.data_watches path.now;
           exist_watches = without self.old.exist_watches path.now;
@@ -138,14 +149,14 @@ impl<A: Allocator + Copy> Registry<A> {
         } }
     {
         // A path is in at most one of the two.
-        if self.data_watches.take_out(path) {
-            return true;
+        if let Some(text) = self.data_watches.take_out(path) {
+            return Some(text);
         }
         self.exist_watches.take_out(path)
     }
 
-    fn fire_child(&mut self, path: &str) -> bool
-        ensures was { result ≡ side_has self.old Side.Child path.now }
+    fn fire_child(&mut self, path: &str) -> Option<String<A>>
+        ensures was { option_map string_bytes result ≡ (if side_has self.old Side.Child path.now then Some path.now else None) }
         ensures lists { self.new ≡ record {
           data_watches = self.old.data_watches;
           exist_watches = self.old.exist_watches;

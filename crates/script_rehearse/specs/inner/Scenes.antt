@@ -1,5 +1,5 @@
 -- What contracts of private functions say: nobody has to believe it.
-use Rattle.zk_nodes.specs.Names.{names_of}
+use Rattle.zk_nodes.specs.inner.Names.{names_of}
 use Rattle.zk_client.specs.Clients.{view_of}
 use Rattle.script_rehearse.specs.declared.rig.Rig.{Rig}
 use Rattle.script_rehearse.specs.Scenes.{Scene}

@@ -2,8 +2,9 @@
 
 use anyhow::Result;
 use std::alloc::{AllocError, Global};
+use std::collections::BTreeSet;
 use zk_bench::History;
-use zk_client::{Client, DataAnswer, Mark, Names, Path};
+use zk_client::{Client, DataAnswer, Mark, Path, SortedNames};
 
 /// A word, or the number of the round where that is meant.
 pub fn filled<'w>(word: &'w str, number: &'w str) -> &'w str {
@@ -21,13 +22,13 @@ pub fn are_data(client: &Client<Global>, path: &Path<Global>, wanted: &str) -> b
 }
 
 /// Names, with a space between two.
-fn joined(alloc: Global, names: &Names<Global>) -> Result<String, AllocError> {
+fn joined(alloc: Global, names: &SortedNames) -> Result<String, AllocError> {
     let mut text = String::new(alloc);
-    for name in &names.names {
+    for index in 0..names.len() {
         if !text.is_empty() {
             text.push(' ')?;
         }
-        text.push_str(name.as_str())?;
+        text.push_str(names.get(index).unwrap_or(""))?;
     }
     Ok(text)
 }
@@ -40,7 +41,7 @@ pub fn are_names(
     wanted: &str,
 ) -> Result<bool, AllocError> {
     match client.peek_children(path) {
-        Some((names, Mark::Good)) => Ok(joined(alloc, names)?.as_str() == wanted),
+        Some((kept, Mark::Good)) => Ok(joined(alloc, &kept.names)?.as_str() == wanted),
         _ => Ok(false),
     }
 }
@@ -68,14 +69,14 @@ pub fn has_data(
     })
 }
 
-/// Whether these names are those, since the same zxid.
-fn are_same(names: &Names<Global>, held: &Names<Global>) -> bool {
-    for name in &names.names {
-        if !held.names.contains(name.as_str()) {
+/// Whether these names are those, in their order.
+fn are_same(names: &SortedNames, held: &BTreeSet<String>) -> bool {
+    for (index, name) in held.iter().enumerate() {
+        if names.get(index) != Some(name.as_str()) {
             return false;
         }
     }
-    names.names.len() == held.names.len() && names.pzxid == held.pzxid
+    names.len() == held.len()
 }
 
 /// Whether the names below a node are good, and those that the server has since the same zxid.
@@ -86,7 +87,9 @@ pub fn has_names(
 ) -> Result<bool, AllocError> {
     let held = history.names_at(history.last_zxid(), path)?;
     Ok(match (client.peek_children(path), &held) {
-        (Some((names, Mark::Good)), Some(held)) => are_same(names, held),
+        (Some((kept, Mark::Good)), Some(held)) => {
+            are_same(&kept.names, &held.names) && kept.pzxid == held.pzxid
+        }
         _ => false,
     })
 }

@@ -123,8 +123,8 @@ impl IsKept for Listed {
             return want.is_none();
         };
         let mut are = kept.names.len() == names.len();
-        for (name, wanted) in kept.names.iter().zip(names) {
-            are = are && name.as_str() == *wanted;
+        for (index, wanted) in names.iter().enumerate() {
+            are = are && kept.names.get(index) == Some(*wanted);
         }
         are && kept.pzxid == pzxid && Some(mark) == want
     }

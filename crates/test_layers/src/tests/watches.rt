@@ -142,7 +142,7 @@ fn answers(alloc: Global, registry: &mut Registry<Global>, step: Step, path: &st
         Step::Listed => registers(alloc, registry, Side::Child, path, true),
         Step::Fire(event, on_data, on_child) => {
             let fired = registry.fire(event, path);
-            fired.on_data == on_data && fired.on_child == on_child
+            fired.on_data.is_some() == on_data && fired.on_child.is_some() == on_child
         }
         Step::Clear => {
             registry.clear();

@@ -5,7 +5,7 @@ use Rattle.zk_jute.specs.Layout.{Layout, Value}
 use Rattle.zk_jute.specs.Spelling.{spelling, Fits}
 use Rattle.zk_frames.specs.Frame.{frame}
 use Rattle.zk_nodes.specs.Path.{NodePath, path_eq}
-use Rattle.zk_nodes.specs.Names.{names_of}
+use Rattle.zk_nodes.specs.inner.Names.{names_of}
 use Rattle.zk_nodes.specs.declared.side.Side.TheVariants.{Data, Child}
 use Rattle.zk_records.specs.declared.event.Event.{Event}
 use Rattle.zk_records.specs.Events.{concerns}

@@ -1,9 +1,8 @@
--- The difference is empty exactly where the names are the same: `none_differs`, from what `symmetric_difference` and `next` ensure.
-use Rattle.script_rehearse.proofs.GoodLemmas.{none_differs}
+-- Names and texts in one order are the same one by one exactly where each is in the other: `names_are`, from what `are_texts` ensures.
+use Rattle.script_rehearse.proofs.GoodLemmas.{names_are}
 use Rattle.script_rehearse.proofs.agreement.same_names.Goals as goal
 
 pub returns : goal.returns
 returns g c =
-    none_differs c.args.kept.now c.args.told.now c.symmetric_difference.result c.next.new.self c.next.result c.is_none.result
-    c.symmetric_difference.ensures.members
-    c.next.ensures.steps c.is_none.ensures
+    let are = c.are_texts.ensures in
+    names_are c.args.kept.now c.args.told.now c.are_texts.result are.sorted are.ordered are.same

@@ -2,7 +2,7 @@
 use Rattle.std.proofs.Common.{rules, ap, sym, ◌∙◌, ◌≡◌, Some}
 use Rattle.std.specs.FinSet as set
 use Rattle.zk_conversation.specs.Views.{call_view}
-use Rattle.zk_nodes.specs.Names.{names_of}
+use Rattle.zk_nodes.specs.inner.Names.{names_of}
 use Rattle.zk_nodes.proofs.NamesLemmas.{names_of-insert}
 use Rattle.script_rehearse.specs.Scenes.{named_path, with_path}
 use Rattle.script_rehearse.proofs.called.add_path.Goals as goal

@@ -2,7 +2,7 @@
 use Rattle.std.proofs.Common.{◌≡◌, take, map}
 use Rattle.std.specs.Prelude.{string_bytes}
 use Rattle.std.specs.FinSet as set
-use Rattle.zk_nodes.specs.Names.{names_of}
+use Rattle.zk_nodes.specs.inner.Names.{names_of}
 use Rattle.script_replay.proofs.names.set_of.Given as goal
 
 -- the names so far are the set

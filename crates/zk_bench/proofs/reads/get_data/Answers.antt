@@ -10,7 +10,7 @@ use Rattle.zk_jute.specs.Spelling.{spelling, Fits}
 use Rattle.zk_nodes.specs.Path.{path_of}
 use Rattle.zk_nodes.specs.History.{tree_at, view, Contents, Absence}
 use Rattle.zk_history.specs.HistoryView.{history_of, natural}
-use Rattle.zk_nodes.specs.Names.{names_of}
+use Rattle.zk_nodes.specs.inner.Names.{names_of}
 use Rattle.zk_nodes.specs.PathFault.{IsPath}
 use Rattle.zk_history.specs.Shown.{data_told, IsStat}
 use Rattle.zk_nodes.specs.StatLayout.{stat}

@@ -1,7 +1,7 @@
 -- One watch more on the list's side: what `add_watch` ensures, with `watch_more` for nodes and `child_watch_more` for children.
 use Rattle.std.proofs.Common.{ap, sym, ◌∙◌}
 use Rattle.zk_nodes.specs.Path.{path_of}
-use Rattle.zk_nodes.specs.Names.{names_of}
+use Rattle.zk_nodes.specs.inner.Names.{names_of}
 use Rattle.zk_bench.specs.inner.Serving.{watched}
 use Rattle.zk_bench.specs.Serving.{watches_of}
 use Rattle.zk_bench.specs.inner.Restoring.{with_watch, side_of}

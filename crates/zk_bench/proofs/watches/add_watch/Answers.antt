@@ -1,7 +1,7 @@
 -- The set holds one path more: `names_of-insert`, rewritten by what `from_str` ensures of the copy's bytes.
 use Rattle.std.proofs.Common.{ap, ◌∙◌}
 use Rattle.std.specs.FinSet as set
-use Rattle.zk_nodes.specs.Names.{names_of}
+use Rattle.zk_nodes.specs.inner.Names.{names_of}
 use Rattle.zk_nodes.proofs.NamesLemmas.{names_of-insert}
 use Rattle.zk_bench.proofs.watches.add_watch.Goals as goal
 

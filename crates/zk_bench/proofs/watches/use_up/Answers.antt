@@ -1,7 +1,7 @@
 -- An event of this side takes the path out (`names_of-remove`) and tells whether it was there (`contains-names_of`).
 use Rattle.std.proofs.Common.{ap, sym, ◌∙◌, ◌&&◌}
 use Rattle.std.specs.FinSet as set
-use Rattle.zk_nodes.specs.Names.{names_of}
+use Rattle.zk_nodes.specs.inner.Names.{names_of}
 use Rattle.zk_nodes.proofs.NamesLemmas.{names_of-remove, contains-names_of}
 use Rattle.zk_bench.specs.inner.Watching.{used_up}
 use Rattle.zk_bench.proofs.watches.use_up.Goals as goal

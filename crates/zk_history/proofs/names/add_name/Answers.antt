@@ -1,7 +1,7 @@
 -- A name is added to the set: what `insert` and `from_str` ensure, by `names_of-insert`.
 use Rattle.std.proofs.Common.{ap, ◌∙◌}
 use Rattle.std.specs.FinSet as set
-use Rattle.zk_nodes.specs.Names.{names_of}
+use Rattle.zk_nodes.specs.inner.Names.{names_of}
 use Rattle.zk_nodes.proofs.NamesLemmas.{names_of-insert}
 use Rattle.zk_history.proofs.names.add_name.Goals as goal
 

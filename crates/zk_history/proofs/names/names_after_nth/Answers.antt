@@ -6,7 +6,7 @@ use Rattle.std.specs.Prelude.{slice_get}
 use Rattle.zk_history.specs.declared.change.Change.{Change}
 use Rattle.zk_nodes.specs.Path.{path_of}
 use Rattle.zk_history.specs.Made.{change_of, transaction_of}
-use Rattle.zk_nodes.specs.Names.{names_of}
+use Rattle.zk_nodes.specs.inner.Names.{names_of}
 use Rattle.zk_history.specs.Versions.{names_by, nth_change}
 use Rattle.zk_history.proofs.ViewLemmas.{OnOk-map}
 use Rattle.zk_history.proofs.names.names_after_nth.Goals as goal

@@ -9,7 +9,7 @@ use Rattle.zk_history.specs.declared.version.Origin.TheVariants.{Root}
 use Rattle.zk_nodes.specs.Path.{path_of}
 use Rattle.zk_history.specs.HistoryView.{HistoryView}
 use Rattle.zk_history.specs.Made.{transaction_of}
-use Rattle.zk_nodes.specs.Names.{names_of}
+use Rattle.zk_nodes.specs.inner.Names.{names_of}
 use Rattle.zk_history.specs.Versions.{change_at, names_by, names_told}
 use Rattle.zk_history.proofs.ReplayLemmas.{walk_more}
 use Rattle.zk_history.proofs.names.names_after_versions.Goals as goal

@@ -4,7 +4,7 @@ use Rattle.std.proofs.Common.{◌≡◌, map, drop}
 use Rattle.zk_nodes.specs.Path.{path_of}
 use Rattle.zk_history.specs.HistoryView.{HistoryView}
 use Rattle.zk_history.specs.Made.{transaction_of}
-use Rattle.zk_nodes.specs.Names.{names_of}
+use Rattle.zk_nodes.specs.inner.Names.{names_of}
 use Rattle.zk_history.specs.Versions.{names_told}
 use Rattle.zk_history.proofs.names.names_after_versions.Given as goal
 

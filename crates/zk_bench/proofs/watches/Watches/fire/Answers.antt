@@ -3,7 +3,7 @@ use Rattle.std.proofs.Common.{ap, ◌∙◌, ◌&&◌, ◌||◌}
 use Rattle.std.specs.FinSet as set
 use Rattle.zk_records.specs.Events.{concerns}
 use Rattle.zk_nodes.specs.declared.side.Side.TheVariants.{Data}
-use Rattle.zk_nodes.specs.Names.{names_of}
+use Rattle.zk_nodes.specs.inner.Names.{names_of}
 use Rattle.zk_bench.specs.Serving.{watches_of}
 use Rattle.zk_bench.specs.inner.Watching.{used_up}
 use Rattle.zk_bench.proofs.Watched.{used_watches, was_watched}

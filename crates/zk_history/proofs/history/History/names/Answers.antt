@@ -7,7 +7,8 @@ use Rattle.zk_history.specs.declared.change.Transaction.{Transaction}
 use Rattle.zk_nodes.specs.History.{tree_at}
 use Rattle.zk_nodes.specs.Path.{path_of}
 use Rattle.zk_history.specs.Made.{transaction_of}
-use Rattle.zk_nodes.specs.Names.{names_of, Names}
+use Rattle.zk_nodes.specs.Names.{Names}
+use Rattle.zk_nodes.specs.inner.Names.{names_of}
 use Rattle.zk_history.specs.HistoryView.{HistoryView, history_of}
 use Rattle.zk_history.specs.Replay.{children_at}
 use Rattle.zk_history.specs.Versions.{versions_of, names_told}

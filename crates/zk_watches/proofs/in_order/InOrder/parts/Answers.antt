@@ -11,7 +11,6 @@ use Rattle.zk_watches.proofs.PartsLemmas.{so_far-fits, so_far-cut, so_far-last, 
 use Rattle.zk_watches.proofs.in_order.InOrder.parts.Goals as goal
 use Rattle.zk_watches.proofs.in_order.InOrder.parts.Goals.{then-weight-more-gt-MOST_WEIGHT+in_ok-push, else-weight-more-gt-MOST_WEIGHT}
 use Rattle.zk_watches.proofs.in_order.InOrder.parts.Goals.{then-start-count+in_ok-push-2, else-start-count}
-use Rattle.zk_limits.specs.declared.limits.TheConstants.{MOST_WEIGHT}
 
 pub loop-at-preserved : goal.loop-at-preserved
 loop-at-preserved g c =

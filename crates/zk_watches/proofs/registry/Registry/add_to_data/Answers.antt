@@ -18,6 +18,16 @@ invariant_of-self-then-branch-2 g c =
     rw (c.in_ok-add-2.ensures.ok, c.take_out-then-branch-2.ensures.rest) (sound-absent _ _ c.self.invariant (subst (λ l.
     side_has l Data c.args.text.now ≡ false → count_of l Data < MOST_PATHS) (sym c.self.view_is) c.requires.room) c.requires.short)
 
+pub invariant_of-self-then-branch-3 : goal.invariant_of-self-then-branch-3
+invariant_of-self-then-branch-3 g c =
+    rw (c.in_ok-add.ensures.ok, c.take_out.ensures.rest) (sound-there _ _ c.self.invariant (subst (λ l. side_has l Data c.args.text.now
+    ≡ false → count_of l Data < MOST_PATHS) (sym c.self.view_is) c.requires.room) c.requires.short)
+
+pub invariant_of-self-then-branch-2-2 : goal.invariant_of-self-then-branch-2-2
+invariant_of-self-then-branch-2-2 g c =
+    rw (c.in_ok-add-2.ensures.ok, c.take_out-then-branch-2.ensures.rest) (sound-absent _ _ c.self.invariant (subst (λ l.
+    side_has l Data c.args.text.now ≡ false → count_of l Data < MOST_PATHS) (sym c.self.view_is) c.requires.room) c.requires.short)
+
 pub returns-else-branch-clause-ok : goal.returns-else-branch-clause-ok
 returns-else-branch-clause-ok g c =
     let same = exist-same _ c.args.text.now c.self.invariant (not-false _ (sym c.in_ok-add.ensures.is_new ∙ c.if-branch.false)) in
