@@ -9,7 +9,8 @@ use Rattle.indexmap.specs.IndexMap.{get_by_text}
 use Rattle.zk_nodes.specs.Path.{Text}
 use Rattle.zk_nodes.specs.declared.side.Side.{Side}
 use Rattle.zk_nodes.specs.declared.side.Side.TheVariants.{Data, Child}
-use Rattle.zk_trees.specs.Trees.{aim_of, has_aim, is_member, is_side, IsIndexOf}
+use Rattle.zk_trees.specs.Trees.{aim_of, is_member, is_side}
+use Rattle.zk_trees.specs.inner.Trees.{has_aim, IsIndexOf}
 use Rattle.zk_trees.specs.declared.index.Index.{Index}
 use Rattle.zk_trees.specs.declared.member.Member.{Member}
 use Rattle.zk_trees.specs.declared.subject.NodeSide.{NodeSide}

@@ -2,7 +2,7 @@
 -- done to a tree is put together from its parts, and what becomes of the subjects is what is told.
 mod Finding
 mod Going
-pub mod Indexing
+mod Indexing
 pub mod Growing
 mod Resting
 mod Shifting

@@ -1,7 +1,6 @@
 -- Which nodes of trees are wanted, and which are let go.
-use Rattle.std.specs.Prelude.{◌≡◌, ◌&&◌, ◌||◌, not, ℕ, Bool, true, false, is_some, bytes_eq, List, [], ◌∷◌, ◌++◌, map}
-use Rattle.std.specs.List.{filter, list_any, flat_map, FoldsTo}
-use Rattle.indexmap.specs.IndexMap.{get_by_text}
+use Rattle.std.specs.Prelude.{◌≡◌, ◌&&◌, ◌||◌, not, ℕ, Bool, true, false, bytes_eq, List, [], ◌++◌, map}
+use Rattle.std.specs.List.{filter, list_any, FoldsTo}
 use Rattle.zk_nodes.specs.Path.{Text}
 use Rattle.zk_nodes.specs.declared.side.Side.{Side}
 use Rattle.zk_nodes.specs.declared.side.Side.TheVariants.{Data, Child}
@@ -9,7 +8,6 @@ use Rattle.zk_turns.specs.View.{View}
 use Rattle.zk_follow.specs.Following.{is_kept, says_none}
 use Rattle.zk_conclusions.specs.Lacks.{lacks_data, lacks_names, AreLacking, HasNoMoreNodes, HasNoPath}
 use Rattle.zk_conclusions.specs.Subtrees.{HasMoreNodes}
-use Rattle.zk_trees.specs.declared.index.Index.{Index}
 use Rattle.zk_trees.specs.declared.member.Member.{Member}
 use Rattle.zk_trees.specs.declared.subject.NodeSide.{NodeSide}
 use Rattle.zk_trees.specs.declared.wanting.Wanted.{Wanted}
@@ -26,13 +24,6 @@ aims_of subjects = map aim_of subjects
 abbrev pub aims_at : Side → List Text → List (Side × Text)
 aims_at side paths = map (λ path. (side, path)) paths
 
--- the data of a root, and the names below it
-abbrev pub root_aims : Text → List (Side × Text)
-root_aims root = (Data, root) ∷ ((Child, root) ∷ [])
-
-abbrev pub roots_aims : List Text → List (Side × Text)
-roots_aims roots = flat_map root_aims roots
-
 abbrev pub is_side : Side → Side → Bool
 is_side Data Data = true
 is_side Child Child = true
@@ -41,15 +32,6 @@ is_side side other = false
 -- whether a side of a path is that of a member
 abbrev pub is_member : {A N : Type 0} → Side × Text → List (Member A N) → Bool
 is_member aim members = list_any (λ one. is_side one.subject.side aim.0 && bytes_eq one.subject.path aim.1) members
-
--- whether a side of a path is in an index
-abbrev pub has_aim : {A : Type 0} → Index A → Side × Text → Bool
-has_aim index (Data, path) = is_some (get_by_text index.nodes path)
-has_aim index (Child, path) = is_some (get_by_text index.names path)
-
--- An index has the sides of paths that are those of members, and no other.
-abbrev pub IsIndexOf : {A N : Type 0} → Index A → List (Member A N) → Type 0
-IsIndexOf index members = (aim : Side × Text) → has_aim index aim ≡ is_member aim members
 
 -- ---- what is let go
 

@@ -6,7 +6,8 @@ ghost use Rattle.zk_nodes.specs.declared.side.Side.{Side as OneSide};
 ghost use Rattle.zk_nodes.specs.Path.{Text};
 ghost use Rattle.zk_client.specs.Clients.{view_of};
 ghost use Rattle.zk_follow.specs.Following.{is_kept, says_none};
-ghost use Rattle.zk_trees.specs.Trees.{aim_of, has_aim, is_side, IsIndexOf};
+ghost use Rattle.zk_trees.specs.Trees.{aim_of, is_side};
+ghost use Rattle.zk_trees.specs.inner.Trees.{has_aim, IsIndexOf};
 
 use crate::member::Member;
 use crate::subject::{NodeSide, is_missing};
@@ -20,7 +21,7 @@ type Paths<A> = IndexMap<String<A>, (), BuildHasherDefault<FoldHasher>, A>;
 
 /// The paths whose data members follow, and those below which they follow the names.
 #[derive(Drop)]
-pub struct Index<A: Allocator + Copy> {
+pub(crate) struct Index<A: Allocator + Copy> {
     alloc: A,
     nodes: Paths<A>,
     names: Paths<A>,
@@ -47,7 +48,7 @@ fn add_path<A: Allocator + Copy>(
 }
 
 /// An index of these members. An error means that memory ran out.
-pub fn index_of<A: Allocator + Copy, N: Drop>(
+pub(crate) fn index_of<A: Allocator + Copy, N: Drop>(
     alloc: A,
     members: &[Member<A, N>],
 ) -> Result<Index<A>, AllocError>
@@ -73,7 +74,7 @@ impl<A: Allocator + Copy> Index<A> {
     }
 
     /// Adds what a member follows. An error means that memory ran out.
-    pub fn add(&mut self, subject: &NodeSide<A>) -> Result<(), AllocError>
+    pub(crate) fn add(&mut self, subject: &NodeSide<A>) -> Result<(), AllocError>
         ensures { OnOk result ((aim : OneSide × Text) → has_aim self.new aim
             ≡ ((is_side subject.now.side aim.0 && bytes_eq subject.now.path aim.1) || has_aim self.old aim)) }
     {
@@ -93,8 +94,8 @@ impl<A: Allocator + Copy> Index<A> {
         }
     }
 
-    /// Whether a subject is not to be taken on, as [`is_settled`](crate::is_settled) tells of the members of the index.
-    pub fn is_settled(&self, client: &Client<A>, subject: &NodeSide<A>) -> bool
+    /// Whether a subject is not to be taken on: it is that of a member, or it is kept and good that there is no such node.
+    pub(crate) fn is_settled(&self, client: &Client<A>, subject: &NodeSide<A>) -> bool
         ensures { result ≡ (has_aim self.now (aim_of subject.now)
             || is_kept says_none ((view_of client.now).cache.nodes (aim_of subject.now).1)) }
     {

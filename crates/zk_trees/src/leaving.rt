@@ -1,32 +1,14 @@
-//! Which subjects are taken on no more, and which members are let go.
+//! Which members are let go.
 
 ghost use Rattle.std.specs.Prelude.{◌≡◌, IfOk};
 ghost use Rattle.std.specs.List.{filter};
 ghost use Rattle.zk_client.specs.Clients.{view_of};
-ghost use Rattle.zk_trees.specs.Trees.{aim_of, is_gone, is_member, is_settled, stays, tickets_gone};
+ghost use Rattle.zk_trees.specs.Trees.{is_gone, stays, tickets_gone};
 
 use crate::member::Member;
-use crate::subject::{NodeSide, is_missing};
+use crate::subject::is_missing;
 use std::alloc::{AllocError, Allocator};
 use zk_client::Client;
-
-/// Whether a subject is that of a member.
-fn is_member<A: Allocator + Copy, N: Drop>(subject: &NodeSide<A>, members: &[Member<A, N>]) -> bool
-    ensures { result ≡ is_member (aim_of subject.now) members.now }
-{
-    members.iter().any(|one| one.subject.is_same(subject))
-}
-
-/// Whether a subject is not to be taken on: it is that of a member, or it is kept and good that there is no such node.
-pub fn is_settled<A: Allocator + Copy, N: Drop>(
-    client: &Client<A>,
-    subject: &NodeSide<A>,
-    members: &[Member<A, N>],
-) -> bool
-    ensures { result ≡ is_settled (view_of client.now) (aim_of subject.now) members.now }
-{
-    is_member(subject, members) || is_missing(client, &subject.path)
-}
 
 /// Whether a node was found below a root, and it is kept and good that there is none.
 fn is_gone<A: Allocator + Copy, N: Drop>(client: &Client<A>, one: &Member<A, N>) -> bool
@@ -36,7 +18,7 @@ fn is_gone<A: Allocator + Copy, N: Drop>(client: &Client<A>, one: &Member<A, N>)
 }
 
 /// The tickets of the members that are gone. An error means that memory ran out.
-pub fn tickets_gone<A: Allocator + Copy, N: Drop>(
+pub(crate) fn tickets_gone<A: Allocator + Copy, N: Drop>(
     alloc: A,
     client: &Client<A>,
     members: &[Member<A, N>],
@@ -53,7 +35,7 @@ pub fn tickets_gone<A: Allocator + Copy, N: Drop>(
 }
 
 /// Takes out the members that are gone. The others stay, in their order.
-pub fn drop_gone<A: Allocator + Copy, N: Drop>(
+pub(crate) fn drop_gone<A: Allocator + Copy, N: Drop>(
     client: &Client<A>,
     members: &mut Vec<Member<A, N>, A>,
 )

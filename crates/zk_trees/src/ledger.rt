@@ -47,7 +47,8 @@ impl<A: Allocator + Copy> Ledger<A> {
     ghost use Rattle.zk_turns.specs.View.{View};
     ghost use Rattle.zk_follow.specs.declared.subject.Subject.{Subject};
     ghost use Rattle.zk_trees.specs.declared.member.Member.{Member};
-    ghost use Rattle.zk_trees.specs.Trees.{aim_of, aims_of, IsIndexOf};
+    ghost use Rattle.zk_trees.specs.Trees.{aim_of, aims_of};
+    ghost use Rattle.zk_trees.specs.inner.Trees.{IsIndexOf};
     ghost use Rattle.zk_trees.specs.Tending.{bed_of, tells, tree_told, trees_told, IsBounded, IsWhole, LetsGo, TakesOn};
     ghost use Rattle.zk_trees.specs.inner.Tending.{footing_of};
     ghost use Rattle.zk_trees.specs.Tending.{Grows, Joins, LetsAllGo, NotesBound, PlantsBed, TakesAllOn, TakesItOn, TellsWhole};

@@ -1,15 +1,15 @@
-//! What is wanted of trees.
+//! What is wanted of a tree.
 
 ghost use Rattle.std.specs.Prelude.{◌≡◌, ◌++◌, ◌∷◌, [], IfOk, OnOk};
 ghost use Rattle.zk_client.specs.Clients.{view_of};
-ghost use Rattle.zk_trees.specs.Trees.{aims_at, aims_of, roots_aims, wants_of, AreWanted, IsWanted};
+ghost use Rattle.zk_trees.specs.Trees.{aims_at, aims_of, wants_of, AreWanted, IsWanted};
 
 use crate::subject::NodeSide;
 use std::alloc::{AllocError, Allocator};
 use zk_client::{Client, Path, Side};
 use zk_conclusions::{Lacking, NoSubtree};
 
-/// What is wanted of trees, and whether one has more nodes than the most.
+/// What is wanted of a tree, and whether it has more nodes than the most.
 #[derive(Drop)]
 pub struct Wanted<A: Allocator> {
     pub subjects: Vec<NodeSide<A>, A>,
@@ -27,21 +27,6 @@ fn add_each<A: Allocator + Copy>(
 {
     for path in paths {
         subjects.push(NodeSide::of(alloc, side, path)?)?;
-    }
-    Ok(())
-}
-
-/// Adds the data of each root, and the names below it. An error means that memory ran out.
-pub fn add_roots<A: Allocator + Copy>(
-    alloc: A,
-    subjects: &mut Vec<NodeSide<A>, A>,
-    roots: &[Path<A>],
-) -> Result<(), AllocError>
-    ensures { OnOk result (aims_of subjects.new.items ≡ aims_of subjects.old.items ++ roots_aims roots.now) }
-{
-    for root in roots {
-        subjects.push(NodeSide::of(alloc, Side::Data, root)?)?;
-        subjects.push(NodeSide::of(alloc, Side::Child, root)?)?;
     }
     Ok(())
 }
@@ -80,28 +65,9 @@ fn add_wanted<A: Allocator + Copy>(
     }
 }
 
-/// What is wanted of the trees of these roots: of each what good names lead to from its root on, and that lacks something; and nothing of a
-/// tree that has more nodes than the most. An error means that memory ran out.
-pub fn wanted_of<A: Allocator + Copy>(
-    alloc: A,
-    client: &Client<A>,
-    most: u64,
-    roots: &[Path<A>],
-) -> Result<Wanted<A>, AllocError>
-    ensures { IfOk result (λ wanted. AreWanted (view_of client.now) most roots.now (wants_of wanted)) }
-{
-    let mut wanted = Wanted {
-        subjects: Vec::new(alloc),
-        is_bounded: false,
-    };
-    for root in roots {
-        add_wanted(alloc, client, most, root, &mut wanted)?;
-    }
-    Ok(wanted)
-}
-
-/// The same of one tree.
-pub(crate) fn wanted_at<A: Allocator + Copy>(
+/// What is wanted of the tree of this root: what good names lead to from the root on, and that lacks something; and nothing of a tree that
+/// has more nodes than the most. An error means that memory ran out.
+pub fn wanted_at<A: Allocator + Copy>(
     alloc: A,
     client: &Client<A>,
     most: u64,

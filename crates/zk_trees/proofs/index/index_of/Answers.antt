@@ -1,7 +1,7 @@
 -- One more member is in the index after those before it (`indexed_more`); after the loop all are (`take_all`).
 use Rattle.std.proofs.Common.{◌≤◌, List, arith, length, subst}
 use Rattle.std.proofs.lemmas.List.{take_all}
-use Rattle.zk_trees.specs.Trees.{IsIndexOf}
+use Rattle.zk_trees.specs.inner.Trees.{IsIndexOf}
 use Rattle.zk_trees.specs.declared.member.Member.{Member}
 use Rattle.zk_trees.proofs.Indexing.{indexed_more}
 use Rattle.zk_trees.proofs.index.index_of.Goals as goal

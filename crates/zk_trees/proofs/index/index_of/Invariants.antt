@@ -1,6 +1,6 @@
 -- The loop over the members: those before the index are in it, and no others; at the end these are all.
 use Rattle.std.proofs.Common.{take}
-use Rattle.zk_trees.specs.Trees.{IsIndexOf}
+use Rattle.zk_trees.specs.inner.Trees.{IsIndexOf}
 use Rattle.zk_trees.proofs.index.index_of.Given as goal
 
 -- those so far are in the index

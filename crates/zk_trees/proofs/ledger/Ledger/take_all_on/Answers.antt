@@ -3,7 +3,7 @@ use Rattle.std.proofs.Common.{List, subst, sym, ◌∙◌}
 use Rattle.std.specs.Prelude.{⊤}
 use Rattle.zk_trees.specs.Tending.{bed_of}
 use Rattle.zk_trees.specs.inner.Tending.{footing_of}
-use Rattle.zk_trees.specs.Trees.{IsIndexOf}
+use Rattle.zk_trees.specs.inner.Trees.{IsIndexOf}
 use Rattle.zk_trees.specs.declared.member.Member.{Member}
 use Rattle.zk_trees.proofs.Tending.{none_taken}
 use Rattle.zk_trees.proofs.ledger.Ledger.take_all_on.Goals as goal

@@ -2,7 +2,8 @@
 use Rattle.std.proofs.Common.{◌≡◌, take}
 use Rattle.zk_trees.specs.Tending.{bed_of, TakesAllOn}
 use Rattle.zk_trees.specs.inner.Tending.{footing_of}
-use Rattle.zk_trees.specs.Trees.{aims_of, IsIndexOf}
+use Rattle.zk_trees.specs.Trees.{aims_of}
+use Rattle.zk_trees.specs.inner.Trees.{IsIndexOf}
 use Rattle.zk_trees.proofs.ledger.Ledger.take_each_on.Given as goal
 
 -- those so far are taken on, and the client is as it was
