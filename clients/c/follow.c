@@ -6,7 +6,7 @@
  *   /config good 12 "first"     the servers' history has these data at zxid 12
  *   /config stale 13 "first"    a change was told, and the node is read again
  *   /config good 14 absent      no node is there
- *   /config unknown 14          nothing is kept: the session has expired, and another one begins, at no server that is behind */
+ *   /config unknown 14          nothing is kept: the session is over, or has expired; another one begins, at no server that is behind */
 #define _POSIX_C_SOURCE 200809L
 #include "session.h"
 #include "told.h"

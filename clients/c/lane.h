@@ -377,7 +377,7 @@ static inline void dws_bar(dws_session *s, int32_t code)
     char words[256];
     write_code(words, sizeof words, code, NULL);
     s->barred = code;
-    s->is_over = true;
+    dws_be_over(s);
     dws_finish_all(s, &s->sent, code);
     dws_finish_all(s, &s->queue, code);
     dws_cut(s, words);

@@ -11,7 +11,8 @@
  *
  * A program that was held up, or whose packets were lost, believes that it has the lock for a while after its session has expired. So hand the
  * token on with each request to what is protected, and have that refuse a token below the greatest one that it has seen. A lock that is lost,
- * since its session has expired or somebody has deleted its place, is waited for again. A lock begins as zeros. */
+ * since its session has expired or somebody has deleted its place, is waited for again; once the session is over, it is lost for good. A
+ * lock begins as zeros. */
 #ifndef DIRWOLLEU_LOCK_H
 #define DIRWOLLEU_LOCK_H
 
@@ -59,7 +60,7 @@ static inline void dws_lock_go_on(dws_session *s, dws_lock *lock);
 
 static inline void dws_lock_tell(dws_session *s, dws_lock *lock, bool is_held, int32_t why)
 {
-    bool is_news = lock->is_held != is_held || why != 0;
+    bool is_news = lock->is_held != is_held || lock->why != why;
     lock->is_held = is_held;
     lock->why = why;
     if (is_news && lock->changed != NULL) {
@@ -161,6 +162,7 @@ static inline void dws_lock_look(dws_session *s, dws_call *call)
         dws_lock_know(s, lock, place);
     } else if (call->why != 0 && !dws_lock_passes(call->why)) {
         dws_lock_tell(s, lock, false, call->why);
+        return;
     }
     lock->is_unsure = lock->is_unsure && call->why != 0;
     dws_lock_go_on(s, lock);
@@ -197,6 +199,7 @@ static inline void dws_lock_stood(dws_session *s, dws_call *call)
         dws_lock_know(s, lock, call->text);
     } else if (!lock->is_let_go && call->why != 0 && call->why != DW_CODE_NODE_EXISTS && !dws_lock_passes(call->why)) {
         dws_lock_tell(s, lock, false, call->why);
+        return;
     }
     lock->is_unsure = dws_lock_passes(call->why);
     dws_lock_go_on(s, lock);
@@ -250,7 +253,7 @@ static inline void dws_lock_judge(dws_session *s, dws_lock *lock)
     }
 }
 
-/* Does what is next. A place is lost where it is gone, or nothing is kept of it any more, as where the session has expired. */
+/* Does what is next. A place is lost where it is gone, or nothing is kept of it any more, as where the session has expired or is over. */
 static inline void dws_lock_go_on(dws_session *s, dws_lock *lock)
 {
     bool is_gone = dws_is_good(&lock->own) && lock->own.kind == DW_KEPT_ABSENT;
@@ -260,14 +263,14 @@ static inline void dws_lock_go_on(dws_session *s, dws_lock *lock)
         lock->is_unsure = is_unknown;
         dws_lock_tell(s, lock, false, lock->why);
     }
-    if (lock->is_asked || lock->is_let_go || lock->why != 0 || s->is_over) {
+    if (s->is_over || lock->is_asked || lock->is_let_go || lock->why != 0) { /* at the end who was told may have freed the lock */
         return;
     }
     if (lock->place[0] == 0 && !lock->is_unsure) {
         dws_lock_make(s, lock, true);
     } else if (!lock->is_listed) {
         dws_lock_list(s, lock);
-    } else {
+    } else if (lock->is_seen) { /* so that it is seen too when what is held is lost */
         dws_lock_judge(s, lock);
     }
 }

@@ -139,7 +139,7 @@ struct dws_call {
 
 /* A node, or the names of its children, that is read again after each change. What is kept of it: */
 struct dws_subject {
-    enum dw_mark mark;                                           /* 0 where nothing is kept: before the first read, and after an expiry */
+    enum dw_mark mark;                                           /* 0: nothing is kept, before the first read, after an expiry, at the end */
     enum dw_kept kind;                                           /* DW_KEPT_NOTHING, DW_KEPT_ABSENT, DW_KEPT_FULL */
     dw_data_stat stat;                                           /* of a node */
     char *text;                                                  /* its data, with a 0 after them */
@@ -264,8 +264,9 @@ static inline void dws_words(dws_session *s, const dws_call *call, char *room, s
 /* Frees what a call holds that is answered, or was never asked. */
 static inline void dws_release(dws_call *call);
 
-/* Follows the data of a node: `changed` is called with what is kept of it, at first and at each change of that or of its mark. DW_OK,
- * DW_NO_MEMORY, DW_NOT_TEXT, DW_NOT_PATH; where it is not DW_OK nothing is followed. */
+/* Follows the data of a node: `changed` is called with what is kept of it, at first and at each change of that or of its mark. So it is
+ * after an expiry, and when the session is over: nothing is kept then. DW_OK, DW_NO_MEMORY, DW_NOT_TEXT, DW_NOT_PATH; where it is not DW_OK
+ * nothing is followed. */
 static inline enum dw_result dws_follow(dws_session *s, dws_subject *subject, const char *path,
                                         void (*changed)(dws_session *, dws_subject *));
 
@@ -719,9 +720,17 @@ static inline int32_t dws_why_over(const dws_session *s)
 }
 
 static inline void dws_hang_up(dws_session *s);
-static inline void dws_lose_trees(dws_session *s);
+static inline void dws_lose_kept(dws_session *s);
+static inline bool dws_show_next(dws_session *s);
 
-/* Answers all calls of a session that is over. Those that were asked may have happened, where there is a connection. */
+/* Nothing more happens. What was kept is lost at once, so that no callback finds it good; it is shown when the calls are answered. */
+static inline void dws_be_over(dws_session *s)
+{
+    s->is_over = true;
+    dws_lose_kept(s);
+}
+
+/* Answers all calls of a session that is over: those that were asked may have happened, where there is a connection. Shows what is lost. */
 static inline void dws_answer_rest(dws_session *s)
 {
     if (s->is_over) {
@@ -729,6 +738,8 @@ static inline void dws_answer_rest(dws_session *s)
         dws_hang_up(s);
         dws_finish_all(s, &s->sent, may_happen ? (int32_t)DW_OUTCOME_LOST : dws_why_over(s));
         dws_finish_all(s, &s->queue, dws_why_over(s));
+        while (dws_show_next(s)) {
+        }
     }
 }
 
@@ -737,8 +748,7 @@ static inline void dws_fail(dws_session *s, enum dw_result result)
 {
     if (s->result == DW_OK) {
         s->result = result;
-        s->is_over = true;
-        dws_lose_trees(s);
+        dws_be_over(s);
         dws_hang_up(s);
         dws_tell(s, DWS_FAILED, dw_result_words(result));
     }
@@ -765,7 +775,9 @@ static inline void dws_hang_up(dws_session *s)
     if (s->beside != NULL) {
         s->beside->end(s);
     }
-    s->is_over = s->is_over || s->is_closing;
+    if (s->is_closing) {
+        dws_be_over(s);
+    }
     s->is_connecting = s->has_more = false;
     s->read_wants = s->write_wants = 0;
     s->unsent.length = 0;
@@ -962,7 +974,7 @@ static inline void dws_take_expiry(dws_session *s)
 {
     s->is_expired = s->options.is_over_at_expiry;
     s->is_over = s->is_over || s->is_expired;
-    dws_lose_trees(s);
+    dws_lose_kept(s);
     dws_hang_up(s);
     dws_tell(s, DWS_EXPIRED, "the session has expired");
     dws_finish_all(s, &s->queue, DW_OUTCOME_EXPIRED);
@@ -977,8 +989,7 @@ static inline void dws_take_state(dws_session *s, enum dw_state state)
     } else if (state == DW_STATE_EXPIRED) {
         dws_take_expiry(s);
     } else if (state == DW_STATE_CLOSED) {
-        s->is_over = true;
-        dws_lose_trees(s);
+        dws_be_over(s);
         dws_hang_up(s);
         dws_tell(s, DWS_CLOSED, "the session is closed");
     }
@@ -1154,7 +1165,7 @@ static inline void dws_resume(dws_session *s)
         tree->ticket = 0;
         dws_free_members(&tree->members);
     }
-    dws_lose_trees(s);
+    dws_lose_kept(s);
     struct dws_line rest = dws_ask_again(s, &s->sent);
     dws_hang_up(s);
     dws_tell(s, DWS_CUT, dw_result_words(DW_HALTED));
@@ -2034,9 +2045,20 @@ static inline void dws_hear_of_trees(dws_session *s)
     }
 }
 
-/* Nothing is kept any more. */
-static inline void dws_lose_trees(dws_session *s)
+/* Nothing is kept any more. Subjects of which something was are to be shown. */
+static inline void dws_lose_kept(dws_session *s)
 {
+    for (dws_subject *one = s->subjects; one != NULL; one = one->next) {
+        one->is_changed = one->is_changed || one->mark != 0;
+        one->mark = (enum dw_mark)0;
+        one->kind = DW_KEPT_NOTHING;
+        memset(&one->stat, 0, sizeof one->stat);
+        one->length = one->count = 0;
+        one->is_null = false;
+        if (one->text != NULL) {
+            one->text[0] = 0;
+        }
+    }
     for (dws_tree *tree = s->trees; tree != NULL; tree = tree->next) {
         tree->is_good = tree->must_look = false;
     }
@@ -2226,7 +2248,9 @@ static inline void dws_keep_time(dws_session *s)
     if (!s->is_over && dws_end_of_waiting(s) <= s->now_ms) {
         dws_cut(s, "an answer does not come");
     }
-    s->is_over = s->is_over || (s->is_closing && s->close.until_ms <= s->now_ms);
+    if (s->is_closing && s->close.until_ms <= s->now_ms) {
+        dws_be_over(s);
+    }
     if (s->is_dial_due && !s->is_over) {
         dws_dial(s);
     }
@@ -2626,7 +2650,7 @@ static inline dws_session *dws_open(const char *hosts, const dws_options *option
 static inline void dws_end(dws_session *s)
 {
     if (s->is_closing || !dws_is_connected(s)) {
-        s->is_over = true;
+        dws_be_over(s);
         dws_answer_rest(s);
         return;
     }

@@ -422,11 +422,19 @@ static void introduce(void)
     release_all();
 }
 
-/* Credentials that are refused end the session, and all calls. Those that are added are told to their caller. */
+static void see_mark(dws_session *s, dws_subject *subject)
+{
+    (void)s;
+    say("mark %d\n", (int)subject->mark);
+}
+
+/* Credentials that are refused end the session, all calls, and what is good. Those that are added are told to their caller. */
 static void bar(void)
 {
-    struct bytes came;
-    came.length = 0;
+    static dws_subject node;
+    struct bytes came, data;
+    came.length = data.length = 0;
+    add_data(&data, 1, 5, "one", &STAT);
     add_header(&came, -4, 0, -115);
     open_session();
     admit();
@@ -440,12 +448,15 @@ static void bar(void)
     EXPECT(dws_introduce(session, "digest", "eve:secret", 10));
     admit();
     expect_credentials("eve:secret");
-    dws_get(session, named(&get.call, "get"), "/", false);
+    EXPECT_NUMBER(DW_OK, dws_follow(session, &node, "/", see_mark));
     hear_request(1, TYPE_GET, NULL);
+    answer_at_once(&data);
+    dws_get(session, named(&get.call, "get"), "/", false);
+    hear_request(2, TYPE_GET, NULL);
     answer_at_once(&came);
     wait_for(&get.call);
     dws_exists(session, named(&last.call, "last"), "/", false);
-    expect_said("get -115\nlast -115\n");
+    expect_said("mark 1\nget -115\nmark 0\nlast -115\n");
     EXPECT(dws_is_over(session) && strchr(events, '0' + DWS_BARRED) != NULL);
     expect_words(&last.call, "the server does not take these credentials: /");
     close_all();

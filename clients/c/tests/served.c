@@ -259,14 +259,19 @@ static void hear_about(int32_t xid, int32_t type, const char *path)
     EXPECT(strcmp(asked, path) == 0);
 }
 
-static void answer_place(int32_t xid, int64_t zxid)
+static void add_place(struct bytes *came, int32_t xid, int64_t zxid)
 {
     dw_stat stat = STAT;
-    struct bytes came;
     stat.czxid = 6;
     stat.ephemeral_owner = SESSION;
+    add_data(came, xid, zxid, "", &stat);
+}
+
+static void answer_place(int32_t xid, int64_t zxid)
+{
+    struct bytes came;
     came.length = 0;
-    add_data(&came, xid, zxid, "", &stat);
+    add_place(&came, xid, zxid);
     answer_at_once(&came);
 }
 
@@ -413,6 +418,163 @@ static void refuse(int32_t xid)
     came.length = 0;
     add_header(&came, xid, 6, DW_CODE_NO_AUTH);
     answer_at_once(&came);
+}
+
+/* What a session has at its end: a lock that is held, and a node and names that are good. Each is told that it is lost, once. */
+static struct {
+    dws_lock *lock;
+    dws_subject node, names, unread;
+    bool ends, was_good;
+} owned;
+
+static void see_owned(dws_session *s, dws_subject *subject)
+{
+    say("%s %d\n", (const char *)subject->context, (int)subject->mark);
+    EXPECT(subject->mark != 0 || (subject->kind == DW_KEPT_NOTHING && subject->length == 0 && subject->count == 0));
+    if (owned.ends && subject->mark == 0) { /* what is told may end the session, and what is followed */
+        dws_end(s);
+        dws_unfollow(s, subject);
+    }
+}
+
+/* A lock that is lost at the end is freed at once. */
+static void see_owned_lock(dws_session *s, dws_lock *lock)
+{
+    say("lock %d\n", lock->is_held);
+    if (!lock->is_held) {
+        dws_lock_let_go(s, lock);
+        dws_lock_release(lock);
+        free(lock);
+        owned.lock = NULL;
+    }
+}
+
+/* Nothing is good any more when the end of the session is told. */
+static void note_end(dws_session *s, enum dws_event event, const char *server, const char *words)
+{
+    note(s, event, server, words);
+    owned.was_good = owned.was_good || (dws_is_over(s) && (dws_is_good(&owned.node) || dws_is_good(&owned.names)));
+}
+
+static void follow_owned(dws_subject *subject, const char *path)
+{
+    bool is_of_names = subject == &owned.names;
+    subject->context = (void *)(uintptr_t)(is_of_names ? "names" : path + 1);
+    EXPECT_NUMBER(DW_OK, (is_of_names ? dws_follow_children : dws_follow)(session, subject, path, see_owned));
+}
+
+/* A session that has all of it. */
+static void own(bool ends)
+{
+    char place[256];
+    dws_options options;
+    memset(&options, 0, sizeof options);
+    memset(&owned, 0, sizeof owned);
+    options.is_over_at_expiry = true;
+    open_session_with(options);
+    session->options.told = note_end;
+    owned.ends = ends;
+    owned.lock = (dws_lock *)calloc(1, sizeof *owned.lock);
+    admit();
+    EXPECT(dws_lock_take(session, owned.lock, "/l", DWS_EXCLUSIVE, "me", see_owned_lock));
+    make_place(1, "0000000002", place, sizeof place);
+    hear_about(2, TYPE_GET, place);
+    answer_place(2, 6);
+    hear_about(3, TYPE_CHILDREN, "/l");
+    answer_names(3, 6, place + 3, "note");
+    follow_owned(&owned.node, "/node");
+    hear_about(4, TYPE_GET, "/node");
+    answer_node(4);
+    follow_owned(&owned.names, "/node");
+    hear_about(5, TYPE_CHILDREN, "/node");
+    answer_names(5, 6, "a", "b");
+    turn(0);
+    follow_owned(&owned.unread, "/unread");
+    expect_said("lock 1\nnode 1\nnames 1\n");
+}
+
+/* All of it is lost. Of what was not read there is nothing to be told. */
+static void expect_nothing_owned(const char *lost)
+{
+    EXPECT(dws_is_over(session) && !owned.was_good && owned.lock == NULL);
+    EXPECT(!dws_is_good(&owned.node) && !dws_is_good(&owned.names));
+    for (int i = 0; i < SHORT_TURNS; i++) {
+        turn(i);
+    }
+    expect_said(lost);
+    close_all();
+}
+
+/* After an expiry, where no other session begins. */
+static void lose_all_at_expiry(bool ends)
+{
+    struct bytes expired;
+    own(ends);
+    end_line();
+    accept_line();
+    hear();
+    expired.length = 0;
+    add_expired(&expired);
+    answer_at_once(&expired);
+    EXPECT(has_told(DWS_EXPIRED));
+    expect_nothing_owned("names 0\nnode 0\nlock 0\n");
+}
+
+/* After a close: by the server's word, without it after a second, and a second time at once. */
+static void lose_all_at_close(bool is_answered, bool is_at_once)
+{
+    own(false);
+    turn(0);
+    dws_end(session);
+    if (is_at_once) {
+        dws_end(session);
+    } else {
+        hear_request(6, TYPE_GET, NULL);
+        hear_request(7, -11, NULL);
+    }
+    if (is_answered) {
+        answer_node(6);
+        expect_said("unread 1\n");
+        answer_nothing(7, 6);
+    }
+    for (int i = 0; !dws_is_over(session); i++) {
+        turn(i);
+    }
+    expect_nothing_owned(is_answered ? "unread 0\nnames 0\nnode 0\nlock 0\n" : "names 0\nnode 0\nlock 0\n");
+}
+
+/* Bytes come in small pieces, of which one turn takes many. */
+static ssize_t read_few(dws_wire *wire, void *room, size_t size, void *context)
+{
+    return read_counted(wire, room, size < 8 ? size : 8, context);
+}
+
+/* A lock that would be held by the last answers before the end, in one turn with it, is not told: else it would be held for ever. */
+static void close_before_a_lock(void)
+{
+    char place[256];
+    struct bytes came;
+    memset(&owned, 0, sizeof owned);
+    owned.lock = (dws_lock *)calloc(1, sizeof *owned.lock);
+    open_session();
+    admit();
+    EXPECT(dws_lock_take(session, owned.lock, "/l", DWS_EXCLUSIVE, "me", see_owned_lock));
+    make_place(1, "0000000002", place, sizeof place);
+    hear_about(2, TYPE_GET, place);
+    hear_about(3, TYPE_CHILDREN, "/l");
+    dws_end(session);
+    hear_request(4, -11, NULL);
+    session->options.read = read_few;
+    came.length = 0;
+    add_place(&came, 2, 6);
+    add_names(&came, 3, 6, place + 3, "note", &STAT);
+    add_header(&came, 4, 6, 0);
+    answer_at_once(&came);
+    expect_said("");
+    EXPECT(dws_is_over(session) && !owned.lock->is_held);
+    close_all();
+    dws_lock_release(owned.lock);
+    free(owned.lock);
 }
 
 static void take_tree(dws_session *s, dws_tree *shown)
@@ -603,6 +765,7 @@ static bool run_short(long refused_at)
     bool goes_on = !dws_is_over(session);
     EXPECT(goes_on != has_told(DWS_FAILED));
     EXPECT(!goes_on || followed != DW_OK || strcmp(node.text, "one") == 0);
+    EXPECT(goes_on || (!dws_is_good(&node) && !tree.is_good));
     EXPECT(!goes_on || planted != DW_OK || (tree.count == 1 && strcmp(tree.nodes[0].data, "one") == 0));
     EXPECT(get.why == 0 || get.why == DWS_REFUSED - DW_NO_MEMORY || !goes_on);
     EXPECT(set.why == 0 || set.why == DWS_REFUSED - DW_NO_MEMORY || set.why == DW_OUTCOME_LOST || !goes_on);
@@ -640,6 +803,12 @@ int main(int argc, char **argv)
     close_once();
     wait_for_a_lock();
     lose_a_lock();
+    lose_all_at_expiry(false);
+    lose_all_at_expiry(true);
+    lose_all_at_close(true, false);
+    lose_all_at_close(false, false);
+    lose_all_at_close(false, true);
+    close_before_a_lock();
     share_a_lock();
     refuse_nodes();
     unfollow_tree();
