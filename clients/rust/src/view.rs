@@ -38,14 +38,16 @@ impl<'a> View<'a> {
         View { engine }
     }
 
-    /// Looks up at a path of the program's, by that of the servers.
+    /// Looks up at a path of the program's, by that of the servers. Where the session is over nothing is kept, also where the machine was not
+    /// told so.
     fn at<T>(
         self,
         path: &str,
-        look: impl FnOnce(&Machine, &str) -> Result<T, Fault>,
-    ) -> Result<T, Fault> {
+        look: impl FnOnce(&Machine, &str) -> Result<Option<T>, Fault>,
+    ) -> Result<Option<T>, Fault> {
         let outer = self.engine.chroot().outer(path)?;
-        look(self.engine.machine(), &outer).map_err(|fault| fault.at(path))
+        let found = look(self.engine.machine(), &outer).map_err(|fault| fault.at(path))?;
+        Ok(found.filter(|_| !self.engine.is_over()))
     }
 }
 
@@ -146,13 +148,14 @@ impl View<'_> {
         let [nodes, parents] =
             [&nodes, &parents].map(|paths| paths.iter().map(String::as_str).collect::<Vec<_>>());
         let found = self.engine.machine().snapshot(&nodes, &parents);
-        found.map_err(|fault| match &fault {
+        let found = found.map_err(|fault| match &fault {
             Fault::NotPath { path, .. } => {
                 let inner = chroot.inner(path.clone());
                 fault.at(&inner)
             }
             _ => fault,
-        })
+        })?;
+        Ok(found.filter(|_| !self.engine.is_over()))
     }
 }
 

@@ -1,6 +1,6 @@
 //! What a session asks beside the core: transactions, ACLs, credentials, sync. At a server that does what each test says, frame by frame.
 
-use crate::jute::{Record, EXISTS, GET_DATA, PING, PONG};
+use crate::jute::{Record, EXISTS, GET_CHILDREN_2, GET_DATA, PING, PONG};
 use crate::partner::{Line, Partner};
 use dirwolleu::{
     Acl, Change, Code, Error, ErrorKind, Event, Mark, Mode, NoReply, Permissions, Request, Session,
@@ -236,6 +236,37 @@ fn credentials_that_are_refused_end_all_calls() {
     assert_eq!(session.state(), Some(State::Idle));
     std::thread::sleep(Duration::from_secs(1));
     assert_eq!(partner.dials(), 1, "it dials no more");
+}
+
+#[test]
+fn credentials_that_are_refused_end_what_is_good() {
+    let partner = Partner::start(|_, mut line| {
+        line.admit(10_000);
+        while let Some(request) = line.request() {
+            let reply = Record::reply(request.xid, 5, 0);
+            match request.kind {
+                AUTH => true,
+                GET_DATA => line.tell_data(request.xid),
+                GET_CHILDREN_2 => line.send(&reply.texts(&[]).stat(5, 0, 3, 0).framed()),
+                _ => line.refuse(AUTH_XID, Code::AUTH_FAILED.0),
+            };
+        }
+    });
+    let options = SessionOptions::new(TIMEOUT).auth("nobody", b"knows");
+    let session = options.open(partner.address).unwrap();
+    let tree = session.tree("/a").unwrap();
+    tree.wait_for(PATIENCE).unwrap();
+    assert_eq!(session.data_mark("/a"), Ok(Some(Mark::Good)));
+    assert!(tree.current().is_some());
+    let refused = session.exists("/b").unwrap_err();
+    assert_eq!(refused.code(), Some(Code::AUTH_FAILED));
+    assert_eq!(session.data_mark("/a"), Ok(None));
+    assert_eq!(session.peek_children("/a"), Ok(None));
+    let snapshot = session.snapshot(&["/a"], &["/a"]).unwrap();
+    assert!(snapshot.is_none());
+    assert_eq!((tree.current(), tree.latest().is_some()), (None, true));
+    session.renew().unwrap();
+    tree.wait_for(PATIENCE).unwrap();
 }
 
 #[test]
