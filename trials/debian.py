@@ -12,7 +12,7 @@ from provenance import PREBUILT, PROGRAM, TOP, VERSION
 LIBRARIES = "usr/lib/x86_64-linux-gnu"
 MODULES = "usr/lib/python3/dist-packages"
 # The session for C over the header, and what goes over it.
-SESSION = ("session.h", "lane.h", "lock.h")
+SESSION = ("session.h", "lane.h", "lock.h", "tls.h")
 SHELL = TOP / "crates" / PROGRAM / "out" / PROGRAM
 MAINTAINER = "Dirwolleu maintainers <maintainers@users.noreply.dirwolleu.example>"
 ABOUT = """\

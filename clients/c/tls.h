@@ -1,5 +1,5 @@
-/* TLS for session.h by OpenSSL, 1.1.1 and later: the two callbacks, tls_read and tls_write, whose context is an SSL_CTX. An example, and no part of
- * the library: link it with -lssl -lcrypto.
+/* TLS for session.h by OpenSSL, 1.1.1 and later: the two callbacks, tls_read and tls_write, whose context is an SSL_CTX. No part of the
+ * library: it wants the headers of OpenSSL, and to be linked with -lssl -lcrypto.
  *
  *     options.read = tls_read;
  *     options.write = tls_write;
@@ -7,8 +7,8 @@
  *
  * The server's certificate has to be of the name or the address that the connection string has. What the system raises at a write to a closed
  * connection, SIGPIPE, has to be ignored. */
-#ifndef TLS_H
-#define TLS_H
+#ifndef DIRWOLLEU_TLS_H
+#define DIRWOLLEU_TLS_H
 
 #include "session.h"
 
