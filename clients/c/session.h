@@ -528,27 +528,71 @@ static inline const char *words_of_path(const char *path)
     return NULL;
 }
 
-/* Ends a text that had no room for its length with two dots. */
+/* Ends a text that had no room for its length with two dots, which come after a whole character. */
 static inline void end_cut(char *room, size_t size, int length)
 {
     if (length >= 0 && (size_t)length >= size && size > 2) {
-        memcpy(room + size - 3, "..", 3);
+        size_t end = size - 3;
+        while (end > 0 && ((unsigned char)room[end] & 0xc0) == 0x80) {
+            end--;
+        }
+        strcpy(room + end, "..");
     }
+}
+
+/* How many bytes the first character of a text has; 0 where it is a control character, or no UTF-8. */
+static inline size_t length_of_shown(const char *text)
+{
+    static const uint32_t least[] = {0, ' ', 0xa0, 0x800, 0x10000};
+    unsigned char first = (unsigned char)text[0];
+    size_t length = first < 0x80 ? 1 : first < 0xc0 ? 0 : first < 0xe0 ? 2 : first < 0xf0 ? 3 : first < 0xf8 ? 4 : 0;
+    uint32_t code = length == 1 ? first : first & (0xffU >> (length + 1));
+    for (size_t i = 1; i < length; i++) {
+        unsigned char next = (unsigned char)text[i];
+        if ((next & 0xc0) != 0x80) {
+            return 0;
+        }
+        code = code << 6 | (next & 0x3f);
+    }
+    bool is_shown = code >= least[length] && code != 0x7f && code <= 0x10ffff && (code < 0xd800 || code > 0xdfff);
+    return is_shown ? length : 0;
+}
+
+/* Writes a path as messages have it, on one line: control characters and bytes that are no UTF-8 are \xNN. It gives the room back. */
+static inline const char *show_path(char *room, size_t size, const char *path)
+{
+    static const size_t most = sizeof "\\xNN" - 1; /* bytes of one character */
+    size_t length = 0;
+    while (*path != 0 && length + most + 2 < size) {
+        size_t count = length_of_shown(path);
+        if (count > 0) {
+            memcpy(room + length, path, count);
+            length += count;
+            path += count;
+        } else {
+            length += (size_t)snprintf(room + length, size - length, "\\x%02x", (unsigned)(unsigned char)*path++);
+        }
+    }
+    strcpy(room + length, *path != 0 ? ".." : "");
+    return room;
 }
 
 /* Writes a reason, with the path where it is not NULL and what to do where there is something, as far as there is room. */
 static inline void write_words(char *room, size_t size, const char *reason, const char *path, const char *advice)
 {
+    char shown[DWS_LONGEST_LINE];
     const char *before = path != NULL ? ": " : "", *after = advice[0] != 0 ? "; " : "";
-    end_cut(room, size, snprintf(room, size, "%s%s%s%s%s", reason, before, path != NULL ? path : "", after, advice));
+    path = path != NULL ? show_path(shown, sizeof shown, path) : "";
+    end_cut(room, size, snprintf(room, size, "%s%s%s%s%s", reason, before, path, after, advice));
 }
 
 /* Writes what a function of the library answered about a path, or about none where that is NULL. */
 static inline void write_result(char *room, size_t size, enum dw_result result, const char *path)
 {
     if (result == DW_NOT_PATH && path != NULL) {
-        const char *why = words_of_path(path);
-        const char *shown = path[0] != 0 ? path : "\"\"", *before = why != NULL ? ": " : "";
+        char shown[DWS_LONGEST_LINE];
+        const char *why = words_of_path(path), *before = why != NULL ? ": " : "";
+        show_path(shown, sizeof shown, path[0] != 0 ? path : "\"\"");
         end_cut(room, size, snprintf(room, size, "%s is no path%s%s", shown, before, why != NULL ? why : ""));
     } else {
         write_words(room, size, dw_result_words(result), path, advice_of_result(result));
@@ -1297,9 +1341,8 @@ static inline bool dws_read_string(dws_session *s, const char *text, char *why, 
     }
     strcpy(s->hosts_text, text);
     s->root = s->hosts_text + length + (strcmp(text + length, "/") == 0);
-    const char *reason = s->root[0] != 0 ? words_of_path(s->root) : NULL;
-    if (reason != NULL) {
-        snprintf(why, size, "%s is no path: %s", s->root, reason);
+    if (s->root[0] != 0 && words_of_path(s->root) != NULL) {
+        write_result(why, size, DW_NOT_PATH, s->root);
         return false;
     }
     return dws_read_hosts(s, length, why, size);

@@ -255,7 +255,9 @@ class Asks(Case):
             ("/a//b", "/a//b is no path: an empty name"),
             ("/a/", "/a/ is no path: an empty name"),
             ("/a/../b", "/a/../b is no path: a name that is . or .."),
-            ("/a\x7f", "/a\x7f is no path: a character that paths do not have"),
+            ("/a\x7f", "/a\\x7f is no path: a character that paths do not have"),
+            ("/a\nforged", "/a\\x0aforged is no path: a character that paths do not have"),
+            ("/\udcff", "the path is no UTF-8: /\\xff"),
             ("/\N{LATIN SMALL LETTER A WITH DIAERESIS}\ue000", "/\N{LATIN SMALL LETTER A WITH DIAERESIS}\ue000 is no path"),
         ):
             self.assertEqual(self.says(address, path), why)

@@ -379,6 +379,40 @@ static void tell_refusals(void)
     release_all();
 }
 
+/* A path is on one line of a message, whatever bytes it has. */
+static void show_paths(void)
+{
+    static const struct {
+        const char *path, *words;
+    } rows[] = {
+        {"/a\nERROR\x1b[31m", "/a\\x0aERROR\\x1b[31m is no path: a character that paths do not have"},
+        {"/\x7f", "/\\x7f is no path: a character that paths do not have"},
+        {"/\xc3\xa4\xe2\x82\xac\xf0\x9f\x98\x80/../b", "/\xc3\xa4\xe2\x82\xac\xf0\x9f\x98\x80/../b is no path: a name that is . or .."},
+        {"/a//\xff\xc3", "/a//\\xff\\xc3 is no path: an empty name"},
+        {"/a//\xc2\x85\xc2\xa0", "/a//\\xc2\\x85\xc2\xa0 is no path: an empty name"},           /* U+0085 and U+00A0 */
+        {"/a//\xc1\x81\xe0\x9f\xbf", "/a//\\xc1\\x81\\xe0\\x9f\\xbf is no path: an empty name"}, /* longer than they are to be */
+        {"/a//\xed\xa0\x80\xf4\x90\x80\x80", "/a//\\xed\\xa0\\x80\\xf4\\x90\\x80\\x80 is no path: an empty name"}, /* no characters */
+        {"", "\"\" is no path: it is empty"},
+    };
+    char why[DWS_LONGEST_LINE], large[4098], few[8];
+    for (size_t i = 0; i < sizeof rows / sizeof rows[0]; i++) {
+        write_result(why, sizeof why, DW_NOT_PATH, rows[i].path);
+        EXPECT(strcmp(why, rows[i].words) == 0);
+    }
+    write_code(why, sizeof why, DW_CODE_NO_NODE, "/a\xff");
+    EXPECT(strcmp(why, "no node: /a\\xff") == 0);
+    write_code(few, sizeof few, DW_CODE_NO_NODE, "/a"); /* there is room for seven bytes */
+    EXPECT(strcmp(few, "no no..") == 0);
+    write_result(few, sizeof few, DW_NOT_PATH, "/abc\xc3\xa4/");
+    EXPECT(strcmp(few, "/abc..") == 0);
+    memset(large, 1, sizeof large - 1);
+    large[sizeof large - 1] = 0;
+    write_code(why, sizeof why, DW_CODE_NO_NODE, large);
+    EXPECT(strlen(why) == sizeof why - 1 && strcmp(why + sizeof why - 3, "..") == 0);
+    EXPECT(dws_open("zk1/a\n", NULL, why, sizeof why) == NULL);
+    EXPECT(strcmp(why, "/a\\x0a is no path: a character that paths do not have") == 0);
+}
+
 static void expect_credentials(const char *words)
 {
     struct bytes body;
@@ -491,6 +525,7 @@ int main(int argc, char **argv)
     keep_the_order();
     give_up();
     tell_refusals();
+    show_paths();
     introduce();
     bar();
     leave_the_rest();
