@@ -80,6 +80,8 @@ impl LocalSession {
 
     /// Ends the session, with its ephemeral nodes. A session that is over already is no error.
     ///
+    /// It waits as [`Session::close`](crate::Session::close) does.
+    ///
     /// # Errors
     ///
     /// Why there is no reply: the session may or may not be over.

@@ -130,6 +130,9 @@ impl Session {
 
     /// Ends the session, with its ephemeral nodes. A session that is over already is no error.
     ///
+    /// It waits for the server's word, as a call waits for its answer; and for a second at most where no server has accepted the session, or
+    /// the connection is lost. Then it is an error, and the session is left to its timeout at the servers.
+    ///
     /// # Errors
     ///
     /// Why there is no reply: the session may or may not be over.

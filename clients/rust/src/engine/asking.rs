@@ -16,6 +16,9 @@ use std::time::{Duration, Instant};
 /// How long a call waits at least, where nothing else is said of it: as long as an attempt to connect has.
 const SHORTEST_PATIENCE: Duration = Duration::from_secs(1);
 
+/// How long a close waits at most for a server that accepts the session, which ends by its timeout all the same.
+const LONGEST_CLOSE: Duration = Duration::from_secs(1);
+
 /// When a call was asked, and when its limit comes.
 #[derive(Clone, Copy, Debug)]
 pub(crate) struct Wait {
@@ -48,10 +51,14 @@ impl Engine {
         wait
     }
 
-    /// To which moment a call waits: by its own limit, else by that of the session, else for as long as the timeout.
+    /// To which moment a call waits: by its own limit, else by that of the session, else for as long as the timeout. A close waits for no longer
+    /// than a second where no server has accepted the session.
     fn limit_of(&self, asked: &Asked) -> Moment {
         let patience = self.machine.timeout().max(SHORTEST_PATIENCE);
-        let limit = asked.limit.or(self.limit).unwrap_or(patience);
+        let mut limit = asked.limit.or(self.limit).unwrap_or(patience);
+        if matches!(asked.call, Call::Core(CoreCall::Close)) && !self.is_connected() {
+            limit = limit.min(LONGEST_CLOSE);
+        }
         let until = Instant::now().checked_add(limit);
         until.map_or(NEVER, |until| self.clock.moment_of(until))
     }

@@ -201,6 +201,20 @@ fn a_call_waits_for_a_connection_as_long_as_the_timeout() {
     assert!(took >= millis(1_490) && took < PATIENCE, "{took:?}");
 }
 
+/// With a limit that is longer, too.
+#[test]
+fn a_close_waits_a_second_for_a_connection() {
+    let options = || SessionOptions::new(PATIENCE).limit(PATIENCE);
+    let session = options().open(Hosts::default()).unwrap().shared();
+    let local = options().open_local(Hosts::default()).unwrap();
+    let begun = Instant::now();
+    for closed in [session.close(), local.close()] {
+        assert_eq!(kind_of(closed), ErrorKind::NoReply(NoReply::NotConnected));
+    }
+    let took = begun.elapsed();
+    assert!(took >= millis(1_990) && took < PATIENCE / 2, "{took:?}");
+}
+
 /// A server that ends the connection at the first request of a kind, and counts those that come.
 fn losing(kind: i32) -> (Partner, Arc<AtomicUsize>) {
     let count = Arc::new(AtomicUsize::new(0));
