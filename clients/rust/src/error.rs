@@ -150,7 +150,8 @@ pub(crate) fn refused_of_create(code: Code, path: &str) -> &str {
 /// Why a call of a [`Session`](crate::Session) does not give what was asked, and the path of the node that it was about.
 ///
 /// It prints the reason, the path, and what to do where the reason does not say it, on one line: `no node: /nope`,
-/// `/a//b is no path: an empty name`, `no server of zk1:2181 accepted the session in 3 s; last: 10.0.0.1:2181: connection refused`.
+/// `/a//b is no path: an empty name`, `no server of zk1:2181 accepted the session in 3 s; last: 10.0.0.1:2181: connection refused`. So does
+/// its `Debug`, which a `main` prints that returns it.
 ///
 /// ```no_run
 /// use dirwolleu::{Code, ErrorKind, NoReply, Session};
@@ -169,7 +170,7 @@ pub(crate) fn refused_of_create(code: Code, path: &str) -> &str {
 /// # Ok(())
 /// # }
 /// ```
-#[derive(Clone, Debug, PartialEq, Eq, Hash)]
+#[derive(Clone, PartialEq, Eq, Hash)]
 pub struct Error {
     kind: ErrorKind,
     path: Option<String>,
@@ -283,6 +284,13 @@ impl fmt::Display for Error {
             "" => Ok(()),
             advice => write!(f, "; {advice}"),
         }
+    }
+}
+
+/// The same words, so that a `main` that returns it prints them.
+impl fmt::Debug for Error {
+    fn fmt(&self, f: &mut fmt::Formatter<'_>) -> fmt::Result {
+        fmt::Display::fmt(self, f)
     }
 }
 

@@ -49,7 +49,8 @@ impl fmt::Display for UnknownNumber {
 
 impl error::Error for UnknownNumber {}
 
-/// Why a step or a look-up was not made. But for [`Fault::Halted`], nothing has happened.
+/// Why a step or a look-up was not made. But for [`Fault::Halted`], nothing has happened. Its `Debug` has the words that it prints, for a
+/// `main` that returns it.
 ///
 /// ```
 /// use dirwolleu::{Client, Fault, SavedSession};
@@ -63,7 +64,7 @@ impl error::Error for UnknownNumber {}
 /// assert_eq!(fault.to_string(), "/a//b is no path: an empty name");
 /// # Ok::<(), Fault>(())
 /// ```
-#[derive(Clone, Debug, PartialEq, Eq, Hash)]
+#[derive(Clone, PartialEq, Eq, Hash)]
 #[non_exhaustive]
 pub enum Fault {
     /// Memory ran out within a step. The client has no use any more: each later step answers the same, and nothing is kept or watched.
@@ -169,6 +170,13 @@ impl fmt::Display for Fault {
             _ if self.advice().is_empty() => f.write_str(self.reason()),
             _ => write!(f, "{}; {}", self.reason(), self.advice()),
         }
+    }
+}
+
+/// The same words, so that a `main` that returns it prints them.
+impl fmt::Debug for Fault {
+    fn fmt(&self, f: &mut fmt::Formatter<'_>) -> fmt::Result {
+        fmt::Display::fmt(self, f)
     }
 }
 

@@ -16,7 +16,7 @@ use std::fmt;
 use std::io;
 use std::time::Duration;
 
-/// Why a session was not opened.
+/// Why a session was not opened. Its `Debug` has the words that it prints, for a `main` that returns it.
 ///
 /// ```
 /// use dirwolleu::{OpenError, Session};
@@ -26,7 +26,6 @@ use std::time::Duration;
 /// assert!(matches!(refused, OpenError::Hosts(_)));
 /// assert_eq!(refused.to_string(), "'' is no HOST:PORT");
 /// ```
-#[derive(Debug)]
 #[non_exhaustive]
 pub enum OpenError {
     /// The text is no list of hosts.
@@ -44,6 +43,13 @@ impl fmt::Display for OpenError {
             OpenError::Fault(fault) => fault.fmt(f),
             OpenError::Thread(fault) => write!(f, "no thread for the session: {fault}"),
         }
+    }
+}
+
+/// The same words, so that a `main` that returns it prints them.
+impl fmt::Debug for OpenError {
+    fn fmt(&self, f: &mut fmt::Formatter<'_>) -> fmt::Result {
+        fmt::Display::fmt(self, f)
     }
 }
 

@@ -2,18 +2,21 @@
 
 use crate::server::Server;
 use dirwolleu::{Client, Hosts, Mode, Moment, Session, SessionOptions, Watch, ANY_VERSION};
-use std::fmt::Display;
+use std::fmt::{Debug, Display};
 use std::net::{IpAddr, Ipv4Addr, SocketAddr, TcpListener};
 use std::thread;
 use std::time::Duration;
 
 const TIMEOUT: Duration = Duration::from_secs(10);
 
-fn printed<T, E: Display>(outcome: Result<T, E>) -> String {
-    match outcome {
-        Ok(_) => String::from("no error"),
-        Err(error) => error.to_string(),
-    }
+/// What an error prints, also where `main` returns it.
+fn printed<T, E: Display + Debug>(outcome: Result<T, E>) -> String {
+    let Err(error) = outcome else {
+        return String::from("no error");
+    };
+    let words = error.to_string();
+    assert_eq!(format!("{error:?}"), words);
+    words
 }
 
 /// An address that nobody listens at: no system gives that port away.
