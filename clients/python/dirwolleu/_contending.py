@@ -18,6 +18,7 @@ from typing import TYPE_CHECKING, Any, Callable, Generic, NamedTuple, Optional, 
 from dirwolleu import _lane as lane
 from dirwolleu import _plans as plans
 from dirwolleu import _requests as requests
+from dirwolleu._checks import checked_path
 from dirwolleu._clock import moment
 from dirwolleu._engine import Engine, News
 from dirwolleu._library import Listing, Standing
@@ -390,7 +391,7 @@ class BaseTaker(Generic[AnyClient, AnyHeld]):
         on_lost: Optional[Callable[[AnyHeld], object]] = None,
         keeps_while_suspended: bool = False,
     ) -> None:
-        self._client, self._path, self._data = client, path, identifier.encode()
+        self._client, self._path, self._data = client, checked_path(path), identifier.encode()
         self._on_lost, self._keeps = on_lost, keeps_while_suspended
         self._entered: dict[object, list[AnyHeld]] = {}
 

@@ -434,7 +434,7 @@ class Engine(Keeping):
         self._subjects[ticket] = followed
         try:
             self._step(now, Session.follow, ticket, followed.path, followed.side)
-        except (ValueError, NoMemory) as error:
+        except Exception as error:  # whatever it is, it is of this subject alone
             self._subjects.pop(ticket, None)
             followed.refuse(error)
 
@@ -615,7 +615,7 @@ class Engine(Keeping):
         self._sent[ticket] = asked
         try:
             self._step(now, request.call, ticket, until, *request.words)
-        except (ValueError, NoMemory) as error:
+        except Exception as error:  # whatever it is, it is of this call alone
             self._sent.pop(ticket, None)
             asked.fail(error)
 
@@ -626,7 +626,7 @@ class Engine(Keeping):
                 self._session.peek_data(path)  # a ValueError where it is none
             self._frames.append(self._lane.frame(request, self._root, asked))
             asked.is_sent = True
-        except (ValueError, MemoryError, ZookeeperError) as error:
+        except Exception as error:  # as above
             asked.fail(error)
 
     def _reply(self, now: int, frame: bytes) -> bool:

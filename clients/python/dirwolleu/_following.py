@@ -14,6 +14,7 @@ from typing import Any, Callable, Generic, Optional, TypeVar, Union
 
 from dirwolleu import _library as library
 from dirwolleu import _requests as requests
+from dirwolleu._checks import checked_path
 from dirwolleu._engine import Engine, News
 from dirwolleu._followed import Followed
 from dirwolleu._plans import Plan
@@ -41,7 +42,7 @@ class Subject(Generic[Told]):
         fields: Callable[[Told], Any],
         read: Callable[[], Plan[Any]],
     ) -> None:
-        self.path, self.side = path, side
+        self.path, self.side = checked_path(path), side
         self.settled = settled
         """What is good and whole of it now, or None."""
         self.fields = fields

@@ -14,6 +14,7 @@ from collections.abc import Sequence
 from typing import Any, Callable, Generic, NamedTuple, Optional, TypeVar
 
 from dirwolleu import _jute as jute
+from dirwolleu._checks import checked_data, checked_path, checked_version
 from dirwolleu._frames import AUTH_XID, LANE_XID
 from dirwolleu._jute import Reader
 from dirwolleu._requests import Result, refusal_of
@@ -143,8 +144,10 @@ class Lane(Generic[Asker]):
         return bool(self._introduced)
 
 
-def _full(root: Root, path: str) -> bytes:
-    return jute.text(root.full(path))
+def body_of(path: str, more: bytes = b"") -> Callable[[Root], bytes]:
+    """A body that begins with the path of a node."""
+    checked_path(path)
+    return lambda root: jute.text(root.full(path)) + more
 
 
 def _nothing(*_: object) -> None:
@@ -160,7 +163,7 @@ def sync(path: str) -> LaneRequest[str]:
     return LaneRequest(
         Operation.SYNC,
         (path,),
-        lambda root: _full(root, path),
+        body_of(path),
         lambda reader, root: root.own(reader.text()),
         is_repeatable=True,
     )
@@ -170,17 +173,15 @@ def get_acls(path: str) -> LaneRequest[tuple[list[ACL], Stat]]:
     return LaneRequest(
         Operation.GET_ACL,
         (path,),
-        lambda root: _full(root, path),
+        body_of(path),
         lambda reader, _: (reader.items(reader.acl), reader.stat()),
         is_repeatable=True,
     )
 
 
 def set_acls(path: str, acls: Sequence[ACL], version: int) -> LaneRequest[Stat]:
-    spelled = jute.acls(acls) + jute.integer(version)
-    return LaneRequest(
-        Operation.SET_ACL, (path,), lambda root: _full(root, path) + spelled, lambda reader, _: reader.stat()
-    )
+    body = body_of(path, jute.acls(acls) + jute.integer(checked_version(version)))
+    return LaneRequest(Operation.SET_ACL, (path,), body, lambda reader, _: reader.stat())
 
 
 def flags_of(ephemeral: bool, sequence: bool) -> int:
@@ -191,16 +192,14 @@ def create_body(
     path: str, value: Optional[bytes], acl: Optional[Sequence[ACL]], ephemeral: bool, sequence: bool
 ) -> Callable[[Root], bytes]:
     """What a request that makes a node says, after its header."""
-    if value is not None and not isinstance(value, bytes):
-        raise TypeError(f"data are bytes or None, and not {type(value).__name__}")
     spelled = (
-        jute.buffer(value)
+        jute.buffer(checked_data(value))
         + jute.acls(OPEN_ACL_UNSAFE if acl is None else acl)
         + jute.integer(flags_of(ephemeral, sequence))
     )
     if sequence and path == "/":
         raise ValueError("the digits would be part of the root's own name")
-    return lambda root: _full(root, path) + spelled
+    return body_of(path, spelled)
 
 
 def create(

@@ -7,6 +7,7 @@ from typing import TYPE_CHECKING, Any, Optional, Union
 
 from dirwolleu import _lane as lane
 from dirwolleu import _requests as requests
+from dirwolleu._checks import checked_path
 from dirwolleu._lane import LaneRequest
 from dirwolleu._requests import Request, Result
 from dirwolleu.exceptions import NodeExistsError, NoNodeError, NotEmptyError
@@ -44,6 +45,10 @@ def create_request(path: str, value: Optional[bytes], acl: Acls, ephemeral: bool
 
 def ensure_path(path: str, acl: Acls) -> Plan[None]:
     """Makes a node and those above it, as far as they are not there."""
+    return _ensure(checked_path(path), acl)
+
+
+def _ensure(path: str, acl: Acls) -> Plan[None]:
     missing: list[str] = []
     while (yield requests.exists(path, None)) is None:
         missing.append(path)
@@ -74,9 +79,13 @@ def create(request: AnyRequest[Result], path: str, acl: Acls, makepath: bool) ->
 
 def delete(path: str, version: int, recursive: bool) -> Plan[None]:
     """Deletes a node, and all below it where `recursive` is true."""
-    if recursive:
-        return (yield from _delete_all(path, version))
-    yield requests.delete(path, version)
+    request = requests.delete(path, version)
+    return _delete_all(path, version) if recursive else _asked(request)
+
+
+def _asked(request: AnyRequest[Result]) -> Plan[Result]:
+    result: Result = yield request
+    return result
 
 
 def _delete_all(path: str, version: int) -> Plan[None]:

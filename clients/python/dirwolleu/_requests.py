@@ -5,6 +5,7 @@ from __future__ import annotations
 from typing import Any, Callable, Generic, NamedTuple, Optional, TypeVar
 
 from dirwolleu import _library as library
+from dirwolleu._checks import checked_data, checked_path, checked_version
 from dirwolleu._library import Answer, Listing
 from dirwolleu._paths import parent
 from dirwolleu._session import Action, Session
@@ -115,22 +116,21 @@ def _watcher(path: str, side: int, watch: Watch) -> Optional[Watcher]:
     return Watcher(path, side, watch) if callable(watch) else None
 
 
-def _data(value: Optional[bytes]) -> Optional[bytes]:
-    if value is not None and not isinstance(value, bytes):
-        raise TypeError(f"data are bytes or None, and not {type(value).__name__}")
-    return value
+def _read(call: Callable[..., list[Action]], path: str, side: int, watch: Watch) -> tuple[Any, ...]:
+    """What a request is made of that reads a side of a node."""
+    return call, checked_path(path), (path, bool(watch)), True, _watcher(path, side, watch)
 
 
 def exists(path: str, watch: Watch) -> Request[Optional[Stat]]:
-    return _Exists(Session.exists, path, (path, bool(watch)), True, _watcher(path, library.DATA_SIDE, watch))
+    return _Exists(*_read(Session.exists, path, library.DATA_SIDE, watch))
 
 
 def get(path: str, watch: Watch) -> Request[tuple[Optional[bytes], Stat]]:
-    return Request(Session.get_data, path, (path, bool(watch)), True, _watcher(path, library.DATA_SIDE, watch))
+    return Request(*_read(Session.get_data, path, library.DATA_SIDE, watch))
 
 
 def get_children(path: str, watch: Watch) -> Request[list[str]]:
-    return Request(Session.get_children, path, (path, bool(watch)), True, _watcher(path, library.CHILDREN_SIDE, watch))
+    return Request(*_read(Session.get_children, path, library.CHILDREN_SIDE, watch))
 
 
 class _Listing(Request[Listing]):
@@ -144,20 +144,20 @@ class _Listing(Request[Listing]):
 
 def listing(path: str) -> Request[Listing]:
     """The names of a node's children as the core takes them, which decides by them who stands first. It leaves no watch."""
-    return _Listing(Session.get_children, path, (path, False), True)
+    return _Listing(*_read(Session.get_children, path, library.CHILDREN_SIDE, None))
 
 
 def set(path: str, value: Optional[bytes], version: int) -> Request[Stat]:
-    return Request(Session.set_data, path, (path, _data(value), version))
+    return Request(Session.set_data, checked_path(path), (path, checked_data(value), checked_version(version)))
 
 
 def create(path: str, value: Optional[bytes], ephemeral: bool, sequence: bool) -> Request[str]:
     mode = (library.EPHEMERAL if ephemeral else 0) | (library.SEQUENTIAL if sequence else 0)
-    return _Create(Session.create, path, (path, _data(value), mode))
+    return _Create(Session.create, checked_path(path), (path, checked_data(value), mode))
 
 
 def delete(path: str, version: int) -> Request[None]:
-    return Request(Session.delete, path, (path, version))
+    return Request(Session.delete, checked_path(path), (path, checked_version(version)))
 
 
 def close_session() -> Request[None]:

@@ -4,6 +4,7 @@ from __future__ import annotations
 
 from typing import NamedTuple
 
+from dirwolleu._checks import checked_path
 from dirwolleu._paths import no_path
 
 
@@ -21,7 +22,8 @@ class Root(NamedTuple):
         return self.path if path == "/" else self.path + path
 
     def spell(self, path: str) -> bytes:
-        """The bytes of the servers' path of a program's path."""
+        """The bytes of the servers' path of a program's path. Raises `TypeError` where that is no text."""
+        checked_path(path)
         return (self.full(path) if self.path else path).encode()
 
     def own(self, full: str) -> str:

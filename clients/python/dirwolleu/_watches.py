@@ -6,6 +6,7 @@ import logging
 from typing import TYPE_CHECKING, Any, Callable, Generic, Optional
 
 from dirwolleu import _following as following
+from dirwolleu._checks import checked_path
 from dirwolleu._engine import News
 from dirwolleu._following import Subject, Told
 from dirwolleu._steps import Steps
@@ -23,7 +24,7 @@ class _Watch(Generic[Told]):
     """One function that is called with one subject."""
 
     def __init__(self, client: Shown, path: str, function: Optional[Function] = None) -> None:
-        self._client, self._path = client, path
+        self._client, self._path = client, checked_path(path)
         self._function: Optional[Function] = None
         self._is_wanted = True
         self._news: Optional[News] = None

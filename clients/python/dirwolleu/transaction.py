@@ -8,6 +8,7 @@ from typing import Callable, NamedTuple, Optional, Union
 
 from dirwolleu import _jute as jute
 from dirwolleu import _lane as lane
+from dirwolleu._checks import checked_data, checked_version
 from dirwolleu._jute import Malformed, Reader
 from dirwolleu._lane import LaneRequest, Operation
 from dirwolleu._plans import Acls
@@ -38,8 +39,8 @@ def _header(operation: int, is_last: bool) -> bytes:
     return jute.integer(operation) + jute.boolean(is_last) + jute.integer(-1)
 
 
-def _full(path: str, more: bytes) -> Callable[[Root], bytes]:
-    return lambda root: jute.text(root.full(path)) + more
+def _versioned(path: str, version: int, data: bytes = b"") -> Callable[[Root], bytes]:
+    return lane.body_of(path, data + jute.integer(checked_version(version)))
 
 
 class _Operations:
@@ -63,16 +64,16 @@ class _Operations:
 
     def delete(self, path: str, version: int = -1) -> None:
         """Deletes a node of this version, where -1 is any. Its result is None."""
-        self._parts.append(_Part(_DELETE, path, _full(path, jute.integer(version)), lambda *_: None))
+        self._parts.append(_Part(_DELETE, path, _versioned(path, version), lambda *_: None))
 
     def set_data(self, path: str, value: Optional[bytes], version: int = -1) -> None:
         """Sets the data of a node of this version, where -1 is any. Its result is the node's `Stat`."""
-        body = _full(path, jute.buffer(value) + jute.integer(version))
+        body = _versioned(path, version, jute.buffer(checked_data(value)))
         self._parts.append(_Part(_SET_DATA, path, body, lambda reader, _: reader.stat()))
 
     def check(self, path: str, version: int) -> None:
         """Lets the transaction happen only if the node has this version, where -1 is any. Its result is None."""
-        self._parts.append(_Part(_CHECK, path, _full(path, jute.integer(version)), lambda *_: None))
+        self._parts.append(_Part(_CHECK, path, _versioned(path, version), lambda *_: None))
 
     def __len__(self) -> int:
         return len(self._parts)

@@ -29,6 +29,7 @@ from dirwolleu import _requests as requests
 from dirwolleu._engine import MOST_HANDED, Engine
 from dirwolleu._frames import Frames, Kind, Piece, is_ping, joined
 from dirwolleu._library import DATA_SIDE, Answer, Halted, NoMemory
+from dirwolleu._plans import AnyRequest
 from dirwolleu._session import Session
 from dirwolleu.exceptions import error_of
 
@@ -62,7 +63,7 @@ class EngineTest(support.PartnerCase):
         self.engine.received(now, CONNECT_RESPONSE[:8] + struct.pack(">i", granted_ms) + CONNECT_RESPONSE[12:])
         self.engine.take_orders()
 
-    def ask(self, request: requests.Request[Any], timeout: Optional[float] = None, now: int = 200) -> Future:
+    def ask(self, request: AnyRequest[Any], timeout: Optional[float] = None, now: int = 200) -> Future:
         waiter: Future = Future()
         self.engine.ask(now, request, waiter, timeout)
         self.engine.take_handed(now)
@@ -286,6 +287,22 @@ class EngineTest(support.PartnerCase):
         with self.raises(NoMemory, None):
             refused.result(0)
         self.assertIs(self.engine.state, State.CONNECTED)
+
+    def test_whatever_fails_at_a_call_is_told_to_its_caller_alone(self) -> None:
+        def fail(_: object) -> bytes:
+            raise error
+
+        lived = self.ask(requests.get("/a", None))
+        for error in (TypeError("wrong"), AttributeError("none"), OverflowError("much"), RuntimeError("other")):
+            with mock.patch.object(Session, "get_data", side_effect=error):
+                failed = [self.ask(requests.get("/b", None))]
+            failed.append(self.ask(lane.LaneRequest(lane.Operation.SYNC, ("/b",), fail, fail)))
+            for call in failed:
+                with self.raises(type(error), None):
+                    call.result(0)
+        self.assertEqual((len(self.engine._sent), len(self.engine._lane), self.engine.state), (1, 0, State.CONNECTED))
+        self.engine.received(300, reply(1, 9, 0, buffer(b"one") + STAT_BYTES))
+        self.assertEqual(lived.result(0), (b"one", STAT))
 
     def test_a_session_that_has_moved_leaves_the_connection(self) -> None:
         moved = self.ask(requests.get("/a", None))

@@ -1,0 +1,109 @@
+"""Tests of what is no value for a call: it is told at once, in the thread that calls, and the client goes on."""
+
+from __future__ import annotations
+
+import unittest
+from typing import Any, Callable
+
+from both import AioCase, BothCase
+from support import WAIT
+
+Row = tuple[Callable[[], Any], str]
+
+NO_PATHS = (None, b"/x", 5)
+OF_A_PATH = (
+    "get", "exists", "get_children", "create", "create2", "delete", "ensure_path", "sync", "get_acls", "kept", "kept_children",
+    "tree", "DataWatch", "get_async", "exists_async", "get_children_async", "create_async", "create2_async", "delete_async",
+    "ensure_path_async", "sync_async", "get_acls_async",
+)  # fmt: skip
+"""The functions of a client that can be called with a path alone."""
+WITH_VERSIONS: tuple[tuple[str, tuple[Any, ...]], ...] = (
+    ("set", (b"x",)), ("delete", ()), ("set_acls", ([],)), ("set_async", (b"x",)), ("delete_async", ()), ("set_acls_async", ([],)),
+)  # fmt: skip
+"""The functions of a client that take a version last, with what is before that."""
+RECIPES = ("Lock", "ReadLock", "Semaphore", "Election", "Registration")
+
+
+class CheckRules(BothCase):
+    """One client for threads, and the same of asyncio below."""
+
+    def setUp(self) -> None:
+        super().setUp()
+        self.one = self.client(self.partner().host)
+
+    def refused(self, kind: type[BaseException], *rows: Row) -> None:
+        """Each call raises an error of exactly this class and these words, and the client answers the next call."""
+        for call, words in rows:
+            with self.subTest(words=words):
+                with self.assertRaises(kind) as caught:
+                    call()
+                self.assertEqual((type(caught.exception), str(caught.exception)), (kind, words))
+        self.assertIsNone(self.one.exists("/none", timeout=WAIT))
+        self.assertEqual((self.one.stats().waiting, self.one.stats().in_flight), (0, 0))
+
+    def test_a_path_is_a_str(self) -> None:
+        for path in NO_PATHS:
+            words, transaction = f"a path is a str, and not {type(path).__name__}", self.one.transaction()
+            calls = [*(getattr(self.one, name) for name in OF_A_PATH), transaction.create, transaction.delete]
+            self.refused(TypeError, *((lambda call=call: call(path), words) for call in calls))
+            recipes = (lambda name=name: self.recipe(name, self.one, path) for name in RECIPES)
+            self.refused(TypeError, *((call, words) for call in recipes))
+            self.refused(
+                TypeError,
+                (lambda: self.one.set(path, b""), words),
+                (lambda: self.one.set_acls(path, []), words),
+                (lambda: self.one.delete(path, recursive=True), words),
+                (lambda: self.one.delete_async(path, recursive=True), words),
+                (lambda: self.one.snapshot(["/a", path]), words),
+                (lambda: transaction.check(path, 1), words),
+                (lambda: transaction.set_data(path, b""), words),
+                (lambda: self.recipe("Barrier", self.one, path).wait(), words),
+                (lambda: self.recipe("DoubleBarrier", self.one, path, 2), words),
+                (lambda: self.recipe("Counter", self.one, path).get(), words),
+                (lambda: self.recipe("Queue", self.one, path).get(), words),
+            )
+
+    def test_a_version_is_an_int(self) -> None:
+        for version in ("1", 1.0, None):
+            words, transaction = f"a version is an int, and not {type(version).__name__}", self.one.transaction()
+            calls = ((getattr(self.one, name), before) for name, before in WITH_VERSIONS)
+            self.refused(TypeError, *((lambda call=call, before=before: call("/", *before, version), words) for call, before in calls))
+            self.refused(
+                TypeError,
+                (lambda: self.one.delete("/a", version, recursive=True), words),
+                (lambda: transaction.check("/", version), words),
+                (lambda: transaction.delete("/", version), words),
+                (lambda: transaction.set_data("/", b"", version), words),
+            )
+
+    def test_data_are_bytes_or_none(self) -> None:
+        words = "data are bytes or None, and not str"
+        calls = (self.one.set, self.one.set_async, self.one.create, self.one.create_async, self.one.create2, self.one.transaction().set_data)
+        self.refused(TypeError, *((lambda call=call: call("/a", "text"), words) for call in calls))
+
+
+class ThreadsTest(CheckRules):
+    def test_what_is_followed_is_a_path(self) -> None:
+        self.refused(
+            TypeError,
+            (lambda: self.one.follow(None), "a path is a str, and not NoneType"),
+            (lambda: self.one.follow_children(b"/a"), "a path is a str, and not bytes"),
+        )
+
+
+class AioTest(AioCase, CheckRules):
+    def test_what_is_followed_is_a_path(self) -> None:
+        self.refused(
+            TypeError,
+            (lambda: self.one._call(self.one._made.follow(None).__anext__), "a path is a str, and not NoneType"),
+            (lambda: self.one._call(self.one._made.follow_children(b"/a").__anext__), "a path is a str, and not bytes"),
+        )
+
+
+def load_tests(loader: unittest.TestLoader, *_: Any) -> unittest.TestSuite:
+    """The rules are no test by themselves."""
+    return unittest.TestSuite(loader.loadTestsFromTestCase(one) for one in (ThreadsTest, AioTest))
+
+
+if __name__ == "__main__":
+    unittest.main()
