@@ -23,7 +23,14 @@ def checked_data(value: Optional[bytes]) -> Optional[bytes]:
 
 
 def checked_version(version: int) -> int:
-    """The version of a node. Raises `TypeError`."""
-    if not isinstance(version, int):
-        raise TypeError(f"a version is an int, and not {type(version).__name__}")
-    return version
+    """The version of a node. Raises `TypeError` and `ValueError`."""
+    return checked_int("a version", version)
+
+
+def checked_int(what: str, number: int, bits: int = 32) -> int:
+    """A number that fits into these bits: a larger one would be taken as another. Raises `TypeError` and `ValueError`."""
+    if not isinstance(number, int):
+        raise TypeError(f"{what} is an int, and not {type(number).__name__}")
+    if not -(1 << bits - 1) <= number < 1 << bits - 1:
+        raise ValueError(f"{number} does not fit into {bits} bits")
+    return number

@@ -125,9 +125,9 @@ class Engine(Keeping):
         credentials: Iterable[Credential] = (),
     ) -> None:
         super().__init__()
-        self._timeout_ms = int(timeout * 1000)
-        if not 0 < self._timeout_ms <= _LONGEST_TIMEOUT_MS:
+        if not 0.001 <= timeout <= _LONGEST_TIMEOUT_MS / 1000:
             raise ValueError(f"a timeout is 0.001 to {_LONGEST_TIMEOUT_MS / 1000} seconds")
+        self._timeout_ms = int(timeout * 1000)
         self._root, self._count, self._tell = root, 0, tell
         self._session = self._new_session(saved)
         self._granted_ms = self._session.timeout_ms()

@@ -6,6 +6,7 @@ import struct
 from collections.abc import Iterable
 from typing import Callable, Optional, TypeVar
 
+from dirwolleu._checks import checked_int
 from dirwolleu.security import ACL, Id
 from dirwolleu.types import Stat
 
@@ -18,10 +19,7 @@ class Malformed(Exception):
 
 
 def integer(value: int) -> bytes:
-    try:
-        return struct.pack(">i", value)
-    except struct.error:
-        raise ValueError(f"{value} does not fit into 32 bits") from None
+    return struct.pack(">i", checked_int("a number", value))
 
 
 def boolean(value: bool) -> bytes:

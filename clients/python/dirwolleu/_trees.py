@@ -6,6 +6,7 @@ from collections.abc import AsyncGenerator, Generator
 from types import TracebackType
 from typing import Any, Callable, Optional, Protocol
 
+from dirwolleu._checks import checked_int
 from dirwolleu._engine import Engine, News
 from dirwolleu._growing import Growing
 from dirwolleu._steps import Steps, TimeIsOver, Wait, bounded, until_of
@@ -21,7 +22,7 @@ class _Grown:
     """A tree of one client, and those who wait for its snapshots."""
 
     def __init__(self, engine: Engine, path: str, most: int) -> None:
-        if most < 1:
+        if checked_int("the bound of a tree", most, 64) < 1:
             raise ValueError("a tree has one node at least")
         engine.kept(path)  # a ValueError where it is no path
         self._engine = engine

@@ -2,11 +2,14 @@
 
 from __future__ import annotations
 
+import math
 import unittest
 from typing import Any, Callable
 
 from both import AioCase, BothCase
 from support import WAIT
+
+from dirwolleu import BadVersionError
 
 Row = tuple[Callable[[], Any], str]
 
@@ -75,6 +78,39 @@ class CheckRules(BothCase):
                 (lambda: transaction.delete("/", version), words),
                 (lambda: transaction.set_data("/", b"", version), words),
             )
+
+    def test_a_version_fits_into_32_bits(self) -> None:
+        """Else it would be sent as another one: 2^32 as 0, which is that of the node, and 2^32 - 1 as any."""
+        self.one.create("/v", b"one")
+        for version in (2**31, 2**32, 2**32 - 1, 2**33 + 2, -(2**31) - 1):
+            words, transaction = f"{version} does not fit into 32 bits", self.one.transaction()
+            calls = ((getattr(self.one, name), before) for name, before in WITH_VERSIONS)
+            self.refused(ValueError, *((lambda call=call, before=before: call("/v", *before, version), words) for call, before in calls))
+            self.refused(
+                ValueError,
+                (lambda: self.one.delete("/v", version, recursive=True), words),
+                (lambda: transaction.check("/v", version), words),
+                (lambda: transaction.delete("/v", version), words),
+                (lambda: transaction.set_data("/v", b"", version), words),
+            )
+        for version in (2**31 - 1, -(2**31)):
+            with self.raises(BadVersionError, -103):
+                self.one.set("/v", b"two", version)
+        self.assertEqual(self.one.get("/v")[0], b"one")
+
+    def test_the_bound_of_a_tree_is_an_int(self) -> None:
+        for most, kind, words in (
+            (2.5, TypeError, "the bound of a tree is an int, and not float"),
+            (0, ValueError, "a tree has one node at least"),
+            (2**64 + 3, ValueError, f"{2**64 + 3} does not fit into 64 bits"),
+        ):
+            self.refused(kind, (lambda most=most: self.one.tree("/", most=most), words))
+
+    def test_a_timeout_is_a_number_of_seconds(self) -> None:
+        words = "a timeout is 0.001 to 2147483.647 seconds"
+        for timeout in (math.inf, math.nan, -math.inf, 0, 0.0001, 2147483.648):
+            self.refused(ValueError, (lambda timeout=timeout: self.made(lambda: self.module().Client("a", timeout)), words))
+        self.assertIsNone(self.one.exists("/none", timeout=math.inf))
 
     def test_data_are_bytes_or_none(self) -> None:
         words = "data are bytes or None, and not str"

@@ -93,7 +93,7 @@ class ShellTest(PartnerCase):
             self.assertEqual((status, printed, said.count("\n")), (1, "", 1))
         for wrong in (
             ("nonsense", "/"), ("get",), ("get", "no-path"), ("--hosts", "a:x", "get", "/"), ("set", "/"),
-            ("set", "/", "--file", "/none"), ("--ca", "/none", "get", "/"),
+            ("set", "/", "--file", "/none"), ("--ca", "/none", "get", "/"), ("set", "/", "x", "--version", "4294967296"),
         ):  # fmt: skip
             status, printed, said = self.run_words(partner, *wrong)
             self.assertEqual((status, printed, bool(said)), (2, "", True))
