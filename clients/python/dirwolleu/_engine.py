@@ -363,10 +363,18 @@ class Engine(Keeping):
         """
         self.check_process()
         ends_at = None if timeout is None else now + int(min(max(timeout, 0) * 1000, _LONGEST_TIMEOUT_MS))
-        self._handed.append(Asked(request, waiter, now + self._timeout_ms, ends_at))
-        if not self.is_running:
+        if not self.is_running or not self._is_handed_in(Asked(request, waiter, now + self._timeout_ms, ends_at)):
             waiter.cancel()
             raise ConnectionClosedError("the client is not started")
+
+    def _is_handed_in(self, asked: Asked) -> bool:
+        """Hands a request in, and answers whether somebody takes it: an end that comes after it looks finds the request, and refuses it."""
+        self._handed.append(asked)
+        if self.is_running:
+            return True
+        with contextlib.suppress(ValueError):  # the end has found it
+            self._handed.remove(asked)
+        return False
 
     def take_handed(self, now: int) -> None:
         """Takes the requests that were handed in."""

@@ -3,6 +3,7 @@
 from __future__ import annotations
 
 import concurrent.futures
+import contextlib
 import struct
 import unittest
 from typing import Any, Callable, Optional
@@ -303,6 +304,20 @@ class EngineTest(support.PartnerCase):
         self.assertEqual((len(self.engine._sent), len(self.engine._lane), self.engine.state), (1, 0, State.CONNECTED))
         self.engine.received(300, reply(1, 9, 0, buffer(b"one") + STAT_BYTES))
         self.assertEqual(lived.result(0), (b"one", STAT))
+
+    def test_what_is_asked_of_a_client_that_does_not_run_is_kept_nowhere(self) -> None:
+        """Also where it ends while it is asked: the request is in then, and it is left by its end or taken back."""
+        running = mock.PropertyMock(side_effect=[True, False])
+        for ends_within in (False, True):
+            self.engine.end()
+            self.assertEqual(self.engine.stats().waiting, 0)
+            waiter: Future = Future()
+            with contextlib.ExitStack() as stack:
+                if ends_within:
+                    stack.enter_context(mock.patch.object(Engine, "is_running", running, create=True))
+                with self.raises(ConnectionClosedError, None):
+                    self.engine.ask(200, requests.get("/a", None), waiter)
+            self.assertEqual((self.engine.stats().waiting, waiter.cancelled()), (0, True))
 
     def test_a_session_that_has_moved_leaves_the_connection(self) -> None:
         moved = self.ask(requests.get("/a", None))
