@@ -240,7 +240,7 @@ class Counter(BaseCounter["Client", Number]):
         return await self._client._drive(self._getting())
 
     async def add(self, number: Number) -> Number:
-        """Adds a number, and answers what it comes to."""
+        """Adds a number, and answers what it comes to, as `add` of `dirwolleu.Counter` does."""
         return await self.change(lambda current: cast(Number, current + number))
 
     async def change(self, function: Callable[[Number], Number]) -> Number:

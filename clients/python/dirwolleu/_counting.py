@@ -44,10 +44,16 @@ class BaseCounter(Generic[AnyClient, Number]):
         """Changes what the node has, again where another one was first."""
         while True:
             number, version = yield from patiently(self._client._engine, self._read)
-            changed = change(number)
-            spelled = repr(type(self._default)(changed)).encode()
-            if (yield from self._is_set(spelled, version)):
+            changed = self._own(change(number))
+            if (yield from self._is_set(repr(changed).encode(), version)):
                 return changed
+
+    def _own(self, number: Any) -> Number:
+        """The number as the node has it. Raises `TypeError` where it is of another type: an int alone is a float too."""
+        kind = type(self._default)
+        if not isinstance(number, (kind, int) if kind is float else kind):
+            raise TypeError(f"the counter {self._path} is of {kind.__name__}, and {number!r} is none")
+        return kind(number)
 
     def _is_set(self, spelled: bytes, version: int) -> Steps[bool]:
         """Whether the data of this version were changed. Raises an error that says so where that can't be found out."""

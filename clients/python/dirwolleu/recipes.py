@@ -326,13 +326,13 @@ class Counter(BaseCounter[Client, Number]):
         return self._client._drive(self._getting())
 
     def add(self, number: Number) -> Number:
-        """Adds a number, and answers what it comes to."""
+        """Adds a number, and answers what it comes to. Raises `TypeError`, and changes nothing, where a counter of ints would have no int."""
         return self.change(lambda current: cast(Number, current + number))
 
     def change(self, function: Callable[[Number], Number]) -> Number:
         """Sets the number to what a function makes of it, and answers that.
 
-        The function is called again where another client was first.
+        The function is called again where another client was first. Raises `TypeError` as `add` does.
         """
         return self._client._drive(self._changing(function))
 

@@ -186,6 +186,21 @@ class SharingRules(BothCase):
         with self.assertRaises(ValueError):
             counter.get()
 
+    def test_a_counter_answers_what_its_node_has(self) -> None:
+        counter, share = self.recipe("Counter", self.one, "/count", 1), self.recipe("Counter", self.one, "/share", 0.5)
+        for own, change, words in (
+            (counter, lambda number: number + 1.5, "the counter /count is of int, and 2.5 is none"),
+            (counter, lambda number: None, "the counter /count is of int, and None is none"),
+            (share, lambda number: "1.5", "the counter /share is of float, and '1.5' is none"),
+        ):
+            with self.assertRaises(TypeError) as caught:
+                own.change(change)
+            self.assertEqual(str(caught.exception), words)
+        self.assertEqual([self.one.get(path)[0] for path in ("/count", "/share")], [b"", b""])
+        told = [counter.add(True), share.add(1), share.change(lambda _: 3)]
+        self.assertEqual(list(map(repr, told)), ["2", "1.5", "3.0"])
+        self.assertEqual([self.one.get(path)[0] for path in ("/count", "/share")], [b"2", b"3.0"])
+
     def test_many_change_a_counter(self) -> None:
         def work(client: Any) -> None:
             for _ in range(10):
