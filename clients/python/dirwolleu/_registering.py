@@ -7,6 +7,7 @@ from typing import Any, Generic, Optional, Protocol
 
 from dirwolleu import _plans as plans
 from dirwolleu import _requests as requests
+from dirwolleu._checks import checked_data
 from dirwolleu._contending import BETWEEN_TRIES, AnyClient, patiently, release
 from dirwolleu._engine import News
 from dirwolleu._plans import Plan
@@ -29,7 +30,7 @@ class BaseRegistration(Generic[AnyClient]):
     """A registration, for both kinds of clients."""
 
     def __init__(self, client: AnyClient, path: str, value: bytes, is_there: Event) -> None:
-        self._client, self._path, self._value = client, path, value
+        self._client, self._path, self._value = client, path, checked_data(value)
         self._there, self._is_wanted = is_there, True
         self._news: Optional[News] = None
         client._engine.kept(path)  # a ValueError where it is no path
@@ -96,7 +97,7 @@ class BaseRegistration(Generic[AnyClient]):
                 pass
 
     def _setting(self, value: bytes) -> Plan[None]:
-        self._value = value
+        self._value = checked_data(value)
         try:
             yield requests.set(self._path, value, -1)
         except ZookeeperError as error:

@@ -116,6 +116,16 @@ class CheckRules(BothCase):
         words = "data are bytes or None, and not str"
         calls = (self.one.set, self.one.set_async, self.one.create, self.one.create_async, self.one.create2, self.one.transaction().set_data)
         self.refused(TypeError, *((lambda call=call: call("/a", "text"), words) for call in calls))
+        registration = self.recipe("Registration", self.one, "/workers/one", b"first")
+        self.assertTrue(registration.wait(WAIT))
+        self.refused(
+            TypeError,
+            (lambda: self.recipe("Registration", self.one, "/workers/other", "text"), words),
+            (lambda: registration.set("text"), words),
+            (lambda: self.recipe("Queue", self.one, "/queue").put("text"), words),
+        )
+        registration.set(b"second")
+        self.assertEqual(self.one.get("/workers/one")[0], b"second")
 
 
 class ThreadsTest(CheckRules):
