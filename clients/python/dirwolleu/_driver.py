@@ -34,6 +34,8 @@ def _words_of(error: Optional[BaseException]) -> str:
             words = os.strerror(error.errno)
             return words[:1].lower() + words[1:]
         return str(error.strerror)  # of a name that was looked up
+    if isinstance(error, ConnectionError) and not str(error):  # asyncio's of TLS has no number and no words
+        return "the server ended the connection within the TLS handshake"
     return str(error or "no connection in time")
 
 

@@ -14,7 +14,7 @@ import threading
 import unittest
 from typing import Optional
 
-from support import TIMEOUT, WAIT, Partner, PartnerCase, within
+from support import TIMEOUT, WAIT, Partner, PartnerCase, Peer, within
 
 from dirwolleu import Client, ConnectionClosedError, State, aio, tls_context
 
@@ -182,6 +182,18 @@ class TlsTest(PartnerCase):
         client = self.client(self.partner().port, tls_context(ca=self.authority.certificate))
         with self.assertRaises(TimeoutError):
             client.start(1.5)
+
+    def test_a_server_that_ends_the_handshake_is_told(self) -> None:
+        server = self.raw_server(hear_hello)
+        client = Client(server.host, TIMEOUT, ssl=tls_context(ca=self.authority.certificate))
+        self.addCleanup(client.close)
+        self.start_fails(client, f"last: {server.host}: the server ended the connection within the TLS handshake$")
+
+
+def hear_hello(peer: Peer) -> None:
+    """Reads the first record of TLS."""
+    head = peer._take(5)
+    peer._take(int.from_bytes(head[3:], "big"))
 
 
 if __name__ == "__main__":
