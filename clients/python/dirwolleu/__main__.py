@@ -241,7 +241,7 @@ def parser() -> argparse.ArgumentParser:
 def _read(chosen: argparse.Namespace) -> None:
     """Reads what files have that the words name, before a server is asked."""
     try:
-        if chosen.ca or chosen.cert:
+        if chosen.ca or chosen.cert or chosen.key:
             chosen.tls = tls_context(ca=chosen.ca, certfile=chosen.cert, keyfile=chosen.key)
         if getattr(chosen, "file", None) is not None:
             with open(0 if chosen.file == "-" else chosen.file, "rb", closefd=chosen.file != "-") as file:
@@ -251,8 +251,8 @@ def _read(chosen: argparse.Namespace) -> None:
                 raise NoFile("TEXT or --file is wanted")
             chosen.value = os.fsencode(chosen.data)
     except OSError as error:
-        named = error.filename or chosen.ca or chosen.cert
-        raise NoFile(f"{named}: {error.strerror or error}") from error
+        named = f"{error.filename}: " if error.filename is not None else ""
+        raise NoFile(f"{named}{error.strerror or error}") from error
 
 
 def _client(chosen: argparse.Namespace) -> Client:

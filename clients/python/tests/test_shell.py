@@ -97,6 +97,12 @@ class ShellTest(PartnerCase):
         ):  # fmt: skip
             status, printed, said = self.run_words(partner, *wrong)
             self.assertEqual((status, printed, bool(said)), (2, "", True))
+        for wrong, words in (
+            (("--ca", "/none"), "get: /none: No such file or directory"), (("--ca", __file__), f"get: {__file__}: "),
+            (("--key", "/none"), "get: the key /none wants its certificate"), (("--cert", "/none"), "get: /none: No such file or directory"),
+        ):  # fmt: skip
+            status, printed, said = self.run_words(partner, *wrong, "get", "/")
+            self.assertEqual((status, printed, said[: len(words)], said.count("\n")), (2, "", words, 1))
         partner.do("down")
         status, printed, said = self.run_words(partner, "--timeout", "0.5", "get", "/")
         self.assertEqual((status, printed), (3, ""))

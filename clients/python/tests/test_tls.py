@@ -17,6 +17,7 @@ from typing import Optional
 from support import TIMEOUT, WAIT, Partner, PartnerCase, Peer, within
 
 from dirwolleu import Client, ConnectionClosedError, State, aio, tls_context
+from dirwolleu.kazoo._checks import own_key
 
 
 class Authority:
@@ -182,6 +183,27 @@ class TlsTest(PartnerCase):
         client = self.client(self.partner().port, tls_context(ca=self.authority.certificate))
         with self.assertRaises(TimeoutError):
             client.start(1.5)
+
+    def test_an_error_names_the_file(self) -> None:
+        certificate, key = self.own
+        folder = pathlib.Path(key).parent
+        none, garbage = str(folder / "none.pem"), str(folder / "garbage.pem")
+        pathlib.Path(garbage).write_text("no certificate")
+        for named, kind, words in (
+            ({"ca": none}, FileNotFoundError, none),
+            ({"ca": str(folder)}, IsADirectoryError, str(folder)),
+            ({"ca": garbage}, ssl.SSLError, f"{garbage}: "),
+            ({"certfile": none, "keyfile": key}, FileNotFoundError, none),
+            ({"certfile": certificate, "keyfile": none}, FileNotFoundError, none),
+            ({"certfile": garbage}, ssl.SSLError, f"{garbage}: "),
+            ({"certfile": certificate, "keyfile": garbage}, ssl.SSLError, f"{certificate}, {garbage}: "),
+            ({"keyfile": key}, ValueError, f"the key {key} wants its certificate: name it by certfile"),
+        ):
+            with self.subTest(named=named), self.assertRaises(kind) as caught:
+                tls_context(**named)
+            self.assertIs(type(caught.exception), kind)
+            self.assertIn(words, str(caught.exception))
+        self.assertIsNone(own_key(None, key))  # as kazoo
 
     def test_a_server_that_ends_the_handshake_is_told(self) -> None:
         server = self.raw_server(hear_hello)

@@ -40,3 +40,8 @@ def check_flags(**flags: object) -> None:
 def own_acls(acls: Acls) -> Acls:
     """The ACL as dirwolleu takes it: None for the open one, so that the proved core makes the node."""
     return None if not acls or list(acls) == OPEN_ACL_UNSAFE else acls
+
+
+def own_key(certfile: Optional[str], keyfile: Optional[str]) -> Optional[str]:
+    """The key as dirwolleu takes it. kazoo heeds none that has no certificate."""
+    return None if certfile is None else keyfile

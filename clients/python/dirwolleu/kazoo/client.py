@@ -25,7 +25,7 @@ from dirwolleu._plans import AnyRequest, Plan
 from dirwolleu._requests import Request
 from dirwolleu._root import Root
 from dirwolleu._shown import credential_of
-from dirwolleu.kazoo._checks import Acls, check, check_acls, check_flags, check_watch, checked_path, own_acls
+from dirwolleu.kazoo._checks import Acls, check, check_acls, check_flags, check_watch, checked_path, own_acls, own_key
 from dirwolleu.kazoo._session import PASSWORD_LENGTH, Ask, Identity, Session, Told
 from dirwolleu.kazoo._transaction import TransactionRequest
 from dirwolleu.kazoo.exceptions import (
@@ -414,7 +414,7 @@ class KazooClient:
         return tls_context(
             ca=self.ca,
             certfile=self.certfile,
-            keyfile=self.keyfile,
+            keyfile=own_key(self.certfile, self.keyfile),
             keyfile_password=self.keyfile_password,
             verify_certs=self.verify_certs,
             check_hostname=False,  # as kazoo

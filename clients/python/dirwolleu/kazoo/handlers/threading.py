@@ -12,6 +12,7 @@ from typing import Any, Callable, Optional
 
 from dirwolleu import _ending as ending
 from dirwolleu.kazoo.protocol.states import Callback
+from dirwolleu.kazoo._checks import own_key
 from dirwolleu.tls import tls_context
 
 log = logging.getLogger(__name__)
@@ -225,7 +226,7 @@ class SequentialThreadingHandler:
         context = tls_context(
             ca=ca,
             certfile=certfile,
-            keyfile=keyfile,
+            keyfile=own_key(certfile, keyfile),
             keyfile_password=keyfile_password,
             verify_certs=verify_certs,
             check_hostname=False,
