@@ -35,9 +35,10 @@ def shown(path: str) -> str:
 
 
 def no_path(path: str, full: str = "") -> ValueError:
-    """What is raised for a program's text that is no path, or whose servers' path is none."""
+    """What is raised for a program's text that is no path, or whose servers' path is none. Where `/` has none, it is the root that is none."""
     why = why_no_path(path) or (why_no_path(full) if full else None)
-    return ValueError(f"{shown(path)} is no path" + (f": {why}" if why else ""))
+    named = full if path == "/" and full else path
+    return ValueError(f"{shown(named)} is no path" + (f": {why}" if why else ""))
 
 
 def parent(path: str) -> str:

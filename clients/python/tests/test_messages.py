@@ -12,7 +12,7 @@ from typing import Callable
 import support
 from support import WAIT, Partner, PartnerCase
 
-from dirwolleu import Client, ConnectionLoss, NoNodeError, NotConnectedError, SessionExpiredError, State
+from dirwolleu import Client, ConnectionLoss, NoNodeError, NotConnectedError, SessionExpiredError, State, aio
 from dirwolleu.exceptions import error_of
 from dirwolleu.security import OPEN_ACL_UNSAFE
 from dirwolleu.transaction import Transaction
@@ -123,6 +123,16 @@ class RefusalTest(MessageCase):
         with self.assertRaises(NoNodeError) as raised:
             client.get("/nope")
         self.assertEqual(raised.exception.path, "/nope")
+
+    def test_a_root_that_is_no_path_is_named(self) -> None:
+        for root, wanted in (
+            ("/a//b", "/a//b is no path: an empty name"),
+            ("/a/", "/a/ is no path: an empty name"),
+            ("/a/..", "/a/.. is no path: a name that is . or .."),
+            ("/" + 4096 * "x", f"/{255 * 'x'}.. is no path: more than 4096 bytes"),
+        ):
+            for kind in (Client, aio.Client):
+                self.assertEqual(self.said(lambda kind=kind, root=root: kind(f"127.0.0.1:1{root}")), wanted)  # type: ignore[misc]
 
     def start_says(self, client: Client, begin: str, end: str, is_whole: bool = True) -> None:
         """A start says this with its own seconds between the two, as soon as that is known: on a busy machine it is given longer."""
