@@ -47,6 +47,7 @@ class Growing:
         self.ticket: Optional[int] = None
         self._paths: dict[int, str] = {}
         self._troubles: dict[int, Exception] = {}  # what keeps that from being read which a ticket follows, the newest last
+        self._logged = set[str]()  # what the log has of these since the tree was whole
         self._must_look = self._is_current = False
         self._look_at = 0
         self.latest: Optional[TreeSnapshot] = None
@@ -79,7 +80,7 @@ class Growing:
             self._paths.pop(news.ticket, None)
             self._note(news.ticket, None)
         elif isinstance(news, Bounded):
-            self._note(_ALL, library.too_many_nodes() if news.is_bounded else None)
+            self._note(_ALL, self._too_many() if news.is_bounded else None)
         else:
             self._must_look = True
 
@@ -104,8 +105,10 @@ class Growing:
         trouble: Optional[Exception] = None
         try:
             self._take()
-        except (NotWhole, TooManyNodes) as error:
+        except NotWhole as error:
             trouble = error
+        except TooManyNodes:
+            trouble = self._too_many()
         self._must_look = False
         self._look_at = now + (1 + SHARE) * (moment() - began)
         self._note(_ALL, trouble)
@@ -126,7 +129,11 @@ class Growing:
             return
         self.latest = TreeSnapshot(self.root, zxid, map(TreeNode._make, nodes))
         self._is_current, self.trouble = True, None
+        self._logged.clear()
         self._tell()
+
+    def _too_many(self) -> TooManyNodes:
+        return TooManyNodes(f"more than {self.most} nodes at and below {self.root}; ask for more, or for a path below")
 
     def _absence(self) -> Optional[NoNodeError]:
         """That there is no root, where that is known."""
@@ -144,10 +151,15 @@ class Growing:
             return
         if trouble is not None:
             self._troubles[ticket] = trouble
-            if repr(trouble) != repr(before):
-                logger.warning("the tree at %s is not whole: %s", self.root, trouble)
+            self._log(str(trouble))
         self.trouble = next(reversed(self._troubles.values()), None)
         self._tell()
+
+    def _log(self, words: str) -> None:
+        """Says why the tree is not whole: each reason once, until it is."""
+        if words not in self._logged:
+            self._logged.add(words)
+            logger.warning("the tree at %s is not whole: %s", self.root, words)
 
 
 def _is_trouble(error: ZookeeperError) -> bool:

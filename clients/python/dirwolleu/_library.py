@@ -504,10 +504,6 @@ class TooManyNodes(ValueError):
     """The subtree has more nodes than were asked for."""
 
 
-def too_many_nodes() -> TooManyNodes:
-    return TooManyNodes(_RESULT_WORDS[TOO_MANY])
-
-
 class Halted(MemoryError):
     """The machine ran out of memory within a step. It has no use from then on, but its session can still be taken."""
 

@@ -193,12 +193,18 @@ class GrowingTest(unittest.TestCase):
         self.assertEqual(self.nodes(tree), {"/t": b"one"})
 
     def test_more_nodes_than_wanted_are_told_until_there_are_fewer(self) -> None:
-        tree = self.planted(1)
-        self.come(data(1), listed(2, "a"))
-        self.assertEqual((type(tree.trouble), tree.latest), (TooManyNodes, None))
-        self.come(notice("/t", CHILD))
-        self.come(listed(3))
-        self.assertEqual((tree.trouble, self.nodes(tree)), (None, {"/t": b"one"}))
+        words = "more than 1 nodes at and below /t; ask for more, or for a path below"
+        with self.assertLogs("dirwolleu.tree", "WARNING") as told:
+            tree = self.planted(1)
+            self.come(data(1), listed(2, "a"))
+            self.assertEqual((type(tree.trouble), str(tree.trouble), tree.latest), (TooManyNodes, words, None))
+            self.come(notice("/t", CHILD))
+            self.come(listed(3))
+            self.assertEqual((tree.trouble, self.nodes(tree)), (None, {"/t": b"one"}))
+            self.come(notice("/t", CHILD))
+            self.come(listed(4, "a"))
+            self.assertEqual(str(tree.trouble), words)
+        self.assertEqual(told.output, 2 * [f"WARNING:dirwolleu.tree:the tree at /t is not whole: {words}"])
 
     def test_a_name_that_makes_no_path_is_told(self) -> None:
         tree = self.planted()

@@ -97,11 +97,17 @@ class SnapshotTest(PartnerCase):
         within(lambda: tree.current is not None and tree.current["/other"].data == b"4")
 
     def test_more_nodes_than_wanted_are_told(self) -> None:
-        tree = self.client.tree("/t", most=3)
-        with self.assertRaises(ValueError):
-            tree.wait(WAIT)
-        self.server.do("delete /t/b")
-        self.assertEqual(len(within(lambda: tree.current)), 3)
+        """In the log once until the tree is whole again, however many nodes come meanwhile."""
+        with self.assertLogs("dirwolleu.tree", "WARNING") as told:
+            tree = self.client.tree("/t", most=3)
+            with self.assertRaisesRegex(ValueError, "^more than 3 nodes at and below /t; "):
+                tree.wait(WAIT)
+            for name in "cde":
+                self.server.do(f"create /t/{name} -")
+                within(lambda: len(self.client.get_children("/t")) > 2 and tree.trouble)
+            self.server.do("delete /t/b", "delete /t/c", "delete /t/d", "delete /t/e")
+            self.assertEqual(len(within(lambda: tree.current)), 3)
+        self.assertEqual(len(told.output), 1)
 
     def test_each_new_snapshot_is_given(self) -> None:
         given = []
