@@ -53,6 +53,7 @@ exit status:
   1  it was refused, as where there is no node: a line on standard error says why, and nothing has changed
   2  the words of the command are no such command, or a file that they name can't be read
   3  no server, or no answer: a change may have happened where the line says so
+  4  what it tells can't be written: the line says so of a change that was made
   130  it was interrupted
   141  whoever read its output has gone
 """
@@ -60,7 +61,9 @@ exit status:
 Write = Callable[[str], None]
 
 UNANSWERED = (CallTimeoutError, ConnectionClosedError, ConnectionLoss, SessionExpiredError, SessionMovedError)
-DONE, REFUSED, NO_COMMAND, NO_ANSWER, INTERRUPTED, NO_READER = 0, 1, 2, 3, 130, 141
+DONE, REFUSED, NO_COMMAND, NO_ANSWER, NOT_WRITTEN, INTERRUPTED, NO_READER = 0, 1, 2, 3, 4, 130, 141
+CHANGES = ("set", "create")
+"""The commands that change something and then tell it."""
 
 
 class Shown(NamedTuple):
@@ -73,6 +76,10 @@ class Shown(NamedTuple):
 
 class NoFile(Exception):
     """A file that the words name can't be read."""
+
+
+class NotWritten(Exception):
+    """What a command tells can't be written."""
 
 
 def _text(data: Optional[bytes]) -> str:
@@ -270,12 +277,22 @@ def _run(chosen: argparse.Namespace, write: Write) -> None:
     client.start(chosen.timeout)
     with client, contextlib.closing(_shown_by(client, chosen)) as shows:
         for shown in shows:
-            if shown.raw is not None:
-                sys.stdout.buffer.write(shown.raw)
-                sys.stdout.flush()
-                continue
-            for line in [json.dumps(shown.value)] if chosen.json else shown.lines:
-                write(line)
+            try:
+                _tell(shown, chosen.json, write)
+            except BrokenPipeError:
+                raise
+            except (OSError, UnicodeError) as error:
+                done = "it is done, but " if chosen.command in CHANGES else ""
+                raise NotWritten(f"{done}what it tells can't be written: {getattr(error, 'strerror', error)}") from error
+
+
+def _tell(shown: Shown, is_json: bool, write: Write) -> None:
+    if shown.raw is not None:
+        sys.stdout.buffer.write(shown.raw)
+        sys.stdout.flush()
+        return
+    for line in [json.dumps(shown.value)] if is_json else shown.lines:
+        write(line)
 
 
 def _shown_by(client: Client, chosen: argparse.Namespace) -> Generator[Shown, None, None]:
@@ -289,6 +306,8 @@ def _shown_by(client: Client, chosen: argparse.Namespace) -> Generator[Shown, No
 def _status_of(error: BaseException) -> int:
     if isinstance(error, ZookeeperError):
         return NO_ANSWER if isinstance(error, UNANSWERED) else REFUSED
+    if isinstance(error, NotWritten):
+        return NOT_WRITTEN
     return NO_ANSWER if isinstance(error, OSError) else NO_COMMAND
 
 
@@ -302,7 +321,7 @@ def main(words: Optional[list[str]] = None) -> int:
     except BrokenPipeError:
         os.dup2(os.open(os.devnull, os.O_WRONLY), 1)  # what the interpreter writes at its end
         return NO_READER
-    except (ZookeeperError, OSError, ValueError, NoFile) as error:
+    except (ZookeeperError, OSError, ValueError, NoFile, NotWritten) as error:
         print(f"{chosen.command}: {error}", file=sys.stderr)
         return _status_of(error)
     return DONE

@@ -127,6 +127,22 @@ class ShellTest(PartnerCase):
         self.assertEqual(piped("get", "--raw", "/a"), data)
         self.assertEqual(json.loads(self.printed(partner, "--json", "get", "/a"))["data_hex"], data.hex())
 
+    @unittest.skipUnless(os.path.exists("/dev/full"), "there is no /dev/full")
+    def test_what_cannot_be_written_is_told(self) -> None:
+        partner = self.partner()
+        environment = {**os.environ, "PYTHONPATH": str(CLIENTS / "python"), "DIRWOLLEU_HOSTS": partner.host}
+        unwritten = "what it tells can't be written: No space left on device\n"
+        for words, said in (
+            (("create", "/x", "a"), f"create: it is done, but {unwritten}"), (("set", "/x", "b"), f"set: it is done, but {unwritten}"),
+            (("get", "/x"), f"get: {unwritten}"), (("get", "--raw", "/x"), f"get: {unwritten}"), (("tree", "/"), f"tree: {unwritten}"),
+            (("watch", "/x"), f"watch: {unwritten}"), (("--json", "stat", "/x"), f"stat: {unwritten}"),
+        ):  # fmt: skip
+            command = [sys.executable, "-m", "dirwolleu", "--timeout", str(WAIT), *words]
+            with open("/dev/full", "wb") as full:
+                done = subprocess.run(command, stdout=full, stderr=subprocess.PIPE, text=True, env=environment, timeout=3 * WAIT)
+            self.assertEqual((done.returncode, done.stderr), (4, said))
+        self.assertEqual(self.printed(partner, "get", "/x"), "b\n")
+
     def test_whoever_reads_no_more_ends_it_quietly(self) -> None:
         partner = self.partner()
         process = self.begin(partner, "watch", "--children", "/")
