@@ -5,14 +5,28 @@ Whoever makes a request looks at that, so that a wrong one is told at once, in t
 
 from __future__ import annotations
 
-from typing import Optional
+from typing import Any, Callable, Optional, TypeVar
+
+Function = TypeVar("Function", bound=Callable[..., Any])
+
+
+def checked_text(what: str, text: str) -> str:
+    """Raises `TypeError` where it is none."""
+    if not isinstance(text, str):
+        raise TypeError(f"{what} is a str, and not {type(text).__name__}")
+    return text
 
 
 def checked_path(path: str) -> str:
     """The path of a node, as a program has it. Raises `TypeError`."""
-    if not isinstance(path, str):
-        raise TypeError(f"a path is a str, and not {type(path).__name__}")
-    return path
+    return checked_text("a path", path)
+
+
+def checked_function(what: str, function: Function) -> Function:
+    """Raises `TypeError` where it can't be called."""
+    if not callable(function):
+        raise TypeError(f"{what} is a function, and not {type(function).__name__}")
+    return function
 
 
 def checked_data(value: Optional[bytes]) -> Optional[bytes]:

@@ -18,7 +18,7 @@ from typing import TYPE_CHECKING, Any, Callable, Generic, NamedTuple, Optional, 
 from dirwolleu import _lane as lane
 from dirwolleu import _plans as plans
 from dirwolleu import _requests as requests
-from dirwolleu._checks import checked_path
+from dirwolleu._checks import checked_path, checked_text
 from dirwolleu._clock import moment
 from dirwolleu._engine import Engine, News
 from dirwolleu._library import Listing, Standing
@@ -391,7 +391,7 @@ class BaseTaker(Generic[AnyClient, AnyHeld]):
         on_lost: Optional[Callable[[AnyHeld], object]] = None,
         keeps_while_suspended: bool = False,
     ) -> None:
-        self._client, self._path, self._data = client, checked_path(path), identifier.encode()
+        self._client, self._path, self._data = client, checked_path(path), identified(identifier)
         self._on_lost, self._keeps = on_lost, keeps_while_suspended
         self._entered: dict[object, list[AnyHeld]] = {}
 
@@ -456,6 +456,11 @@ class BaseLock(BaseTaker[AnyClient, AnyHeld]):
 
     def _taken_by(self, news: News) -> Take:
         return Contender(self._client._engine, self._path, self._data, self._kind, self._names, news).take
+
+
+def identified(identifier: str) -> bytes:
+    """What a node says of its maker. Raises `TypeError`."""
+    return checked_text("an identifier", identifier).encode()
 
 
 def names_of(path: str) -> Plan[list[str]]:

@@ -9,7 +9,7 @@ from typing import Generic, Optional
 from dirwolleu import _plans as plans
 from dirwolleu import _requests as requests
 from dirwolleu._checks import checked_path
-from dirwolleu._contending import BETWEEN_TRIES, AnyClient, names_of, patiently
+from dirwolleu._contending import BETWEEN_TRIES, AnyClient, identified, names_of, patiently
 from dirwolleu._engine import News
 from dirwolleu._plans import Plan
 from dirwolleu._retry import is_passing
@@ -66,7 +66,7 @@ class BaseDoubleBarrier(Generic[AnyClient]):
         if num_clients < 1:
             raise ValueError("a double barrier is for one client at least")
         self._client, self._path, self._count = client, checked_path(path), num_clients
-        self._data = (identifier or f"{socket.getfqdn()}-{os.getpid()}").encode()
+        self._data = identified(identifier or f"{socket.getfqdn()}-{os.getpid()}")
         self._name = plans.new_tag().hex
         self._own, self._ready = plans.child_of(path, self._name), plans.child_of(path, _READY)
 

@@ -6,6 +6,7 @@ import contextlib
 import random
 from typing import TYPE_CHECKING, NamedTuple
 
+from dirwolleu._checks import checked_text
 from dirwolleu._root import Root
 
 if TYPE_CHECKING:
@@ -39,11 +40,11 @@ class Place(NamedTuple):
 
 
 def hosts_of(text: str) -> Hosts:
-    """What a text like `host:port,host:port/root` says. Raises `ValueError` where it is none.
+    """What a text like `host:port,host:port/root` says. Raises `ValueError` and `TypeError` where it is none.
 
     A port that is left out is 2181. An IPv6 address is in brackets. The root is that of all hosts.
     """
-    servers, slash, path = text.partition("/")
+    servers, slash, path = checked_text("a text of hosts", text).partition("/")
     root = Root(slash + path if path else "")
     return Hosts(text, tuple(_server(server.strip()) for server in servers.split(",")), root)
 

@@ -9,7 +9,7 @@ _LONGEST_PATH = 4096
 _LONGEST_SHOWN = 256
 """How many characters of a path a message has at most."""
 
-_BAD = re.compile("[\0-\x1f\x7f-\x9f\ue000-\uf8ff\ufff0-\U0010ffff]")
+_BAD = re.compile("[\0-\x1f\x7f-\x9f\ud800-\uf8ff\ufff0-\U0010ffff]")
 
 
 def why_no_path(text: str) -> Optional[str]:

@@ -5,7 +5,7 @@ from __future__ import annotations
 from typing import Any, Callable, Generic, NamedTuple, Optional, TypeVar
 
 from dirwolleu import _library as library
-from dirwolleu._checks import checked_data, checked_path, checked_version
+from dirwolleu._checks import checked_data, checked_function, checked_path, checked_version
 from dirwolleu._library import Answer, Listing
 from dirwolleu._paths import parent
 from dirwolleu._session import Action, Session
@@ -113,7 +113,9 @@ class _Create(Request[Result]):
 
 
 def _watcher(path: str, side: int, watch: Watch) -> Optional[Watcher]:
-    return Watcher(path, side, watch) if callable(watch) else None
+    if watch is None or isinstance(watch, bool):
+        return None
+    return Watcher(path, side, checked_function("a watch that is no bool", watch))
 
 
 def _read(call: Callable[..., list[Action]], path: str, side: int, watch: Watch) -> tuple[Any, ...]:

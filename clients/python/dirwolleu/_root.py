@@ -22,9 +22,12 @@ class Root(NamedTuple):
         return self.path if path == "/" else self.path + path
 
     def spell(self, path: str) -> bytes:
-        """The bytes of the servers' path of a program's path. Raises `TypeError` where that is no text."""
+        """The bytes of the servers' path of a program's path. Raises `TypeError` where that is no text, and `ValueError`."""
         checked_path(path)
-        return (self.full(path) if self.path else path).encode()
+        try:
+            return (self.full(path) if self.path else path).encode()
+        except UnicodeEncodeError:  # half of a character, as of a name that is no UTF-8
+            raise no_path(path, self.path) from None
 
     def own(self, full: str) -> str:
         """The program's path of a servers' path. One that is not below the root stays as it is."""

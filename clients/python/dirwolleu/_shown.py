@@ -8,6 +8,7 @@ from typing import Any, Callable, Optional, TypeVar, Union
 
 from dirwolleu import _lane as lane
 from dirwolleu import _watches as watches
+from dirwolleu._checks import checked_function, checked_text
 from dirwolleu._clock import moment
 from dirwolleu._engine import Credential, Engine, Listener, News, Tell
 from dirwolleu._freshening import freshening
@@ -22,22 +23,36 @@ AnyKept = TypeVar("AnyKept", bound=Union[Kept, KeptChildren])
 
 
 def credential_of(scheme: str, credential: Union[str, bytes]) -> Credential:
-    return Credential(scheme, credential.encode() if isinstance(credential, str) else credential)
+    """Raises `TypeError`, which does not tell the secret."""
+    spelled = credential.encode() if isinstance(credential, str) else credential
+    if not isinstance(spelled, bytes):
+        raise TypeError(f"a credential is a str or bytes, and not {type(credential).__name__}")
+    return Credential(checked_text("a scheme", scheme), spelled)
+
+
+def _credentials_of(auth_data: AuthData) -> list[Credential]:
+    pairs = list(auth_data)
+    if not all(isinstance(pair, (tuple, list)) and len(pair) == 2 for pair in pairs):
+        raise TypeError("auth_data are pairs, each of a scheme and its credential")
+    return [credential_of(*pair) for pair in pairs]
 
 
 def parts_of(
     hosts: str, timeout: float, saved: Optional[bytes], auth_data: AuthData, randomize_hosts: bool, tell: Tell
 ) -> tuple[Servers, Engine]:
     """What both clients are made of, by their parameters."""
+    if saved is not None and not isinstance(saved, bytes):
+        raise TypeError(f"a saved session is bytes, and not {type(saved).__name__}")
     servers = Servers(hosts, randomize_hosts)
-    credentials = [credential_of(scheme, credential) for scheme, credential in auth_data]
-    return servers, Engine(timeout, saved, tell, servers.hosts.root, credentials)
+    return servers, Engine(timeout, saved, tell, servers.hosts.root, _credentials_of(auth_data))
 
 
 class Shown:
     """What a client shows of its session, and of what it keeps."""
 
     def __init__(self, servers: Servers, engine: Engine, retry: Optional[Retry]) -> None:
+        if retry is not None and not isinstance(retry, Retry):
+            raise TypeError(f"a policy is a Retry, and not {type(retry).__name__}")
         self._servers, self._engine, self._retry = servers, engine, retry
         self._tasks: dict[Any, None] = {}
         """What is done that nobody waits for, until it is done."""
@@ -111,7 +126,7 @@ class Shown:
 
     def add_listener(self, listener: Listener) -> None:
         """Calls the listener with each new state."""
-        self._engine.add_listener(listener)
+        self._engine.add_listener(checked_function("a listener", listener))
 
     def remove_listener(self, listener: Listener) -> None:
         """Stops calling the listener. Raises `ValueError` where it was not added."""

@@ -6,7 +6,7 @@ import logging
 from typing import TYPE_CHECKING, Any, Callable, Generic, Optional
 
 from dirwolleu import _following as following
-from dirwolleu._checks import checked_path
+from dirwolleu._checks import checked_function, checked_path
 from dirwolleu._engine import News
 from dirwolleu._following import Subject, Told
 from dirwolleu._steps import Steps
@@ -35,7 +35,7 @@ class _Watch(Generic[Told]):
         """Begins to call this function. A watch has one: a second one is a `ValueError`."""
         if self._function is not None:
             raise ValueError("a watch calls one function")
-        self._function = function
+        self._function = checked_function("what a watch calls", function)
         subject = self._subject()
         subject.settled()  # a ValueError where the path is none
 

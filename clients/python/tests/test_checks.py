@@ -128,6 +128,43 @@ class CheckRules(BothCase):
         self.assertEqual(self.one.get("/workers/one")[0], b"second")
 
 
+    def test_what_a_client_is_made_of(self) -> None:
+        def make(*words: Any, **named: Any) -> Callable[[], Any]:
+            return lambda: self.made(lambda: self.module().Client(*words, **named))
+
+        pairs = "auth_data are pairs, each of a scheme and its credential"
+        self.refused(
+            TypeError,
+            (make(None), "a text of hosts is a str, and not NoneType"),
+            (make(["a:1"]), "a text of hosts is a str, and not list"),
+            (lambda: self.one.set_hosts(None), "a text of hosts is a str, and not NoneType"),
+            (make("a", saved="xx"), "a saved session is bytes, and not str"),
+            (make("a", retry=3), "a policy is a Retry, and not int"),
+            (make("a", auth_data=["digest"]), pairs),
+            (make("a", auth_data=["ab"]), pairs),
+            (make("a", auth_data=[("digest",)]), pairs),
+            (make("a", auth_data=[("digest", 5)]), "a credential is a str or bytes, and not int"),
+            (make("a", auth_data=[(None, "bob:secret")]), "a scheme is a str, and not NoneType"),
+            (lambda: self.one.add_auth("digest", None), "a credential is a str or bytes, and not NoneType"),
+            (lambda: self.one.add_auth_async(b"digest", "bob:secret"), "a scheme is a str, and not bytes"),
+        )
+
+    def test_what_is_called_is_a_function(self) -> None:
+        reads = (self.one.get, self.one.exists, self.one.get_children, self.one.get_async)
+        self.refused(
+            TypeError,
+            (lambda: self.one.add_listener(5), "a listener is a function, and not int"),
+            (lambda: self.one.DataWatch("/", 5), "what a watch calls is a function, and not int"),
+            (lambda: self.one.ChildrenWatch("/", "x"), "what a watch calls is a function, and not str"),
+            *((lambda read=read: read("/", watch=5), "a watch that is no bool is a function, and not int") for read in reads),
+        )
+
+    def test_an_identifier_is_a_str(self) -> None:
+        rows: tuple[tuple[str, tuple[Any, ...]], ...] = (*((name, ()) for name in RECIPES[:4]), ("DoubleBarrier", (2,)))
+        words = "an identifier is a str, and not bytes"
+        self.refused(TypeError, *((lambda row=row: self.recipe(row[0], self.one, "/l", *row[1], identifier=b"x"), words) for row in rows))
+
+
 class ThreadsTest(CheckRules):
     def test_what_is_followed_is_a_path(self) -> None:
         self.refused(

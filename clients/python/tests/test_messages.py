@@ -98,6 +98,7 @@ class RefusalTest(MessageCase):
             ("/a/", "/a/ is no path: an empty name"),
             ("/a/../b", "/a/../b is no path: a name that is . or .."),
             ("/a\0", "/a\\x00 is no path: a character that paths do not have"),
+            ("/a\ud800", "/a\\ud800 is no path: a character that paths do not have"),
             (long, f"{long[:256]}.. is no path: more than 4096 bytes"),
         ):
             self.assertEqual(self.said(lambda path=path: client.get(path)), wanted)  # type: ignore[misc]
@@ -117,6 +118,7 @@ class RefusalTest(MessageCase):
             (lambda: client.get("/a//b"), "/a//b is no path: an empty name"),
             (lambda: client.kept("/a//b"), "/a//b is no path: an empty name"),
             (lambda: client.kept_children("a"), "a is no path: no slash at its beginning"),
+            (lambda: client.sync("/\ud800"), "/\\ud800 is no path: a character that paths do not have"),
             (lambda: client.get(almost), f"{almost[:256]}.. is no path: more than 4096 bytes"),
         ):
             self.assertEqual(self.said(call), wanted)
@@ -128,6 +130,7 @@ class RefusalTest(MessageCase):
         for root, wanted in (
             ("/a//b", "/a//b is no path: an empty name"),
             ("/a/", "/a/ is no path: an empty name"),
+            ("/a\udc80", "/a\\udc80 is no path: a character that paths do not have"),
             ("/a/..", "/a/.. is no path: a name that is . or .."),
             ("/" + 4096 * "x", f"/{255 * 'x'}.. is no path: more than 4096 bytes"),
         ):
