@@ -73,7 +73,8 @@ class Client(Shown):
     What all calls may raise: `ConnectionLoss` where the connection ended before the reply to a write;
     `NotConnectedError`, which is one, where a call without a `timeout` could not be sent in time; `CallTimeoutError`
     where no answer came in time; `SessionExpiredError`; `ConnectionClosedError` where the client is not started;
-    `ValueError` where the path is none; and another `ZookeeperError` where the server answers with an error.
+    `ValueError` where the path is none or a version does not fit into 32 bits; `TypeError`, at once, where a value is of another
+    type; and another `ZookeeperError` where the server answers with an error.
     `may_have_happened` of an error says whether a change may have happened, or may still happen.
 
     Each call has a second one whose name ends in `_async`, which sends and does not wait: it answers a

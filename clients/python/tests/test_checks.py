@@ -2,6 +2,7 @@
 
 from __future__ import annotations
 
+import functools
 import math
 import unittest
 from typing import Any, Callable
@@ -34,6 +35,10 @@ class CheckRules(BothCase):
         super().setUp()
         self.one = self.client(self.partner().host)
 
+    def make(self, *words: Any, **named: Any) -> Callable[[], Any]:
+        """What makes a client."""
+        return lambda: self.made(lambda: self.module().Client(*words, **named))
+
     def refused(self, kind: type[BaseException], *rows: Row) -> None:
         """Each call raises an error of exactly this class and these words, and the client answers the next call."""
         for call, words in rows:
@@ -48,8 +53,8 @@ class CheckRules(BothCase):
         for path in NO_PATHS:
             words, transaction = f"a path is a str, and not {type(path).__name__}", self.one.transaction()
             calls = [*(getattr(self.one, name) for name in OF_A_PATH), transaction.create, transaction.delete]
-            self.refused(TypeError, *((lambda call=call: call(path), words) for call in calls))
-            recipes = (lambda name=name: self.recipe(name, self.one, path) for name in RECIPES)
+            self.refused(TypeError, *((functools.partial(call, path), words) for call in calls))
+            recipes = (functools.partial(self.recipe, name, self.one, path) for name in RECIPES)
             self.refused(TypeError, *((call, words) for call in recipes))
             self.refused(
                 TypeError,
@@ -70,7 +75,7 @@ class CheckRules(BothCase):
         for version in ("1", 1.0, None):
             words, transaction = f"a version is an int, and not {type(version).__name__}", self.one.transaction()
             calls = ((getattr(self.one, name), before) for name, before in WITH_VERSIONS)
-            self.refused(TypeError, *((lambda call=call, before=before: call("/", *before, version), words) for call, before in calls))
+            self.refused(TypeError, *((functools.partial(call, "/", *before, version), words) for call, before in calls))
             self.refused(
                 TypeError,
                 (lambda: self.one.delete("/a", version, recursive=True), words),
@@ -85,7 +90,7 @@ class CheckRules(BothCase):
         for version in (2**31, 2**32, 2**32 - 1, 2**33 + 2, -(2**31) - 1):
             words, transaction = f"{version} does not fit into 32 bits", self.one.transaction()
             calls = ((getattr(self.one, name), before) for name, before in WITH_VERSIONS)
-            self.refused(ValueError, *((lambda call=call, before=before: call("/v", *before, version), words) for call, before in calls))
+            self.refused(ValueError, *((functools.partial(call, "/v", *before, version), words) for call, before in calls))
             self.refused(
                 ValueError,
                 (lambda: self.one.delete("/v", version, recursive=True), words),
@@ -104,18 +109,18 @@ class CheckRules(BothCase):
             (0, ValueError, "a tree has one node at least"),
             (2**64 + 3, ValueError, f"{2**64 + 3} does not fit into 64 bits"),
         ):
-            self.refused(kind, (lambda most=most: self.one.tree("/", most=most), words))
+            self.refused(kind, (functools.partial(self.one.tree, "/", most=most), words))
 
     def test_a_timeout_is_a_number_of_seconds(self) -> None:
         words = "a timeout is 0.001 to 2147483.647 seconds"
         for timeout in (math.inf, math.nan, -math.inf, 0, 0.0001, 2147483.648):
-            self.refused(ValueError, (lambda timeout=timeout: self.made(lambda: self.module().Client("a", timeout)), words))
+            self.refused(ValueError, (self.make("a", timeout), words))
         self.assertIsNone(self.one.exists("/none", timeout=math.inf))
 
     def test_data_are_bytes_or_none(self) -> None:
         words = "data are bytes or None, and not str"
         calls = (self.one.set, self.one.set_async, self.one.create, self.one.create_async, self.one.create2, self.one.transaction().set_data)
-        self.refused(TypeError, *((lambda call=call: call("/a", "text"), words) for call in calls))
+        self.refused(TypeError, *((functools.partial(call, "/a", "text"), words) for call in calls))
         registration = self.recipe("Registration", self.one, "/workers/one", b"first")
         self.assertTrue(registration.wait(WAIT))
         self.refused(
@@ -129,22 +134,19 @@ class CheckRules(BothCase):
 
 
     def test_what_a_client_is_made_of(self) -> None:
-        def make(*words: Any, **named: Any) -> Callable[[], Any]:
-            return lambda: self.made(lambda: self.module().Client(*words, **named))
-
         pairs = "auth_data are pairs, each of a scheme and its credential"
         self.refused(
             TypeError,
-            (make(None), "a text of hosts is a str, and not NoneType"),
-            (make(["a:1"]), "a text of hosts is a str, and not list"),
+            (self.make(None), "a text of hosts is a str, and not NoneType"),
+            (self.make(["a:1"]), "a text of hosts is a str, and not list"),
             (lambda: self.one.set_hosts(None), "a text of hosts is a str, and not NoneType"),
-            (make("a", saved="xx"), "a saved session is bytes, and not str"),
-            (make("a", retry=3), "a policy is a Retry, and not int"),
-            (make("a", auth_data=["digest"]), pairs),
-            (make("a", auth_data=["ab"]), pairs),
-            (make("a", auth_data=[("digest",)]), pairs),
-            (make("a", auth_data=[("digest", 5)]), "a credential is a str or bytes, and not int"),
-            (make("a", auth_data=[(None, "bob:secret")]), "a scheme is a str, and not NoneType"),
+            (self.make("a", saved="xx"), "a saved session is bytes, and not str"),
+            (self.make("a", retry=3), "a policy is a Retry, and not int"),
+            (self.make("a", auth_data=["digest"]), pairs),
+            (self.make("a", auth_data=["ab"]), pairs),
+            (self.make("a", auth_data=[("digest",)]), pairs),
+            (self.make("a", auth_data=[("digest", 5)]), "a credential is a str or bytes, and not int"),
+            (self.make("a", auth_data=[(None, "bob:secret")]), "a scheme is a str, and not NoneType"),
             (lambda: self.one.add_auth("digest", None), "a credential is a str or bytes, and not NoneType"),
             (lambda: self.one.add_auth_async(b"digest", "bob:secret"), "a scheme is a str, and not bytes"),
         )
@@ -156,13 +158,13 @@ class CheckRules(BothCase):
             (lambda: self.one.add_listener(5), "a listener is a function, and not int"),
             (lambda: self.one.DataWatch("/", 5), "what a watch calls is a function, and not int"),
             (lambda: self.one.ChildrenWatch("/", "x"), "what a watch calls is a function, and not str"),
-            *((lambda read=read: read("/", watch=5), "a watch that is no bool is a function, and not int") for read in reads),
+            *((functools.partial(read, "/", watch=5), "a watch that is no bool is a function, and not int") for read in reads),
         )
 
     def test_an_identifier_is_a_str(self) -> None:
         rows: tuple[tuple[str, tuple[Any, ...]], ...] = (*((name, ()) for name in RECIPES[:4]), ("DoubleBarrier", (2,)))
-        words = "an identifier is a str, and not bytes"
-        self.refused(TypeError, *((lambda row=row: self.recipe(row[0], self.one, "/l", *row[1], identifier=b"x"), words) for row in rows))
+        told = "an identifier is a str, and not bytes"
+        self.refused(TypeError, *((functools.partial(self.recipe, name, self.one, "/l", *words, identifier=b"x"), told) for name, words in rows))
 
 
 class ThreadsTest(CheckRules):

@@ -297,7 +297,7 @@ class EngineTest(support.PartnerCase):
         for error in (TypeError("wrong"), AttributeError("none"), OverflowError("much"), RuntimeError("other")):
             with mock.patch.object(Session, "get_data", side_effect=error):
                 failed = [self.ask(requests.get("/b", None))]
-            failed.append(self.ask(lane.LaneRequest(lane.Operation.SYNC, ("/b",), fail, fail)))
+            failed.append(self.ask(lane.LaneRequest(lane.Operation.SYNC, ("/b",), fail, lambda *_: None)))
             for call in failed:
                 with self.raises(type(error), None):
                     call.result(0)

@@ -12,7 +12,7 @@ import subprocess
 import tempfile
 import threading
 import unittest
-from typing import Optional
+from typing import Any, Optional
 
 from support import TIMEOUT, WAIT, Partner, PartnerCase, Peer, within
 
@@ -189,7 +189,7 @@ class TlsTest(PartnerCase):
         folder = pathlib.Path(key).parent
         none, garbage = str(folder / "none.pem"), str(folder / "garbage.pem")
         pathlib.Path(garbage).write_text("no certificate")
-        for named, kind, words in (
+        rows: tuple[tuple[dict[str, Any], type[Exception], str], ...] = (
             ({"ca": none}, FileNotFoundError, none),
             ({"ca": str(folder)}, IsADirectoryError, str(folder)),
             ({"ca": garbage}, ssl.SSLError, f"{garbage}: "),
@@ -198,7 +198,8 @@ class TlsTest(PartnerCase):
             ({"certfile": garbage}, ssl.SSLError, f"{garbage}: "),
             ({"certfile": certificate, "keyfile": garbage}, ssl.SSLError, f"{certificate}, {garbage}: "),
             ({"keyfile": key}, ValueError, f"the key {key} wants its certificate: name it by certfile"),
-        ):
+        )
+        for named, kind, words in rows:
             with self.subTest(named=named), self.assertRaises(kind) as caught:
                 tls_context(**named)
             self.assertIs(type(caught.exception), kind)
