@@ -18,24 +18,24 @@ const COURSE: &[Row] = &[
     (Happens::Comes(ACCEPTED), None),
     (ASKS, None),
     (Happens::Replies(Some(1), NULL), None),
-    // The report: its path's text, and its place among the outputs.
-    (Happens::Comes(CHANGED), Some(3)),
+    // The report: its place among the outputs. Its text is the one that was in the list of those watched.
+    (Happens::Comes(CHANGED), Some(2)),
     // The path is not watched any more.
     (Happens::Comes(CHANGED), Some(1)),
     (ASKS, None),
     // The place of the answer, and the path's text in the list of those watched.
     (Happens::Replies(Some(2), NULL), Some(3)),
-    (Happens::Comes(CHANGED), Some(3)),
+    (Happens::Comes(CHANGED), Some(2)),
     (ASKS, None),
     // The same, and the data twice: kept, and answered.
     (Happens::Replies(Some(3), HI), Some(5)),
     // An unfinished frame becomes what is held.
     (Happens::Comes(&[0, 0, 0, 0x1e, 0xff]), Some(1)),
     // What is held grows, and the report.
-    (Happens::Comes(REST), Some(4)),
+    (Happens::Comes(REST), Some(3)),
     (ASKS, None),
     (Happens::Replies(Some(4), HI), Some(5)),
-    (Happens::Comes(CHANGED), Some(3)),
+    (Happens::Comes(CHANGED), Some(2)),
     (Happens::Comes(CHANGED), Some(1)),
 ];
 
