@@ -61,22 +61,21 @@ fn is_served<A: Allocator + Copy>(alloc: A, driver: &mut Played<'_, A>) -> Resul
     Ok(is_served)
 }
 
-/// Whether a call has its reply over a world of this plan, at one of the addresses.
+/// Whether a call has its reply in this world, at one of the addresses.
 fn play<A: Allocator + Copy>(
-    heap: Global,
+    world: World,
     alloc: A,
-    plan: Plan,
     addresses: &'static [&'static str],
-) -> Result<Result<bool, Stop>> {
-    let (world, moments) = (RefCell::new(World::new(heap, plan)?), Moments::new());
+) -> Result<bool, Stop> {
+    let (world, moments) = (RefCell::new(world), Moments::new());
     let (dial, clock) = (Shared::new(&world, &moments), Shared::new(&world, &moments));
     let Ok(agent) = agent(alloc, addresses.len()) else {
-        return Ok(Err(Stop::Memory));
+        return Err(Stop::Memory);
     };
     let mut driver = Driver::new(alloc, agent, dial, clock, addresses);
     let served = is_served(alloc, &mut driver);
     drop(driver);
-    Ok(served)
+    served
 }
 
 /// A plan whose first connection passes this many bytes, and whose reads bring one at a time.
@@ -91,7 +90,8 @@ fn plan(passes: usize) -> Plan {
 /// A first connection that is closed after each number of bytes, written and read, in turn: the next one serves.
 pub fn close_at_each_byte<W: Write>(alloc: Global, out: &mut W) -> Result<()> {
     for passes in 0..BYTES {
-        if !matches!(play(alloc, alloc, plan(passes), &ADDRESSES)?, Ok(true)) {
+        let world = World::new(alloc, plan(passes))?;
+        if !matches!(play(world, alloc, &ADDRESSES), Ok(true)) {
             writeln!(out, "closed after {passes} bytes: not served")?;
         }
     }
@@ -102,7 +102,7 @@ pub fn close_at_each_byte<W: Write>(alloc: Global, out: &mut W) -> Result<()> {
 pub fn refuse_each_request<W: Write>(alloc: Global, out: &mut W) -> Result<()> {
     for passed in 0..REQUESTS {
         let refusing = Refusing::after(passed, alloc);
-        let served = play(alloc, &refusing, plan(usize::MAX), &ADDRESSES)?;
+        let served = play(World::new(alloc, plan(usize::MAX))?, &refusing, &ADDRESSES);
         if !refusing.has_refused() {
             return Ok(writeln!(out, "refused each request for memory")?);
         }
@@ -115,7 +115,7 @@ pub fn refuse_each_request<W: Write>(alloc: Global, out: &mut W) -> Result<()> {
 
 /// Without an address nobody is dialled: nothing is given, and the driver goes on to the moment that it is to.
 pub fn dial_nobody<W: Write>(alloc: Global, out: &mut W) -> Result<()> {
-    let word = match play(alloc, alloc, STEADY, &NOBODY)? {
+    let word = match play(World::new(alloc, STEADY)?, alloc, &NOBODY) {
         Ok(false) => "dialled nobody",
         _ => "without an address: something was given",
     };
