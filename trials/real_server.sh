@@ -116,6 +116,24 @@ has_line() {
     (($(wc -l <"$folder/$1.out") > seen[$1]))
 }
 
+# Waits for the next lines that NAME prints, which are those on standard input in any order.
+sees_in_any_order() {
+    local name=$1 got at
+    local -a want
+    mapfile -t want
+    while ((${#want[@]} > 0)); do
+        within 40 has_line "$name" || fail "$name does not print one of '${want[*]}': $(cat "$folder/$name.err")"
+        seen[$name]=$((seen[$name] + 1))
+        got=$(sed -n "${seen[$name]}p" "$folder/$name.out")
+        for at in "${!want[@]}"; do
+            is_line "${want[at]}" "$got" || continue
+            unset "want[at]"
+            continue 2
+        done
+        fail "$name, line ${seen[$name]}: '$got' where one of '${want[*]}' is wanted"
+    done
+}
+
 # Waits for the next lines that NAME prints, and checks them against those on standard input.
 sees() {
     local name=$1 want got
@@ -655,6 +673,8 @@ EOF
     outside "$1" create /trees/c one
     sees trees <<'EOF'
 ~ /trees names 1 a @child stale last @
+EOF
+    sees_in_any_order trees <<'EOF'
 ~ bound 3 a tree has more nodes: no more of it are watched
 ~ /trees names 2 a c @more good last @
 EOF
@@ -1102,7 +1122,7 @@ number_at() {
 # timeout, and what was changed meanwhile is told by the next server. That one ends, and the third tells a further change.
 run_stopped() {
     local number port since first second other=''
-    local -a ports
+    local -a ports rest=()
     read -ra ports < <(free_ports 9)
     known=()
     start_three stopped "${ports[@]}"
@@ -1110,12 +1130,14 @@ run_stopped() {
     begin_data stopped "127.0.0.1:${ports[0]},127.0.0.1:${ports[1]},127.0.0.1:${ports[2]}" --timeout 30000
     first=$(port_of stopped)
     for port in "${ports[@]:0:3}"; do
-        [[ $port == "$first" ]] || other=$port
+        [[ $port == "$first" ]] || rest+=("$port")
     done
+    other=${rest[1]}
     number=$(number_at "$first" "${ports[@]:0:3}")
     kill -STOP "${servers[stopped-$number]}"
     since=$SECONDS
     (within 40 has_line stopped && echo $((SECONDS - since)) >"$folder/stopped.left") &
+    within 60 leads_one "${rest[@]}" || fail "no server leads once one is stopped"
     within 60 serves "$other" || fail "no server serves once one is stopped"
     outside "$other" set /stopped two
     outside "$other" set /stopped three

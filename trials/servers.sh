@@ -116,6 +116,15 @@ serves() {
     [[ -n $(mode_of "$1") ]]
 }
 
+# Whether one of the servers at these ports leads the others. Where a leader was stopped, the others serve for a while as if it were there.
+leads_one() {
+    local port
+    for port in "$@"; do
+        [[ $(mode_of "$port") != leader ]] || return 0
+    done
+    return 1
+}
+
 # Waits for up to 60 seconds until each of the servers at these ports serves, and prints the moment from which on all do. It is told some 20
 # milliseconds late.
 serve_since() {
