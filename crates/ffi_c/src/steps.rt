@@ -46,7 +46,5 @@ pub extern "C" fn dw_bytes(alloc: Global, handle: &mut DwClient, now_ms: u64, by
     ensures steps { (d : Device) → handle.old.slot.held ≡ Some d
         → Holds handle.new.slot.held (Steps RefusesMemory now_ms (Bytes bytes.now) d result) }
 {
-    drive(alloc, handle, |device| {
-        device.bytes_at(alloc, now_ms, bytes)
-    })
+    drive(alloc, handle, |device| device.bytes_at(now_ms, bytes))
 }

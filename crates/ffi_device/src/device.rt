@@ -114,10 +114,15 @@ impl Device {
     }
 
     /// Bytes came from the server.
-    pub fn bytes_at(&mut self, alloc: Global, now: u64, bytes: &[u8]) -> Result<(), DeviceRefusal>
+    pub fn bytes_at(&mut self, now: u64, bytes: &[u8]) -> Result<(), DeviceRefusal>
         ensures { Steps RefusesMemory now (Bytes bytes.now) self.old (code_of result) self.new }
     {
-        let owned = Vec::from_slice(alloc, bytes)?;
-        self.step_at(now, Input::Bytes(owned))
+        self.client.reserve(bytes.len())?;
+        self.read = 0;
+        let Ok(()) = self.client.bytes_at_into(now, bytes, &mut self.said) else {
+            return Err(self.stop());
+        };
+        self.note();
+        Ok(())
     }
 }

@@ -18,4 +18,5 @@ pub mod Copying
 pub mod Deadlines
 pub mod Behind
 pub mod Reports
+pub mod SameClients
 pub mod PuttingAway

@@ -6,6 +6,7 @@ ghost use Rattle.zk_limits.specs.declared.limits.TheConstants.{LONGEST_PASSWORD}
 ghost use Rattle.zk_client.specs.Sound.{CoreIsSound, IsReading};
 
 use crate::fault::Halt;
+use crate::frames::receive_lent;
 use crate::input::Input;
 use crate::machine::Core;
 use crate::output::Output;
@@ -39,7 +40,7 @@ impl<A: Allocator + Copy> Client<A> {
     ghost use Rattle.zk_conversation.specs.Pending.{calls_pending};
     ghost use Rattle.zk_cache.specs.Contents.{answer_of, names_in};
     ghost use Rattle.zk_watches.specs.Lists.{side_has};
-    ghost use Rattle.zk_turns.specs.Turns.{Start, Item, Turned, Forgets, Now, new_start};
+    ghost use Rattle.zk_turns.specs.Turns.{Start, Item, Turned, Forgets, Now, Bytes, new_start};
     ghost use Rattle.zk_turns.specs.View.{view_at};
     ghost use Rattle.zk_turns.specs.Taken.{NothingIsDue};
     ghost use Rattle.zk_turns.specs.Rule.{Rule, RuleAt, Stands, StandsAt, HaltsAs, HaltsAt, forgotten};
@@ -205,6 +206,38 @@ impl<A: Allocator + Copy> Client<A> {
         taken
     }
 
+    /// [`step_at_into`](Client::step_at_into) of bytes that are lent: they are copied into room that the client keeps.
+    pub fn bytes_at_into(
+        &mut self,
+        now: u64,
+        bytes: &[u8],
+        outputs: &mut Vec<Output<A>, A>,
+    ) -> Result<(), Halt>
+        ensures rule { OnOk result
+            (RuleAt now (view_of self.old) (record { input = Bytes bytes.now; outputs = said outputs.new.items }) (view_of self.new)) }
+        ensures stands { OnOk result ((start : Start) (items : List Item) → Stands start items (view_of self.old)
+            → StandsAt start items now (record { input = Bytes bytes.now; outputs = said outputs.new.items }) (view_of self.new)) }
+        ensures quiet { IsQuietAt (view_of self.old) now (Bytes bytes.now) → IsOk result }
+        ensures halt { OnErr result (HaltsAt now (view_of self.old) (view_of self.new)) }
+        ensures silent { OnErr result (outputs.new.items ≡ []) }
+        ensures halted { (view_of self.old).standing.halted ≡ true → IsErr result }
+    {
+        outputs.clear();
+        let taken = self.take_bytes_at(now, bytes, outputs);
+        if taken.is_err() {
+            outputs.clear();
+        }
+        taken
+    }
+
+    /// Makes room for bytes of this length: [`bytes_at_into`](Client::bytes_at_into) copies them into it. An error says that there is
+    /// no memory for it.
+    pub fn reserve(&mut self, length: usize) -> Result<(), AllocError>
+        ensures { self.new ≡ self.old }
+    {
+        self.reader.reserve(length)
+    }
+
     /// Takes the moment, and then an input, and adds the outputs that they make due to none.
     fn take_at(
         &mut self,
@@ -226,6 +259,27 @@ impl<A: Allocator + Copy> Client<A> {
         self.tell_moment(now, outputs)?;
         self.apply_input(input, outputs)?;
         Ok(())
+    }
+
+    /// Takes the moment, and then bytes, and adds the outputs that they make due to none.
+    fn take_bytes_at(
+        &mut self,
+        now: u64,
+        bytes: &[u8],
+        outputs: &mut Vec<Output<A>, A>,
+    ) -> Result<(), Halt>
+        requires { outputs.old.items ≡ [] }
+        ensures rule { OnOk result
+            (RuleAt now (view_of self.old) (record { input = Bytes bytes.now; outputs = said outputs.new.items }) (view_of self.new)) }
+        ensures stands { OnOk result ((start : Start) (items : List Item) → Stands start items (view_of self.old)
+            → StandsAt start items now (record { input = Bytes bytes.now; outputs = said outputs.new.items }) (view_of self.new)) }
+        ensures quiet { IsQuietAt (view_of self.old) now (Bytes bytes.now) → IsOk result }
+        ensures halt { OnErr result (HaltsAt now (view_of self.old) (view_of self.new)) }
+        ensures halted { (view_of self.old).standing.halted ≡ true → IsErr result }
+    {
+        one_turn();
+        self.tell_moment(now, outputs)?;
+        self.apply_bytes(bytes, outputs)
     }
 
     /// Takes the moment, and adds the outputs that it makes due, as [`apply_input`](Client::apply_input) does of [`Input::Now`].
@@ -269,6 +323,28 @@ impl<A: Allocator + Copy> Client<A> {
             return Err(Halt);
         }
         let Ok(()) = turn(&mut self.core, &mut self.reader, input, outputs) else {
+            self.core.halt(state, last);
+            return Err(Halt);
+        };
+        Ok(())
+    }
+
+    /// Takes bytes, and adds the outputs that they make due, as [`apply_input`](Client::apply_input) does of [`Input::Bytes`].
+    fn apply_bytes(&mut self, bytes: &[u8], outputs: &mut Vec<Output<A>, A>) -> Result<(), Halt>
+        ensures rule { OnOk result
+            (Adds (view_of self.old) (Bytes bytes.now) (said outputs.old.items) (said outputs.new.items) (view_of self.new)) }
+        ensures quiet { IsQuiet (view_of self.old) (Bytes bytes.now) → IsOk result }
+        ensures halt { OnErr result (HaltsAs (view_of self.old) (view_of self.new)) }
+        ensures halted { (view_of self.old).standing.halted ≡ true → IsErr result }
+    {
+        let state = self.core.session.state();
+        let last = self.core.session.last_zxid();
+        self.core.earlier = None;
+        if self.core.halted {
+            self.core.halt(state, last);
+            return Err(Halt);
+        }
+        let Ok(()) = receive_lent(&mut self.core, &mut self.reader, bytes, outputs) else {
             self.core.halt(state, last);
             return Err(Halt);
         };

@@ -46,6 +46,38 @@ pub(crate) fn receive_bytes<A: Allocator + Copy>(
     take_frames(core, reader, outputs)
 }
 
+/// [`receive_bytes`] of a piece that is lent: it is fed into the room of the reader.
+pub(crate) fn receive_lent<A: Allocator + Copy>(
+    core: &mut Core<A>,
+    reader: &mut FrameReader<A>,
+    piece: &[u8],
+    outputs: &mut Vec<Output<A>, A>,
+) -> Result<(), AllocError>
+    requires sound { CoreIsSound core.old }
+    requires reading { IsReading reader.old }
+    requires goes_on { core.old.halted ≡ false }
+    ensures sound { OnOk result (CoreIsSound core.new) }
+    ensures reading { OnOk result (IsReading reader.new) }
+    ensures next { OnOk result
+        (view_with reader.new.bytes core.new ≡ after_signals (view_with reader.old.bytes core.old) (map Comes piece.now)) }
+    ensures says { OnOk result
+        (said outputs.new.items ≡ said outputs.old.items ++ says_signals (view_with reader.old.bytes core.old) (map Comes piece.now)) }
+    ensures quiet { ¬ (IsOpen core.old.session.state) → IsOk result }
+    ensures origin { origin core.new ≡ origin core.old }
+{
+    if !core.session.state().is_open() {
+        return Ok(());
+    }
+    if piece.is_empty() {
+        return Ok(());
+    }
+    core.session.heard();
+    let Ok(()) = reader.feed(piece) else {
+        return Err(AllocError);
+    };
+    take_frames(core, reader, outputs)
+}
+
 // Takes what is held, a whole frame at a time.
 fn take_frames<A: Allocator + Copy>(
     core: &mut Core<A>,

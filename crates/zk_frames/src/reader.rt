@@ -8,7 +8,7 @@ ghost use Rattle.zk_frames.specs.Next.{AnswersNext};
 ghost use Rattle.zk_frames.specs.inner.Next.{ReadsLength};
 
 use crate::FrameFault;
-use std::alloc::Allocator;
+use std::alloc::{AllocError, Allocator};
 use std::marker::Model;
 use zk_limits::LONGEST_INCOMING;
 
@@ -73,6 +73,13 @@ impl<A: Allocator> FrameReader<A> {
         self.place = 0;
         self.bytes.extend_from_slice(piece)?;
         Ok(())
+    }
+
+    /// Makes room for a piece of this length: [`feed`](FrameReader::feed) of it takes no memory then. An error says that there is none.
+    pub fn reserve(&mut self, length: usize) -> Result<(), AllocError>
+        ensures { self.new ≡ self.old }
+    {
+        self.bytes.reserve(length).map_err(AllocError::from)
     }
 
     /// Takes the next piece of the stream as [`feed`](FrameReader::feed) does, and the piece itself with it: where nothing is

@@ -103,7 +103,7 @@ impl Session {
             if bytes.is_empty() {
                 return Ok(());
             }
-            let heard = self.device.bytes_at(self.alloc, self.now, bytes.as_slice());
+            let heard = self.device.bytes_at(self.now, bytes.as_slice());
             drop(bytes);
             tell_number("bytes", code_of(heard), told)?;
         }
