@@ -3,13 +3,17 @@ ghost use Rattle.std.specs.Prelude.{◌≡◌, ◌<◌, ◌^◌, ◌++◌, ◌�
 ghost use Rattle.std.specs.List.{sum_by};
 ghost use Rattle.zk_cache.specs.Segments.{segments_from};
 ghost use Rattle.zk_cache.specs.inner.Cuts.{start_at, AreCutsFrom};
+ghost use Rattle.zk_jute.specs.Lenient.{or_empty};
 
-use std::alloc::{AllocError, Allocator};
+use crate::names::texts_of;
+use std::alloc::{AllocError, Allocator, Global};
 use std::marker::Model;
+use zk_jute::TextRef;
 
-/// Texts, one after the other in one text, and where each ends.
+/// Texts, seen as the list of them. However many there are, they take two blocks of memory: one text, and where in it each ends.
 #[derive(Drop)]
-pub(crate) struct JoinedTexts<A: Allocator> {
+#[derive_where(Debug)]
+pub struct JoinedTexts<A: Allocator = Global> {
     text: String<A>,
     ends: Vec<usize, A>,
 }
@@ -28,14 +32,14 @@ impl<A: Allocator> Model for JoinedTexts<A> {
 
 impl<A: Allocator> JoinedTexts<A> {
     /// How many texts there are.
-    pub(crate) fn len(&self) -> usize
+    pub fn len(&self) -> usize
         ensures { result ≡ length self.now }
     {
         self.ends.as_slice().len()
     }
 
-    /// The text at this place, from 0 on.
-    pub(crate) fn get(&self, index: usize) -> Option<&str>
+    /// The text at this place, from 0 on. It takes constant time.
+    pub fn get(&self, index: usize) -> Option<&str>
         ensures { option_map (λ text. text.now) result ≡ slice_get self.now index }
     {
         let ends = self.ends.as_slice();
@@ -57,6 +61,15 @@ impl<A: Allocator + Copy> JoinedTexts<A> {
             push(&mut text, &mut ends, segment)?;
         }
         Ok(JoinedTexts { text, ends })
+    }
+
+    /// The names of a reply, in its order. A null name is the empty one. An error says that memory ran out.
+    pub fn of_names(alloc: A, names: &[TextRef<'_>]) -> Result<JoinedTexts<A>, AllocError>
+        ensures { IfOk result
+            (λ joined. joined ≡ map (λ name. or_empty (option_map (λ text. text.now) name.text)) names.now) }
+    {
+        let texts = texts_of(alloc, names)?;
+        JoinedTexts::of(alloc, texts.as_slice())
     }
 }
 

@@ -9,10 +9,12 @@ mod children;
 mod held;
 mod joined_texts;
 pub mod laws;
+mod names;
 mod sorted_names;
 
 pub use answers::DataAnswer;
 pub use cache::Cache;
 pub use children::Children;
 pub use held::{Kept, Mark};
+pub use joined_texts::JoinedTexts;
 pub use sorted_names::SortedNames;

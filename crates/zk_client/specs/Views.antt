@@ -20,7 +20,7 @@ abbrev pub call_result_view : {A : Type 0} → CallResult A → Result
 call_result_view (result.Code code) = code_result (code_number code)
 call_result_view (result.Stat stat) = Found stat
 call_result_view (result.Data bytes stat) = Read (option_map (λ v. v.items) bytes) stat
-call_result_view (result.Names names stat) = Listing (map string_bytes names.items) stat
+call_result_view (result.Names names stat) = Listing names stat
 call_result_view (result.Created path) = Made (string_bytes path)
 call_result_view result.Done = Done
 

@@ -1,6 +1,7 @@
 //! What a reply brings.
 
 use std::alloc::{Allocator, Global};
+use zk_cache::JoinedTexts;
 use zk_records::{Code, Stat};
 
 /// What the reply to a call brings: the code of its error, or what was asked for.
@@ -18,7 +19,7 @@ pub enum CallResult<A: Allocator = Global> {
     },
     /// The names below a node, in the order of the reply. A null name is the empty one.
     Names {
-        names: Vec<String<A>, A>,
+        names: JoinedTexts<A>,
         stat: Stat,
     },
     /// The path of the node that was made.
