@@ -349,9 +349,28 @@ static bool run(struct play *play, long refused_at)
     return goes_on;
 }
 
+/* What a step with bytes asks for first is room for them: where that is refused, nothing has happened. */
+static void expect_room_first(void)
+{
+    struct play play = {.saved_length = 0};
+    heap = (struct counted_heap){.refused_at = 0};
+    EXPECT_NUMBER(DW_OK, open_client(&play));
+    EXPECT_NUMBER(DW_OK, opened(&play));
+    int32_t state = dw_state(&play.client);
+    heap.refused_at = heap.asked + 1;
+    EXPECT_NUMBER(DW_NO_MEMORY, connected(&play));
+    EXPECT(was_refused());
+    EXPECT_NUMBER(state, dw_state(&play.client));
+    EXPECT_NUMBER(DW_OK, connected(&play));
+    EXPECT_NUMBER(DW_STATE_CONNECTED, dw_state(&play.client));
+    dw_close(&play.client);
+    EXPECT_NUMBER(0, heap.blocks);
+}
+
 int main(void)
 {
     static struct play whole, part;
+    expect_room_first();
     long halted = 0;
     EXPECT(run(&whole, 0));
     long asked = heap.asked;
