@@ -5,8 +5,8 @@ use Rattle.std.specs.Str.{IsUtf8, IsCharBoundary}
 use Rattle.std.proofs.lemmas.Str.{IsCharBoundary-start, IsCharBoundary-end}
 use Rattle.std.proofs.lemmas.List.{drop-append-le, take-append-le, length-append, length-drop, map_more}
 use Rattle.std.proofs.Math.Seq.{drop-append_seam, take-length}
-use Rattle.zk_cache.specs.Segments.{segments_from}
-use Rattle.zk_cache.specs.inner.Cuts.{start_at, AreCutsFrom}
+use Rattle.zk_cache.specs.Segments.{segments_from, AreCutsFrom}
+use Rattle.zk_cache.specs.inner.Cuts.{start_at}
 
 -- a place between two characters stays one, whatever text comes after it
 boundary_stays : (bs ds : List ℕ) (i : ℕ) → IsUtf8 ds → IsCharBoundary bs i → IsCharBoundary (bs ++ ds) i

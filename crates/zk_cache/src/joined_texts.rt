@@ -1,8 +1,8 @@
 //! Texts that are in one text.
 ghost use Rattle.std.specs.Prelude.{◌≡◌, ◌<◌, ◌^◌, ◌++◌, ◌∷◌, [], map, length, option_map, slice_get, string_bytes, IfOk, OnOk};
 ghost use Rattle.std.specs.List.{sum_by};
-ghost use Rattle.zk_cache.specs.Segments.{segments_from};
-ghost use Rattle.zk_cache.specs.inner.Cuts.{start_at, AreCutsFrom};
+ghost use Rattle.zk_cache.specs.Segments.{segments_from, AreCutsFrom};
+ghost use Rattle.zk_cache.specs.inner.Cuts.{start_at};
 ghost use Rattle.zk_jute.specs.Lenient.{or_empty};
 
 use crate::names::texts_of;
@@ -20,8 +20,7 @@ pub struct JoinedTexts<A: Allocator = Global> {
 
 impl<A: Allocator> Model for JoinedTexts<A> {
     ghost use Rattle.std.specs.Prelude.{ℕ, List, string_bytes};
-    ghost use Rattle.zk_cache.specs.Segments.{segments_from};
-    ghost use Rattle.zk_cache.specs.inner.Cuts.{AreCutsFrom};
+    ghost use Rattle.zk_cache.specs.Segments.{segments_from, AreCutsFrom};
 
     ghost Value = { List (List ℕ) };
 

@@ -1,7 +1,6 @@
 -- `cuts-push` and `segments-push`: the end of the text is the last cut.
 use Rattle.std.proofs.Common.{◌≡◌, ◌++◌, ◌∷◌, ◌+◌, [], ap, sym, subst, ◌∙◌, length, string_bytes, length-append}
-use Rattle.zk_cache.specs.Segments.{segments_from}
-use Rattle.zk_cache.specs.inner.Cuts.{AreCutsFrom}
+use Rattle.zk_cache.specs.Segments.{segments_from, AreCutsFrom}
 use Rattle.zk_cache.proofs.CutLemmas.{cuts-push, segments-push}
 use Rattle.zk_cache.proofs.joined_texts.push.Given.{Over}
 use Rattle.zk_cache.proofs.joined_texts.push.Goals.{In_ok-push}

@@ -1,7 +1,6 @@
 -- The loop over the texts: those so far are the segments.
 use Rattle.std.proofs.Common.{◌≡◌, map, take, string_bytes}
-use Rattle.zk_cache.specs.Segments.{segments_from}
-use Rattle.zk_cache.specs.inner.Cuts.{AreCutsFrom}
+use Rattle.zk_cache.specs.Segments.{segments_from, AreCutsFrom}
 use Rattle.zk_cache.proofs.joined_texts.JoinedTexts.of.Given as goal
 
 abbrev pub invariant-loop-segment : goal.invariant-loop-segment
