@@ -1,5 +1,7 @@
 -- Which names a set of texts has: a test of the texts is one of the names. And what a step over names by their index passes.
-use Rattle.std.proofs.Common.{◌≡◌, ℕ, zero, suc, ◌+◌, ◌<◌, Bool, ◌||◌, List, [], ◌∷◌, length, map, drop, refl, sym, ap, ap₂, ◌∙◌, arith}
+use Rattle.std.proofs.Common.{◌≡◌, ℕ, zero, suc, ◌+◌, ◌<◌, Bool, ◌||◌, List, [], ◌∷◌, ◌++◌, length, map, take, drop, refl, sym, ap, ap₂}
+use Rattle.std.proofs.Common.{◌∙◌, arith}
+use Rattle.std.proofs.lemmas.List.{take_more}
 use Rattle.std.proofs.lemmas.Option.{slice_get_within, get_or_from_slice_get}
 use Rattle.std.proofs.Math.Seq.{drop-cons}
 use Rattle.std.specs.Prelude.{string_bytes, bytes_eq, None, Some, slice_get}
@@ -35,6 +37,13 @@ drop_found xs index x is =
     let next : suc index ≡ index + 1 = omega arith in
     drop-cons xs index x (slice_get_within xs index x (sym is))
     ∙ (λ i. get_or_from_slice_get xs index x x (sym is) i ∷ drop (next i) xs)
+
+-- and the last of those up to there
+pub take_found : {X : Type 0} (xs : List X) (index : ℕ) (x : X)
+    → Some x ≡ slice_get xs index → take (index + 1) xs ≡ take index xs ++ x ∷ []
+take_found xs index x is =
+    take_more xs index x (slice_get_within xs index x (sym is))
+    ∙ ap (λ last. take index xs ++ last ∷ []) (get_or_from_slice_get xs index x x (sym is))
 
 -- and a value that is the first of those from an index on stands there
 pub first_left : {X : Type 0} (xs : List X) (index : ℕ) (x : X) (rest : List X) → drop index xs ≡ x ∷ rest → slice_get xs index ≡ Some x

@@ -1,6 +1,6 @@
 //! Names, as they are printed: each once, in the order of their bytes.
 
-ghost use Rattle.std.specs.Prelude.{◌≡◌, ◌++◌, ℕ, List, IfOk, OnOk, codes, map, string_bytes};
+ghost use Rattle.std.specs.Prelude.{◌≡◌, ◌++◌, ℕ, List, OnOk, codes, map, string_bytes};
 ghost use Rattle.std.specs.BTreeSet.{IsOrdered};
 ghost use Rattle.std.specs.FinSet as set;
 ghost use Rattle.std.specs.Fmt.{decimal};
@@ -11,24 +11,11 @@ ghost use Rattle.zk_nodes.specs.inner.Names.{names_of};
 ghost use Rattle.script_words.specs.Values.{spaced, names_text};
 ghost use Rattle.script_replay.specs.Shown.{names_words, TellsSet};
 
+use crate::name_sets::set_of;
 use script_words::values::{push_all, push_name, push_word};
 use std::alloc::{AllocError, Allocator};
 use std::collections::BTreeSet;
-use zk_cache::SortedNames;
-
-/// The names as a set.
-fn set_of<A: Allocator + Copy>(
-    alloc: A,
-    names: &[String<A>],
-) -> Result<BTreeSet<String<A>, A>, AllocError>
-    ensures { IfOk result (λ s. names_of s ≡ set.from_list (map string_bytes names.now)) }
-{
-    let mut set = BTreeSet::new(alloc);
-    for name in names {
-        set.insert(String::from_str(alloc, name.as_str())?)?;
-    }
-    Ok(set)
-}
+use zk_cache::{JoinedTexts, SortedNames};
 
 /// Adds how many names there are.
 fn push_count<A: Allocator + Copy>(
@@ -70,10 +57,10 @@ pub fn push_set<A: Allocator + Copy>(
 pub fn push_listing<A: Allocator + Copy>(
     text: &mut String<A>,
     alloc: A,
-    names: &[String<A>],
+    names: &JoinedTexts<A>,
 ) -> Result<(), AllocError>
-    ensures { OnOk result ((told : List ℕ) × TellsSet (set.from_list (map string_bytes names.now)) told
-        × (string_bytes text.new ≡ string_bytes text.old ++ told)) }
+    ensures { OnOk result
+        ((told : List ℕ) × TellsSet (set.from_list names.now) told × (string_bytes text.new ≡ string_bytes text.old ++ told)) }
 {
     let set = set_of(alloc, names)?;
     push_set(text, alloc, &set)

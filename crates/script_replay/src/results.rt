@@ -1,6 +1,6 @@
 //! What a call is answered, as it is printed.
 
-ghost use Rattle.std.specs.Prelude.{◌≡◌, ◌++◌, ◌∷◌, ℕ, ℤ, List, Some, OnOk, map, string_bytes};
+ghost use Rattle.std.specs.Prelude.{◌≡◌, ◌++◌, ◌∷◌, ℕ, ℤ, List, Some, OnOk, string_bytes};
 ghost use Rattle.std.specs.FinSet as set;
 ghost use Rattle.zk_client.specs.Views.{call_result_view, outcome_view};
 ghost use Rattle.zk_conversation.specs.Results.{Listing};
@@ -14,6 +14,7 @@ use script_words::values::{
     push_data_word, push_front, push_name, push_numbers, push_value, push_word,
 };
 use std::alloc::{AllocError, Allocator};
+use zk_cache::JoinedTexts;
 use zk_client::{CallResult, Outcome};
 use zk_nodes::DataStat;
 use zk_records::Stat;
@@ -55,10 +56,10 @@ fn push_full<A: Allocator + Copy>(
 fn push_names_result<A: Allocator + Copy>(
     text: &mut String<A>,
     alloc: A,
-    names: &[String<A>],
+    names: &JoinedTexts<A>,
     stat: &Stat,
 ) -> Result<(), AllocError>
-    ensures { OnOk result ((told : List ℕ) × TellsResult (Listing (map string_bytes names.now) stat.now) told
+    ensures { OnOk result ((told : List ℕ) × TellsResult (Listing names.now stat.now) told
         × (string_bytes text.new ≡ string_bytes text.old ++ told)) }
 {
     push_listing(text, alloc, names)?;
@@ -88,9 +89,7 @@ pub fn push_result<A: Allocator + Copy>(
             push_data_word(text, alloc, bytes)?;
             push_full(text, alloc, stat)
         }
-        CallResult::Names { names, stat } => {
-            push_names_result(text, alloc, names.as_slice(), stat)
-        }
+        CallResult::Names { names, stat } => push_names_result(text, alloc, names, stat),
         CallResult::Created(path) => {
             text.push_str("created")?;
             push_name(text, alloc, path.as_bytes())

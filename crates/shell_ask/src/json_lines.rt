@@ -13,12 +13,13 @@ ghost use Rattle.shell_ask.specs.Printing.{PrintsObjects};
 
 use crate::data::as_utf8;
 use crate::fields::fields_of;
-use crate::names::{below, set_of};
+use crate::names::below;
 use json::Writer;
+use script_replay::name_sets::set_of;
 use script_words::words::bytes_to_word;
 use std::alloc::{AllocError, Allocator};
 use std::collections::BTreeSet;
-use zk_client::{CallResult, Stat};
+use zk_client::{CallResult, JoinedTexts, Stat};
 
 /// What a writer has written, and the end of its line.
 fn line_of<A: Allocator + Copy>(writer: Writer<A>) -> Result<Vec<u8, A>, AllocError>
@@ -137,8 +138,11 @@ fn set_lines<A: Allocator + Copy>(
 }
 
 /// A line for each of names that come in any order, and may come more than once.
-fn name_lines<A: Allocator + Copy>(alloc: A, names: &[String<A>]) -> Result<Vec<u8, A>, AllocError>
-    ensures { IfOk result (λ lines. PrintsEach (text_line (codes "name")) (set.from_list (map string_bytes names.now)) lines.items) }
+fn name_lines<A: Allocator + Copy>(
+    alloc: A,
+    names: &JoinedTexts<A>,
+) -> Result<Vec<u8, A>, AllocError>
+    ensures { IfOk result (λ lines. PrintsEach (text_line (codes "name")) (set.from_list names.now) lines.items) }
 {
     let set = set_of(alloc, names)?;
     set_lines(alloc, &set)
@@ -156,7 +160,7 @@ pub(crate) fn objects<A: Allocator + Copy>(
         CallResult::Code(_) | CallResult::Done => Ok(Vec::new(alloc)),
         CallResult::Stat(stat) => fields_line(alloc, stat),
         CallResult::Data { bytes, stat } => read_line(alloc, bytes, stat),
-        CallResult::Names { names, stat: _ } => name_lines(alloc, names.as_slice()),
+        CallResult::Names { names, stat: _ } => name_lines(alloc, names),
         CallResult::Created(path) => {
             with_text(Vec::new(alloc), "path", below(chroot, path.as_str()))
         }

@@ -1,17 +1,18 @@
 //! Names and paths, as they are printed.
 
-ghost use Rattle.std.specs.Prelude.{◌≡◌, ◌++◌, ℕ, List, chars, IfOk, OnOk, map, string_bytes};
+ghost use Rattle.std.specs.Prelude.{◌≡◌, ◌++◌, ℕ, List, chars, OnOk, map, string_bytes};
 ghost use Rattle.std.specs.BTreeSet.{IsOrdered};
 ghost use Rattle.std.specs.FinSet as set;
 ghost use Rattle.std.specs.List.{flat_map, list_any};
 ghost use Rattle.std.specs.String.{string_cmp};
-ghost use Rattle.zk_nodes.specs.inner.Names.{names_of};
 ghost use Rattle.zk_nodes.specs.Path.{Text};
 ghost use Rattle.shell_ask.specs.Printing.{is_control, name_line, IsBelow, PrintsNames};
 
+use script_replay::name_sets::set_of;
 use script_words::words::text_to_word;
 use std::alloc::{AllocError, Allocator};
 use std::collections::BTreeSet;
+use zk_client::JoinedTexts;
 
 /// Whether a character is a control character.
 fn is_control(c: char) -> bool
@@ -43,20 +44,6 @@ pub(crate) fn push_name<A: Allocator + Copy>(
     text.push_str("\n")
 }
 
-/// The names as a set.
-pub(crate) fn set_of<A: Allocator + Copy>(
-    alloc: A,
-    names: &[String<A>],
-) -> Result<BTreeSet<String<A>, A>, AllocError>
-    ensures { IfOk result (λ s. names_of s ≡ set.from_list (map string_bytes names.now)) }
-{
-    let mut set = BTreeSet::new(alloc);
-    for name in names {
-        set.insert(String::from_str(alloc, name.as_str())?)?;
-    }
-    Ok(set)
-}
-
 /// Adds the lines of a set of names.
 fn push_set<A: Allocator + Copy>(
     text: &mut String<A>,
@@ -76,10 +63,10 @@ fn push_set<A: Allocator + Copy>(
 pub(crate) fn push_names<A: Allocator + Copy>(
     text: &mut String<A>,
     alloc: A,
-    names: &[String<A>],
+    names: &JoinedTexts<A>,
 ) -> Result<(), AllocError>
-    ensures { OnOk result ((told : List ℕ) × PrintsNames (set.from_list (map string_bytes names.now)) told
-        × (string_bytes text.new ≡ string_bytes text.old ++ told)) }
+    ensures { OnOk result
+        ((told : List ℕ) × PrintsNames (set.from_list names.now) told × (string_bytes text.new ≡ string_bytes text.old ++ told)) }
 {
     let set = set_of(alloc, names)?;
     push_set(text, alloc, &set)

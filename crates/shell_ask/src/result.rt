@@ -28,7 +28,7 @@ fn words<A: Allocator + Copy>(
         CallResult::Code(_) | CallResult::Done => {}
         CallResult::Stat(stat) => push_fields(&mut text, alloc, form, stat)?,
         CallResult::Data { bytes, stat: _ } => push_data(&mut text, alloc, form, bytes)?,
-        CallResult::Names { names, stat: _ } => push_names(&mut text, alloc, names.as_slice())?,
+        CallResult::Names { names, stat: _ } => push_names(&mut text, alloc, names)?,
         CallResult::Created(path) => push_path(&mut text, alloc, chroot, path.as_str())?,
     }
     Ok(text)

@@ -1,6 +1,7 @@
 //! Nodes of a tree, which wait to be printed.
 
-ghost use Rattle.std.specs.Prelude.{◌≡◌, ◌≢◌, ◌++◌, ◌<◌, ◌-◌, ◌^◌, true, false, List, Contains, None, IfOk, IfErr, OnOk, map, string_bytes};
+ghost use Rattle.std.specs.Prelude.{◌≡◌, ◌≢◌, ◌++◌, [], ◌<◌, ◌-◌, ◌^◌, true, false, List, Contains, None, IfOk, IfErr, OnOk, map};
+ghost use Rattle.std.specs.Prelude.{option_map, string_bytes, unwrap_or};
 ghost use Rattle.std.specs.BTreeSet.{IsOrdered};
 ghost use Rattle.std.specs.String.{string_cmp};
 ghost use Rattle.zk_nodes.specs.Path.{Text};
@@ -8,10 +9,10 @@ ghost use Rattle.zk_nodes.specs.PathFault.{fault_told};
 ghost use Rattle.shell_ask.specs.Trees.{child_of, AreInOrder, HasNoPath};
 ghost use Rattle.shell_ask.specs.inner.Trees.{spot_view, waiting_view};
 
-use crate::names::set_of;
+use script_replay::name_sets::set_of;
 use std::alloc::{AllocError, Allocator};
 use std::collections::BTreeSet;
-use zk_client::{Path, PathFault};
+use zk_client::{JoinedTexts, Path, PathFault};
 use zk_driver::Stop;
 
 /// A node of a tree: how many levels it lies below the tree's root, its path, and its path below the chroot.
@@ -79,18 +80,23 @@ fn spots_of<A: Allocator + Copy>(
 }
 
 /// The nodes below a node, in the order of their names, which come in any order, and may come more than once; or why one has no path.
+/// Where there are no names there are none.
 pub(crate) fn spots_below<A: Allocator + Copy>(
     alloc: A,
     spot: &Spot<A>,
-    names: &[String<A>],
+    names: Option<&JoinedTexts<A>>,
 ) -> Result<Vec<Spot<A>, A>, PathFault>
     requires { spot.now.depth < 2 ^ 64 - 1 }
-    ensures ok { IfOk result (λ spots. (each : List Text) × AreInOrder each (map string_bytes names.now)
+    ensures ok { let all = unwrap_or (option_map (λ lent. lent.now) names.entry) [] in
+        IfOk result (λ spots. (each : List Text) × AreInOrder each all
         × (map spot_view spots.items ≡ map (child_of (spot_view spot.now)) each)) }
-    ensures err { IfErr result
-        (λ fault. fault_told fault ≢ None → (each : List Text) × (child : Text) × AreInOrder each (map string_bytes names.now)
+    ensures err { let all = unwrap_or (option_map (λ lent. lent.now) names.entry) [] in
+        IfErr result (λ fault. fault_told fault ≢ None → (each : List Text) × (child : Text) × AreInOrder each all
         × Contains each child × HasNoPath (spot_view spot.now) child) }
 {
+    let Some(names) = names else {
+        return Ok(Vec::new(alloc));
+    };
     let set = set_of(alloc, names)?;
     spots_of(alloc, spot, &set)
 }

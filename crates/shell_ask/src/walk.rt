@@ -1,7 +1,7 @@
 //! A walk through a tree, one node after the other.
 
 ghost use Rattle.std.specs.Prelude.{◌≡◌, ◌≢◌, ◌++◌, ◌∷◌, [], ◌<◌, ◌-◌, ◌^◌, true, false, List, Contains, None, IfOk, IfSome, IfNone, OnOk};
-ghost use Rattle.std.specs.Prelude.{length, map, string_bytes};
+ghost use Rattle.std.specs.Prelude.{length, map, option_map, unwrap_or};
 ghost use Rattle.zk_nodes.specs.Path.{Text};
 ghost use Rattle.zk_driver.specs.Driving.{course_of};
 ghost use Rattle.zk_driver.specs.Flowing.{flow_of, Runs};
@@ -19,7 +19,7 @@ use crate::end::CallEnd;
 use crate::spots::{Spot, copied, is_of_text, put_first, spots_below};
 use crate::told::end_of;
 use std::alloc::Allocator;
-use zk_client::{Call, CallResult, Outcome, Path};
+use zk_client::{Call, CallResult, JoinedTexts, Outcome, Path};
 use zk_driver::{Driver, Stop};
 use zk_link::{Clock, Dial};
 
@@ -56,8 +56,8 @@ fn names_within<'a, A: Allocator>(
     deepest: u64,
     spot: &Spot<A>,
     came: &'a Came<A>,
-) -> &'a [String<A>]
-    ensures { map string_bytes result.now ≡ names_within deepest (spot_view spot.now) (came_view came.now) }
+) -> Option<&'a JoinedTexts<A>>
+    ensures { unwrap_or (option_map (λ lent. lent.now) result) [] ≡ names_within deepest (spot_view spot.now) (came_view came.now) }
 {
     match came {
         Came::Answered(
@@ -65,8 +65,8 @@ fn names_within<'a, A: Allocator>(
                 zxid: _,
                 result: CallResult::Names { names, stat: _ },
             },
-        ) if spot.depth < deepest => names.as_slice(),
-        _ => &[],
+        ) if spot.depth < deepest => Some(names),
+        _ => None,
     }
 }
 

@@ -20,7 +20,7 @@ pub returns : goal.returns
 returns g c =
     let found = c.in_ok-set.set in
     let each = map string_bytes found.keys in
-    let names : NameSet = set.from_list (map string_bytes c.args.names.now) in
+    let names : NameSet = set.from_list c.args.names.now in
     let same : (name : Text) → list_any (bytes_eq name) each ≡ set.contains names name = subst
     (λ (s : NameSet). (name : Text) → list_any (bytes_eq name) each ≡ set.contains s name) c.in_ok-set.ensures (same_members found) in
     with_ok c.set_lines.result c.set_lines.ensures.lines c.set_lines.ensures.ordered (λ lines printed ordered. record {
