@@ -1,5 +1,6 @@
-/* What a client does, as steps.c drives it: over the proved library (proved.c), and by a plain program (plain.c). callgrind counts what happens
- * within the functions whose names begin with `step_`. Each takes the bytes that go out, and what is handed out, into the buffers here. */
+/* What a client does, as steps.c and time.c drive it: over the proved library (proved.c), and by plain programs in C (plain.c) and in Rust
+ * (plain.rs). callgrind counts what happens within the functions whose names begin with `step_`. Each takes the bytes that go out, and what is
+ * handed out, into the buffers here. */
 #ifndef CLIENT_H
 #define CLIENT_H
 
@@ -9,7 +10,7 @@
 
 enum { TIMEOUT_MS = 30000, ROOM = 1 << 23 };
 
-/* What went out and was handed out since the program began: both clients end with the same counts. The sums are of all bytes. */
+/* What went out and was handed out since the program began: all clients end with the same counts. The sums are of all bytes. */
 struct told {
     size_t answers, reports, frames, sent, handed;
     uint64_t sum_sent, sum_handed;
