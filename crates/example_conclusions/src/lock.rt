@@ -7,7 +7,9 @@ use anyhow::{Result, bail};
 use std::alloc::Global;
 use std::io::Write;
 use std::mem;
-use zk_client::{Call, CallResult, Client, Code, CreateMode, Mark, Outcome, Path, State};
+use zk_client::{
+    Call, CallResult, Client, Code, CreateMode, JoinedTexts, Mark, Outcome, Path, State,
+};
 use zk_conclusions::{Kind, Listing, Standing, Tagged};
 use zk_driver::{Action, Driver};
 use zk_fence::Fence;
@@ -65,7 +67,7 @@ pub struct Contender<'a> {
     // The zxid at which the last node was made.
     made: Option<i64>,
     // The last listing, and whether it is of use still.
-    names: Vec<String>,
+    names: Option<JoinedTexts>,
     zxid: i64,
     place: Option<Place>,
     ticket: u64,
@@ -96,10 +98,12 @@ fn is_watched(client: &Client, node: &Path) -> bool {
 }
 
 /// Of some names the first that is one too much.
-fn surplus_of<'a>(tagged: &Tagged<'_>, names: &'a [String]) -> Option<&'a str> {
-    for name in names {
-        if tagged.is_surplus(name.as_str()) {
-            return Some(name.as_str());
+fn surplus_of<'a>(tagged: &Tagged<'_>, names: &'a JoinedTexts) -> Option<&'a str> {
+    for index in 0..names.len() {
+        if let Some(name) = names.get(index) {
+            if tagged.is_surplus(name) {
+                return Some(name);
+            }
         }
     }
     None
@@ -161,7 +165,7 @@ impl<'a> Contender<'a> {
             leave_at: u64::MAX,
             tag: String::new(alloc),
             made: None,
-            names: Vec::new(alloc),
+            names: None,
             zxid: 0,
             place: None,
             ticket: 0,
@@ -182,9 +186,12 @@ impl<'a> Contender<'a> {
 
     /// Where the session stands by the listing.
     fn find_place(&self, made: i64) -> Result<Option<Place>> {
+        let Some(names) = &self.names else {
+            return Ok(None);
+        };
         let listing = Listing {
             directory: &self.directory,
-            names: self.names.as_slice(),
+            names,
             zxid: self.zxid,
         };
         let place = place_in(self.alloc, &listing, &self.kind(), self.tag.as_str(), made);
@@ -199,9 +206,10 @@ impl<'a> Contender<'a> {
     /// The token of the session, where its client shows that it holds.
     fn token(&self, client: &Client) -> Option<i64> {
         let place = self.place.as_ref()?;
+        let names = self.names.as_ref()?;
         let listing = Listing {
             directory: &self.directory,
-            names: self.names.as_slice(),
+            names,
             zxid: self.zxid,
         };
         let standing = Standing::of(client, &listing, &self.kind(), &place.own);
@@ -332,8 +340,8 @@ impl<'a> Contender<'a> {
     }
 
     /// Finds the place of the session by a new listing. Where it has none, its node is gone.
-    fn settle(&mut self, zxid: i64, names: Vec<String>) -> Result<()> {
-        self.names = names;
+    fn settle(&mut self, zxid: i64, names: JoinedTexts) -> Result<()> {
+        self.names = Some(names);
         self.zxid = zxid;
         if let Some(made) = self.made {
             self.place = self.find_place(made)?;

@@ -1,6 +1,6 @@
 -- The last rival before a name, found name by name: what was found so far is the last of the names gone through.
-use Rattle.std.proofs.Common.{ℕ, zero, suc, ◌≡◌, ◌<◌, ◌≤◌, ◌⊎◌, inl, inr, Bool, true, false, ◌&&◌, List, [], ◌∷◌, map, length, take, get_or}
-use Rattle.std.proofs.Common.{Option, Some, None, String, string_bytes, refl, sym, ap, subst, arith}
+use Rattle.std.proofs.Common.{ℕ, zero, suc, ◌≡◌, ◌<◌, ◌≤◌, ◌⊎◌, inl, inr, Bool, true, false, ◌&&◌, List, [], ◌∷◌, length, take, get_or}
+use Rattle.std.proofs.Common.{Option, Some, None, refl, sym, subst, arith}
 use Rattle.std.proofs.lemmas.Bool.{and_parts}
 use Rattle.std.specs.Prelude.{IfSome}
 use Rattle.zk_turns.specs.Meaning.{Among}
@@ -10,13 +10,6 @@ use Rattle.zk_conclusions.specs.Standings.{IsFirstOf}
 use Rattle.zk_conclusions.specs.Predecessors.{IsPredecessor}
 use Rattle.zk_conclusions.specs.inner.Predecessors.{IsLastOf, Found, name_at, is_after, is_later}
 use Rattle.zk_conclusions.proofs.Numbered.{before_trans, never_before}
-
--- the text of the one at a place
-pub text_at : {A : Type 0} (names : List (String A)) (place : ℕ) (x : String A)
-    → place < length names → x ≡ get_or names place x → string_bytes x ≡ get_or (map string_bytes names) place []
-text_at [] place x lt e = absurd (omega arith)
-text_at (s ∷ ss) zero x lt e = ap string_bytes e
-text_at (s ∷ ss) (suc place) x lt e = text_at ss place x (omega arith) e
 
 pub none_taken : (names : List Name) (name : Name) → Among name (take 0 names) → ⊥
 none_taken [] name there = there

@@ -21,15 +21,24 @@ rest_at names at name is =
 neither : (a b : Bool) → a ≡ false → b ≡ false → (a || b) ≡ false
 neither a b fails none = ap (λ x. x || b) fails ∙ none
 
+-- the name at a place, which fails the test or passes it
+pub none_up_to : (test : Name → Bool) (names : List Name) (at : ℕ) (name : Name) → at < length names → name ≡ get_or names at []
+    → list_any test (take at names) ≡ false → test name ≡ false → list_any test (take (at + 1) names) ≡ false
+none_up_to test names at name within is none fails =
+    list_any_more test names at [] within
+    ∙ neither (list_any test (take at names)) (test (get_or names at [])) none (ap test (sym is) ∙ fails)
+
+pub one_at : (test : Name → Bool) (names : List Name) (at : ℕ) (name : Name)
+    → at < length names → name ≡ get_or names at [] → test name ≡ true → list_any test names ≡ true
+one_at test names at name within is passes = list_any_at test names at [] within (ap test (sym is) ∙ passes)
+
+-- the same of a name that was got
 pub none_more : (test : Name → Bool) (names : List Name) (at : ℕ) (name : Name) → Some name ≡ slice_get names at
     → list_any test (take at names) ≡ false → test name ≡ false → list_any test (take (at + 1) names) ≡ false
-none_more test names at name is none fails =
-    list_any_more test names at [] (slice_get_within names at name (sym is))
-    ∙ neither (list_any test (take at names)) (test (get_or names at [])) none
-    (ap test (get_or_from_slice_get names at name [] (sym is)) ∙ fails)
+none_more test names at name is =
+    none_up_to test names at name (slice_get_within names at name (sym is)) (sym (get_or_from_slice_get names at name [] (sym is)))
 
 pub one_is : (test : Name → Bool) (names : List Name) (at : ℕ) (name : Name)
     → Some name ≡ slice_get names at → test name ≡ true → list_any test names ≡ true
-one_is test names at name is passes =
-    list_any_at test names at [] (slice_get_within names at name (sym is))
-    (ap test (get_or_from_slice_get names at name [] (sym is)) ∙ passes)
+one_is test names at name is =
+    one_at test names at name (slice_get_within names at name (sym is)) (sym (get_or_from_slice_get names at name [] (sym is)))

@@ -31,7 +31,7 @@ pub struct Standing<'a, A: Allocator + Copy = Global> {
 }
 
 impl<'a, A: Allocator + Copy> Standing<'a, A> {
-    ghost use Rattle.std.specs.Prelude.{◌≡◌, ℤ, None, IfSome, map, string_bytes};
+    ghost use Rattle.std.specs.Prelude.{◌≡◌, ℤ, None, IfSome};
     ghost use Rattle.zk_client.specs.Clients.{view_of};
     ghost use Rattle.zk_nodes.specs.Path.{path_of};
     ghost use Rattle.zk_nodes.specs.History.{History, tree_at};
@@ -56,15 +56,15 @@ impl<'a, A: Allocator + Copy> Standing<'a, A> {
         path: &Path<A>,
     ) -> Option<Standing<'a, A>>
         ensures shows { IfSome result (λ standing. ShowsStanding (view_of client.now) listing.now.directory.now (kind_of kind.now)
-            (map string_bytes listing.now.names.now) listing.now.zxid path.now standing.token) }
+            listing.now.names.now listing.now.zxid path.now standing.token) }
         ensures holds { IfSome result (λ standing. (h : History) → IsServedFrom h (view_of client.now)
             → NumbersRise h (path_of listing.now.directory.now) (kind_of kind.now)
-            → ListsAll (tree_at h (from_zero listing.now.zxid)) (path_of listing.now.directory.now) (map string_bytes listing.now.names.now)
+            → ListsAll (tree_at h (from_zero listing.now.zxid)) (path_of listing.now.directory.now) listing.now.names.now
             → IsStanding (tree_seen h (view_of client.now)) (path_of listing.now.directory.now) (kind_of kind.now) (path_of path.now)
             (view_of client.now).saved.session.session standing.token) }
         ensures client { IfSome result (λ standing. standing.client.now ≡ client.now) }
         ensures none { result ≡ None → (token : ℤ) → ¬ (ShowsStanding (view_of client.now) listing.now.directory.now (kind_of kind.now)
-            (map string_bytes listing.now.names.now) listing.now.zxid path.now token) }
+            listing.now.names.now listing.now.zxid path.now token) }
     {
         let own = name_below(listing.directory, path)?;
         if !is_numbered(own, kind.own) {

@@ -1,6 +1,6 @@
 //! The nodes that a session made where answers to its creates were lost.
 
-ghost use Rattle.std.specs.Prelude.{◌≡◌, ◌≤ℤ◌, ◌↔◌, ◌&&◌, true, false, IsTrue, IfSome, None, bytes_eq, map, not, string_bytes};
+ghost use Rattle.std.specs.Prelude.{◌≡◌, ◌≤ℤ◌, ◌↔◌, ◌&&◌, true, false, IsTrue, IfSome, None, bytes_eq, not};
 ghost use Rattle.std.specs.List.{list_any};
 ghost use Rattle.zk_turns.specs.Meaning.{Among};
 ghost use Rattle.zk_nodes.specs.Path.{Name};
@@ -12,6 +12,7 @@ use crate::firsts::has_prefix;
 use crate::listing::{Listing, name_at};
 use crate::numbers::is_before;
 use std::alloc::Allocator;
+use zk_client::JoinedTexts;
 
 /// The nodes in a directory whose names begin with a tag that one session alone puts in front of its names. A create whose answer was
 /// lost may have made one, so after it more than one may be there: the least stays, and the others are to be deleted.
@@ -27,20 +28,25 @@ fn is_tagged_before(tag: &str, name: &str, own: &str) -> bool
     has_prefix(name, tag) && is_before(name, own)
 }
 
-fn has_tagged_before<A: Allocator>(names: &[String<A>], tag: &str, own: &str) -> bool
-    ensures { result ≡ list_any (λ name. has_tag tag.now (string_bytes name) && is_before (string_bytes name) own.now) names.now }
+fn has_tagged_before<A: Allocator>(names: &JoinedTexts<A>, tag: &str, own: &str) -> bool
+    ensures { result ≡ list_any (λ name. has_tag tag.now name && is_before name own.now) names.now }
 {
-    names.iter().any(|name| is_tagged_before(tag, name, own))
+    for place in 0..names.len() {
+        if is_tagged_before(tag, name_at(names, place), own) {
+            return true;
+        }
+    }
+    false
 }
 
-fn is_first_tagged<A: Allocator>(names: &[String<A>], tag: &str, name: &str) -> bool
-    ensures { IsTrue result ↔ IsFirstAmong (has_tag tag.now) (map string_bytes names.now) name.now }
+fn is_first_tagged<A: Allocator>(names: &JoinedTexts<A>, tag: &str, name: &str) -> bool
+    ensures { IsTrue result ↔ IsFirstAmong (has_tag tag.now) names.now name.now }
 {
     !has_tagged_before(names, tag, name)
 }
 
-fn is_least<A: Allocator>(names: &[String<A>], tag: &str, name: &str) -> bool
-    ensures { IsTrue result ↔ ((has_tag tag.now name.now ≡ true) × IsFirstAmong (has_tag tag.now) (map string_bytes names.now) name.now) }
+fn is_least<A: Allocator>(names: &JoinedTexts<A>, tag: &str, name: &str) -> bool
+    ensures { IsTrue result ↔ ((has_tag tag.now name.now ≡ true) × IsFirstAmong (has_tag tag.now) names.now name.now) }
 {
     if !has_prefix(name, tag) {
         return false;
@@ -49,9 +55,9 @@ fn is_least<A: Allocator>(names: &[String<A>], tag: &str, name: &str) -> bool
 }
 
 /// The least of the names that begin with the tag.
-fn least_of<'a, A: Allocator>(names: &'a [String<A>], tag: &str) -> Option<&'a str>
-    ensures some { IfSome result (λ least. IsLeastOf (map string_bytes names.now) tag.now least.now) }
-    ensures none { result ≡ None → (name : Name) → Among name (map string_bytes names.now) → has_tag tag.now name ≡ false }
+fn least_of<'a, A: Allocator>(names: &'a JoinedTexts<A>, tag: &str) -> Option<&'a str>
+    ensures some { IfSome result (λ least. IsLeastOf names.now tag.now least.now) }
+    ensures none { result ≡ None → (name : Name) → Among name names.now → has_tag tag.now name ≡ false }
 {
     for place in 0..names.len() {
         let name = name_at(names, place);
@@ -63,7 +69,7 @@ fn least_of<'a, A: Allocator>(names: &'a [String<A>], tag: &str) -> Option<&'a s
 }
 
 impl<'a> Tagged<'a> {
-    ghost use Rattle.std.specs.Prelude.{◌≡◌, ◌≤ℤ◌, ◌&&◌, false, IfSome, None, bytes_eq, map, not, string_bytes};
+    ghost use Rattle.std.specs.Prelude.{◌≡◌, ◌≤ℤ◌, ◌&&◌, false, IfSome, None, bytes_eq, not};
     ghost use Rattle.zk_turns.specs.Meaning.{Among};
     ghost use Rattle.zk_nodes.specs.Path.{Name};
     ghost use Rattle.zk_conclusions.specs.Tags.{IsLeastOf, has_tag};
@@ -77,10 +83,10 @@ impl<'a> Tagged<'a> {
         tag: &'a str,
         answered: i64,
     ) -> Option<Tagged<'a>>
-        ensures least { IfSome result (λ tagged. IsLeastOf (map string_bytes listing.now.names.now) tag.now tagged.least.now) }
+        ensures least { IfSome result (λ tagged. IsLeastOf listing.now.names.now tag.now tagged.least.now) }
         ensures tag { IfSome result (λ tagged. tagged.tag.now ≡ tag.now) }
         ensures after { IfSome result (λ tagged. answered ≤ℤ listing.now.zxid) }
-        ensures none { result ≡ None → answered ≤ℤ listing.now.zxid → (name : Name) → Among name (map string_bytes listing.now.names.now)
+        ensures none { result ≡ None → answered ≤ℤ listing.now.zxid → (name : Name) → Among name listing.now.names.now
             → has_tag tag.now name ≡ false }
     {
         if listing.zxid < answered {
