@@ -75,7 +75,7 @@ with_result flat (result.Data (Some bytes) stat) =
     record flat { result = pos 3; has_stat = true; stat = stat_of stat; length = length bytes.items }
 with_result flat (result.Data None stat) = record flat { result = pos 3; has_stat = true; stat = stat_of stat; is_null = true }
 with_result flat (result.Names names stat) =
-    record flat { result = pos 4; has_stat = true; stat = stat_of stat; names = length names.items }
+    record flat { result = pos 4; has_stat = true; stat = stat_of stat; names = length names }
 with_result flat (result.Created path) = record flat { result = pos 5; length = length (string_bytes path) }
 with_result flat result.Done = record flat { result = pos 6 }
 

@@ -1,5 +1,5 @@
 -- What was said, one output at a time.
-use Rattle.std.specs.Prelude.{ℕ, zero, suc, List, [], Option, Some, None, String, string_bytes, map}
+use Rattle.std.specs.Prelude.{ℕ, zero, suc, List, [], Option, Some, None, get_or}
 use Rattle.std.specs.List.{slice_get}
 use Rattle.zk_client.specs.FaultText.{fault_words}
 use Rattle.zk_client.specs.Views.{fault_view}
@@ -40,14 +40,9 @@ words_of _ = []
 abbrev pub told_words : {A : Type 0} → List (Output A) → (read : ℕ) → List ℕ
 told_words said read = words_of (told said read)
 
--- a text, if there is one
-abbrev pub name_if : {A : Type 0} → Option (String A) → List ℕ
-name_if None = []
-name_if (Some name) = string_bytes name
-
 -- the name of this index that a reply brings, if it does
 abbrev pub result_name : {A : Type 0} → (index : ℕ) → CallResult A → List ℕ
-result_name index (result.Names names stat) = name_if (slice_get names.items index)
+result_name index (result.Names names stat) = get_or names index []
 result_name index _ = []
 
 -- the same of an answer
@@ -66,7 +61,7 @@ told_name index said read = name_of index (told said read)
 
 -- the names that a reply brings, if it does
 abbrev pub result_names : {A : Type 0} → CallResult A → List (List ℕ)
-result_names (result.Names names stat) = map string_bytes names.items
+result_names (result.Names names stat) = names
 result_names _ = []
 
 -- the same of an answer

@@ -135,7 +135,7 @@ fn with_result(flat: Flat, brought: &CallResult<Global>) -> Flat
             flat.result = 4;
             flat.has_stat = true;
             flat.stat = stat_of(stat);
-            flat.names = names.as_slice().len();
+            flat.names = names.len();
         }
         CallResult::Created(path) => {
             flat.result = 5;

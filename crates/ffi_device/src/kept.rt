@@ -1,6 +1,6 @@
 //! What a client keeps of a path, as numbers and texts.
 
-ghost use Rattle.std.specs.Prelude.{◌≡◌, ◌≢◌, ◌++◌, ◌<◌, [], IfErr, IfOk, None, OnErr, OnOk, drop, get_or, length, option_map, take};
+ghost use Rattle.std.specs.Prelude.{◌≡◌, ◌≢◌, ◌++◌, IfErr, IfOk, None, OnErr, OnOk, drop, length, option_map, take};
 ghost use Rattle.zk_cache.specs.Contents.{answer_of, names_in};
 ghost use Rattle.zk_client.specs.Clients.{view_of};
 ghost use Rattle.zk_nodes.specs.PathFault.{IsPath};
@@ -13,9 +13,9 @@ ghost use Rattle.zk_turns.specs.Rule.{forgotten};
 use crate::copying::copy_into;
 use crate::paths::{path_of, refuse_no_path, text_of};
 use crate::refusal::DeviceRefusal;
+use crate::texts::{spelled_texts, text_at};
 use std::alloc::{AllocError, Global};
 use zk_client::{Children, Client, DataAnswer, DataStat, Mark};
-use zk_jute::Record;
 
 /// What is kept of the fields of a node that change only where a data watch fires.
 #[repr(C)]
@@ -156,20 +156,14 @@ fn names_flat(kept: Option<(&Children<Global>, Mark)>) -> KeptNames
     }
 }
 
-// The name of this index in byte order.
-fn nth_name(names: &Children<Global>, index: usize) -> &str
-    requires { index < length names.now.names }
-    ensures { result.now ≡ get_or names.now.names index [] }
-{
-    names.names.get(index).unwrap()
-}
-
 // The name of this index of those that are kept, and nothing where there is none.
 fn name_at(kept: Option<(&Children<Global>, Mark)>, index: usize) -> &[u8]
     ensures { IsKeptName index (option_map (λ kept. record { answer = names_in kept.0.now; mark = kept.1 }) kept.entry) result.now }
 {
     match kept {
-        Some((names, _)) if index < names.names.len() => nth_name(names, index).as_bytes(),
+        Some((names, _)) if index < names.names.len() => {
+            text_at(names.names.as_texts(), index).as_bytes()
+        }
         _ => b"",
     }
 }
@@ -178,14 +172,9 @@ fn name_at(kept: Option<(&Children<Global>, Mark)>, index: usize) -> &[u8]
 fn spelled_names(alloc: Global, names: &Children<Global>) -> Result<Vec<u8>, AllocError>
     ensures { IfOk result (λ text. AreSpelled (names_in names.now).names text.items) }
 {
-    let mut text = Vec::new(alloc);
-    for at in 0..names.names.len() {
-        let name = nth_name(names, at);
-        let Ok(()) = name.write(&mut text) else {
-            return Err(AllocError);
-        };
-    }
-    Ok(text)
+    // `len` is called for its clause that the names are in byte order, which the proof cites.
+    let _ = names.names.len();
+    spelled_texts(alloc, names.names.as_texts())
 }
 
 /// The names that are kept, in byte order and each after its length. An error says that memory ran out.

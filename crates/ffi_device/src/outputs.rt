@@ -12,7 +12,7 @@ ghost use Rattle.ffi_device.specs.Texts.{AreTexts};
 use crate::copying::copy_into;
 use crate::device::Device;
 use crate::flat::{Flat, flat_of, text_of};
-use crate::texts::spelled_texts;
+use crate::texts::{spelled_texts, text_at};
 use std::alloc::{AllocError, Global};
 use zk_client::{CallResult, Outcome, Output};
 
@@ -24,7 +24,7 @@ pub fn outcome_names(alloc: Global, outcome: &Outcome<Global>) -> Result<Vec<u8>
         Outcome::Replied {
             result: CallResult::Names { names, .. },
             ..
-        } => spelled_texts(alloc, names.as_slice()),
+        } => spelled_texts(alloc, names),
         _ => Ok(Vec::new(alloc)),
     }
 }
@@ -37,10 +37,7 @@ pub fn outcome_name(outcome: &Outcome<Global>, index: usize) -> &[u8]
         Outcome::Replied {
             result: CallResult::Names { names, .. },
             ..
-        } => match names.as_slice().get(index) {
-            Some(name) => name.as_bytes(),
-            None => b"",
-        },
+        } => text_at(names, index).as_bytes(),
         _ => b"",
     }
 }

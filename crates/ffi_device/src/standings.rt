@@ -1,6 +1,6 @@
 //! Whether a session comes first in a directory, by one listing.
 
-ghost use Rattle.std.specs.Prelude.{◌≡◌, ◌≢◌, [], ◌∷◌, IfErr, IfOk, IfSome, None, OnErr, OnOk, map, string_bytes};
+ghost use Rattle.std.specs.Prelude.{◌≡◌, ◌≢◌, [], ◌∷◌, IfErr, IfOk, IfSome, None, OnErr, OnOk, map};
 ghost use Rattle.zk_client.specs.Clients.{view_of};
 ghost use Rattle.zk_nodes.specs.Path.{child_text};
 ghost use Rattle.zk_nodes.specs.PathFault.{child_fault};
@@ -48,7 +48,7 @@ fn stands_by(
     room: &mut [u8],
 ) -> Stands
     requires { path.now ≡ child_text listing.now.directory.now name.now }
-    ensures { StandsBy (view_of client.now) listing.now.directory.now name.now (map string_bytes listing.now.names.now) listing.now.zxid
+    ensures { StandsBy (view_of client.now) listing.now.directory.now name.now listing.now.names.now listing.now.zxid
         (kind_of kind.now) result room.old room.new }
 {
     match Standing::of(client, listing, kind, path) {
@@ -96,7 +96,7 @@ fn stands_among(
     let names = owned_texts(alloc, contender.names)?;
     let listing = Listing {
         directory,
-        names: names.as_slice(),
+        names: &names,
         zxid: contender.listed,
     };
     let stands = stands_by(client, &listing, &kind, name, &path, room);

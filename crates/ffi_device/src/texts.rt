@@ -1,6 +1,6 @@
 //! Texts that follow one another, each after its length.
 
-ghost use Rattle.std.specs.Prelude.{◌≡◌, ◌++◌, ℕ, List, IfErr, IfOk, IfSome, None, Some, map, string_bytes};
+ghost use Rattle.std.specs.Prelude.{◌≡◌, ◌++◌, ℕ, List, [], IfErr, IfOk, IfSome, None, Some, get_or, map};
 ghost use Rattle.zk_jute.specs.Cursor.{bytes_left};
 ghost use Rattle.zk_jute.specs.Layout.{ustring};
 ghost use Rattle.zk_jute.specs.Spelling.{Fits, spelling};
@@ -10,15 +10,30 @@ ghost use Rattle.ffi_device.specs.inner.Texts.{RefusesTexts};
 
 use crate::refusal::DeviceRefusal;
 use std::alloc::{AllocError, Global};
+use zk_client::JoinedTexts;
 use zk_jute::{Cursor, Record, TextRef, take};
 
+/// The text of this index, and the empty one where there is none.
+pub(crate) fn text_at(texts: &JoinedTexts<Global>, index: usize) -> &str
+    ensures { result.now ≡ get_or texts.now index [] }
+{
+    match texts.get(index) {
+        Some(text) => text,
+        None => "",
+    }
+}
+
 /// The texts, each after its length. An error says that memory ran out: a text from a frame is never too long.
-pub(crate) fn spelled_texts(alloc: Global, texts: &[String<Global>]) -> Result<Vec<u8>, AllocError>
-    ensures { IfOk result (λ spelled. AreTexts (map string_bytes texts.now) spelled.items) }
+pub(crate) fn spelled_texts(
+    alloc: Global,
+    texts: &JoinedTexts<Global>,
+) -> Result<Vec<u8>, AllocError>
+    ensures { IfOk result (λ spelled. AreTexts texts.now spelled.items) }
 {
     let mut spelled = Vec::new(alloc);
-    for text in texts {
-        let Ok(()) = text.as_str().write(&mut spelled) else {
+    for at in 0..texts.len() {
+        let text = text_at(texts, at);
+        let Ok(()) = text.write(&mut spelled) else {
             return Err(AllocError);
         };
     }
@@ -61,40 +76,28 @@ pub(crate) fn lent_texts<'a>(
     Ok(texts)
 }
 
-// A copy of a text.
-fn owned_text(alloc: Global, text: &str) -> Result<String<Global>, DeviceRefusal>
-    ensures text { IfOk result (λ copy. string_bytes copy ≡ text.now) }
-    ensures refused { IfErr result (λ refusal. refusal ≡ DeviceRefusal.Memory) }
+// The same texts, with memory of their own.
+fn joined_texts(alloc: Global, texts: &[&str]) -> Result<JoinedTexts<Global>, AllocError>
+    ensures { IfOk result (λ joined. joined ≡ map (λ text. text.now) texts.now) }
 {
-    match String::from_str(alloc, text) {
-        Ok(copy) => Ok(copy),
-        Err(_) => Err(DeviceRefusal::Memory),
-    }
-}
-
-// Copies of the texts.
-fn copied_texts(alloc: Global, texts: &[&str]) -> Result<Vec<String<Global>>, DeviceRefusal>
-    ensures texts { IfOk result (λ copies. map string_bytes copies.items ≡ map (λ text. text.now) texts.now) }
-    ensures refused { IfErr result (λ refusal. refusal ≡ DeviceRefusal.Memory) }
-{
-    let mut copies = Vec::new(alloc);
+    let mut names = Vec::with_capacity(alloc, texts.len())?;
     for text in texts {
-        let copy = owned_text(alloc, *text)?;
-        if copies.push(copy).is_err() {
-            return Err(DeviceRefusal::Memory);
-        }
+        names.push(TextRef { text: Some(*text) })?;
     }
-    Ok(copies)
+    JoinedTexts::of_names(alloc, names.as_slice())
 }
 
-/// The same texts, with memory of their own.
+/// The texts that are spelled so, with memory of their own. A refusal is as of [`lent_texts`].
 pub(crate) fn owned_texts(
     alloc: Global,
     spelled: &[u8],
-) -> Result<Vec<String<Global>>, DeviceRefusal>
-    ensures ok { IfOk result (λ texts. AreTexts (map string_bytes texts.items) spelled.now) }
+) -> Result<JoinedTexts<Global>, DeviceRefusal>
+    ensures ok { IfOk result (λ texts. AreTexts texts spelled.now) }
     ensures refused { IfErr result (λ refusal. RefusesTexts spelled.now (refusal_code refusal)) }
 {
     let texts = lent_texts(alloc, spelled)?;
-    copied_texts(alloc, texts.as_slice())
+    match joined_texts(alloc, texts.as_slice()) {
+        Ok(joined) => Ok(joined),
+        Err(_) => Err(DeviceRefusal::Memory),
+    }
 }
