@@ -192,6 +192,7 @@ def watched(client: Client, chosen: argparse.Namespace) -> Generator[Shown, None
             yield from map(_children_shown, client.follow_children(chosen.path))
         else:
             yield from map(_kept_shown, client.follow(chosen.path))
+        client.exists(chosen.path)  # what has ended it, this raises
     finally:
         client.remove_listener(_say)
 

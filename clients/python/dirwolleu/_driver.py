@@ -207,7 +207,7 @@ class Driver:
             return
         self._is_to_act = False
         engine = self._engine
-        if self._servers.hosts is not self._hosts:
+        if engine.is_running and self._servers.hosts is not self._hosts:
             self._tell_hosts()
         engine.take_handed(self._noticed() if now is None else now)
         if self.is_stopped:

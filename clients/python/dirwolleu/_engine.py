@@ -141,8 +141,8 @@ class Engine(Keeping):
         """What became of the last attempt to find a server, in words; nothing once one has accepted the session."""
         self.place = ""
         """Where the connection leads, in words."""
-        self.refused: Optional[AuthFailedError] = None
-        """Why credentials were refused on the last connection, if they were."""
+        self.refused = ""
+        """That a server has refused credentials of the client, in words, where that has ended it: until it is begun again."""
         self._process: Optional[int] = None
         self.is_running = False
         self.life = 0
@@ -186,7 +186,7 @@ class Engine(Keeping):
         if not self.is_running:
             self._process = this_process()
             self._refuse_handed(ConnectionClosedError("the client was not started"))
-            self.refused = None
+            self.refused = ""
             self.life += 1
             self.is_running = True
 
@@ -365,7 +365,7 @@ class Engine(Keeping):
         ends_at = None if timeout is None else now + int(min(max(timeout, 0) * 1000, _LONGEST_TIMEOUT_MS))
         if not self.is_running or not self._is_handed_in(Asked(request, waiter, now + self._timeout_ms, ends_at)):
             waiter.cancel()
-            raise ConnectionClosedError("the client is not started")
+            raise self.why_over("the client is not started")
 
     def _is_handed_in(self, asked: Asked) -> bool:
         """Hands a request in, and answers whether somebody takes it: an end that comes after it looks finds the request, and refuses it."""
@@ -379,7 +379,7 @@ class Engine(Keeping):
     def take_handed(self, now: int) -> None:
         """Takes the requests that were handed in."""
         if not self.is_running:
-            self._refuse_handed(ConnectionClosedError("the client was stopped"))
+            self._refuse_handed(self.why_over("the client was stopped"))
         while self._wishes:
             wish, followed = self._wishes.popleft()
             wish(now, followed)
@@ -396,6 +396,11 @@ class Engine(Keeping):
         if self._trees:
             self._grow_trees(now)
 
+    def why_over(self, words: str) -> ZookeeperError:
+        """Why no call is taken: that credentials were refused, or else what these words say."""
+        refused = self.refused
+        return AuthFailedError(refused) if refused else ConnectionClosedError(words)
+
     def check_process(self) -> None:
         """Raises where this is a forked child of the process in which the client was started."""
         if not self.is_here():
@@ -407,7 +412,7 @@ class Engine(Keeping):
 
     def is_introduced(self) -> bool:
         """Whether a server has accepted the session, and answered for all credentials."""
-        return self.state is State.CONNECTED and not self._lane.introduces() and self.refused is None
+        return self.state is State.CONNECTED and not self._lane.introduces() and not self.refused
 
     def stats(self) -> Stats:
         contact, sent = self.contact, len(self._sent)
@@ -647,6 +652,9 @@ class Engine(Keeping):
         self.contact.answered(asked.sent_at, now)
         ends = f"the server answered {reply.code}" if reply.code in _ENDING else ""
         self.contact.answers += not ends
+        if isinstance(asked.waiter, _Introduction) and reply.code == AuthFailedError.code:
+            self._bar(asked.waiter.scheme)
+            return True
         try:
             asked.settle(reply.code, reply.body, self._root)
         except Malformed:
@@ -665,14 +673,22 @@ class Engine(Keeping):
 
     def _introduce(self) -> None:
         """Has the credentials sent before all else on a connection whose session a server has accepted."""
-        self.refused = None
         frames = []
         for credential in self._credentials:
             request = lane.auth(*credential)
-            asked = Asked(request, _Introduction(self, credential), self._now)
+            asked = Asked(request, _Introduction(credential.scheme), self._now)
             asked.sent_at, asked.is_sent = self._now, True
             frames.append(self._lane.frame(request, self._root, asked))
         self._frames[self._written : self._written] = frames
+
+    def _bar(self, scheme: str) -> None:
+        """A server refuses credentials of the client: the session is over, and no server is dialled any more."""
+        self.refused = self.trouble = self._why = f"the server refuses the credentials of the scheme {scheme}"
+        logger.error("%s", self.refused)
+        self.is_running = False
+        error = AuthFailedError(self.refused)
+        error.may_have_happened = True  # what was sent after the credentials
+        self._begin_anew(error)
 
     def add_credential(self, credential: Credential) -> None:
         """Has each connection from the next one on introduce itself by this credential too."""
@@ -803,11 +819,16 @@ class Engine(Keeping):
         self._hangs_up, self._dial = True, None
 
     def _forget_callers(self, error: ZookeeperError, state: State) -> None:
-        """Fails all that waits for an answer, ends all watches, and enters a state."""
+        """Fails all that waits for an answer, ends all watches, and enters a state. The error says whether what was sent may have happened.
+        """
         self._refuse_handed(error)
         for tree in list(self._trees):
             tree.end_current()
-        for asked in [*self._sent.values(), *self._lane.pending(), *self._line.clear()]:
+        for asked in [*self._sent.values(), *self._lane.pending()]:
+            lost = type(error)(*error.args)
+            lost.may_have_happened = error.may_have_happened
+            self._count_loss(asked, lost)
+        for asked in self._line.clear():
             self._count_loss(asked, type(error)(*error.args))
         self._lane = Lane()
         self._sent.clear()
@@ -855,8 +876,8 @@ _TAKERS: dict[type, Callable[[Engine, Any], None]] = {
 class _Introduction:
     """What waits for the answer to a credential that is sent on each connection."""
 
-    def __init__(self, engine: Engine, credential: Credential) -> None:
-        self._engine, self._scheme = engine, credential.scheme
+    def __init__(self, scheme: str) -> None:
+        self.scheme = scheme
 
     def begin(self) -> bool:
         return True
@@ -868,8 +889,4 @@ class _Introduction:
 
     def set_result(self, _: Any) -> None: ...
 
-    def set_exception(self, error: BaseException) -> None:
-        if isinstance(error, AuthFailedError):
-            self._engine.refused = AuthFailedError(f"the server refuses the credentials of the scheme {self._scheme}")
-            self._engine.trouble = str(self._engine.refused)
-            logger.error("%s", self._engine.refused)
+    def set_exception(self, _: BaseException) -> None: ...

@@ -21,6 +21,7 @@ from dirwolleu._plans import Plan
 from dirwolleu._retry import is_passing
 from dirwolleu._steps import Call, Steps, Wait
 from dirwolleu.exceptions import ConnectionClosedError, NoNodeError, ZookeeperError
+from dirwolleu.security import AuthFailedError
 from dirwolleu.types import Kept, KeptChildren, State
 
 logger = logging.getLogger("dirwolleu")
@@ -116,8 +117,8 @@ class Follower(Generic[Told]):
 
 
 def _is_passing(error: BaseException) -> bool:
-    """Whether a later read may bring what one did not. A client that was stopped may have been started again."""
-    return isinstance(error, ZookeeperError) and (is_passing(error) or isinstance(error, ConnectionClosedError))
+    """Whether a later read may bring what one did not. A client that has ended may have been started again."""
+    return isinstance(error, ZookeeperError) and (is_passing(error) or isinstance(error, (ConnectionClosedError, AuthFailedError)))
 
 
 class Watching(Follower[Told]):
@@ -166,7 +167,7 @@ class Watching(Follower[Told]):
 
 def begun(engine: Engine) -> None:
     if not engine.is_running:
-        raise ConnectionClosedError("the client is not started")
+        raise engine.why_over("the client is not started")
 
 
 def watching(

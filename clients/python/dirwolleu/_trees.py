@@ -11,7 +11,7 @@ from dirwolleu._engine import Engine, News
 from dirwolleu._growing import Growing
 from dirwolleu._steps import Steps, TimeIsOver, Wait, bounded, until_of
 from dirwolleu._waiting import News as ThreadNews
-from dirwolleu.exceptions import CallTimeoutError, ConnectionClosedError
+from dirwolleu.exceptions import CallTimeoutError
 from dirwolleu.tree import TreeSnapshot
 
 MOST_NODES = 65_536
@@ -65,7 +65,7 @@ class _Grown:
         """Waits for a snapshot where there is none."""
         found = yield from self._next(news, None)
         if found is None:
-            raise ConnectionClosedError("the tree was closed, or its client stopped")
+            raise self._engine.why_over("the tree was closed, or its client stopped")
         return found
 
     def _next(self, news: News, told: Optional[TreeSnapshot]) -> Steps[Optional[TreeSnapshot]]:

@@ -26,7 +26,7 @@ from dirwolleu._shown import AuthData, Shown, credential_of, parts_of
 from dirwolleu._steps import Ask, Call, Step, Steps, Wait
 from dirwolleu._trees import MOST_NODES, AsyncTree
 from dirwolleu._watches import ChildrenWatch, DataWatch
-from dirwolleu.exceptions import ConnectionClosedError, ZookeeperError
+from dirwolleu.exceptions import ZookeeperError
 from dirwolleu.security import ACL
 from dirwolleu.transaction import AsyncTransaction
 from dirwolleu.types import Kept, KeptChildren, Stat, Watch
@@ -119,6 +119,8 @@ class Client(Shown):
         Raises `TimeoutError`, and stops, where that takes longer than `timeout` seconds; None is no bound. Raises
         `AuthFailedError`, and stops, where the server refuses credentials.
         """
+        if not self._engine.is_running:
+            await self.stop()  # where the session has ended by itself, its driver is there still
         self._engine.begin()
         if self._driver is None:
             self._driver = Driver(self._servers, self._engine, self._tls)
@@ -267,7 +269,7 @@ class Client(Shown):
         """Says who the session is, now and on each later connection.
 
         Raises `AuthFailedError` where the server refuses it or does not know the scheme; then it is forgotten, and the
-        server ends the connection. The scheme `digest` takes any `username:password`.
+        server ends the connection. The session goes on over the next one. The scheme `digest` takes any `username:password`.
 
             await client.add_auth("digest", "bob:secret")
             await client.create("/bobs", acl=dirwolleu.security.CREATOR_ALL_ACL)
@@ -479,10 +481,8 @@ class Client(Shown):
         news = asyncio.Event()
         with self._engine.news(news.set):
             while not self._engine.is_introduced():
-                if self._engine.refused is not None:
-                    raise self._engine.refused
                 if not self._engine.is_running:
-                    raise ConnectionClosedError("the client was stopped")
+                    raise self._engine.why_over("the client was stopped")
                 await news.wait()
                 news.clear()
 

@@ -31,7 +31,7 @@ from dirwolleu._steps import Ask, Call, Step, Steps, Wait
 from dirwolleu._trees import MOST_NODES, Tree
 from dirwolleu._waiting import Future, News, Sleepers, Task, Waiter
 from dirwolleu.exceptions import ConnectionClosedError, ZookeeperError
-from dirwolleu.security import ACL
+from dirwolleu.security import ACL, AuthFailedError
 from dirwolleu.transaction import Transaction
 from dirwolleu.types import Kept, KeptChildren, Stat, State, Watch
 
@@ -61,9 +61,11 @@ class Client(Shown):
     asked for; a server grants what lies between its own bounds. `saved` takes up the session of another client, as its
     `saved_session` told it.
 
-    `auth_data` are credentials, each a scheme and its text, which are sent on each connection before anything else.
-    With `ssl` the connections are TLS: see `dirwolleu.tls_context`. By `retry`, a policy, each call is asked again
-    where that is safe; without it none is.
+    `auth_data` are credentials, each a scheme and its text, which are sent on each connection before anything else, and
+    so are those of `add_auth` on later ones. Where a server refuses one of them there, the session is over: the state is
+    `LOST`, nothing is kept, and no server is dialled until the client is started again. With `ssl` the connections are
+    TLS: see `dirwolleu.tls_context`. By `retry`, a policy, each call is asked again where that is safe; without it none
+    is.
 
     A call waits for a server and for its answer within a bound: its own `timeout` in seconds, which counts all tries,
     or that of the session. Where its connection is lost, a read is asked again, and a write is not. By the time that it
@@ -73,6 +75,7 @@ class Client(Shown):
     What all calls may raise: `ConnectionLoss` where the connection ended before the reply to a write;
     `NotConnectedError`, which is one, where a call without a `timeout` could not be sent in time; `CallTimeoutError`
     where no answer came in time; `SessionExpiredError`; `ConnectionClosedError` where the client is not started;
+    `AuthFailedError` where a server has refused credentials of the client on a connection, until it is started again;
     `ValueError` where the path is none or a version does not fit into 32 bits; `TypeError`, at once, where a value is of another
     type; and another `ZookeeperError` where the server answers with an error.
     `may_have_happened` of an error says whether a change may have happened, or may still happen.
@@ -145,6 +148,9 @@ class Client(Shown):
             threads = self._begin_threads(until)
             is_connected = threads is not None and self._wait(functools.partial(self._is_connected, threads), until)
             trouble = self._engine.no_server(timeout)  # before the attempt that is under way is given up
+        except AuthFailedError:
+            self._stop(threads)  # they end by themselves, and that is waited for
+            raise
         finally:
             threads = threads or self._threads()
             if not is_connected and threads is not None and not threads.are_ending():
@@ -292,7 +298,7 @@ class Client(Shown):
         """Says who the session is, now and on each later connection.
 
         Raises `AuthFailedError` where the server refuses it or does not know the scheme; then it is forgotten, and the
-        server ends the connection. The scheme `digest` takes any `username:password`.
+        server ends the connection. The session goes on over the next one. The scheme `digest` takes any `username:password`.
 
             client.add_auth("digest", "bob:secret")
             client.create("/bobs", acl=dirwolleu.security.CREATOR_ALL_ACL)
@@ -407,8 +413,8 @@ class Client(Shown):
 
         Each answer was good when it came. Where the node changes more than once between two of them, the last one is
         told. Where there is no node, that is told too. The core keeps it good: it reads it again after each change, and
-        a second after a refusal. It ends when the client is stopped or closed, and raises what `get` raises for other reasons than the
-        connection, the session and the load of a server.
+        a second after a refusal. It ends when the client is stopped or closed, or its credentials are refused, and raises
+        what `get` raises for other reasons than the connection, the session and the load of a server.
         """
         return self._follow(following.data_of(self._engine, path))
 
@@ -439,7 +445,7 @@ class Client(Shown):
     def _follow(self, subject: following.Subject[following.Told]) -> Generator[following.Told, None, None]:
         try:
             following.begun(self._engine)
-        except ConnectionClosedError:
+        except ZookeeperError:
             ending.rest()
             raise
         news = News()
@@ -506,7 +512,7 @@ class Client(Shown):
         future = Future(self._tell)
         try:
             self._hand_in(request, future)
-        except ConnectionClosedError:
+        except ZookeeperError:
             ending.rest()
             raise
         return future
@@ -561,11 +567,8 @@ class Client(Shown):
 
     def _is_connected(self, threads: Threads) -> bool:
         """Whether a server has accepted the session that these threads keep. Raises an error where none will."""
-        if threads.are_over():
-            raise ConnectionClosedError("the client was stopped")
-        refused = self._engine.refused
-        if threads.have_begun and refused is not None:
-            raise refused
+        if threads.are_over() or threads.have_begun and self._engine.refused:
+            raise self._engine.why_over("the client was stopped")
         return threads.have_begun and self._engine.is_introduced()
 
     def _wait(self, condition: Callable[[], bool], until: Optional[float]) -> bool:

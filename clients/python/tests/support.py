@@ -129,6 +129,13 @@ class Peer:
     def send_bytes(self, data: bytes) -> None:
         self._connection.sendall(data)
 
+    def finish(self) -> None:
+        """Sends no more, and takes what comes until the connection is over: so what was sent arrives, also where more came than was read.
+        """
+        self._connection.shutdown(socket.SHUT_WR)
+        while True:
+            self.take_payload()
+
     def reset(self) -> None:
         """Ends the connection by a reset, at once."""
         self._connection.setsockopt(socket.SOL_SOCKET, socket.SO_LINGER, struct.pack("ii", 1, 0))

@@ -13,6 +13,7 @@ import support
 from test_library import CONNECT_RESPONSE, STAT, STAT_BYTES, buffer, frame, reply
 
 from dirwolleu import (
+    AuthFailedError,
     CallTimeoutError,
     ConnectionClosedError,
     ConnectionLoss,
@@ -27,7 +28,8 @@ from dirwolleu import (
 )
 from dirwolleu import _lane as lane
 from dirwolleu import _requests as requests
-from dirwolleu._engine import MOST_HANDED, Engine
+from dirwolleu._asked import Asked
+from dirwolleu._engine import MOST_HANDED, Credential, Engine
 from dirwolleu._frames import Frames, Kind, Piece, is_ping, joined
 from dirwolleu._library import DATA_SIDE, Answer, Halted, NoMemory
 from dirwolleu._plans import AnyRequest
@@ -36,6 +38,7 @@ from dirwolleu.exceptions import error_of
 
 
 NOTICE = frame(support.notice("/elsewhere"))
+REFUSAL = reply(-4, 0, -115)
 
 
 class Future(concurrent.futures.Future[Any]):
@@ -139,6 +142,64 @@ class EngineTest(support.PartnerCase):
         self.engine.take_orders()
         self.engine.opened(20_000)
         self.assertEqual(struct.unpack(">iiqiq", self.engine.take_orders().frames[:28])[2:], (9, 6000, 0))
+
+    def introduce(self, now: int) -> None:
+        """The next connection introduces itself by two credentials."""
+        self.engine.add_credential(Credential("digest", b"bob:secret"))
+        self.engine.add_credential(Credential("x509", b"1"))
+        self.engine.cut(now)
+        self.engine.tick(now + 1000)
+        self.admit(now + 1000)
+
+    def test_credentials_that_are_refused_end_the_session(self) -> None:
+        def watch(_: object) -> None: ...
+
+        def listen(_: object) -> None: ...
+
+        read = self.ask(requests.get("/a", watch))
+        self.engine.received(300, reply(1, 9, 0, buffer(b"one") + STAT_BYTES))
+        self.assertEqual(read.result(0), (b"one", STAT))
+        self.engine.add_listener(listen)
+        self.introduce(400)
+        self.told.clear()
+        self.engine.received(1500, reply(-4, 0))
+        self.assertEqual((self.engine.state, self.engine.is_running, self.engine.is_introduced()), (State.CONNECTED, True, False))
+        with self.assertLogs("dirwolleu.connection", "ERROR") as logged:
+            self.engine.received(1600, REFUSAL + frame(support.notice("/a")) + REFUSAL)
+        self.assertEqual([one.getMessage() for one in logged.records], ["the server refuses the credentials of the scheme x509"])
+        self.assertEqual((self.engine.state, self.engine.is_running, self.engine.session_id()), (State.LOST, False, 0))
+        self.assertEqual(self.told, [(watch, (EventType.NONE, State.LOST, "/a")), (listen, State.LOST)])
+        self.assertIsNone(self.engine.kept("/a"))
+        self.assertEqual(self.engine.take_orders(), (True, None, b""))
+        for now in (2000, 10_000):
+            self.engine.tick(now)
+            self.assertEqual(self.engine.take_orders(), (False, None, b""))
+
+    def test_what_waits_where_credentials_are_refused(self) -> None:
+        """A change that was sent after them may have happened."""
+        self.introduce(200)
+        change = requests.set("/a", b"x", -1)
+        asked: list[AnyRequest[Any]] = [requests.get("/a", None), change, lane.create2("/b", None, None, False, False)]
+        sent = [self.ask(request, now=1300) for request in asked]
+        self.engine._line.add(Asked(change, waits := Future(), 9000))
+        self.engine._handed.append(Asked(change, handed := Future(), 9000))
+        with self.assertLogs("dirwolleu.connection", "ERROR"):
+            self.engine.received(1400, REFUSAL)
+        for call, may_have_happened in zip([*sent, waits, handed], (False, True, True, False, False)):
+            error = call.exception(0)
+            assert isinstance(error, AuthFailedError)
+            self.assertEqual((error.code, error.may_have_happened), (-115, may_have_happened))
+            self.assertTrue(str(error).startswith("the server refuses the credentials of the scheme digest: /"))
+        with self.raises(AuthFailedError, -115):
+            self.ask(requests.get("/a", None))
+        self.engine.end()
+        with self.raises(AuthFailedError, -115):
+            self.ask(lane.sync("/"))
+        self.engine.begin()
+        self.engine.addresses(2000, 1)
+        self.admit(2000)
+        self.engine.received(2100, reply(-4, 0) + reply(-4, 0))
+        self.assertTrue(self.engine.is_introduced())
 
     def test_an_attempt_that_is_given_up_is_hung_up(self) -> None:
         self.engine.cut(300)

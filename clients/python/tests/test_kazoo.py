@@ -6,6 +6,8 @@ import contextlib
 import doctest
 import inspect
 import logging
+import queue
+import struct
 import subprocess
 import sys
 import tempfile
@@ -15,8 +17,9 @@ from collections.abc import Callable
 from typing import Any, Optional
 from unittest import mock
 
-from support import CLIENTS, TIMEOUT, WAIT, Partner, PartnerCase, Peer, within
+from support import CLIENTS, GET_DATA, TIMEOUT, WAIT, Partner, PartnerCase, Peer, data_reply, reply, within
 
+from dirwolleu._lane import Operation
 from dirwolleu._library import Standing
 from dirwolleu.kazoo import client, exceptions, security
 from dirwolleu.kazoo import retry as retries
@@ -306,16 +309,52 @@ class StatesTest(KazooCase):
         self.assertEqual((zk._granted_timeout(), zk.exists("/mine")), (8.0, None))
 
     def test_refused_credentials(self) -> None:
-        zk = self.client()
+        zk, events = self.client(), queue.Queue[WatchedEvent]()
+        zk.exists("/a", events.put)
         with self.assertRaises(exceptions.AuthFailedError):
             zk.add_auth("none", "x")
         within(lambda: zk.client_state == KeeperState.AUTH_FAILED and zk.state == KazooState.LOST)
+        self.assertEqual(events.get(timeout=WAIT), (states.EventType.NONE, KeeperState.AUTH_FAILED, None))
         with self.assertRaises(exceptions.AuthFailedError):
             zk.get("/")
         refused = self.unstarted(auth_data=[("none", "x")])
         with contextlib.suppress(exceptions.AuthFailedError):
             refused.start(WAIT)  # the session is accepted first, as in kazoo
         within(lambda: refused.client_state in (KeeperState.AUTH_FAILED, KeeperState.CLOSED))
+
+    def test_credentials_that_are_refused_at_a_reconnect(self) -> None:
+        refuses, told, at_error = threading.Event(), queue.Queue[str](), list[str]()
+
+        def serve(peer: Peer) -> None:
+            peer.admit()
+            while True:
+                asked = peer.take()
+                if asked.kind == Operation.AUTH and refuses.is_set():
+                    peer.send(struct.pack(">iqi", -4, 0, -115))
+                    return peer.finish()
+                if b"/cut" in asked.body:
+                    return
+                peer.send(data_reply(asked, b"one") if asked.kind == GET_DATA else reply(asked))
+
+        server = self.raw_server(serve)
+        zk = self.unstarted(auth_data=[("digest", "bob:secret")])
+        zk.set_hosts(server.host)
+        zk.start(WAIT)
+        self.assertEqual(zk.get("/a")[0], b"one")  # after the answer to the credentials, for which `start` does not wait
+        zk.add_listener(told.put)
+        refuses.set()
+        waits = zk.get_async("/cut")
+        waits.relay(lambda _: at_error.append(zk.client_state))
+        for get in (waits.get, lambda: zk.get("/a")):
+            with self.raises(exceptions.AuthFailedError, -115):
+                get()
+        self.assertEqual((at_error, zk.client_state), ([KeeperState.AUTH_FAILED], KeeperState.AUTH_FAILED))
+        self.assertEqual([told.get(timeout=WAIT) for _ in range(3)], [KazooState.SUSPENDED, KazooState.CONNECTED, KazooState.LOST])
+        time.sleep(1.2)
+        self.assertEqual(len(server.dials), 2)
+        refuses.clear()
+        zk.start(WAIT)
+        self.assertEqual(zk.get("/a")[0], b"one")
 
     def test_a_policy_for_connections_that_is_used_up(self) -> None:
         zk = self.client(connection_retry={"max_tries": 2, "delay": 0.01})

@@ -10,6 +10,7 @@ import time
 import unittest
 from typing import Any, Callable
 
+from both import AioCase, BothCase, in_thread
 from support import EXISTS, GET_DATA, PING, SET_WATCHES, STAT, TIMEOUT, WAIT, Asked, PartnerCase, Peer, data_reply, notice, reply, within
 
 from dirwolleu import (
@@ -17,6 +18,7 @@ from dirwolleu import (
     BadVersionError,
     CallTimeoutError,
     Client,
+    ConnectionClosedError,
     ConnectionLoss,
     Mark,
     NoAuthError,
@@ -44,6 +46,7 @@ def header(kind: int, is_last: bool = False, code: int = -1) -> bytes:
 
 
 END = header(-1, True)
+REFUSED = "the server refuses the credentials of the scheme digest"
 OPEN_ACL = struct.pack(">ii", 1, 31) + text("world") + text("anyone")
 
 
@@ -363,6 +366,164 @@ class AuthTest(LaneCase):
         count = len(connections)
         within(lambda: len(connections) > count and client.connected)
         self.assertEqual(connections[-1], [])
+
+
+class RefusedTest(BothCase):
+    """A server that refuses what a client introduces itself by, from some moment on."""
+
+    def setUp(self) -> None:
+        super().setUp()
+        self.refuses, self.admits = set[str](), threading.Event()
+        self.admits.set()
+        self.came: list[list[Asked]] = []
+        """What came over each connection whose session was accepted."""
+        self.server = self.raw_server(self.serve)
+
+    def serve(self, peer: Peer) -> None:
+        """Refuses credentials of some schemes, with more in the same piece. At a read of `/cut` the first connection ends."""
+        self.admits.wait(WAIT)
+        peer.admit()
+        asked: list[Asked] = []
+        self.came.append(asked)
+        while True:
+            one = peer.take()
+            asked.append(one)
+            scheme = one.body[8 : 8 + int.from_bytes(one.body[4:8], "big")].decode() if one.kind == AUTH else ""
+            if scheme in self.refuses:
+                peer.send(struct.pack(">iqi", -4, 0, -115), notice("/a"))
+                return peer.finish()
+            if one.kind == GET_DATA and b"/cut" in one.body and len(self.came) == 1:
+                return
+            peer.send(data_reply(one, b"one") if one.kind == GET_DATA else reply(one))
+
+    def introduced(self) -> Any:
+        """A client that has credentials, which the server has taken, and a good answer."""
+        client = self.client(self.server.host, auth_data=[("x509", b"1"), ("digest", "bob:secret")])
+        client.get("/a", watch=True)
+        self.assertIs(client.kept("/a").mark, Mark.GOOD)
+        return client
+
+    def refuse_at_next(self, client: Any) -> None:
+        """Has the connection end, and credentials be refused on the next one."""
+        self.refuses.add("digest")
+        with self.assertLogs("dirwolleu.connection", "ERROR"), self.assertRaises(AuthFailedError) as caught:
+            client.get("/cut")
+        self.assertEqual(str(caught.exception), f"{REFUSED}: /cut")
+        self.assertEqual((client.state, len(self.came), len(self.server.dials)), (State.LOST, 2, 2))
+
+    def check_over(self, client: Any) -> None:
+        """The client has ended by itself, and calls say why."""
+        within(lambda: self.has_ended(client))
+        dials, attempts = len(self.server.dials), client.stats().dials
+        client.set_hosts(self.server.host)
+        for call in (lambda: client.get("/a"), lambda: client.sync("/"), lambda: client.get_async("/a"), lambda: self.followed(client)):
+            with self.raises(AuthFailedError, -115):
+                call()
+        time.sleep(1.2)
+        self.assertEqual((len(self.server.dials), client.stats().dials, client.stats().waiting), (dials, attempts, 0))
+        self.assertEqual((client.state, client.kept("/a"), client.saved_session), (State.LOST, None, None))
+
+    def has_ended(self, client: Any) -> bool:
+        """Whether no thread of the client runs."""
+        past = client._past if client._threads() is None else None
+        return past is not None and not past.loop.is_alive() and not past.callbacks.is_alive()
+
+    def followed(self, client: Any) -> list[bytes]:
+        """What is told of a node that is followed, up to the end."""
+        return [kept.data for kept in client.follow("/a")]
+
+    def wait_for_tree(self, client: Any) -> None:
+        client.tree("/cut").wait()
+
+    def test_at_a_reconnect(self) -> None:
+        client, states = self.introduced(), queue.Queue[State]()
+        client.add_listener(states.put)
+        follows = in_thread(lambda: self.followed(client))
+        within(lambda: client._engine._subjects)
+        self.refuse_at_next(client)
+        self.assertEqual([states.get(timeout=WAIT) for _ in range(3)], [State.SUSPENDED, State.CONNECTED, State.LOST])
+        self.assertEqual(follows.get(timeout=WAIT), [b"one"])
+        self.check_over(client)
+        with self.assertLogs("dirwolleu.connection", "ERROR"), self.raises(AuthFailedError, -115):
+            client.start(WAIT)
+        self.check_over(client)
+        self.refuses.clear()
+        client.start(WAIT)
+        self.assertEqual((client.get("/a")[0], self.came[-1][:2]), (b"one", self.came[0][:2]))
+        client.stop()
+        with self.raises(ConnectionClosedError, None):
+            client.get("/a")
+
+    def test_what_waits(self) -> None:
+        client = self.introduced()
+        self.admits.clear()
+        self.refuses.add("digest")
+        reads = [in_thread(lambda: client.get("/cut")), in_thread(lambda: self.wait_for_tree(client))]
+        within(lambda: client.state is State.SUSPENDED)
+        changes = [in_thread(call) for call in (lambda: client.set("/b", b"x"), lambda: client.create2("/b"))]
+        within(lambda: client.stats().waiting >= 3)
+        with self.assertLogs("dirwolleu.connection", "ERROR"):
+            self.admits.set()
+            for call, is_change in zip([*reads, *changes], (False, False, True, True)):
+                error = call.get(timeout=WAIT)
+                self.assertIs(type(error), AuthFailedError)
+                self.assertEqual(error.may_have_happened, is_change)
+
+    def test_at_the_start(self) -> None:
+        self.refuses.add("digest")
+        client = self.made(lambda: self.module().Client(self.server.host, TIMEOUT, auth_data=[("digest", "bob:secret")]))
+        self.addCleanup(client.close)
+        for _ in range(2):
+            with self.assertLogs("dirwolleu.connection", "ERROR"), self.assertRaises(AuthFailedError) as caught:
+                client.start(WAIT)
+            self.assertEqual(str(caught.exception), REFUSED)
+            self.assertTrue(self.has_ended(client))
+        self.check_over(client)
+
+    def test_what_is_added_and_refused_is_forgotten(self) -> None:
+        client, states = self.introduced(), list[State]()
+        client.add_listener(states.append)
+        self.refuses.add("none")
+        with self.raises(AuthFailedError, -115):
+            client.add_auth("none", "x")
+        within(lambda: len(self.came) == 2 and client.connected)
+        self.assertEqual(client.get("/a")[0], b"one")
+        self.assertEqual([one.kind for one in self.came[1]], [AUTH, AUTH, GET_DATA])
+        within(lambda: states == [State.SUSPENDED, State.CONNECTED])
+
+    def test_what_was_added_counts(self) -> None:
+        client = self.client(self.server.host)
+        client.add_auth("digest", "bob:secret")
+        self.refuse_at_next(client)
+        self.check_over(client)
+
+    def test_a_watch_goes_on_where_the_client_is_started_again(self) -> None:
+        client, told = self.introduced(), queue.Queue[Any]()
+        self.refuses.add("digest")
+        with self.assertLogs("dirwolleu.connection", "ERROR"):
+            client.DataWatch("/cut", lambda data, _: told.put(data))
+            within(lambda: client.state is State.LOST)
+        within(lambda: self.has_ended(client))
+        self.refuses.clear()
+        client.start(WAIT)
+        self.assertEqual(told.get(timeout=WAIT), b"one")
+
+
+class AioRefusedTest(AioCase, RefusedTest):
+    def has_ended(self, client: Any) -> bool:
+        """Whether the client has no connection, no attempt and no timer."""
+        driver = client._driver
+        return driver is None or (driver._link, driver._dialing, driver._timer) == (None, None, None)
+
+    def followed(self, client: Any) -> list[bytes]:
+        async def follow() -> list[bytes]:
+            return [kept.data async for kept in client._made.follow("/a")]
+
+        followed: list[bytes] = client._call(follow)
+        return followed
+
+    def wait_for_tree(self, client: Any) -> None:
+        client._call(client.tree("/cut").wait)
 
 
 class SecurityTest(unittest.TestCase):

@@ -11,10 +11,10 @@ import signal
 import subprocess
 import sys
 import unittest
-from typing import Any
+from typing import Any, Union
 from unittest import mock
 
-from support import CLIENTS, WAIT, Partner, PartnerCase
+from support import CLIENTS, WAIT, Asked, Partner, PartnerCase, Peer, RawServer, data_reply, reply
 
 import dirwolleu
 from dirwolleu.__main__ import EPILOG, _status_of, main
@@ -23,7 +23,7 @@ from dirwolleu.__main__ import EPILOG, _status_of, main
 class ShellTest(PartnerCase):
     is_long = True
 
-    def begin(self, partner: Partner, *words: str) -> subprocess.Popen[str]:
+    def begin(self, partner: Union[Partner, RawServer], *words: str) -> subprocess.Popen[str]:
         environment = {**os.environ, "PYTHONPATH": str(CLIENTS / "python"), "DIRWOLLEU_HOSTS": partner.host}
         command = [sys.executable, "-m", "dirwolleu", "--timeout", str(WAIT), *words]
         return subprocess.Popen(command, stdout=subprocess.PIPE, stderr=subprocess.PIPE, text=True, env=environment)
@@ -153,6 +153,29 @@ class ShellTest(PartnerCase):
         self.assertEqual(process.wait(3 * WAIT), 141)
         self.assertEqual(process.stderr.read(), "")
         process.stderr.close()
+
+    def test_a_watch_whose_credentials_are_refused_ends(self) -> None:
+        """They are taken on the first connection, which ends once the node is read."""
+        taken = list[Asked]()
+
+        def serve(peer: Peer) -> None:
+            peer.admit()
+            credentials, is_first = peer.take(), not taken
+            taken.append(credentials)
+            peer.send(reply(credentials, code=0 if is_first else -115))
+            if is_first:
+                peer.send(data_reply(peer.take(), b"one"))
+            else:
+                peer.finish()
+
+        process = self.begin(self.raw_server(serve), "--auth", "digest:bob:secret", "watch", "/a")
+        try:
+            printed, said = process.communicate(timeout=WAIT)
+        finally:
+            process.kill()
+        self.assertEqual((printed, process.returncode), ("zxid 5  good  one\n", 1))
+        words = "the connection is lost", "connected", "the session is over", "the server refuses the credentials of the scheme digest"
+        self.assertEqual(said.splitlines(), [f"watch: {line}" for line in words])
 
     def test_a_node_is_watched_until_it_is_interrupted(self) -> None:
         partner = self.partner()

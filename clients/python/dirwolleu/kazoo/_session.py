@@ -132,7 +132,7 @@ class KazooEngine(Engine):
         on_refused: Callable[[], object],
     ) -> None:
         self._probed_at: Optional[int] = None
-        self._on_refused, self._is_refusal_told = on_refused, False
+        self._on_refused = on_refused
         super().__init__(timeout, saved, tell, root, credentials)
 
     def tick(self, now: int) -> None:
@@ -182,11 +182,9 @@ class KazooEngine(Engine):
         self._probed_at = None
         super()._leave_connection()
 
-    def _wake(self, path: Optional[str]) -> None:
-        super()._wake(path)
-        if self.refused is not None and not self._is_refusal_told:
-            self._is_refusal_told = True
-            self._on_refused()
+    def _bar(self, scheme: str) -> None:
+        self._on_refused()  # before the calls that wait are told
+        super()._bar(scheme)
 
 
 class KazooPolicy:

@@ -448,22 +448,24 @@ class KazooClient:
 
     def _told_loss(self) -> None:
         """The session is over. A new one begins, unless the client was stopped or its credentials were refused."""
-        session = self._session
-        if self._state != KeeperState.AUTH_FAILED:
-            goes_on = session is not None and session.is_running()
-            self._state = KeeperState.EXPIRED_SESSION if goes_on else KeeperState.CLOSED
+        self._state = self._state_of_loss()
         self.logger.info("Zookeeper session closed, state: %s", self._state)
         self._live.clear()
         self._enter(KazooState.LOST)
         if self._state == KeeperState.EXPIRED_SESSION:
             self._state = KeeperState.CONNECTING
 
+    def _state_of_loss(self) -> str:
+        """How the session stands that is over now."""
+        if self._state == KeeperState.AUTH_FAILED:
+            return self._state
+        goes_on = self._session is not None and self._session.is_running()
+        return KeeperState.EXPIRED_SESSION if goes_on else KeeperState.CLOSED
+
     def _told_refusal(self) -> None:
-        """The server does not take the credentials."""
+        """The server does not take the credentials. The session is over."""
         self._state = KeeperState.AUTH_FAILED
         self.logger.warning("AUTH_FAILED closing: the server does not take the credentials")
-        if self._session is not None:
-            self._session.abandon()
 
     def _told_end(self) -> None:
         """The policy for connections is used up."""
@@ -476,9 +478,7 @@ class KazooClient:
             if not self._stopped.is_set():
                 self._dispatch(function, WatchedEvent(event.type.value, self._state, event.path))
             return
-        goes_on = self._session is not None and self._session.is_running()
-        state = KeeperState.EXPIRED_SESSION if goes_on else KeeperState.CLOSED
-        self._dispatch(function, WatchedEvent(EventType.NONE, state, None))
+        self._dispatch(function, WatchedEvent(EventType.NONE, self._state_of_loss(), None))
 
     def _end_watches(self) -> None:
         """Tells each function that waits for a watch that the connection is over. As in kazoo, it is called no more."""
@@ -585,8 +585,9 @@ class KazooClient:
             if error is None and self._session is not None:
                 self._session.send(request, async_object)
                 return None
-        except own.ConnectionClosedError as closed:
-            error = ConnectionClosedError(str(closed))
+        except own.ZookeeperError as over:
+            async_object.set_exception(error_of(over))
+            return False
         async_object.set_exception(error or ConnectionClosedError("Connection has been closed"))
         return False
 
@@ -768,8 +769,10 @@ class KazooClient:
         session = self._session
         if answer.exception is None and session is not None:
             session.accept_credential(known)
-        elif isinstance(answer.exception, AuthFailedError):
+        elif isinstance(answer.exception, AuthFailedError) and self._state != KeeperState.AUTH_FAILED:
             self._told_refusal()
+            if session is not None:
+                session.abandon()
         if answer.exception is None:
             outcome.set(True)
         else:
