@@ -303,12 +303,16 @@ class DialTest(PartnerCase):
     def test_how_a_connection_has_ended_is_told(self) -> None:
         """Between two calls, or where the frame of a call meets its end."""
 
-        def closes(peer: Peer) -> None:
+        def answers(peer: Peer) -> None:
             peer.admit()
             peer.send(data_reply(peer.take(), b"one"))
 
+        def closes(peer: Peer) -> None:
+            answers(peer)
+            peer.finish()  # where a ping is not read, a close resets the connection
+
         def resets(peer: Peer) -> None:
-            closes(peer)
+            answers(peer)
             peer.reset()
 
         for serve, words in ((closes, "the server has closed it"), (resets, "reset by peer|[Bb]roken pipe")):
