@@ -1,6 +1,7 @@
 //! Texts that follow one another, each after its length.
 
-ghost use Rattle.std.specs.Prelude.{◌≡◌, ◌++◌, ℕ, List, [], IfErr, IfOk, IfSome, None, Some, get_or, map};
+ghost use Rattle.std.specs.Prelude.{◌≡◌, ◌++◌, ◌+◌, ◌<◌, ◌^◌, ℕ, List, [], length, IfErr, IfOk, IfSome, None, Some, get_or, map};
+ghost use Rattle.std.specs.List.{sum_by};
 ghost use Rattle.zk_jute.specs.Cursor.{bytes_left};
 ghost use Rattle.zk_jute.specs.Layout.{ustring};
 ghost use Rattle.zk_jute.specs.Spelling.{Fits, spelling};
@@ -23,6 +24,18 @@ pub(crate) fn text_at(texts: &JoinedTexts<Global>, index: usize) -> &str
     }
 }
 
+// How many bytes the texts and their lengths have together, as far as that can be counted.
+fn spelled_len(texts: &JoinedTexts<Global>) -> usize
+    ensures { sum_by (λ text. 4 + length text) texts.now < 2 ^ 64 → result ≡ sum_by (λ text. 4 + length text) texts.now }
+{
+    let mut count: usize = 0;
+    for at in 0..texts.len() {
+        let text = text_at(texts, at);
+        count = count.saturating_add(4).saturating_add(text.len());
+    }
+    count
+}
+
 /// The texts, each after its length. An error says that memory ran out: a text from a frame is never too long.
 pub(crate) fn spelled_texts(
     alloc: Global,
@@ -30,7 +43,7 @@ pub(crate) fn spelled_texts(
 ) -> Result<Vec<u8>, AllocError>
     ensures { IfOk result (λ spelled. AreTexts texts.now spelled.items) }
 {
-    let mut spelled = Vec::new(alloc);
+    let mut spelled = Vec::with_capacity(alloc, spelled_len(texts))?;
     for at in 0..texts.len() {
         let text = text_at(texts, at);
         let Ok(()) = text.write(&mut spelled) else {

@@ -53,7 +53,7 @@ is_marked_good (Some kept) = is_good kept.mark
 abbrev pub same_fields : DataStat → DataStat → Bool
 same_fields a b =
     int_eq a.czxid b.czxid && (int_eq a.mzxid b.mzxid && (int_eq a.ctime b.ctime && (int_eq a.mtime b.mtime
-    && (int_eq a.version b.version && (int_eq a.ephemeral_owner b.ephemeral_owner && int_eq a.data_length b.data_length)))))
+    && (int_eq a.version b.version && (int_eq a.data_length b.data_length && int_eq a.ephemeral_owner b.ephemeral_owner)))))
 
 -- What is kept where an answer comes: a Known leaves a good Full that has the same fields.
 abbrev pub merged_full : Mark → Option (List ℕ) → DataStat → DataStat → Answer

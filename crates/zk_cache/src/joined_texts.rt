@@ -2,10 +2,10 @@
 ghost use Rattle.std.specs.Prelude.{◌≡◌, ◌<◌, ◌^◌, ◌++◌, ◌∷◌, [], map, length, option_map, slice_get, string_bytes, IfOk, OnOk};
 ghost use Rattle.std.specs.List.{sum_by};
 ghost use Rattle.zk_cache.specs.Segments.{segments_from, AreCutsFrom};
+ghost use Rattle.zk_cache.specs.inner.Contents.{name_in};
 ghost use Rattle.zk_cache.specs.inner.Cuts.{start_at};
 ghost use Rattle.zk_jute.specs.Lenient.{or_empty};
 
-use crate::names::texts_of;
 use std::alloc::{AllocError, Allocator, Global};
 use std::marker::Model;
 use zk_jute::TextRef;
@@ -67,8 +67,12 @@ impl<A: Allocator + Copy> JoinedTexts<A> {
         ensures { IfOk result
             (λ joined. joined ≡ map (λ name. or_empty (option_map (λ text. text.now) name.text)) names.now) }
     {
-        let texts = texts_of(alloc, names)?;
-        JoinedTexts::of(alloc, texts.as_slice())
+        let mut text = String::with_capacity(alloc, names_len(names))?;
+        let mut ends = Vec::with_capacity(alloc, names.len())?;
+        for name in names {
+            push(&mut text, &mut ends, name.or_empty())?;
+        }
+        Ok(JoinedTexts { text, ends })
     }
 }
 
@@ -79,6 +83,17 @@ fn joined_len(texts: &[&str]) -> usize
     let mut count: usize = 0;
     for text in texts {
         count = count.saturating_add(text.len());
+    }
+    count
+}
+
+// The same of names, of which a null one has none.
+fn names_len(names: &[TextRef<'_>]) -> usize
+    ensures { sum_by (λ name. length (name_in name)) names.now < 2 ^ 64 → result ≡ sum_by (λ name. length (name_in name)) names.now }
+{
+    let mut count: usize = 0;
+    for name in names {
+        count = count.saturating_add(name.or_empty().len());
     }
     count
 }

@@ -6,6 +6,7 @@ ghost use Rattle.zk_nodes.specs.DataStats.{data_stat_of};
 use crate::stat::Stat;
 
 /// The fields of a `Stat` that change only where a data watch fires.
+// The two of 32 bits are side by side: fields lie in the order of the source, and so no bytes are lost between them.
 #[derive(Clone, Copy, Debug, PartialEq, Eq)]
 pub struct DataStat {
     pub czxid: i64,
@@ -13,8 +14,8 @@ pub struct DataStat {
     pub ctime: i64,
     pub mtime: i64,
     pub version: i32,
-    pub ephemeral_owner: i64,
     pub data_length: i32,
+    pub ephemeral_owner: i64,
 }
 
 impl From<Stat> for DataStat {
@@ -27,8 +28,8 @@ impl From<Stat> for DataStat {
             ctime: stat.ctime,
             mtime: stat.mtime,
             version: stat.version,
-            ephemeral_owner: stat.ephemeral_owner,
             data_length: stat.data_length,
+            ephemeral_owner: stat.ephemeral_owner,
         }
     }
 }

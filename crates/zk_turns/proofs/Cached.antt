@@ -61,8 +61,8 @@ fields_same a b e0 =
       ctime = same_int a.ctime b.ctime e3.0 i;
       mtime = same_int a.mtime b.mtime e4.0 i;
       version = same_int a.version b.version e5.0 i;
-      ephemeral_owner = same_int a.ephemeral_owner b.ephemeral_owner e6.0 i;
-      data_length = same_int a.data_length b.data_length e6.1 i;
+      data_length = same_int a.data_length b.data_length e6.0 i;
+      ephemeral_owner = same_int a.ephemeral_owner b.ephemeral_owner e6.1 i;
     }
 
 -- ---- a Known that comes

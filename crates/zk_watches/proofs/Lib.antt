@@ -8,3 +8,4 @@ pub mod CutLemmas
 pub mod GreedyLemmas
 pub mod PartsLemmas
 pub mod PlaceLemmas
+pub mod RankLemmas

@@ -1,4 +1,3 @@
 -- What contracts of private functions say: nobody has to believe it.
-pub mod Listed
 pub mod Numbered
 pub mod Placed

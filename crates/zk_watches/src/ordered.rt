@@ -13,7 +13,7 @@ use std::marker::Model;
 pub(crate) struct Ordered<A: Allocator + Copy> {
     alloc: A,
     numbers: Numbers<A>,
-    next: u64,
+    next: u32,
 }
 
 impl<A: Allocator + Copy> Model for Ordered<A> {

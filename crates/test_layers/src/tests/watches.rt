@@ -18,6 +18,8 @@ enum Step {
     Listed,
     // An event, and whether it ends a watch on the data and on the child side.
     Fire(Event, bool, bool),
+    // The path is registered as one that is there, and its data changes, this many times.
+    Often(u32),
     Clear,
     // All paths are taken out, and each list gets that many paths of 2,044 bytes.
     Fill(u32, u32, u32),
@@ -35,7 +37,7 @@ enum Want {
 }
 
 // Each step at a path, and what is watched then.
-static ROWS: [(Step, &str, Want); 14] = [
+static ROWS: [(Step, &str, Want); 15] = [
     (Step::There, "/a", Want::Lists(&["/a"], &[], &[])),
     (Step::Absent, "/b", Want::Lists(&["/a"], &["/b"], &[])),
     (Step::There, "/a", Want::Lists(&["/a"], &["/b"], &[])),
@@ -61,6 +63,11 @@ static ROWS: [(Step, &str, Want); 14] = [
     (
         Step::There,
         "/d",
+        Want::Lists(&["/a", "/c", "/d"], &[], &["/a"]),
+    ),
+    (
+        Step::Often(99),
+        "/b",
         Want::Lists(&["/a", "/c", "/d"], &[], &["/a"]),
     ),
     (
@@ -134,6 +141,17 @@ fn registers_long(
     is
 }
 
+// Registers the path and tells that its data changed. Whether that ends the watch each time.
+fn comes_and_goes(alloc: Global, registry: &mut Registry<Global>, path: &str, times: u32) -> bool {
+    let mut is = true;
+    for _ in 0..times {
+        is = is
+            && registers(alloc, registry, Side::Data, path, true)
+            && registry.fire(Event::DataChanged, path).on_data.is_some();
+    }
+    is
+}
+
 // Takes the step. Whether it answers what it is to.
 fn answers(alloc: Global, registry: &mut Registry<Global>, step: Step, path: &str) -> bool {
     match step {
@@ -144,6 +162,7 @@ fn answers(alloc: Global, registry: &mut Registry<Global>, step: Step, path: &st
             let fired = registry.fire(event, path);
             fired.on_data.is_some() == on_data && fired.on_child.is_some() == on_child
         }
+        Step::Often(times) => comes_and_goes(alloc, registry, path, times),
         Step::Clear => {
             registry.clear();
             true
