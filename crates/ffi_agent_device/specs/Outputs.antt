@@ -1,12 +1,12 @@
 -- What was said, one action at a time.
-use Rattle.std.specs.Prelude.{ℕ, zero, suc, List, [], Option, Some, None}
+use Rattle.std.specs.Prelude.{ℕ, List, [], Option, Some, None, get_or}
 use Rattle.std.specs.Option.{option_map}
 use Rattle.std.specs.List.{slice_get}
 use Rattle.zk_client.specs.FaultText.{fault_words}
 use Rattle.zk_client.specs.Views.{fault_view}
 use Rattle.zk_agent.specs.declared.action.Action.{Action}
 use Rattle.zk_agent.specs.declared.action.Action.TheVariants as action
-use Rattle.ffi_device.specs.Outputs.{outcome_name, outcome_names}
+use Rattle.ffi_device.specs.Outputs.{outcome_names, told}
 use Rattle.ffi_device.specs.declared.flat.Flat.{Flat}
 use Rattle.ffi_agent_device.specs.Flats.{action_flat, action_text}
 
@@ -14,12 +14,7 @@ use Rattle.ffi_agent_device.specs.Flats.{action_flat, action_text}
 abbrev pub next_of : {A : Type 0} → List (Action A) → (read : ℕ) → Option Flat
 next_of said read = option_map action_flat (slice_get said read)
 
--- the action that was told last
-abbrev pub told : {A : Type 0} → List (Action A) → (read : ℕ) → Option (Action A)
-told said zero = None
-told said (suc read) = slice_get said read
-
--- its text
+-- the text of an action, if there is one
 abbrev pub text_if : {A : Type 0} → Option (Action A) → List ℕ
 text_if None = []
 text_if (Some action) = action_text action
@@ -35,14 +30,6 @@ words_of _ = []
 abbrev pub told_words : {A : Type 0} → List (Action A) → (read : ℕ) → List ℕ
 told_words said read = words_of (told said read)
 
--- the name of this index in the listing that was told last, if there is one
-abbrev pub name_of : {A : Type 0} → (index : ℕ) → Option (Action A) → List ℕ
-name_of index (Some (action.Answer ticket outcome)) = outcome_name index outcome
-name_of index _ = []
-
-abbrev pub told_name : {A : Type 0} → (index : ℕ) → List (Action A) → (read : ℕ) → List ℕ
-told_name index said read = name_of index (told said read)
-
 -- the names of the listing that was told last, in the order of the reply
 abbrev pub names_in : {A : Type 0} → Option (Action A) → List (List ℕ)
 names_in (Some (action.Answer ticket outcome)) = outcome_names outcome
@@ -50,3 +37,7 @@ names_in _ = []
 
 abbrev pub told_names : {A : Type 0} → List (Action A) → (read : ℕ) → List (List ℕ)
 told_names said read = names_in (told said read)
+
+-- the name of this index in that listing, if there is one
+abbrev pub told_name : {A : Type 0} → (index : ℕ) → List (Action A) → (read : ℕ) → List ℕ
+told_name index said read = get_or (told_names said read) index []

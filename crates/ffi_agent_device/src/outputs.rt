@@ -3,9 +3,9 @@
 ghost use Rattle.std.specs.Prelude.{◌≡◌, ◌++◌, IfOk, OnErr, drop, length, string_bytes, take};
 ghost use Rattle.std.specs.Option.{option_map};
 ghost use Rattle.ffi_device.specs.Kept.{WritesText};
-ghost use Rattle.ffi_device.specs.Outputs.{read_after};
+ghost use Rattle.ffi_device.specs.Outputs.{read_after, told};
 ghost use Rattle.ffi_device.specs.Texts.{AreTexts};
-ghost use Rattle.ffi_agent_device.specs.Outputs.{next_of, told, told_name, told_names, told_text, told_words};
+ghost use Rattle.ffi_agent_device.specs.Outputs.{next_of, told_name, told_names, told_text, told_words};
 
 use crate::device::AgentDevice;
 use crate::flat::{action_flat, action_text};

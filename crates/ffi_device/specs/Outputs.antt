@@ -22,8 +22,8 @@ abbrev pub text_if : {A : Type 0} → Option (Output A) → List ℕ
 text_if None = []
 text_if (Some output) = text_of output
 
--- the output that was told last
-abbrev pub told : {A : Type 0} → List (Output A) → (read : ℕ) → Option (Output A)
+-- what was told last
+abbrev pub told : {T : Type 0} → List T → (read : ℕ) → Option T
 told said zero = None
 told said (suc read) = slice_get said read
 
@@ -40,25 +40,6 @@ words_of _ = []
 abbrev pub told_words : {A : Type 0} → List (Output A) → (read : ℕ) → List ℕ
 told_words said read = words_of (told said read)
 
--- the name of this index that a reply brings, if it does
-abbrev pub result_name : {A : Type 0} → (index : ℕ) → CallResult A → List ℕ
-result_name index (result.Names names stat) = get_or names index []
-result_name index _ = []
-
--- the same of an answer
-abbrev pub outcome_name : {A : Type 0} → (index : ℕ) → Outcome A → List ℕ
-outcome_name index (outcome.Replied zxid brought) = result_name index brought
-outcome_name index _ = []
-
--- the name of this index in a listing, if there is one
-abbrev pub name_of : {A : Type 0} → (index : ℕ) → Option (Output A) → List ℕ
-name_of index (Some (output.Answer ticket (outcome.Replied zxid brought))) = result_name index brought
-name_of index _ = []
-
--- the name of this index in the listing that was told last, if there is one
-abbrev pub told_name : {A : Type 0} → (index : ℕ) → List (Output A) → (read : ℕ) → List ℕ
-told_name index said read = name_of index (told said read)
-
 -- the names that a reply brings, if it does
 abbrev pub result_names : {A : Type 0} → CallResult A → List (List ℕ)
 result_names (result.Names names stat) = names
@@ -71,9 +52,13 @@ outcome_names _ = []
 
 -- the names of a listing, in the order of the reply
 abbrev pub names_in : {A : Type 0} → Option (Output A) → List (List ℕ)
-names_in (Some (output.Answer ticket (outcome.Replied zxid brought))) = result_names brought
+names_in (Some (output.Answer ticket outcome)) = outcome_names outcome
 names_in _ = []
 
 -- the names of the listing that was told last
 abbrev pub told_names : {A : Type 0} → List (Output A) → (read : ℕ) → List (List ℕ)
 told_names said read = names_in (told said read)
+
+-- the name of this index in that listing, if there is one
+abbrev pub told_name : {A : Type 0} → (index : ℕ) → List (Output A) → (read : ℕ) → List ℕ
+told_name index said read = get_or (told_names said read) index []

@@ -1,12 +1,11 @@
 //! What was said, one output at a time.
 
-ghost use Rattle.std.specs.Prelude.{◌≡◌, ◌++◌, IfOk, OnErr, drop, length, string_bytes, take};
+ghost use Rattle.std.specs.Prelude.{◌≡◌, ◌++◌, [], IfOk, OnErr, drop, get_or, length, string_bytes, take};
 ghost use Rattle.std.specs.Option.{option_map};
 ghost use Rattle.std.specs.List.{slice_get};
 ghost use Rattle.ffi_device.specs.Flats.{flat_of};
 ghost use Rattle.ffi_device.specs.Kept.{WritesText};
-ghost use Rattle.ffi_device.specs.Outputs.{names_in, outcome_name, outcome_names, read_after, told, told_name, told_names, told_text};
-ghost use Rattle.ffi_device.specs.Outputs.{told_words};
+ghost use Rattle.ffi_device.specs.Outputs.{names_in, outcome_names, read_after, told, told_name, told_names, told_text, told_words};
 ghost use Rattle.ffi_device.specs.Texts.{AreTexts};
 
 use crate::copying::copy_into;
@@ -31,7 +30,7 @@ pub fn outcome_names(alloc: Global, outcome: &Outcome<Global>) -> Result<Vec<u8>
 
 /// The name of this index in a listing, and nothing where there is none.
 pub fn outcome_name(outcome: &Outcome<Global>, index: usize) -> &[u8]
-    ensures { result.now ≡ outcome_name index outcome.now }
+    ensures { result.now ≡ get_or (outcome_names outcome.now) index [] }
 {
     match outcome {
         Outcome::Replied {
