@@ -1,12 +1,12 @@
 //! What is kept of an answer.
-ghost use Rattle.std.specs.Prelude.{◌≡◌, ℕ, List, true, is_some, bytes_eq, if◌then◌else◌, IsOk, OnOk, OnErr};
+ghost use Rattle.std.specs.Prelude.{◌≡◌, ℕ, List, true, is_some, bytes_eq, string_bytes, if◌then◌else◌, IsOk, OnOk, OnErr};
 ghost use Rattle.indexmap.specs.IndexMap.{get_by_text, IsUnchanged};
 ghost use Rattle.zk_cache.specs.Kept.{same_fields};
 ghost use Rattle.zk_cache.specs.inner.Covered.{stays};
 ghost use Rattle.zk_cache.specs.Contents.{answer_of};
 ghost use Rattle.zk_cache.specs.inner.Renewed.{renewed, with_answer};
 
-use crate::held::{Held, Kept, Mark, insert, marked_good};
+use crate::held::{Held, Kept, Mark, marked_good};
 use std::alloc::{AllocError, Allocator, Global};
 use zk_nodes::DataStat;
 
@@ -47,21 +47,23 @@ fn renew<A: Allocator>(kept: &mut Kept<DataAnswer<A>>, answer: DataAnswer<A>)
     }
 }
 
-/// Keeps the answer, marked good, unless the kept one of the path stays. Only a path that is new to the map takes memory.
+/// Keeps the answer, marked good, unless the kept one of the path stays. Only a path that is new to the map takes room in it.
 pub(crate) fn keep<A: Allocator + Copy>(
-    alloc: A,
     map: &mut Held<DataAnswer<A>, A>,
-    path: &str,
+    path: String<A>,
     answer: DataAnswer<A>,
 ) -> Result<(), AllocError>
     ensures ok { OnOk result ((other : List ℕ) → get_by_text map.new other
-        ≡ (if bytes_eq path.now other then with_answer (get_by_text map.old path.now) answer else get_by_text map.old other)) }
-    ensures there { is_some (get_by_text map.old path.now) ≡ true → IsOk result }
+        ≡ (if bytes_eq (string_bytes path) other then with_answer (get_by_text map.old (string_bytes path)) answer
+        else get_by_text map.old other)) }
+    ensures there { is_some (get_by_text map.old (string_bytes path)) ≡ true → IsOk result }
     ensures err { OnErr result (IsUnchanged map.old map.new) }
 {
-    if let Some(kept) = map.get_mut(path) {
-        renew(kept, answer);
-        return Ok(());
-    }
-    insert(alloc, map, path, answer)
+    // A path that is new to the map begins with an answer that does not stand, so that it is hashed once.
+    let kept = map.entry(path)?.or_insert(Kept {
+        answer: DataAnswer::Absent,
+        mark: Mark::Stale,
+    });
+    renew(kept, answer);
+    Ok(())
 }

@@ -49,38 +49,33 @@ impl<A: Allocator + Copy> Cache<A> {
         }
     }
 
-    /// Keeps the answer, marked good. Where a good `Full` is kept, a `Known` with equal fields leaves it. An error says that
-    /// there is no memory for a path that is new to the side; then nothing has changed.
-    pub fn keep_data(&mut self, path: &Path<A>, answer: DataAnswer<A>) -> Result<(), AllocError>
-        ensures ok { OnOk result (self.new ≡ with_data self.old path.now (answer_of answer)) }
-        ensures there { is_some (data_kept self.old path.now) ≡ true → IsOk result }
+    /// Keeps the answer, marked good, and the path with it. Where a good `Full` is kept, a `Known` with equal fields leaves it. An
+    /// error says that there is no memory for a path that is new to the side; then nothing has changed.
+    pub fn keep_data(&mut self, path: Path<A>, answer: DataAnswer<A>) -> Result<(), AllocError>
+        ensures ok { OnOk result (self.new ≡ with_data self.old path (answer_of answer)) }
+        ensures there { is_some (data_kept self.old path) ≡ true → IsOk result }
         ensures err { OnErr result (self.new ≡ self.old) }
     {
-        let text = path.as_str();
-        keep(self.alloc, &mut self.data_answers, text, answer)
+        keep(&mut self.data_answers, path.into_text(), answer)
     }
 
-    /// Keeps the names as a set, with the zxid of the set's last change, marked good. A null name is the empty one. An error
-    /// says that memory ran out; then nothing has changed.
+    /// Keeps the names as a set, with the zxid of the set's last change, marked good, and the path with them. A null name is the
+    /// empty one. An error says that memory ran out; then nothing has changed.
     pub fn keep_children(
         &mut self,
-        path: &Path<A>,
+        path: Path<A>,
         names: &[TextRef<'_>],
         pzxid: i64,
     ) -> Result<(), AllocError>
-        ensures ok { OnOk result (self.new ≡ with_names self.old path.now (record {
+        ensures ok { OnOk result (self.new ≡ with_names self.old path (record {
           names = set.from_list (map (λ name. or_empty (option_map (λ text. text.now) name.text)) names.now);
           pzxid = pzxid;
         })) }
         ensures err { OnErr result (self.new ≡ self.old) }
     {
         let names = sort_names(self.alloc, names)?;
-        put(
-            self.alloc,
-            &mut self.child_answers,
-            path.as_str(),
-            Children { names, pzxid },
-        )
+        let children = Children { names, pzxid };
+        put(&mut self.child_answers, path.into_text(), children)
     }
 
     /// Marks the answer of the side stale, if there is one. It takes no memory.

@@ -1,5 +1,6 @@
 //! Maps from paths to answers with a mark.
-ghost use Rattle.std.specs.Prelude.{◌≡◌, ℕ, List, Some, OnOk, OnErr, IsOk, true, is_some, option_map, bytes_eq, if◌then◌else◌};
+ghost use Rattle.std.specs.Prelude.{◌≡◌, ℕ, List, Some, OnOk, OnErr, IsOk, true, is_some, option_map, bytes_eq, string_bytes};
+ghost use Rattle.std.specs.Prelude.{if◌then◌else◌};
 ghost use Rattle.indexmap.specs.IndexMap.{get_by_text, IsUnchanged};
 ghost use Rattle.zk_cache.specs.Kept.{as_good, good, stale, without_stale, is_good};
 
@@ -36,38 +37,19 @@ pub(crate) fn marked_good<T>(answer: T) -> Kept<T>
     }
 }
 
-/// Keeps the answer, marked good, and takes memory for the path.
-pub(crate) fn insert<T: Drop, A: Allocator + Copy>(
-    alloc: A,
-    map: &mut Held<T, A>,
-    path: &str,
-    answer: T,
-) -> Result<(), AllocError>
-    ensures ok { OnOk result
-        ((other : List ℕ) → get_by_text map.new other ≡ (if bytes_eq path.now other then good answer else get_by_text map.old other)) }
-    ensures err { OnErr result (IsUnchanged map.old map.new) }
-{
-    map.insert(String::from_str(alloc, path)?, marked_good(answer))?;
-    Ok(())
-}
-
-/// Keeps the answer, marked good. Only a path that is new to the map takes memory.
+/// Keeps the answer, marked good. Only a path that is new to the map takes room in it.
 pub(crate) fn put<T: Drop, A: Allocator + Copy>(
-    alloc: A,
     map: &mut Held<T, A>,
-    path: &str,
+    path: String<A>,
     answer: T,
 ) -> Result<(), AllocError>
-    ensures ok { OnOk result
-        ((other : List ℕ) → get_by_text map.new other ≡ (if bytes_eq path.now other then good answer else get_by_text map.old other)) }
-    ensures there { is_some (get_by_text map.old path.now) ≡ true → IsOk result }
+    ensures ok { OnOk result ((other : List ℕ) → get_by_text map.new other
+        ≡ (if bytes_eq (string_bytes path) other then good answer else get_by_text map.old other)) }
+    ensures there { is_some (get_by_text map.old (string_bytes path)) ≡ true → IsOk result }
     ensures err { OnErr result (IsUnchanged map.old map.new) }
 {
-    if let Some(kept) = map.get_mut(path) {
-        *kept = marked_good(answer);
-        return Ok(());
-    }
-    insert(alloc, map, path, answer)
+    map.insert(path, marked_good(answer))?;
+    Ok(())
 }
 
 /// The answer of the path with its mark, if there is one.

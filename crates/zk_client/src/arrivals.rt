@@ -103,8 +103,7 @@ impl<A: Allocator + Copy> Core<A> {
                 zxid,
                 result,
             } => {
-                let taken = self.reply(ticket, &question, zxid, &result, outputs);
-                drop(question);
+                let taken = self.reply(ticket, question, zxid, &result, outputs);
                 drop(result);
                 taken
             }

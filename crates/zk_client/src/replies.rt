@@ -39,28 +39,40 @@ use zk_jute::TextRef;
 use zk_nodes::{DataStat, Path, Side, Stat, copied_data};
 use zk_watches::Registry;
 
-/// What a reply that leaves a watch says of its path, lent by the question and the reply.
+/// What a reply that leaves a watch says of the path of its question, lent by the reply.
 #[derive(Drop)]
 enum Left<'a, 'b, A: Allocator> {
     /// There is no node.
-    Absent(&'a Path<A>),
+    Absent(Path<A>),
     /// There is a node, and this is known of it.
-    Known(&'a Path<A>, Stat),
+    Known(Path<A>, Stat),
     /// These are its data.
-    Full(&'a Path<A>, Option<&'b [u8]>, Stat),
+    Full(Path<A>, Option<&'b [u8]>, Stat),
     /// These are the names below it, as of the change with this zxid.
-    Names(&'a Path<A>, &'a [TextRef<'b>], i64),
+    Names(Path<A>, &'a [TextRef<'b>], i64),
 }
 
-/// What a reply leaves a watch with, if it leaves one: exists does in any case, the other reads where the node is there.
+/// Whether the reply leaves a watch: exists does in any case, the other reads where the node is there.
+fn leaves_watch<A: Allocator + Copy>(question: &Question<A>, found: &ReplyResult<'_, A>) -> bool
+    ensures { result ≡ leaves_watch (question_view question.now) (result_view found.now) }
+{
+    match (question, found) {
+        (Question::Exists { watch: true, .. }, ReplyResult::Code(code)) => code.is_no_node(),
+        (Question::Exists { watch: true, .. }, ReplyResult::Stat(_)) => true,
+        (Question::GetData { watch: true, .. }, ReplyResult::Data { .. }) => true,
+        (Question::GetChildren { watch: true, .. }, ReplyResult::Names { .. }) => true,
+        _ => false,
+    }
+}
+
+/// What a reply leaves a watch with, if it leaves one.
 fn left_by<'a, 'b, A: Allocator + Copy>(
-    question: &'a Question<A>,
+    question: Question<A>,
     found: &'a ReplyResult<'b, A>,
 ) -> Option<Left<'a, 'b, A>>
-    ensures any { is_some result ≡ leaves_watch (question_view question.entry.now) (result_view found.entry.now) }
-    ensures side { IfSome (side_in result) (λ side. watched_side (question_view question.entry.now) ≡ Some side) }
-    ensures data { data_in result ≡ leaves_data (question_view question.entry.now) (result_view found.entry.now) }
-    ensures child { children_in result ≡ leaves_child (question_view question.entry.now) (result_view found.entry.now) }
+    ensures side { IfSome (side_in result) (λ side. watched_side (question_view question) ≡ Some side) }
+    ensures data { data_in result ≡ leaves_data (question_view question) (result_view found.entry.now) }
+    ensures child { children_in result ≡ leaves_child (question_view question) (result_view found.entry.now) }
 {
     match (question, found) {
         (Question::Exists { path, watch: true }, ReplyResult::Code(code)) => {
@@ -84,19 +96,19 @@ fn left_by<'a, 'b, A: Allocator + Copy>(
 
 /// Keeps an answer about a node, and watches it: there is a node, or the making of one is waited for.
 fn keep_node<A: Allocator + Copy>(
-    path: &Path<A>,
+    path: Path<A>,
     answer: DataAnswer<A>,
     registry: &mut Registry<A>,
     cache: &mut Cache<A>,
 ) -> Result<(), AllocError>
     requires room { count_of registry.old Data < MOST_PATHS }
-    ensures lists { OnOk result (registry.new ≡ registered registry.old Data (says_there (answer_of answer)) path.now) }
+    ensures lists { OnOk result (registry.new ≡ registered registry.old Data (says_there (answer_of answer)) path) }
     ensures nodes { OnOk result ((text : Text) → data_kept cache.new text
-        ≡ (if bytes_eq path.now text then good (merged (data_kept cache.old text) (answer_of answer)) else data_kept cache.old text)) }
+        ≡ (if bytes_eq path text then good (merged (data_kept cache.old text) (answer_of answer)) else data_kept cache.old text)) }
     ensures children { OnOk result ((text : Text) → names_kept cache.new text ≡ names_kept cache.old text) }
 {
     let present = is_there(&answer);
-    registry.watch(Side::Data, path, present)?;
+    registry.watch(Side::Data, &path, present)?;
     cache.keep_data(path, answer)
 }
 
@@ -112,19 +124,19 @@ fn is_there<A: Allocator>(answer: &DataAnswer<A>) -> bool
 
 /// Keeps the names of a node's children, and watches them.
 fn keep_names<A: Allocator + Copy>(
-    path: &Path<A>,
+    path: Path<A>,
     names: &[TextRef<'_>],
     pzxid: i64,
     registry: &mut Registry<A>,
     cache: &mut Cache<A>,
 ) -> Result<(), AllocError>
     requires room { count_of registry.old Child < MOST_PATHS }
-    ensures lists { OnOk result (registry.new ≡ registered registry.old Child true path.now) }
+    ensures lists { OnOk result (registry.new ≡ registered registry.old Child true path) }
     ensures nodes { OnOk result ((text : Text) → data_kept cache.new text ≡ data_kept cache.old text) }
     ensures children { OnOk result ((text : Text) → names_kept cache.new text
-        ≡ (if bytes_eq path.now text then good (record { names = set_of names.now; pzxid = pzxid }) else names_kept cache.old text)) }
+        ≡ (if bytes_eq path text then good (record { names = set_of names.now; pzxid = pzxid }) else names_kept cache.old text)) }
 {
-    registry.watch(Side::Child, path, true)?;
+    registry.watch(Side::Child, &path, true)?;
     cache.keep_children(path, names, pzxid)
 }
 
@@ -178,52 +190,47 @@ impl<A: Allocator + Copy> Core<A> {
     pub(crate) fn reply(
         &mut self,
         ticket: u64,
-        question: &Question<A>,
+        question: Question<A>,
         zxid: i64,
         found: &ReplyResult<'_, A>,
         outputs: &mut Vec<Output<A>, A>,
     ) -> Result<(), AllocError>
-        requires { CoreHasArrived (Replied ticket (question_view question.now) zxid (result_view found.now)) self.old }
+        requires { CoreHasArrived (Replied ticket (question_view question) zxid (result_view found.now)) self.old }
         ensures sound { OnOk result (CoreIsSound self.new) }
         ensures next { OnOk result ((held : List ℕ) (pending : List Pending)
-            → IsLeft (Replied ticket (question_view question.now) zxid (result_view found.now)) pending self.old.conversation.pending →
+            → IsLeft (Replied ticket (question_view question) zxid (result_view found.now)) pending self.old.conversation.pending →
             view_with [] self.new ≡ next (while_pending pending (view_with held self.old))
-            (taken_of self.old.session.saved.last (Replied ticket (question_view question.now) zxid (result_view found.now)))) }
+            (taken_of self.old.session.saved.last (Replied ticket (question_view question) zxid (result_view found.now)))) }
         ensures says { OnOk result ((held : List ℕ) (pending : List Pending)
-            → IsLeft (Replied ticket (question_view question.now) zxid (result_view found.now)) pending self.old.conversation.pending →
+            → IsLeft (Replied ticket (question_view question) zxid (result_view found.now)) pending self.old.conversation.pending →
             said outputs.new.items ≡ said outputs.old.items ++ says (while_pending pending (view_with held self.old))
-            (taken_of self.old.session.saved.last (Replied ticket (question_view question.now) zxid (result_view found.now)))) }
+            (taken_of self.old.session.saved.last (Replied ticket (question_view question) zxid (result_view found.now)))) }
         ensures origin { origin self.new ≡ origin self.old }
     {
         let seen = self.session.last_zxid();
-        let left = left_by(question, found);
-        if left.is_some() && zxid < seen {
+        if leaves_watch(&question, found) && zxid < seen {
             return self.give_up_reply(ticket, Fault::Behind { seen, came: zxid }, outputs);
         }
-        self.take_reply(ticket, question, zxid, found, left, outputs)
+        self.take_reply(ticket, question, zxid, found, outputs)
     }
 
     // A reply that is taken: what it says is kept, if it leaves a watch.
     fn take_reply(
         &mut self,
         ticket: u64,
-        question: &Question<A>,
+        question: Question<A>,
         zxid: i64,
         found: &ReplyResult<'_, A>,
-        left: Option<Left<'_, '_, A>>,
         outputs: &mut Vec<Output<A>, A>,
     ) -> Result<(), AllocError>
-        requires arrived { CoreHasArrived (Replied ticket (question_view question.now) zxid (result_view found.now)) self.old }
-        requires side { IfSome (side_in left) (λ side. watched_side (question_view question.now) ≡ Some side) }
-        requires data { data_in left ≡ leaves_data (question_view question.now) (result_view found.now) }
-        requires child { children_in left ≡ leaves_child (question_view question.now) (result_view found.now) }
+        requires { CoreHasArrived (Replied ticket (question_view question) zxid (result_view found.now)) self.old }
         ensures sound { OnOk result (CoreIsSound self.new) }
         ensures next { OnOk result ((held : List ℕ) (pending : List Pending)
-            → IsLeft (Replied ticket (question_view question.now) zxid (result_view found.now)) pending self.old.conversation.pending →
+            → IsLeft (Replied ticket (question_view question) zxid (result_view found.now)) pending self.old.conversation.pending →
             view_with [] self.new ≡ next (while_pending pending (view_with held self.old))
-            (Took (Replies ticket (question_view question.now) zxid (result_view found.now)))) }
+            (Took (Replies ticket (question_view question) zxid (result_view found.now)))) }
         ensures says { OnOk result (said outputs.new.items ≡ said outputs.old.items
-            ++ (Answer ticket (turns.Replied zxid (result_view found.now)) ∷ closing (question_view question.now))) }
+            ++ (Answer ticket (turns.Replied zxid (result_view found.now)) ∷ closing (question_view question))) }
         ensures origin { origin self.new ≡ origin self.old }
     {
         self.session.saw(zxid);
@@ -231,7 +238,7 @@ impl<A: Allocator + Copy> Core<A> {
         if question.closes() {
             return self.close(outputs);
         }
-        match left {
+        match left_by(question, found) {
             None => Ok(()),
             Some(left) => keep(self.alloc, left, &mut self.registry, &mut self.cache),
         }

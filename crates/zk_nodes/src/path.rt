@@ -174,7 +174,10 @@ fn child_text<A: Allocator>(alloc: A, above: &str, name: &str) -> Result<String<
     requires { IsPath above.now }
     ensures { IfOk result (λ text. string_bytes text ≡ child_text above.now name.now) }
 {
-    let mut text = String::from_str(alloc, above)?;
+    // One block of memory, with no room that stays empty where the path is kept.
+    let most = above.len().saturating_add(name.len()).saturating_add(1);
+    let mut text = String::with_capacity(alloc, most)?;
+    text.push_str(above)?;
     if above.len() > 1 {
         text.push_str("/")?;
     }
@@ -235,6 +238,13 @@ impl<A: Allocator> Path<A> {
         ensures absolute { IsPathText self.now }
     {
         self.text.as_str()
+    }
+
+    /// The path's text, for who keeps it: it takes no memory.
+    pub fn into_text(self) -> String<A>
+        ensures { string_bytes result ≡ self }
+    {
+        self.text
     }
 
     /// The text of the path's parent, and none for the root.

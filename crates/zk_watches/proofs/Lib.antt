@@ -7,5 +7,6 @@ pub mod SoundLemmas
 pub mod CutLemmas
 pub mod GreedyLemmas
 pub mod PartsLemmas
+pub mod PutLemmas
 pub mod PlaceLemmas
 pub mod RankLemmas

@@ -51,20 +51,41 @@ impl<A: Allocator + Copy> Ordered<A> {
         is_in(&self.numbers, text)
     }
 
-    /// Puts the text last, and tells whether it is new. One that is there already stays, which takes no memory.
+    /// Puts the text last, and tells whether it is new. One that is there already stays, also where there is no memory.
     pub(crate) fn add(&mut self, text: &str) -> Result<bool, AllocError>
         ensures ok { OnOk result (self.new ≡ with_path self.old text.now) }
         ensures is_new { IfOk result (λ is_new. is_new ≡ not (has self.old text.now)) }
         ensures there { has self.old text.now ≡ true → IsOk result }
         ensures err { OnErr result (self.new ≡ self.old) }
     {
-        if self.contains(text) {
-            return Ok(false);
+        // Most texts that come are new. Memory is taken before a text is looked for, so that it is hashed once.
+        match self.put_last(text) {
+            Ok(is_new) => Ok(is_new),
+            Err(fault) => {
+                if self.contains(text) {
+                    return Ok(false);
+                }
+                Err(fault)
+            }
         }
+    }
+
+    // The same, but memory is taken for a text that is there too.
+    fn put_last(&mut self, text: &str) -> Result<bool, AllocError>
+        ensures ok { OnOk result (self.new ≡ with_path self.old text.now) }
+        ensures is_new { IfOk result (λ is_new. is_new ≡ not (has self.old text.now)) }
+        ensures err { OnErr result (self.new ≡ self.old) }
+    {
         self.next = next_number(self.alloc, &mut self.numbers, self.next)?;
-        put_last(self.alloc, &mut self.numbers, text, self.next)?;
-        self.next += 1;
-        Ok(true)
+        let is_new = put_last(
+            &mut self.numbers,
+            String::from_str(self.alloc, text)?,
+            self.next,
+        )?;
+        if is_new {
+            self.next += 1;
+        }
+        Ok(is_new)
     }
 
     /// Takes the text out, in constant time and no memory, and gives it.

@@ -130,7 +130,7 @@ impl IsKept for Listed {
     }
 }
 
-fn takes(alloc: Global, cache: &mut Cache<Global>, path: &Path<Global>, step: Step) -> bool {
+fn takes(alloc: Global, cache: &mut Cache<Global>, path: Path<Global>, step: Step) -> bool {
     let answer = match step {
         Step::Absent => DataAnswer::Absent,
         Step::Known(mzxid) => DataAnswer::Known(stat(mzxid)),
@@ -158,14 +158,13 @@ fn takes(alloc: Global, cache: &mut Cache<Global>, path: &Path<Global>, step: St
 
 // Goes through the rows.
 fn follows<W: IsKept>(rt: &(impl Abort + AllocGlobal), rows: &[(Step, W)]) {
-    let path = Path::new(rt.alloc(), "/a").expect(rt, "/a");
     let mut cache = Cache::new(rt.alloc());
     for (place, (step, want)) in rows.iter().enumerate() {
-        let is = takes(rt.alloc(), &mut cache, &path, *step) && want.is_kept(&cache);
+        let path = Path::new(rt.alloc(), "/a").expect(rt, "/a");
+        let is = takes(rt.alloc(), &mut cache, path, *step) && want.is_kept(&cache);
         holds(rt, is, place);
     }
     drop(cache);
-    drop(path);
 }
 
 #[test]
@@ -186,35 +185,54 @@ fn figures<A: Allocator + Copy>(cache: &Cache<A>) -> (i64, usize) {
     }
 }
 
+// The path of the rows, which is asked for once more where memory for it is refused.
+fn path<A: Allocator + Copy>(alloc: A, refusals: &mut u32) -> Option<Path<A>> {
+    if let Ok(path) = Path::new(alloc, "/a") {
+        return Some(path);
+    }
+    *refusals = refusals.saturating_add(1);
+    Path::new(alloc, "/a").ok()
+}
+
+// Keeps names of the path. Whether there are as many then.
+fn keeps<A: Allocator + Copy>(
+    cache: &mut Cache<A>,
+    path: Option<Path<A>>,
+    names: &[TextRef<'_>],
+    want: (i64, usize),
+) -> bool {
+    let Some(path) = path else {
+        return false;
+    };
+    cache.keep_children(path, names, want.0).is_ok() && figures(cache) == want
+}
+
 // Keeps names, and once more where that is refused: those before stay then. Whether there are as many then.
 fn keeps_names<A: Allocator + Copy>(
+    alloc: A,
     cache: &mut Cache<A>,
-    path: &Path<A>,
     names: &[TextRef<'_>],
     want: (i64, usize),
     refusals: &mut u32,
 ) -> bool {
     let before = figures(cache);
-    if cache.keep_children(path, names, want.0).is_ok() {
-        return figures(cache) == want;
-    }
-    *refusals = refusals.saturating_add(1);
-    figures(cache) == before
-        && cache.keep_children(path, names, want.0).is_ok()
-        && figures(cache) == want
-}
-
-// Keeps an answer, and another where that is refused: nothing is kept then.
-fn keeps_answer<A: Allocator + Copy>(
-    cache: &mut Cache<A>,
-    path: &Path<A>,
-    refusals: &mut u32,
-) -> bool {
-    if cache.keep_data(path, DataAnswer::Known(stat(5))).is_ok() {
+    if keeps(cache, path(alloc, refusals), names, want) {
         return true;
     }
     *refusals = refusals.saturating_add(1);
-    cache.peek_data("/a").is_none() && cache.keep_data(path, DataAnswer::Absent).is_ok()
+    figures(cache) == before && keeps(cache, path(alloc, refusals), names, want)
+}
+
+// Keeps an answer, and another where that is refused: nothing is kept then.
+fn keeps_answer<A: Allocator + Copy>(alloc: A, cache: &mut Cache<A>, refusals: &mut u32) -> bool {
+    let (Some(first), Some(second)) = (path(alloc, refusals), path(alloc, refusals)) else {
+        return false;
+    };
+    if cache.keep_data(first, DataAnswer::Known(stat(5))).is_ok() {
+        return true;
+    }
+    *refusals = refusals.saturating_add(1);
+    cache.peek_data("/a").is_none() && cache.keep_data(second, DataAnswer::Absent).is_ok()
 }
 
 // Keeps an answer, and names twice.
@@ -222,21 +240,16 @@ struct Answers;
 
 impl Steps for Answers {
     fn come_right(_alloc: Global, heap: &Refusing<Global>) -> bool {
-        let Ok(path) = Path::new(heap, "/a") else {
-            return heap.has_refused();
-        };
         let mut cache = Cache::new(heap);
         let mut refusals = 0;
-        let is = keeps_answer(&mut cache, &path, &mut refusals)
-            && keeps_names(&mut cache, &path, &LISTING, (5, 3), &mut refusals)
-            && keeps_names(&mut cache, &path, &FEW, (6, 2), &mut refusals);
+        let is = keeps_answer(heap, &mut cache, &mut refusals)
+            && keeps_names(heap, &mut cache, &LISTING, (5, 3), &mut refusals)
+            && keeps_names(heap, &mut cache, &FEW, (6, 2), &mut refusals);
         drop(cache);
-        drop(path);
         is && refusals == u32::from(heap.has_refused())
     }
 }
 
-// The path takes the first request.
 #[test]
 fn tells_each_refusal_and_goes_on(rt: HostRuntime) {
     refuse_each::<Answers>(&rt, 5, 99);

@@ -19,14 +19,14 @@ side_left (left.Full path bytes stat) = Data
 
 -- what it says of the node at its path
 abbrev pub data_left : {A : Type 0} → RustLeft A → Option (Left Answer)
-data_left (left.Absent path) = Some (record { path = path.now; says = Absent })
-data_left (left.Known path stat) = Some (record { path = path.now; says = Known (data_stat_of stat) })
-data_left (left.Full path bytes stat) = Some (record { path = path.now; says = Full (option_map (λ b. b.now) bytes) (data_stat_of stat) })
+data_left (left.Absent path) = Some (record { path = path; says = Absent })
+data_left (left.Known path stat) = Some (record { path = path; says = Known (data_stat_of stat) })
+data_left (left.Full path bytes stat) = Some (record { path = path; says = Full (option_map (λ b. b.now) bytes) (data_stat_of stat) })
 data_left (left.Names path names pzxid) = None
 
 -- what it says of the names below it
 abbrev pub children_left : {A : Type 0} → RustLeft A → Option (Left Names)
-children_left (left.Names path names pzxid) = Some (record { path = path.now; says = record { names = set_of names.now; pzxid = pzxid } })
+children_left (left.Names path names pzxid) = Some (record { path = path; says = record { names = set_of names.now; pzxid = pzxid } })
 children_left _ = None
 
 -- the same, where a reply may leave nothing

@@ -1,12 +1,12 @@
--- A path that is in the map has its own entry replaced, by what `marked_good` ensures: `hash_map_updates_text` of the lent entry.
-use Rattle.std.proofs.Common.{refl, subst, ◌∙◌, IsSome, Some, bytes_eq, if◌then◌else◌}
+-- Only the text of the key is changed: `hash_map_updates_text`, rewritten by what `marked_good` ensures. An insertion fails for a key alone
+-- that is not there.
+use Rattle.std.proofs.Common.{Some, ◌∙◌, bytes_eq, string_bytes, if◌then◌else◌}
 use Rattle.std.proofs.lemmas.Map.Text.{hash_map_updates_text}
 use Rattle.indexmap.specs.IndexMap.{get_by_text}
 use Rattle.zk_cache.proofs.held.put.Goals as goal
 
-pub returns-in-Some-clause-ok : goal.returns-in-Some-clause-ok
-returns-in-Some-clause-ok g c =
+pub returns-clause-ok : goal.returns-clause-ok
+returns-clause-ok g c =
     λ other.
-    hash_map_updates_text c.args.path.now c.args.map.now (c.get_mut.follows.lender c.marked_good.result) _
-    ((c.get_mut.follows.holds _).3 (subst IsSome c.in-Some.ensures.value refl)) other
-    ∙ (λ i. if bytes_eq c.args.path.now other then Some (c.marked_good.ensures i) else get_by_text c.args.map.now other)
+    hash_map_updates_text (string_bytes c.args.path) c.args.map.now c.insert.new.self _ c.in_ok-insert.ensures.updates other
+    ∙ (λ i. if bytes_eq (string_bytes c.args.path) other then Some (c.marked_good.ensures i) else get_by_text c.args.map.now other)

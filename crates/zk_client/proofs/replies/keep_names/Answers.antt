@@ -12,4 +12,4 @@ returns-clause-children g c =
     let pzxid : to_z w64 (of_z w64 c.args.pzxid) ≡ c.args.pzxid = omega (arith, ints) in
     let k = keeps_each c.args.cache.now in
     on_ok_weaker c.keep_children.result (λ ok. λ text. ap (λ (x : Answers). names_kept x text) (rw pzxid at ok)
-    ∙ k.listed c.args.path.now _ text) c.keep_children.ensures.ok
+    ∙ k.listed c.args.path _ text) c.keep_children.ensures.ok

@@ -9,4 +9,4 @@ pub returns-clause-nodes : goal.returns-clause-nodes
 returns-clause-nodes g c =
     let k = keeps_each c.args.cache.now in
     on_ok_weaker c.keep_data.result
-    (λ ok. λ text. ap (λ (x : Answers). data_kept x text) ok ∙ k.known c.args.path.now _ text) c.keep_data.ensures.ok
+    (λ ok. λ text. ap (λ (x : Answers). data_kept x text) ok ∙ k.known c.args.path _ text) c.keep_data.ensures.ok

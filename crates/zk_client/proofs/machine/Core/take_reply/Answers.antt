@@ -30,33 +30,33 @@ returns-then-closes-clause-next g c =
     let close = c.close.ensures in
     of-five c.close.result
     (λ session none xid lists answers. λ held pending left. closed-view held core.halted core.session core.conversation core.registry
-    core.cache pending c.args.ticket (question_view c.args.question.now) c.args.zxid (result_view c.args.found.now)
+    core.cache pending c.args.ticket (question_view c.args.question) c.args.zxid (result_view c.args.found.now)
     c.close.new.self.halted c.saw.new.self c.close.new.self.session c.close.new.self.conversation
     c.close.new.self.registry c.close.new.self.cache
-    c.close.ensures.halted (sym c.closes.ensures ∙ c.if-closes.true) c.requires.arrived.comes
+    c.close.ensures.halted (sym c.closes.ensures ∙ c.if-closes.true) c.requires.comes
     (rw zxid at c.saw.ensures) session none xid lists answers) close.session close.pending close.xid close.lists close.answers
 
 pub keep-requires : goal.keep-requires
 keep-requires g c =
-    let arrived = c.requires.arrived in
-    let side = rw c.in-Some.is at c.requires.side in
+    let arrived = c.requires in
+    let side = rw c.in-Some.is at c.left_by.ensures.side in
     record {
       room = room-for arrived.left.0 c.args.ticket
-          (question_view c.args.question.now) c.args.self.now.registry c.args.self.now.conversation.pending
+          (question_view c.args.question) c.args.self.now.registry c.args.self.now.conversation.pending
           (subst (HasRoom c.args.self.now.registry) arrived.left.1 arrived.room) (side_left c.in-Some.left) side;
     }
 
 pub returns-in-None-clause-sound : goal.returns-in-None-clause-sound
 returns-in-None-clause-sound g c =
     let core = c.args.self.now in
-    let arrived = c.requires.arrived in
-    let lists = left-lists _ _ (question_view c.args.question.now) (result_view c.args.found.now) core.registry
-    (rw c.in-None.is at c.requires.data) (rw c.in-None.is at c.requires.child) in
+    let arrived = c.requires in
+    let lists = left-lists _ _ (question_view c.args.question) (result_view c.args.found.now) core.registry
+    (rw c.in-None.is at c.left_by.ensures.data) (rw c.in-None.is at c.left_by.ensures.child) in
     record {
       tied = rw c.saw.ensures
           (tied-talking (session.next (session.Sees _) core.session) core.conversation arrived.phase arrived.comes arrived.short);
       room = subst (λ (l : Lists). HasRoom l core.conversation.pending) (sym lists)
-          (reply-room arrived.left.0 c.args.ticket (question_view c.args.question.now) (result_view c.args.found.now) core.registry
+          (reply-room arrived.left.0 c.args.ticket (question_view c.args.question) (result_view c.args.found.now) core.registry
           core.conversation.pending (subst (HasRoom core.registry) arrived.left.1 arrived.room));
     }
 
@@ -65,21 +65,21 @@ returns-in-None-clause-next g c =
     let core = c.args.self.now in
     let zxid : to_z w64 (of_z w64 c.args.zxid) ≡ c.args.zxid = omega (arith, ints) in
     λ held pending left. left-view held core.halted core.session core.conversation core.registry core.cache pending left.0 c.args.ticket
-    (question_view c.args.question.now) c.args.zxid (result_view c.args.found.now)
+    (question_view c.args.question) c.args.zxid (result_view c.args.found.now)
     c.saw.new.self core.registry core.cache _ _ (sym c.closes.ensures ∙ c.if-closes.false) left.1 (rw zxid at c.saw.ensures)
-    (rw c.in-None.is at c.requires.data) (rw c.in-None.is at c.requires.child) refl (λ text. refl) (λ text. refl)
+    (rw c.in-None.is at c.left_by.ensures.data) (rw c.in-None.is at c.left_by.ensures.child) refl (λ text. refl) (λ text. refl)
 
 pub returns-in-Some-clause-sound : goal.returns-in-Some-clause-sound
 returns-in-Some-clause-sound g c =
     let core = c.args.self.now in
-    let arrived = c.requires.arrived in
-    let left = left-lists _ _ (question_view c.args.question.now) (result_view c.args.found.now) core.registry
-    (rw c.in-Some.is at c.requires.data) (rw c.in-Some.is at c.requires.child) in
+    let arrived = c.requires in
+    let left = left-lists _ _ (question_view c.args.question) (result_view c.args.found.now) core.registry
+    (rw c.in-Some.is at c.left_by.ensures.data) (rw c.in-Some.is at c.left_by.ensures.child) in
     on_ok_weaker c.keep.result (λ lists. record {
       tied = rw c.saw.ensures
           (tied-talking (session.next (session.Sees _) core.session) core.conversation arrived.phase arrived.comes arrived.short);
       room = subst (λ (l : Lists). HasRoom l core.conversation.pending) (sym (lists ∙ left))
-          (reply-room arrived.left.0 c.args.ticket (question_view c.args.question.now) (result_view c.args.found.now) core.registry
+          (reply-room arrived.left.0 c.args.ticket (question_view c.args.question) (result_view c.args.found.now) core.registry
           core.conversation.pending (subst (HasRoom core.registry) arrived.left.1 arrived.room));
     }) c.keep.ensures.lists
 
@@ -88,7 +88,7 @@ returns-in-Some-clause-next g c =
     let core = c.args.self.now in
     let zxid : to_z w64 (of_z w64 c.args.zxid) ≡ c.args.zxid = omega (arith, ints) in
     of-three c.keep.result (λ lists nodes names. λ held pending left. left-view held core.halted core.session core.conversation
-    core.registry core.cache pending left.0 c.args.ticket (question_view c.args.question.now) c.args.zxid (result_view c.args.found.now)
+    core.registry core.cache pending left.0 c.args.ticket (question_view c.args.question) c.args.zxid (result_view c.args.found.now)
     c.saw.new.self c.keep.new.registry c.keep.new.cache _ _ (sym c.closes.ensures ∙ c.if-closes.false) left.1 (rw zxid at c.saw.ensures)
-    (rw c.in-Some.is at c.requires.data) (rw c.in-Some.is at c.requires.child) lists nodes names) c.keep.ensures.lists
+    (rw c.in-Some.is at c.left_by.ensures.data) (rw c.in-Some.is at c.left_by.ensures.child) lists nodes names) c.keep.ensures.lists
     c.keep.ensures.nodes c.keep.ensures.children
