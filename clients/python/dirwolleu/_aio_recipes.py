@@ -70,7 +70,7 @@ class Lock(BaseLock["Client", Held]):
 
     async def contenders(self) -> list[str]:
         """The identifiers of those that take the lock, in their order: that of the holder first."""
-        return await self._client._run(contending.contenders(self._path))
+        return await self._client._run(contending.contenders(self._path, self._names))
 
     def _held(self, holding: Holding) -> Held:
         return Held(self._client, holding, self._on_lost)
@@ -133,7 +133,7 @@ class Election:
         path: str,
         identifier: str = "",
         *,
-        names: str = "curator",
+        names: str = contending.KAZOO,
         on_lost: Optional[Callable[[Held], object]] = None,
         keeps_while_suspended: bool = False,
     ) -> None:

@@ -14,6 +14,7 @@ from dirwolleu import _requests as requests
 from dirwolleu._contending import (
     BETWEEN_TRIES,
     EXCLUSIVE,
+    KAZOO,
     AnyClient,
     AnyHeld,
     BaseTaker,
@@ -22,6 +23,7 @@ from dirwolleu._contending import (
     Taken,
     identifiers,
     let_pass,
+    mixed_names,
     names_of,
     patiently,
     release,
@@ -39,12 +41,23 @@ from dirwolleu.exceptions import (
 from dirwolleu.transaction import Transaction
 
 
+_CURATORS = ("leases", "locks")
+"""The nodes below which Curator's `InterProcessSemaphoreV2` has its own."""
+
+
 def _number_in(data: Optional[bytes]) -> Optional[int]:
     """The number that a node of a semaphore has. It may be used for something else too."""
     try:
         return int(data or b"")
     except ValueError:
         return None
+
+
+def _check_names(path: str, names: list[str]) -> None:
+    """Raises `MixedNamesError` where the path is that of Curator's `InterProcessSemaphoreV2`."""
+    foreign = next((name for name in _CURATORS if name in names), None)
+    if foreign is not None:
+        raise mixed_names(path, foreign, KAZOO)
 
 
 class Lessee:
@@ -60,7 +73,7 @@ class Lessee:
             try:
                 yield from self._agree()
                 lock = Contender(
-                    self._engine, f"{self._path}-__lock__", self._data, EXCLUSIVE, "kazoo", self._news
+                    self._engine, f"{self._path}-__lock__", self._data, EXCLUSIVE, KAZOO, self._news
                 )
                 taken = yield from lock.take(lambda _: self._news.set())
                 found = yield from self._within(taken.path, on_told)
@@ -113,6 +126,7 @@ class Lessee:
             self._news.clear()
             try:
                 names = yield requests.get_children(self._path, lambda _: self._news.set())
+                _check_names(self._path, names)
                 if self._may_be_there or len(names) < self._most:
                     if not (yield from self._make(lock_path, lease)):
                         return None

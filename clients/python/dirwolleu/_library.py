@@ -488,6 +488,10 @@ class Listing(NamedTuple):
     def of(cls, names: Iterable[str], zxid: int) -> Listing:
         return cls(_spelled(names), zxid)
 
+    def each(self) -> list[str]:
+        """The names."""
+        return _texts_in(self.names)
+
 
 class KeptAtOnce(NamedTuple):
     """What is kept of several paths, all of it good and of one moment: of the nodes, and of the names below the parents."""

@@ -15,6 +15,7 @@ __all__ = [
     "InvalidACLError",
     "LockLostError",
     "LockTimeout",
+    "MixedNamesError",
     "NoAuthError",
     "NoChildrenForEphemeralsError",
     "NoNodeError",
@@ -168,6 +169,12 @@ class LockLostError(ZookeeperError):
 
 class LockTimeout(ZookeeperError, TimeoutError):
     """A lock was not taken in time. No contender is left."""
+
+
+class MixedNamesError(ZookeeperError):
+    """Others contend for a lock by other names, beside which this contender can't stand: kazoo's beside Curator's. `path` is
+    that of the lock. No contender of its own is left.
+    """
 
 
 class SessionMovedError(ZookeeperError):
