@@ -86,6 +86,8 @@ class Follower(Generic[Told]):
         self._engine, self._subject, self._news = engine, subject, news
         self._life = engine.life
         self._told: Optional[Told] = None
+        self._trouble = ""
+        """What was told of the reads since the last good answer."""
 
     @contextmanager
     def listening(self) -> Iterator[Callable[[], Steps[Optional[Told]]]]:
@@ -105,14 +107,24 @@ class Follower(Generic[Told]):
             if kept is not None and self._is_another(kept):
                 return kept
             refused, followed.refused = followed.refused, None
-            if refused is not None and not _is_passing(refused):
-                raise refused
+            if refused is not None:
+                self._let_pass(refused)
             yield Wait(None)
         return None
 
+    def _let_pass(self, error: BaseException) -> None:
+        """Raises an error after which no read brings anything. One that nothing is known of is told, and the read is asked again."""
+        if _is_passing(error):
+            return
+        if type(error) is not ZookeeperError and not isinstance(error, NoNodeError):
+            raise error
+        if str(error) != self._trouble:
+            self._trouble = str(error)
+            logger.warning("a read is refused, and asked again: %s", error)
+
     def _is_another(self, kept: Told) -> bool:
         """Takes a good answer, and tells whether it is another one than that which was told last."""
-        told, self._told = self._told, kept
+        told, self._told, self._trouble = self._told, kept, ""
         return told is None or self._subject.fields(kept) != self._subject.fields(told)
 
 
@@ -161,8 +173,7 @@ class Watching(Follower[Told]):
         try:
             yield from self._subject.read()
         except ZookeeperError as error:
-            if not _is_passing(error):
-                raise
+            self._let_pass(error)
 
 
 def begun(engine: Engine) -> None:

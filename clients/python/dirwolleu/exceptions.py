@@ -49,6 +49,9 @@ class ZookeeperError(Exception):
     may_have_happened: bool = False
     """Whether a change that was asked for may have happened, or may still: to ask again might do it twice."""
 
+    entry: Optional[bytes] = None
+    """Of `Queue.get`, where its entry may have been taken out: the data of that."""
+
     _reason, _advice = "the call has failed", ""
 
     def __str__(self) -> str:

@@ -347,9 +347,8 @@ class Queue(BaseQueue[Client]):
     """Entries that each go to one of those that take them: by priority, where 0 is first, then in the order of making.
 
     An entry that was put is there once, also where an answer was lost. It is deleted before it is worked on: where its
-    taker ends then, or the answer to its delete is lost, nobody works on it. That `ConnectionLoss` says that it may have
-    happened. For work that must not be lost, see the queue of docs/COOKBOOK.md, which deletes after the work. The nodes
-    have the names of kazoo's `Queue`, with a tag more.
+    taker ends then, nobody works on it. For work that must not be lost, see the queue of docs/COOKBOOK.md, which deletes
+    after the work. The nodes have the names of kazoo's `Queue`, with a tag more.
 
         queue = dirwolleu.Queue(client, "/jobs")
         queue.put(b"one")
@@ -363,6 +362,10 @@ class Queue(BaseQueue[Client]):
     def get(self, timeout: Optional[float] = None) -> Optional[bytes]:
         """Takes the first entry out, waits for one for at most this many seconds, and answers its data: None where none
         came. A timeout of 0 tries once.
+
+        Once it has asked for the delete of an entry, it waits for the answer to that as any call does: so it may take longer
+        than `timeout`. Raises `ConnectionLoss` or `CallTimeoutError`, with `may_have_happened`, where that answer did not
+        come: the entry may be gone, its data are the error's `entry`, and its path is `path`.
         """
         news = News()
         return self._client._drive(self._taking(news, timeout), news)

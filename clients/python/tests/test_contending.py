@@ -17,6 +17,7 @@ from support import WAIT, PartnerCase, within
 
 import dirwolleu
 from dirwolleu import (
+    CallTimeoutError,
     Client,
     Lock,
     LockLostError,
@@ -117,6 +118,38 @@ class ContendingRules(BothCase):
                 held.check()
         self.assertFalse(held.is_held)
         held.release()
+
+    @contextlib.contextmanager
+    def unanswered(self, client: Any, counts: dict[str, int]) -> Iterator[None]:
+        """As many of the calls of these names have no answer in time, whether they happen or not."""
+
+        def told(request: Any, waiter: Any) -> Any:
+            is_place = (request.path or "").startswith("/locks/")
+            name = request.call.__name__ if is_place else "listing" if isinstance(request, requests._Listing) else ""
+            if not counts.get(name, 0):
+                return waiter
+            counts[name] -= 1
+            error = CallTimeoutError("no answer has come in time", "it may still happen")
+            error.path, error.may_have_happened = request.path, not request.is_repeatable
+            waiter.set_exception(error)
+            return mock.Mock(begin=lambda: True, done=lambda: False)
+
+        with self.asked(client, told):
+            yield
+        self.assertEqual({name for name, count in counts.items() if count}, set())
+
+    def test_calls_without_an_answer_are_lived_through(self) -> None:
+        with self.unanswered(self.one, {"create": 1, "get_data": 1, "listing": 1, "delete": 1}):
+            with self.recipe("Lock", self.one, "/locks") as held:
+                held.check()
+                self.assertEqual(len(self.names()), 1)
+        self.assertEqual(self.names(), [])
+
+    def test_a_wait_that_ends_by_calls_without_an_answer_leaves_no_contender(self) -> None:
+        with self.recipe("Lock", self.other, "/locks"):
+            with self.unanswered(self.one, {"delete": 1, "listing": 1}), self.assertRaises(LockTimeout):
+                self.recipe("Lock", self.one, "/locks").acquire(0.3)
+            self.assertEqual(len(self.names()), 1)
 
     def test_a_rival_that_goes_between_the_listing_and_the_watch(self) -> None:
         rival = f"{self.root}/locks/b5a4__lock__0000000000"

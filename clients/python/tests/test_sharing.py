@@ -3,18 +3,24 @@
 from __future__ import annotations
 
 import functools
+import struct
 import time
 import unittest
-from typing import Any
+from typing import Any, Callable
 from unittest import mock
 
 from both import AioCase, BothCase, in_thread
-from support import WAIT, within
+from support import GET_DATA, STAT, WAIT, Asked, Peer, data_reply, reply, within
 
 from dirwolleu import ConnectionLoss, LockLostError, LockTimeout, aio
 from dirwolleu import _requests as requests
+from dirwolleu import _steps as steps
 from dirwolleu._contending import EXCLUSIVE, READING, WRITING
 from dirwolleu._machine import Machine
+
+
+DELETE, GET_CHILDREN_2 = 2, 12
+"""Types of requests."""
 
 
 class SharingRules(BothCase):
@@ -275,6 +281,41 @@ class SharingRules(BothCase):
         self.assertEqual([entries.get(0) for _ in range(5)], [b"first", b"kazoos", b"a", b"b", b"late"])
         with self.assertRaises(ValueError):
             entries.put(b"", 1000)
+
+    def queue_of(self, delete: Callable[[Peer, Asked], None]) -> Any:
+        """A queue with one entry, at a server that does with a delete what it is told to."""
+
+        def serve(peer: Peer) -> None:
+            peer.admit()
+            while True:
+                asked = peer.take()
+                if asked.kind == GET_CHILDREN_2:
+                    name = b"entry-100-0000000001"
+                    peer.send(reply(asked, struct.pack(">ii", 1, len(name)) + name + STAT))
+                elif asked.kind == DELETE:
+                    delete(peer, asked)
+                else:
+                    peer.send(data_reply(asked, b"one") if asked.kind == GET_DATA else reply(asked))
+
+        client = self.client(self.raw_server(serve).host, 6.0)
+        return self.recipe("Queue", client, "/queue")
+
+    def test_an_entry_whose_delete_is_answered_late_is_given(self) -> None:
+        def late(peer: Peer, asked: Asked) -> None:
+            time.sleep(0.6)
+            peer.send(reply(asked))
+
+        with mock.patch.object(steps, "SHORTEST_ASK", 0.05):
+            self.assertEqual(self.queue_of(late).get(0.1), b"one")
+
+    def test_an_entry_whose_delete_has_no_answer_is_told(self) -> None:
+        def cut(peer: Peer, _: Asked) -> None:
+            peer.reset()
+
+        with self.assertRaises(ConnectionLoss) as caught:
+            self.queue_of(cut).get(0)
+        error = caught.exception
+        self.assertEqual((error.may_have_happened, error.entry, error.path), (True, b"one", "/queue/entry-100-0000000001"))
 
     def test_many_take_each_entry_once(self) -> None:
         for number in range(20):
