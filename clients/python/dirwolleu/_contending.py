@@ -395,7 +395,7 @@ class BaseHeld(Generic[AnyClient]):
         """Raises `LockLostError` from the step on at which it is not shown that it is held. It asks no server: it asks the core
         whether its node still comes first, by the same token.
 
-        With `within` also where what the client knows may be older than this many seconds.
+        With `within` also where what the client knows may be older than this many seconds, by the clock of `Client.age`.
         """
         why = "it was released" if self._is_released else self._holding.why_lost(within, moment())
         if why:

@@ -144,7 +144,8 @@ class Shown:
         """How old what is kept can be, in seconds: infinity where no server has answered yet.
 
         So long ago the newest ping or call was handed in that the server has answered. Whatever that server knew by then of
-        the nodes that the client watches, it has told. The server may itself be behind the others.
+        the nodes that the client watches, it has told. The server may itself be behind the others. It counts the time for
+        which the machine was suspended, where the system tells that, as Linux does; so does `within` of other calls.
         """
         proved_at = self._engine.contact.proved_at
         return math.inf if proved_at is None else max(moment() - proved_at, 0) / 1000

@@ -14,7 +14,7 @@ import tempfile
 import threading
 import time
 from collections.abc import Callable
-from typing import Any, Optional
+from typing import Any, Callable, Optional
 from unittest import mock
 
 from support import CLIENTS, GET_DATA, TIMEOUT, WAIT, Partner, PartnerCase, Peer, data_reply, reply, within
@@ -345,7 +345,8 @@ class StatesTest(KazooCase):
         refuses.set()
         waits = zk.get_async("/cut")
         waits.relay(lambda _: at_error.append(zk.client_state))
-        for get in (waits.get, lambda: zk.get("/a")):
+        gets: list[Callable[[], Any]] = [waits.get, lambda: zk.get("/a")]
+        for get in gets:
             with self.raises(exceptions.AuthFailedError, -115):
                 get()
         self.assertEqual((at_error, zk.client_state), ([KeeperState.AUTH_FAILED], KeeperState.AUTH_FAILED))

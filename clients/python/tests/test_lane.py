@@ -416,7 +416,9 @@ class RefusedTest(BothCase):
         within(lambda: self.has_ended(client))
         dials, attempts = len(self.server.dials), client.stats().dials
         client.set_hosts(self.server.host)
-        for call in (lambda: client.get("/a"), lambda: client.sync("/"), lambda: client.get_async("/a"), lambda: self.followed(client)):
+        calls: list[Callable[[], Any]] = [lambda: client.get("/a"), lambda: client.sync("/"), lambda: client.get_async("/a")]
+        calls.append(lambda: self.followed(client))
+        for call in calls:
             with self.raises(AuthFailedError, -115):
                 call()
         time.sleep(1.2)

@@ -81,10 +81,10 @@ class SharingRules(BothCase):
     def leader(self, election: Any) -> str:
         """The node of a candidate that leads."""
 
-        async def lead(held: Any) -> Any:
-            return held.path
+        async def lead(held: Any) -> str:
+            return str(held.path)
 
-        return str(election.run(lead if self.module() is aio else lambda held: held.path))
+        return str(election.run(lead) if self.module() is aio else election.run(lambda held: held.path))
 
     def test_a_lock_is_taken_again_after_the_node_of_an_earlier_session(self) -> None:
         """A node of this contender that is left of an expired session is not one that holds."""
