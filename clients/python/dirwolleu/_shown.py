@@ -15,7 +15,7 @@ from dirwolleu._freshening import freshening
 from dirwolleu._hosts import Servers
 from dirwolleu._plans import Plan
 from dirwolleu._retry import Retry
-from dirwolleu._steps import Steps
+from dirwolleu._steps import Result, Steps
 from dirwolleu.types import Kept, KeptChildren, Mark, Snapshot, State, Stats
 
 AuthData = Iterable[tuple[str, Union[str, bytes]]]
@@ -73,6 +73,10 @@ class Shown:
         self, begin: Callable[[News], Steps[Any]], end: Callable[[Any, Optional[BaseException]], object]
     ) -> None:
         """Has steps done that nobody waits for. `begin` makes them of the news that they wait for."""
+        raise NotImplementedError
+
+    def _do_first(self, begin: Callable[[News], Steps[Result]]) -> Optional[Result]:
+        """Has steps done before this returns, if the client waits for its answers and is started."""
         raise NotImplementedError
 
     @property

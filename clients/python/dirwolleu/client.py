@@ -530,6 +530,12 @@ class Client(Shown):
             if threads is not None:
                 threads.loop.act()
 
+    def _do_first(self, begin: Callable[[AnyNews], Steps[Result]]) -> Optional[Result]:
+        if self._threads() is None:
+            return None
+        news = News()
+        return self._drive(begin(news), news)
+
     def _begin(
         self, begin: Callable[[AnyNews], Steps[Any]], end: Callable[[Any, Optional[BaseException]], object]
     ) -> None:
