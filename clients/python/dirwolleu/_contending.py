@@ -373,6 +373,9 @@ class BaseHeld(Generic[AnyClient]):
         self._client, self._holding, self._on_lost = client, holding, on_lost
         self._is_released, self._is_told = False, False
 
+    def __repr__(self) -> str:
+        return f"<Held {self.path}, token {self.token}{'' if self.is_held else ', not held'}>"
+
     @property
     def path(self) -> str:
         """The path of the node that holds."""
@@ -436,6 +439,17 @@ class BaseTaker(Generic[AnyClient, AnyHeld]):
         self._client, self._path, self._data = client, checked_path(path), identified(identifier)
         self._on_lost, self._keeps = on_lost, keeps_while_suspended
         self._entered: dict[object, list[AnyHeld]] = {}
+
+    def __repr__(self) -> str:
+        return f"<{type(self).__name__} at {self._path}>"
+
+    if not TYPE_CHECKING:
+
+        def __getattr__(self, name: str) -> Any:
+            """Says of kazoo's names where they are."""
+            is_of_held = hasattr(BaseHeld, name) or name in ("release", "is_acquired")
+            hint = ": what acquire() returns has is_held and release()" if is_of_held else ""
+            raise AttributeError(f"a {type(self).__name__} has no {name}{hint}")
 
     def _enter(self, who: object, held: AnyHeld) -> AnyHeld:
         """Keeps what a thread or a task has taken by `with`, which it gives back at the end of the block."""

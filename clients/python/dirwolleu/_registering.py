@@ -36,6 +36,10 @@ class BaseRegistration(Generic[AnyClient]):
         client._engine.kept(path)  # a ValueError where it is no path
         client._begin(self._going_on, self._end)
 
+    def __repr__(self) -> str:
+        is_there = self._is_ours(self._client._engine.settled(self._path))
+        return f"<Registration of {self._path}, {'registered' if is_there else 'not registered'}>"
+
     @property
     def is_registered(self) -> bool:
         """Whether the node is known to be there, as one of this session: at the last seen zxid, not now."""

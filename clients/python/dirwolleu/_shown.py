@@ -3,8 +3,9 @@
 from __future__ import annotations
 
 import math
+import sys
 from collections.abc import Iterable
-from typing import Any, Callable, Optional, TypeVar, Union
+from typing import TYPE_CHECKING, Any, Callable, Optional, TypeVar, Union
 
 from dirwolleu import _lane as lane
 from dirwolleu import _watches as watches
@@ -47,6 +48,10 @@ def parts_of(
     return servers, Engine(timeout, saved, tell, servers.hosts.root, _credentials_of(auth_data))
 
 
+def _named(one: object) -> str:
+    return f"{type(one).__module__.removesuffix('.client')}.{type(one).__name__}"
+
+
 class Shown:
     """What a client shows of its session, and of what it keeps."""
 
@@ -56,6 +61,21 @@ class Shown:
         self._servers, self._engine, self._retry = servers, engine, retry
         self._tasks: dict[Any, None] = {}
         """What is done that nobody waits for, until it is done."""
+
+    def __repr__(self) -> str:
+        """Its hosts, and how it stands to them: no secret."""
+        return f"<{_named(self)} of {self._servers.hosts.text}: {self.state.value}, session {self.session_id:#x}>"
+
+    def __reduce__(self) -> str:
+        raise TypeError(f"a {_named(self)} has a connection of its own: it can be neither copied nor pickled")
+
+    if not TYPE_CHECKING:
+
+        def __getattr__(self, name: str) -> Any:
+            """Says of kazoo's names of recipes where these are."""
+            package, is_recipe = _named(self).rpartition(".")[0], name in sys.modules["dirwolleu.recipes"].__all__
+            hint = f": {package}.{name}(client, ..) makes one" if is_recipe else ""
+            raise AttributeError(f"a {_named(self)} has no {name}{hint}")
 
     def _tell(self, function: Callable[[Any], object], argument: Any) -> object:
         """Has a function of the program called, not within this call."""

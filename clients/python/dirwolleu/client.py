@@ -486,6 +486,8 @@ class Client(Shown):
         except StopIteration as end:
             result: Result = end.value
             return result
+        except KeyboardInterrupt as interrupt:
+            raise interrupt.with_traceback(None)  # where within a wait it came says nothing
         finally:
             ending.rest()
 

@@ -119,7 +119,7 @@ class SpellingTest(LaneCase):
             transaction.set_data("/b", b"y", 3)
             transaction.check("/c", 4)
             transaction.delete("/d")
-        self.assertEqual(transaction.results, ["/a", Stat._make(struct.unpack(">qqqqiiiqiiq", STAT)), None, None])
+        self.assertEqual(transaction.results, ["/a", Stat._make(struct.unpack(">qqqqiiiqiiq", STAT)), True, True])
         spelled = (
             header(1) + text("/app/a") + text("x") + OPEN_ACL + struct.pack(">i", 0)
             + header(5) + text("/app/b") + text("y") + struct.pack(">i", 3)
