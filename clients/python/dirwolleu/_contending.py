@@ -186,8 +186,8 @@ def let_pass(error: ZookeeperError) -> None:
 class Contender:
     """One try to take a lock, in steps within which `news` is set at each change of the state."""
 
-    def __init__(self, engine: Engine, path: str, data: bytes, kind: Kind, names: str, news: News) -> None:
-        self._engine, self._path, self._data, self._news = engine, path, data, news
+    def __init__(self, client: Shown, path: str, data: bytes, kind: Kind, names: str, news: News) -> None:
+        self._client, self._engine, self._path, self._data, self._news = client, client._engine, path, data, news
         self._kind, self._names = kind, names
         self._may_be_there = False
 
@@ -241,14 +241,15 @@ class Contender:
         """The node of a tag, once what was sent before has happened or can't happen any more."""
         while True:
             try:
-                yield lane.sync(self._path)
-                names: list[str] = yield requests.get_children(self._path, None)
-                return next((plans.child_of(self._path, name) for name in names if name.startswith(tag)), None)
-            except NoNodeError:
-                return None
+                return (yield from self._look(tag))
             except ZookeeperError as error:
                 let_pass(error)
             yield Wait(BETWEEN_TRIES)
+
+    def _look(self, tag: str) -> Plan[Optional[str]]:
+        yield lane.sync(self._path)
+        names = yield from names_of(self._path)
+        return next((plans.child_of(self._path, name) for name in names if name.startswith(tag)), None)
 
     def _wait_for_turn(self, path: str, told: Callable[[Any], object]) -> Steps[Optional[Taken]]:
         """Waits until the core shows that the node stands first: None where the node is gone, or is not of this session."""
@@ -289,19 +290,15 @@ class Contender:
 
     def _leave(self, tag: str, path: Optional[str]) -> Steps[None]:
         """Deletes the node, whether its path is known or not."""
-        until = time.monotonic() + 2 * self._engine.timeout()
-        while self._engine.is_running and time.monotonic() < until:
-            try:
-                path = path or (yield from self._find(tag))
-                if path is not None:
-                    yield requests.delete(path, -1)
-                return
-            except NoNodeError:
-                return
-            except ZookeeperError as error:
-                if isinstance(error, SessionExpiredError) or not is_lived_through(error):
-                    return
-            yield Wait(BETWEEN_TRIES)
+        try:
+            yield from surely(self._client, lambda: self._left(tag, path))
+        except ZookeeperError:
+            pass  # it is deleted later, or nothing can be done about it
+
+    def _left(self, tag: str, path: Optional[str]) -> Plan[None]:
+        found = path or (yield from self._look(tag))
+        if found is not None:
+            yield from _deleted(found)
 
 
 def _check_number(path: str, tag: str) -> None:
@@ -326,13 +323,33 @@ def patiently(engine: Engine, plan: Callable[[], Steps[Result]]) -> Steps[Result
         yield Wait(BETWEEN_TRIES)
 
 
-def release(engine: Engine, path: str) -> Steps[None]:
-    """Deletes the node of a lock: after lost answers again, as long as its session may live."""
+def surely(client: Shown, plan: Callable[[], Steps[None]]) -> Steps[None]:
+    """Does what deletes a node of the session. Where `patiently` gives up, the client goes on with it, which nobody waits for, until
+    it is done or the session is over; and the error is raised.
+    """
+    engine, session = client._engine, client._engine.session_id()
+
+    def go_on(_: News) -> Steps[None]:
+        while engine.is_running and engine.session_id() == session:
+            try:
+                return (yield from patiently(engine, plan))
+            except ZookeeperError as error:
+                let_pass(error)
+
     try:
-        yield from patiently(engine, lambda: _deleted(path))
+        yield from patiently(engine, plan)
     except SessionExpiredError:
         pass
-    engine.used()
+    except ZookeeperError as error:
+        if is_lived_through(error):
+            client._begin(go_on, lambda *_: None)
+        raise
+
+
+def release(client: Shown, path: str) -> Steps[None]:
+    """Deletes the node of a lock: after lost answers again, as long as its session lives."""
+    yield from surely(client, lambda: _deleted(path))
+    client._engine.used()
 
 
 def _deleted(path: str) -> Plan[None]:
@@ -409,7 +426,7 @@ class BaseHeld(Generic[AnyClient]):
         if not self._is_released:
             self._is_released = True
             self._client.remove_listener(self._look)
-        return release(self._client._engine, self.path)
+        return release(self._client, self.path)
 
     def _look(self, _: object = None) -> None:
         """Tells that it was lost, once."""
@@ -510,7 +527,7 @@ class BaseLock(BaseTaker[AnyClient, AnyHeld]):
         self._names = checked_names(names)
 
     def _taken_by(self, news: News) -> Take:
-        return Contender(self._client._engine, self._path, self._data, self._kind, self._names, news).take
+        return Contender(self._client, self._path, self._data, self._kind, self._names, news).take
 
 
 def identified(identifier: str) -> bytes:

@@ -121,7 +121,7 @@ class BaseRegistration(Generic[AnyClient]):
         try:
             stat = yield from patiently(self._client._engine, self._look)
             if stat is not None and stat.ephemeral_owner == self._client._engine.session_id():
-                yield from release(self._client._engine, self._path)
+                yield from release(self._client, self._path)
         except SessionExpiredError:
             pass
 

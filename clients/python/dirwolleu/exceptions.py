@@ -171,7 +171,7 @@ class LockLostError(ZookeeperError):
 
 
 class LockTimeout(ZookeeperError, TimeoutError):
-    """A lock was not taken in time. No contender is left."""
+    """A lock was not taken in time. No contender is left, or the client goes on to delete it."""
 
 
 class MixedNamesError(ZookeeperError):

@@ -43,7 +43,8 @@ class Held(BaseHeld[Client]):
     def release(self) -> None:
         """Lets go of it. It may be called again. Where its session is over, so is it.
 
-        A lost answer is asked for again, for twice the timeout of the session; then the error is raised.
+        A lost answer is asked for again, for twice the timeout of the session. Then `ConnectionLoss` or `CallTimeoutError` is
+        raised, and the node may still be there: the client goes on to delete it, for as long as the session lives.
         """
         self._client._drive(self._releasing())
 
@@ -88,7 +89,7 @@ class Lock(BaseLock[Client, Held]):
 
         Raises `LockTimeout` after `timeout` seconds, and leaves no contender then; a timeout of 0 tries once. Where a
         contender may be left and there is no connection, it is looked for first, for twice the timeout of the session at
-        most. Lost connections, expired sessions and calls without an answer are lived through: no `CallTimeoutError` is
+        most; after that the client goes on to delete it. Lost connections, expired sessions and calls without an answer are lived through: no `CallTimeoutError` is
         raised. Raises `MixedNamesError` where others contend by other names; `ConnectionClosedError` where the client is
         stopped; another `ZookeeperError` where a server refuses to make or to show the nodes, and one that says so where
         their numbers at the path are used up.

@@ -15,7 +15,7 @@ from typing import Any, Callable, Optional
 from both import AioCase, Blocking, BothCase
 from support import WAIT, within
 
-from dirwolleu import LockTimeout, MixedNamesError, aio
+from dirwolleu import ConnectionLoss, LockTimeout, MixedNamesError, aio
 
 CREATE, DELETE, NONE = 1, 2, -1
 """Types of requests, and one of none."""
@@ -38,6 +38,9 @@ class Relay:
     def cut(self, kind: int, at: str, outage: float) -> None:
         """Cuts at the next request of this type, or at the answer to it; then there is no server for so long."""
         self.kind, self.at, self.outage, self.cuts = kind, at, outage, 0
+
+    def opens_in(self) -> float:
+        return self._opens_at - time.monotonic()
 
     def stop(self) -> None:
         with contextlib.suppress(OSError):
@@ -83,6 +86,10 @@ class Relay:
         self._opens_at = time.monotonic() + self.outage
         self.kind, self._xid, self.cuts = NONE, None, self.cuts + 1
         return True
+
+
+T, LONG_OUTAGE = 2.0, 12.0
+"""The timeout of a session in seconds, and for how long it has no server where that is longer than its recipes wait."""
 
 
 class LeavingRules(BothCase):
@@ -164,6 +171,28 @@ class LeavingRules(BothCase):
             held = self.lock().acquire(WAIT)
             self.assertEqual(len(self.other.get_children("/locks")), 1)
             held.release()
+
+    def test_an_outage_that_is_longer_than_a_release_waits(self) -> None:
+        """The session lives on, and its client deletes the place when it has a server again."""
+        self.one = self.client(self.relay.host + self.root, T)
+        held = self.lock(keeps_while_suspended=True).acquire(WAIT)
+        self.relay.cut(DELETE, "request", LONG_OUTAGE)
+        with self.assertRaises(ConnectionLoss):
+            held.release()
+        self.assertEqual(len(self.other.get_children("/locks")), 1)
+        self.is_free()
+
+    def test_an_outage_that_is_longer_than_a_wait_looks_for_its_place(self) -> None:
+        self.one = self.client(self.relay.host + self.root, T)
+        with self.recipe("Lock", self.other, "/locks"):
+            self.relay.cut(CREATE, "answer", LONG_OUTAGE)
+            while not self.relay.cuts:
+                with self.assertRaises(LockTimeout):
+                    self.lock().acquire(0.5)
+            self.assertGreater(self.relay.opens_in(), 0)
+            self.assertEqual(len(self.other.get_children("/locks")), 2)
+            within(lambda: len(self.other.get_children("/locks")) == 1)
+        self.is_free()
 
     def test_a_place_beside_other_names(self) -> None:
         for cut in self.each_cut(DELETE):
