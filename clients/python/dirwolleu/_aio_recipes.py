@@ -262,7 +262,7 @@ class Queue(BaseQueue["Client"]):
 
     async def get(self, timeout: Optional[float] = None) -> Optional[bytes]:
         """Takes the first entry out, waits for one for at most this many seconds, and answers its data: None where none
-        came. It raises what `get` of `dirwolleu.Queue` raises. Where it is cancelled, the entry may be gone.
+        came. It raises what `get` of `dirwolleu.Queue` raises. If it is cancelled, the entry may be gone.
         """
         news = asyncio.Event()
         return await self._client._drive(self._taking(news, timeout), news)

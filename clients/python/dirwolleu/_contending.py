@@ -4,8 +4,8 @@ Contenders are ephemeral nodes with a number, below the path of the lock. The pr
 which one another waits for: what is here asks, watches and waits. The core takes a listing that was answered after the
 node was made, and what is kept and good of the node itself. Those that share a lock wait for those before them that do
 not. A node's name has a tag of its own, so that a create whose answer was lost is found again. The names are those of
-kazoo or of Curator. All contenders of a path use one kind: where a listing has a place of the other kind, the contender
-gives up its own.
+kazoo or of Curator. All contenders of a path use one kind: if a listing has a place of the other kind, the contender gives
+up its own.
 """
 
 from __future__ import annotations
@@ -61,7 +61,7 @@ _FOREIGN = {KAZOO: _pattern(*_MARKERS[CURATOR], _LATCH), CURATOR: _pattern(*_MAR
 
 
 def checked_names(names: str) -> str:
-    """Raises `ValueError` where nobody has such names."""
+    """Raises `ValueError` if nobody has such names."""
     if names not in _MARKERS:
         raise ValueError(f"names are those of kazoo or of curator, and not of {names}")
     return names
@@ -324,8 +324,8 @@ def patiently(engine: Engine, plan: Callable[[], Steps[Result]]) -> Steps[Result
 
 
 def surely(client: Shown, plan: Callable[[], Steps[None]]) -> Steps[None]:
-    """Does what deletes a node of the session. Where `patiently` gives up, the client goes on with it, which nobody waits for, until
-    it is done or the session is over; and the error is raised.
+    """Does what deletes a node of the session. When `patiently` gives up, the error is raised, and the client goes on with it in
+    the background until it is done or the session is over.
     """
     engine, session = client._engine, client._engine.session_id()
 

@@ -35,7 +35,7 @@ def text(value: str) -> bytes:
 
 
 def acls(values: Iterable[ACL]) -> bytes:
-    """Raises `TypeError` where a value is no ACL."""
+    """Raises `TypeError` if a value is no ACL."""
     spelled = list(map(_acl, values))
     return integer(len(spelled)) + b"".join(spelled)
 

@@ -57,7 +57,7 @@ def _number_in(data: Optional[bytes]) -> Optional[int]:
 
 
 def _check_names(path: str, names: list[str]) -> None:
-    """Raises `MixedNamesError` where the path is that of Curator's `InterProcessSemaphoreV2`."""
+    """Raises `MixedNamesError` if the path is that of Curator's `InterProcessSemaphoreV2`."""
     foreign = next((name for name in _CURATORS if name in names), None)
     if foreign is not None:
         raise mixed_names(path, foreign, KAZOO)

@@ -28,7 +28,7 @@ def is_passing(error: ZookeeperError) -> bool:
 
 
 def is_lived_through(error: ZookeeperError) -> bool:
-    """Whether what waits longer than a call may ask again: it also is where no answer has come in time."""
+    """Whether what waits longer than a call may ask again: also when no answer has come in time."""
     return is_passing(error) or isinstance(error, CallTimeoutError)
 
 

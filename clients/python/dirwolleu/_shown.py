@@ -169,7 +169,7 @@ class Shown:
 
         So long ago the newest ping or call was handed in that the server has answered. Whatever that server knew by then of
         the nodes that the client watches, it has told. The server may itself be behind the others. It counts the time for
-        which the machine was suspended, where the system tells that, as Linux does; so does `within` of other calls.
+        which the machine was suspended, if the system tells that, as Linux does; so does `within` of other calls.
         """
         proved_at = self._engine.contact.proved_at
         return math.inf if proved_at is None else max(moment() - proved_at, 0) / 1000

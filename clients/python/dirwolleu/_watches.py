@@ -37,6 +37,7 @@ class _Watch(Generic[Told]):
         if self._function is not None:
             raise ValueError("a watch calls one function")
         self._function = checked_function("what a watch calls", function)
+        self._client._engine.check_process()
         subject = self._subject()
         subject.settled()  # a ValueError where the path is none
         told: Optional[Told] = None

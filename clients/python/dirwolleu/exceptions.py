@@ -50,7 +50,7 @@ class ZookeeperError(Exception):
     """Whether a change that was asked for may have happened, or may still: to ask again might do it twice."""
 
     entry: Optional[bytes] = None
-    """Of `Queue.get`, where its entry may have been taken out: the data of that."""
+    """Of `Queue.get`, if an entry may have been taken out: its data."""
 
     _reason, _advice = "the call has failed", ""
 

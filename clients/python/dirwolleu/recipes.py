@@ -69,8 +69,8 @@ class Lock(BaseLock[Client, Held]):
 
     A create whose answer was lost is settled, so that no contender is left which nobody waits for. With `names="kazoo"`
     kazoo's `Lock`, and those of Dirwolleu in C and Rust by these names, are in the same line; with `names="curator"`
-    Curator's `InterProcessMutex` is. kazoo and Curator do not see each other's contenders. This one does: where it finds
-    one of the other names before it holds, it raises `MixedNamesError`.
+    Curator's `InterProcessMutex` is. kazoo and Curator do not see each other's contenders. This one does: if it finds one
+    of the other names before it holds, it raises `MixedNamesError`.
 
     A program that was paused, or whose packets are late, can still believe that it holds when another one does. So work
     in small steps, `check` before each, and hand the `token` on. `on_lost` is called once, in the thread of the
@@ -90,9 +90,9 @@ class Lock(BaseLock[Client, Held]):
         Raises `LockTimeout` after `timeout` seconds, and leaves no contender then; a timeout of 0 tries once. Where a
         contender may be left and there is no connection, it is looked for first, for twice the timeout of the session at
         most; after that the client goes on to delete it. Lost connections, expired sessions and calls without an answer are lived through: no `CallTimeoutError` is
-        raised. Raises `MixedNamesError` where others contend by other names; `ConnectionClosedError` where the client is
-        stopped; another `ZookeeperError` where a server refuses to make or to show the nodes, and one that says so where
-        their numbers at the path are used up.
+        raised. Raises `MixedNamesError` if others contend by other names; `ConnectionClosedError` when the client is stopped;
+        another `ZookeeperError` if a server refuses to make or to show the nodes, and one that says so when their numbers at
+        the path are used up.
         """
         news = News()
         return self._client._drive(self._taking(news, timeout), news)
@@ -141,8 +141,8 @@ class ReadLock(Lock):
 
 
 class Semaphore(BaseSemaphore[Client, Held]):
-    """A lock that `max_leases` hold at a time, at each zxid, by the nodes of kazoo's `Semaphore`: there are no others, and where
-    the path has the nodes of Curator's `InterProcessSemaphoreV2`, `acquire` raises `MixedNamesError`.
+    """A lock that `max_leases` hold at a time, at each zxid, by the nodes of kazoo's `Semaphore`. It has no other names: if the
+    path has the nodes of Curator's `InterProcessSemaphoreV2`, `acquire` raises `MixedNamesError`.
 
     The node of the path says how many they are at most. Leases are ephemeral nodes below it, and whoever takes one holds
     the lock at `PATH-__lock__` meanwhile: a transaction makes the lease only while that lock is held. The proved core says
@@ -160,7 +160,7 @@ class Semaphore(BaseSemaphore[Client, Held]):
     def acquire(self, timeout: Optional[float] = None) -> Held:
         """Waits until there is a lease, as `Lock.acquire` does.
 
-        Raises what that raises, and `ValueError` where the node says that there are more leases or fewer.
+        Raises what that raises, and `ValueError` if the node says that there are more leases or fewer.
         """
         news = News()
         return self._client._drive(self._taking(news, timeout), news)
@@ -186,7 +186,7 @@ class Election:
 
     All candidates of a path use one kind of `names`. Its nodes are those of a `Lock`: with `names="kazoo"` it contends with
     kazoo's `Election`, and with `names="curator"` with Curator's `LeaderSelector`. Curator's `LeaderLatch` has names of its
-    own: where `run` finds these, it raises `MixedNamesError`.
+    own: if `run` finds these, it raises `MixedNamesError`.
 
         election = dirwolleu.Election(client, "/leader", identifier="host-1")
         election.run(lambda held: print("leads with token", held.token))
@@ -365,8 +365,8 @@ class Queue(BaseQueue[Client]):
         came. A timeout of 0 tries once.
 
         Once it has asked for the delete of an entry, it waits for the answer to that as any call does: so it may take longer
-        than `timeout`. Raises `ConnectionLoss` or `CallTimeoutError`, with `may_have_happened`, where that answer did not
-        come: the entry may be gone, its data are the error's `entry`, and its path is `path`.
+        than `timeout`. Raises `ConnectionLoss` or `CallTimeoutError`, with `may_have_happened`, if that answer does not come:
+        the entry may be gone, its data are the error's `entry`, and its path is `path`.
         """
         news = News()
         return self._client._drive(self._taking(news, timeout), news)

@@ -10,7 +10,7 @@ import time
 import unittest
 from typing import Any, Callable, Optional
 
-from both import AioCase, Blocking, BothCase
+from both import AioCase, Blocking, BothCase, in_thread
 from support import GET_DATA, TIMEOUT, WAIT, Peer, data_reply, notice, reply, within
 
 import dirwolleu
@@ -192,7 +192,7 @@ class WatchRules(BothCase):
 
         client, told = self.client(self.raw_server(serve).host, 1.5), queue.Queue[Any]()
         with self.assertLogs("dirwolleu") as logs:
-            self.watch(client, "DataWatch", "/a", lambda data, _: told.put(data))
+            in_thread(lambda: self.watch(client, "DataWatch", "/a", lambda data, _: told.put(data)))  # it waits for an answer
             within(lambda: len(reads) == 2)
             client.stop()
             client.start(WAIT)
