@@ -702,6 +702,22 @@ class RecipesTest(KazooCase):
         self.assertTrue(lock.acquire())
         self.assertEqual(lock.contenders(), ["one"])
 
+    def test_a_lock_is_free_when_all_of_it_is(self) -> None:
+        """Threads may have one lock: the next one of them takes it as soon as it is not held."""
+        nodes = list[Any]()
+
+        class Told(lock.Lock):
+            def __setattr__(self, name: str, value: Any) -> None:
+                super().__setattr__(name, value)
+                if name == "_is_held" and not value:
+                    nodes.append(self.node)
+
+        made = Told(self.one, "/lock")
+        made.acquire()
+        nodes.clear()
+        self.assertTrue(made.release())
+        self.assertEqual(nodes, [None])
+
     def test_a_lock_is_held_where_the_core_says_so(self) -> None:
         nobody = mock.patch("dirwolleu.kazoo._session.Session.standing", lambda *_: Standing(None, None))
         with nobody:
