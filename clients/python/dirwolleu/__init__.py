@@ -10,6 +10,8 @@ from typing import TYPE_CHECKING, Any
 
 from dirwolleu import security
 from dirwolleu._lane import Created
+from dirwolleu._library import VERSION as _VERSION
+from dirwolleu._library import version_text as _version_text
 from dirwolleu._retry import Retry
 from dirwolleu._trees import AsyncTree, Tree
 from dirwolleu._watches import ChildrenWatch, DataWatch
@@ -48,6 +50,8 @@ __all__ = [
     *_tree,
     *_types,
 ]
+
+__version__ = _version_text(_VERSION)
 
 logging.getLogger("dirwolleu.connection").addHandler(logging.NullHandler())  # what callbacks raise is seen all the same
 

@@ -7,6 +7,7 @@ import contextlib
 import datetime
 import json
 import os
+import re
 import sys
 from collections.abc import Generator, Iterator
 from typing import Any, Callable, NamedTuple, Optional, Union
@@ -45,8 +46,9 @@ a session:
   $ python3 -m dirwolleu watch --children /app
   zxid 5  good  config
 
-`watch` says on standard error when the connection is lost, and when it is back. Data that are no text are shown with
-backslashes; `get --raw` writes their bytes as they are, and `--file -` reads data from standard input.
+`watch` says on standard error when the connection is lost, and when it is back. Bytes that are no text and characters that
+drive a terminal are shown with backslashes, in `tree` and `watch` a line's end too; `get --raw` writes the bytes as they
+are, and `--file -` reads data from standard input.
 
 exit status:
   0  it was done
@@ -82,8 +84,17 @@ class NotWritten(Exception):
     """What a command tells can't be written."""
 
 
-def _text(data: Optional[bytes]) -> str:
-    return "(null)" if data is None else data.decode(errors="backslashreplace")
+_DRIVING = "\x00-\x08\x0b-\x1f\x7f-\x9f\u061c\u200e\u200f\u2028-\u202e\u2066-\u2069"
+_IN_LINES, _IN_A_LINE = re.compile(f"[{_DRIVING}]"), re.compile(f"[\t\n{_DRIVING}]")
+"""The characters that drive a terminal or change the direction of what follows, without and with a tab and a line's end."""
+
+
+def _escaped(text: str, unsafe: re.Pattern[str] = _IN_A_LINE) -> str:
+    return unsafe.sub(lambda found: found[0].encode("unicode_escape").decode(), text)
+
+
+def _text(data: Optional[bytes], unsafe: re.Pattern[str] = _IN_A_LINE) -> str:
+    return "(null)" if data is None else _escaped(data.decode(errors="backslashreplace"), unsafe)
 
 
 def _data_fields(data: Optional[bytes]) -> dict[str, Any]:
@@ -105,13 +116,13 @@ def _time(milliseconds: int) -> str:
 
 def show_ls(client: Client, chosen: argparse.Namespace) -> Shown:
     names = sorted(client.get_children(chosen.path))
-    return Shown(names, names)
+    return Shown(names, list(map(_escaped, names)))
 
 
 def show_get(client: Client, chosen: argparse.Namespace) -> Shown:
     data, stat = client.get(chosen.path)
     return Shown(
-        {**_stat_fields(chosen.path, stat), **_data_fields(data)}, [_text(data)], data or b"" if chosen.raw else None
+        {**_stat_fields(chosen.path, stat), **_data_fields(data)}, [_text(data, _IN_LINES)], data or b"" if chosen.raw else None
     )
 
 
@@ -138,7 +149,7 @@ def show_create(client: Client, chosen: argparse.Namespace) -> Shown:
         sequence=chosen.sequence,
         makepath=chosen.makepath,
     )
-    return Shown({"path": path}, [path])
+    return Shown({"path": path}, [_escaped(path)])
 
 
 def show_delete(client: Client, chosen: argparse.Namespace) -> Shown:
@@ -158,7 +169,7 @@ def show_tree(client: Client, chosen: argparse.Namespace) -> Shown:
         snapshot = tree.wait(chosen.timeout)
     values, lines = [], []
     for depth, node in _in_order(snapshot, chosen.path, 0):
-        name = node.path if depth == 0 else node.path.rpartition("/")[2]
+        name = _escaped(node.path if depth == 0 else node.path.rpartition("/")[2])
         values.append({"path": node.path, "zxid": snapshot.zxid, **_data_fields(node.data)})
         lines.append(f"{'  ' * depth}{name}  {_text(node.data)}" if node.data else "  " * depth + name)
     return Shown(values, lines)
@@ -177,7 +188,7 @@ def _children_shown(kept: KeptChildren) -> Shown:
     mark = kept.mark.name.lower()
     value = {"path": kept.path, "exists": kept.exists, "mark": mark, "last_zxid": kept.last_zxid}
     value.update(names=list(kept.names), pzxid=kept.pzxid)
-    return Shown(value, [f"zxid {kept.last_zxid}  {mark}  {' '.join(kept.names) if kept.exists else '(no node)'}"])
+    return Shown(value, [f"zxid {kept.last_zxid}  {mark}  {_escaped(' '.join(kept.names)) if kept.exists else '(no node)'}"])
 
 
 def _say(state: State) -> None:
@@ -312,6 +323,11 @@ def _status_of(error: BaseException) -> int:
     return NO_ANSWER if isinstance(error, OSError) else NO_COMMAND
 
 
+def _write_no_more() -> None:
+    """Has what the interpreter still has to write at its end go nowhere: else that ends it with a status of its own."""
+    os.dup2(os.open(os.devnull, os.O_WRONLY), 1)
+
+
 def main(words: Optional[list[str]] = None) -> int:
     """Does what the words say, and answers the exit status."""
     chosen = parser().parse_args(words, argparse.Namespace(tls=None))
@@ -320,10 +336,12 @@ def main(words: Optional[list[str]] = None) -> int:
     except KeyboardInterrupt:
         return INTERRUPTED
     except BrokenPipeError:
-        os.dup2(os.open(os.devnull, os.O_WRONLY), 1)  # what the interpreter writes at its end
+        _write_no_more()
         return NO_READER
     except (ZookeeperError, OSError, ValueError, NoFile, NotWritten) as error:
         print(f"{chosen.command}: {error}", file=sys.stderr)
+        if isinstance(error, NotWritten):
+            _write_no_more()
         return _status_of(error)
     return DONE
 

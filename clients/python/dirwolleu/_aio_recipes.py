@@ -70,7 +70,7 @@ class Lock(BaseLock["Client", Held]):
 
     async def contenders(self) -> list[str]:
         """The identifiers of those that take the lock, in their order: that of the holder first."""
-        return await self._client._run(contending.contenders(self._path))
+        return await self._client._run(contending.contenders(self._path, self._names))
 
     def _held(self, holding: Holding) -> Held:
         return Held(self._client, holding, self._on_lost)
@@ -133,7 +133,7 @@ class Election:
         path: str,
         identifier: str = "",
         *,
-        names: str = "curator",
+        names: str = contending.KAZOO,
         on_lost: Optional[Callable[[Held], object]] = None,
         keeps_while_suspended: bool = False,
     ) -> None:
@@ -262,7 +262,7 @@ class Queue(BaseQueue["Client"]):
 
     async def get(self, timeout: Optional[float] = None) -> Optional[bytes]:
         """Takes the first entry out, waits for one for at most this many seconds, and answers its data: None where none
-        came. A timeout of 0 tries once.
+        came. It raises what `get` of `dirwolleu.Queue` raises. If it is cancelled, the entry may be gone.
         """
         news = asyncio.Event()
         return await self._client._drive(self._taking(news, timeout), news)

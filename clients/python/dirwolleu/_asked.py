@@ -5,8 +5,9 @@ from __future__ import annotations
 from typing import Any, Optional, Protocol, Union
 
 from dirwolleu._lane import LaneRequest
+from dirwolleu._paths import shown
 from dirwolleu._requests import Request
-from dirwolleu.exceptions import CallTimeoutError, NotConnectedError, ZookeeperError
+from dirwolleu.exceptions import CallTimeoutError, NoNodeError, NotConnectedError, ZookeeperError
 
 
 class Waiter(Protocol):
@@ -28,7 +29,7 @@ class Asked:
     which it is handed over where one does.
     """
 
-    __slots__ = "request", "waiter", "until", "ends_at", "sent_at", "is_sent", "is_handed"
+    __slots__ = "request", "waiter", "until", "ends_at", "root", "sent_at", "is_sent", "is_handed"
 
     def __init__(
         self,
@@ -36,8 +37,11 @@ class Asked:
         waiter: Waiter,
         until: int,
         ends_at: Optional[int] = None,
+        root: str = "",
     ) -> None:
         self.request, self.waiter, self.until, self.ends_at = request, waiter, until, ends_at
+        self.root = root
+        """The servers' path of the node that the program knows as `/`, where it is another one."""
         self.sent_at, self.is_sent, self.is_handed = 0, False, False
 
     def fail(self, error: BaseException) -> None:
@@ -46,6 +50,8 @@ class Asked:
         if isinstance(error, ZookeeperError):
             error.path = error.path or self.request.path
             error.may_have_happened = error.may_have_happened and not self.request.is_repeatable
+            if self.root and error.path == "/" and isinstance(error, NoNodeError):
+                error.args = "no node", f"that is the root of this client, {shown(self.root)}"
         self.waiter.set_exception(error)
 
     def settle(self, *answer: Any) -> None:

@@ -4,7 +4,8 @@ Contenders are ephemeral nodes with a number, below the path of the lock. The pr
 which one another waits for: what is here asks, watches and waits. The core takes a listing that was answered after the
 node was made, and what is kept and good of the node itself. Those that share a lock wait for those before them that do
 not. A node's name has a tag of its own, so that a create whose answer was lost is found again. The names are those of
-Curator or of kazoo, and both are understood.
+kazoo or of Curator. All contenders of a path use one kind: if a listing has a place of the other kind, the contender gives
+up its own.
 """
 
 from __future__ import annotations
@@ -23,9 +24,16 @@ from dirwolleu._clock import moment
 from dirwolleu._engine import Engine, News
 from dirwolleu._library import Listing, Standing
 from dirwolleu._plans import Plan
-from dirwolleu._retry import is_passing
+from dirwolleu._retry import is_lived_through
 from dirwolleu._steps import Result, Steps, TimeIsOver, Wait, bounded, until_of
-from dirwolleu.exceptions import LockLostError, LockTimeout, NoNodeError, SessionExpiredError, ZookeeperError
+from dirwolleu.exceptions import (
+    LockLostError,
+    LockTimeout,
+    MixedNamesError,
+    NoNodeError,
+    SessionExpiredError,
+    ZookeeperError,
+)
 from dirwolleu.types import State
 
 if TYPE_CHECKING:
@@ -36,46 +44,79 @@ logger = logging.getLogger("dirwolleu.connection")
 BETWEEN_TRIES = 0.1
 """How long a recipe waits before it asks again what a connection has lost, in seconds."""
 
-_EXCLUSIVE, _SHARED = ("-lock-", "__lock__", "-__WRIT__"), ("__rlock__", "-__READ__")
-_CONTENDER = re.compile(rf"(?:{'|'.join(_EXCLUSIVE + _SHARED)})(-?\d{{10}})$")
+KAZOO, CURATOR = "kazoo", "curator"
+"""Whose names contenders may have."""
+_MARKERS = {KAZOO: ("__lock__", "__rlock__"), CURATOR: ("-lock-", "-__WRIT__", "-__READ__")}
+"""What comes before the number in the names of all contenders of a library."""
+_LATCH = "-latch-"
+"""What comes before the numbers of Curator's `LeaderLatch`, which waits for no lock."""
+
+
+def _pattern(*markers: str) -> re.Pattern[str]:
+    return re.compile(rf"(?:{'|'.join(markers)})(-?\d{{10}})$")
+
+
+_PLACES = {names: _pattern(*markers) for names, markers in _MARKERS.items()}
+_FOREIGN = {KAZOO: _pattern(*_MARKERS[CURATOR], _LATCH), CURATOR: _pattern(*_MARKERS[KAZOO], _LATCH)}
+
+
+def checked_names(names: str) -> str:
+    """Raises `ValueError` if nobody has such names."""
+    if names not in _MARKERS:
+        raise ValueError(f"names are those of kazoo or of curator, and not of {names}")
+    return names
 
 
 class Kind(NamedTuple):
-    """What the name of a contender's node is made of besides its number, and whether it shares the lock."""
+    """What comes before the number of a contender, by whose names it has, and whether it shares the lock."""
 
-    curators: str
     kazoos: str
+    curators: str
     shares: bool = False
 
     def marker(self, names: str) -> str:
-        """What stands before the number. Raises `ValueError` where nobody has such names."""
-        if names not in ("curator", "kazoo"):
-            raise ValueError(f"names are those of curator or of kazoo, and not of {names}")
-        return self.curators if names == "curator" else self.kazoos
+        """What comes before the number."""
+        return self.curators if names == CURATOR else self.kazoos
 
     def tag(self, names: str) -> str:
         """The beginning of a name that no other node has."""
         own, marker = plans.new_tag(), self.marker(names)
-        return f"_c_{own}{marker}" if names == "curator" else f"{own.hex}{marker}"
+        return f"_c_{own}{marker}" if names == CURATOR else f"{own.hex}{marker}"
 
     def markers(self, names: str) -> tuple[str, ...]:
         """What the core is to know of names: its own marker, and those of the contenders that it can't hold beside."""
-        return (self.marker(names), *_EXCLUSIVE, *(() if self.shares else _SHARED))
+        own = self.marker(names)
+        return (own, *(marker for marker in _MARKERS[names] if marker != own or not self.shares))
 
 
-EXCLUSIVE = Kind("-lock-", "__lock__")
-WRITING = Kind("-__WRIT__", "__lock__")
-READING = Kind("-__READ__", "__rlock__", shares=True)
+EXCLUSIVE = Kind("__lock__", "-lock-")
+WRITING = Kind("__lock__", "-__WRIT__")
+READING = Kind("__rlock__", "-__READ__", shares=True)
 
 
-def in_line(names: list[str]) -> list[str]:
+def in_line(names: list[str], whose: str = KAZOO) -> list[str]:
     """The names of contenders, that with the least number in front. It is for people: who holds is the core's verdict.
 
-    >>> in_line(["b-lock-0000000010", "a__lock__0000000009", "other"])
-    ['a__lock__0000000009', 'b-lock-0000000010']
+    >>> in_line(["b__lock__0000000010", "a__rlock__0000000009", "c-lock-0000000008", "other"])
+    ['a__rlock__0000000009', 'b__lock__0000000010']
     """
-    found = ((_CONTENDER.search(name), name) for name in names)
+    found = ((_PLACES[whose].search(name), name) for name in names)
     return [name for _, name in sorted((int(match[1]), name) for match, name in found if match)]
+
+
+def mixed_names(path: str, foreign: str, whose: str) -> MixedNamesError:
+    """Says that somebody contends by other names."""
+    reason = f"{foreign} is there, by other names than those of {whose}"
+    error = MixedNamesError(reason, "all contenders of a path use one kind of names")
+    error.path = path
+    return error
+
+
+def _check_names(path: str, listing: Listing, whose: str) -> None:
+    """Raises `MixedNamesError` if somebody contends by other names: neither waits for the other."""
+    foreign = next(filter(_FOREIGN[whose].search, listing.each()), None)
+    if foreign is not None:
+        raise mixed_names(path, foreign, whose)
 
 
 class Claim(NamedTuple):
@@ -138,15 +179,15 @@ class Holding:
 
 def let_pass(error: ZookeeperError) -> None:
     """Raises an error after which the same session brings nothing more."""
-    if isinstance(error, SessionExpiredError) or not is_passing(error):
+    if isinstance(error, SessionExpiredError) or not is_lived_through(error):
         raise error
 
 
 class Contender:
     """One try to take a lock, in steps within which `news` is set at each change of the state."""
 
-    def __init__(self, engine: Engine, path: str, data: bytes, kind: Kind, names: str, news: News) -> None:
-        self._engine, self._path, self._data, self._news = engine, path, data, news
+    def __init__(self, client: Shown, path: str, data: bytes, kind: Kind, names: str, news: News) -> None:
+        self._client, self._engine, self._path, self._data, self._news = client, client._engine, path, data, news
         self._kind, self._names = kind, names
         self._may_be_there = False
 
@@ -200,14 +241,15 @@ class Contender:
         """The node of a tag, once what was sent before has happened or can't happen any more."""
         while True:
             try:
-                yield lane.sync(self._path)
-                names: list[str] = yield requests.get_children(self._path, None)
-                return next((plans.child_of(self._path, name) for name in names if name.startswith(tag)), None)
-            except NoNodeError:
-                return None
+                return (yield from self._look(tag))
             except ZookeeperError as error:
                 let_pass(error)
             yield Wait(BETWEEN_TRIES)
+
+    def _look(self, tag: str) -> Plan[Optional[str]]:
+        yield lane.sync(self._path)
+        names = yield from names_of(self._path)
+        return next((plans.child_of(self._path, name) for name in names if name.startswith(tag)), None)
 
     def _wait_for_turn(self, path: str, told: Callable[[Any], object]) -> Steps[Optional[Taken]]:
         """Waits until the core shows that the node stands first: None where the node is gone, or is not of this session."""
@@ -218,6 +260,7 @@ class Contender:
                 if not (yield from self._is_kept(path, told)):
                     return None
                 listing: Listing = yield requests.listing(self._path)
+                _check_names(self._path, listing, self._names)
                 claim = Claim(self._path, name, listing, markers)
                 token, rival = claim.standing(self._engine)
                 if token is not None:
@@ -247,19 +290,15 @@ class Contender:
 
     def _leave(self, tag: str, path: Optional[str]) -> Steps[None]:
         """Deletes the node, whether its path is known or not."""
-        until = time.monotonic() + 2 * self._engine.timeout()
-        while self._engine.is_running and time.monotonic() < until:
-            try:
-                path = path or (yield from self._find(tag))
-                if path is not None:
-                    yield requests.delete(path, -1)
-                return
-            except NoNodeError:
-                return
-            except ZookeeperError as error:
-                if isinstance(error, SessionExpiredError) or not is_passing(error):
-                    return
-            yield Wait(BETWEEN_TRIES)
+        try:
+            yield from surely(self._client, lambda: self._left(tag, path))
+        except ZookeeperError:
+            pass  # it is deleted later, or nothing can be done about it
+
+    def _left(self, tag: str, path: Optional[str]) -> Plan[None]:
+        found = path or (yield from self._look(tag))
+        if found is not None:
+            yield from _deleted(found)
 
 
 def _check_number(path: str, tag: str) -> None:
@@ -271,26 +310,46 @@ def _check_number(path: str, tag: str) -> None:
 
 
 def patiently(engine: Engine, plan: Callable[[], Steps[Result]]) -> Steps[Result]:
-    """Does what may be done twice, and again where the connection, the session or the load of a server ended it: for
-    twice the timeout of the session, and then the error is raised.
+    """Does what may be done twice, and again where the connection, the session or the load of a server ended it, or no answer
+    came in time: for twice the timeout of the session, and then the error is raised.
     """
     until = time.monotonic() + 2 * engine.timeout()
     while True:
         try:
             return (yield from plan())
         except ZookeeperError as error:
-            if not is_passing(error) or time.monotonic() > until:
+            if not is_lived_through(error) or time.monotonic() > until:
                 raise
         yield Wait(BETWEEN_TRIES)
 
 
-def release(engine: Engine, path: str) -> Steps[None]:
-    """Deletes the node of a lock: after lost answers again, as long as its session may live."""
+def surely(client: Shown, plan: Callable[[], Steps[None]]) -> Steps[None]:
+    """Does what deletes a node of the session. When `patiently` gives up, the error is raised, and the client goes on with it in
+    the background until it is done or the session is over.
+    """
+    engine, session = client._engine, client._engine.session_id()
+
+    def go_on(_: News) -> Steps[None]:
+        while engine.is_running and engine.session_id() == session:
+            try:
+                return (yield from patiently(engine, plan))
+            except ZookeeperError as error:
+                let_pass(error)
+
     try:
-        yield from patiently(engine, lambda: _deleted(path))
+        yield from patiently(engine, plan)
     except SessionExpiredError:
         pass
-    engine.used()
+    except ZookeeperError as error:
+        if is_lived_through(error):
+            client._begin(go_on, lambda *_: None)
+        raise
+
+
+def release(client: Shown, path: str) -> Steps[None]:
+    """Deletes the node of a lock: after lost answers again, as long as its session lives."""
+    yield from surely(client, lambda: _deleted(path))
+    client._engine.used()
 
 
 def _deleted(path: str) -> Plan[None]:
@@ -300,13 +359,13 @@ def _deleted(path: str) -> Plan[None]:
         pass
 
 
-def contenders(path: str) -> Plan[list[str]]:
+def contenders(path: str, whose: str) -> Plan[list[str]]:
     """What the contenders say of themselves, that which holds first."""
     try:
         names: list[str] = yield requests.get_children(path, None)
     except NoNodeError:
         return []
-    return (yield from identifiers(path, in_line(names)))
+    return (yield from identifiers(path, in_line(names, whose)))
 
 
 def identifiers(path: str, names: list[str]) -> Plan[list[str]]:
@@ -331,6 +390,9 @@ class BaseHeld(Generic[AnyClient]):
         self._client, self._holding, self._on_lost = client, holding, on_lost
         self._is_released, self._is_told = False, False
 
+    def __repr__(self) -> str:
+        return f"<Held {self.path}, token {self.token}{'' if self.is_held else ', not held'}>"
+
     @property
     def path(self) -> str:
         """The path of the node that holds."""
@@ -353,7 +415,7 @@ class BaseHeld(Generic[AnyClient]):
         """Raises `LockLostError` from the step on at which it is not shown that it is held. It asks no server: it asks the core
         whether its node still comes first, by the same token.
 
-        With `within` also where what the client knows may be older than this many seconds.
+        With `within` also where what the client knows may be older than this many seconds, by the clock of `Client.age`.
         """
         why = "it was released" if self._is_released else self._holding.why_lost(within, moment())
         if why:
@@ -364,7 +426,7 @@ class BaseHeld(Generic[AnyClient]):
         if not self._is_released:
             self._is_released = True
             self._client.remove_listener(self._look)
-        return release(self._client._engine, self.path)
+        return release(self._client, self.path)
 
     def _look(self, _: object = None) -> None:
         """Tells that it was lost, once."""
@@ -394,6 +456,17 @@ class BaseTaker(Generic[AnyClient, AnyHeld]):
         self._client, self._path, self._data = client, checked_path(path), identified(identifier)
         self._on_lost, self._keeps = on_lost, keeps_while_suspended
         self._entered: dict[object, list[AnyHeld]] = {}
+
+    def __repr__(self) -> str:
+        return f"<{type(self).__name__} at {self._path}>"
+
+    if not TYPE_CHECKING:
+
+        def __getattr__(self, name: str) -> Any:
+            """Says of kazoo's names where they are."""
+            is_of_held = hasattr(BaseHeld, name) or name in ("release", "is_acquired")
+            hint = ": what acquire() returns has is_held and release()" if is_of_held else ""
+            raise AttributeError(f"a {type(self).__name__} has no {name}{hint}")
 
     def _enter(self, who: object, held: AnyHeld) -> AnyHeld:
         """Keeps what a thread or a task has taken by `with`, which it gives back at the end of the block."""
@@ -446,16 +519,15 @@ class BaseLock(BaseTaker[AnyClient, AnyHeld]):
         path: str,
         identifier: str = "",
         *,
-        names: str = "curator",
+        names: str = KAZOO,
         on_lost: Optional[Callable[[AnyHeld], object]] = None,
         keeps_while_suspended: bool = False,
     ) -> None:
         super().__init__(client, path, identifier, on_lost=on_lost, keeps_while_suspended=keeps_while_suspended)
-        self._kind.tag(names)
-        self._names = names
+        self._names = checked_names(names)
 
     def _taken_by(self, news: News) -> Take:
-        return Contender(self._client._engine, self._path, self._data, self._kind, self._names, news).take
+        return Contender(self._client, self._path, self._data, self._kind, self._names, news).take
 
 
 def identified(identifier: str) -> bytes:

@@ -9,7 +9,7 @@ from dirwolleu import _plans as plans
 from dirwolleu import _requests as requests
 from dirwolleu._contending import BETWEEN_TRIES, AnyClient, patiently
 from dirwolleu._plans import Plan
-from dirwolleu._retry import is_passing
+from dirwolleu._retry import is_lived_through
 from dirwolleu._steps import Steps, Wait
 from dirwolleu.exceptions import BadVersionError, NoNodeError, ZookeeperError
 
@@ -63,7 +63,7 @@ class BaseCounter(Generic[AnyClient, Number]):
         except (BadVersionError, NoNodeError):
             return False
         except ZookeeperError as error:
-            if not is_passing(error):
+            if not is_lived_through(error):
                 raise
             lost = error
         yield Wait(BETWEEN_TRIES)

@@ -80,6 +80,9 @@ class Credential(NamedTuple):
     scheme: str
     credential: bytes
 
+    def __repr__(self) -> str:
+        return f"Credential(scheme={self.scheme!r}, credential=..)"
+
 
 class News(Protocol):
     """What is set where there is news: an event."""
@@ -363,7 +366,9 @@ class Engine(Keeping):
         """
         self.check_process()
         ends_at = None if timeout is None else now + int(min(max(timeout, 0) * 1000, _LONGEST_TIMEOUT_MS))
-        if not self.is_running or not self._is_handed_in(Asked(request, waiter, now + self._timeout_ms, ends_at)):
+        if not self.is_running or not self._is_handed_in(
+            Asked(request, waiter, now + self._timeout_ms, ends_at, self._root.path)
+        ):
             waiter.cancel()
             raise self.why_over("the client is not started")
 

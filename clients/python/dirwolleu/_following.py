@@ -19,7 +19,7 @@ from dirwolleu._engine import Engine, News
 from dirwolleu._followed import Followed
 from dirwolleu._plans import Plan
 from dirwolleu._retry import is_passing
-from dirwolleu._steps import Call, Steps, Wait
+from dirwolleu._steps import Call, Steps, TimeIsOver, Wait, bounded, until_of
 from dirwolleu.exceptions import ConnectionClosedError, NoNodeError, ZookeeperError
 from dirwolleu.security import AuthFailedError
 from dirwolleu.types import Kept, KeptChildren, State
@@ -82,10 +82,12 @@ def _read(path: str, read: Callable[[str, bool], Any]) -> Plan[None]:
 class Follower(Generic[Told]):
     """One who follows: within `listening`, it gives each answer that is to be told. `news` is set at each news of the subject."""
 
-    def __init__(self, engine: Engine, subject: Subject[Told], news: News) -> None:
+    def __init__(self, engine: Engine, subject: Subject[Told], news: News, told: Optional[Told] = None) -> None:
         self._engine, self._subject, self._news = engine, subject, news
         self._life = engine.life
-        self._told: Optional[Told] = None
+        self._told = told
+        self._trouble = ""
+        """What was told of the reads since the last good answer."""
 
     @contextmanager
     def listening(self) -> Iterator[Callable[[], Steps[Optional[Told]]]]:
@@ -105,14 +107,24 @@ class Follower(Generic[Told]):
             if kept is not None and self._is_another(kept):
                 return kept
             refused, followed.refused = followed.refused, None
-            if refused is not None and not _is_passing(refused):
-                raise refused
+            if refused is not None:
+                self._let_pass(refused)
             yield Wait(None)
         return None
 
+    def _let_pass(self, error: BaseException) -> None:
+        """Raises an error after which no read brings anything. One that nothing is known of is told, and the read is asked again."""
+        if _is_passing(error):
+            return
+        if type(error) is not ZookeeperError and not isinstance(error, NoNodeError):
+            raise error
+        if str(error) != self._trouble:
+            self._trouble = str(error)
+            logger.warning("a read is refused, and asked again: %s", error)
+
     def _is_another(self, kept: Told) -> bool:
         """Takes a good answer, and tells whether it is another one than that which was told last."""
-        told, self._told = self._told, kept
+        told, self._told, self._trouble = self._told, kept, ""
         return told is None or self._subject.fields(kept) != self._subject.fields(told)
 
 
@@ -125,9 +137,9 @@ class Watching(Follower[Told]):
     """One who reads for itself, while it is wanted, and gives what is good now alone."""
 
     def __init__(
-        self, engine: Engine, subject: Subject[Told], news: News, is_wanted: Callable[[], bool]
+        self, engine: Engine, subject: Subject[Told], news: News, is_wanted: Callable[[], bool], told: Optional[Told] = None
     ) -> None:
-        super().__init__(engine, subject, news)
+        super().__init__(engine, subject, news, told)
         self._is_wanted = is_wanted
         self._read_at: Optional[float] = None
 
@@ -161,8 +173,7 @@ class Watching(Follower[Told]):
         try:
             yield from self._subject.read()
         except ZookeeperError as error:
-            if not _is_passing(error):
-                raise
+            self._let_pass(error)
 
 
 def begun(engine: Engine) -> None:
@@ -170,11 +181,32 @@ def begun(engine: Engine) -> None:
         raise engine.why_over("the client is not started")
 
 
-def watching(
+def first(
     engine: Engine, subject: Subject[Told], news: News, call: Callable[[Told], Any], is_wanted: Callable[[], bool]
-) -> Steps[None]:
-    """Calls a function with each good answer, until it answers False. It goes on where the client is started again."""
+) -> Steps[tuple[Optional[Told], bool]]:
+    """Calls a function with the first good answer. Gives that answer and whether the function wants more: no answer where none came
+    within the timeout of the session, or the client was stopped.
+    """
     with Watching(engine, subject, news, is_wanted).listening() as next_one:
+        try:
+            kept = yield from bounded(next_one(), until_of(engine.timeout()))
+        except TimeIsOver:
+            return None, True
+        return kept, kept is None or (yield from _called(call, kept)) is not False
+
+
+def watching(
+    engine: Engine,
+    subject: Subject[Told],
+    news: News,
+    call: Callable[[Told], Any],
+    is_wanted: Callable[[], bool],
+    told: Optional[Told] = None,
+) -> Steps[None]:
+    """Calls a function with each good answer but the one that was told, until it answers False. It goes on where the client is
+    started again.
+    """
+    with Watching(engine, subject, news, is_wanted, told).listening() as next_one:
         while is_wanted():
             kept = yield from next_one()
             if kept is not None:

@@ -12,7 +12,7 @@ from dirwolleu._checks import checked_path
 from dirwolleu._contending import BETWEEN_TRIES, AnyClient, identified, names_of, patiently
 from dirwolleu._engine import News
 from dirwolleu._plans import Plan
-from dirwolleu._retry import is_passing
+from dirwolleu._retry import is_lived_through
 from dirwolleu._steps import Steps, TimeIsOver, Wait, bounded, until_of
 from dirwolleu.exceptions import NodeExistsError, NoNodeError, SessionExpiredError, ZookeeperError
 
@@ -54,7 +54,7 @@ class BaseBarrier(Generic[AnyClient]):
                     return
                 yield Wait(None)
             except ZookeeperError as error:
-                if not is_passing(error):
+                if not is_lived_through(error):
                     raise
                 yield Wait(BETWEEN_TRIES)
 
@@ -119,7 +119,7 @@ class BaseDoubleBarrier(Generic[AnyClient]):
                     return
                 yield Wait(None)
             except ZookeeperError as error:
-                if not is_passing(error):
+                if not is_lived_through(error):
                     raise
                 yield Wait(BETWEEN_TRIES)
 
@@ -151,6 +151,6 @@ class BaseDoubleBarrier(Generic[AnyClient]):
                 yield from self._delete()
                 return
             except ZookeeperError as error:
-                if not is_passing(error):
+                if not is_lived_through(error):
                     raise
                 yield Wait(BETWEEN_TRIES)

@@ -35,8 +35,16 @@ def text(value: str) -> bytes:
 
 
 def acls(values: Iterable[ACL]) -> bytes:
-    spelled = [integer(acl.perms) + text(acl.id.scheme) + text(acl.id.id) for acl in values]
+    """Raises `TypeError` if a value is no ACL."""
+    spelled = list(map(_acl, values))
     return integer(len(spelled)) + b"".join(spelled)
+
+
+def _acl(value: ACL) -> bytes:
+    try:
+        return integer(value.perms) + text(value.id.scheme) + text(value.id.id)
+    except AttributeError:
+        raise TypeError(f"an ACL is a list of security.ACL, and this one has {value!r}") from None
 
 
 class Reader:

@@ -6,7 +6,7 @@ checks the lock's node: so a holder that was overtaken makes none, and at no zxi
 
 from __future__ import annotations
 
-from typing import Any, Callable, Optional
+from typing import TYPE_CHECKING, Any, Callable, Optional
 
 from dirwolleu import _lane as lane
 from dirwolleu import _plans as plans
@@ -14,6 +14,7 @@ from dirwolleu import _requests as requests
 from dirwolleu._contending import (
     BETWEEN_TRIES,
     EXCLUSIVE,
+    KAZOO,
     AnyClient,
     AnyHeld,
     BaseTaker,
@@ -22,11 +23,12 @@ from dirwolleu._contending import (
     Taken,
     identifiers,
     let_pass,
+    mixed_names,
     names_of,
     patiently,
     release,
 )
-from dirwolleu._engine import Engine, News
+from dirwolleu._engine import News
 from dirwolleu._plans import Plan
 from dirwolleu._steps import Steps, Wait
 from dirwolleu.exceptions import (
@@ -38,6 +40,13 @@ from dirwolleu.exceptions import (
 )
 from dirwolleu.transaction import Transaction
 
+if TYPE_CHECKING:
+    from dirwolleu._shown import Shown
+
+
+_CURATORS = ("leases", "locks")
+"""The nodes below which Curator's `InterProcessSemaphoreV2` has its own."""
+
 
 def _number_in(data: Optional[bytes]) -> Optional[int]:
     """The number that a node of a semaphore has. It may be used for something else too."""
@@ -47,11 +56,18 @@ def _number_in(data: Optional[bytes]) -> Optional[int]:
         return None
 
 
+def _check_names(path: str, names: list[str]) -> None:
+    """Raises `MixedNamesError` if the path is that of Curator's `InterProcessSemaphoreV2`."""
+    foreign = next((name for name in _CURATORS if name in names), None)
+    if foreign is not None:
+        raise mixed_names(path, foreign, KAZOO)
+
+
 class Lessee:
     """One try to take a lease, in steps within which `news` is set at each change of the state."""
 
-    def __init__(self, engine: Engine, path: str, data: bytes, most: int, news: News) -> None:
-        self._engine, self._path, self._data, self._most, self._news = engine, path, data, most, news
+    def __init__(self, client: Shown, path: str, data: bytes, most: int, news: News) -> None:
+        self._client, self._engine, self._path, self._data, self._most, self._news = client, client._engine, path, data, most, news
         self._may_be_there = False
 
     def take(self, on_told: Callable[[Any], object]) -> Steps[Taken]:
@@ -59,9 +75,7 @@ class Lessee:
         while True:
             try:
                 yield from self._agree()
-                lock = Contender(
-                    self._engine, f"{self._path}-__lock__", self._data, EXCLUSIVE, "kazoo", self._news
-                )
+                lock = Contender(self._client, f"{self._path}-__lock__", self._data, EXCLUSIVE, KAZOO, self._news)
                 taken = yield from lock.take(lambda _: self._news.set())
                 found = yield from self._within(taken.path, on_told)
                 if found is not None:
@@ -103,7 +117,7 @@ class Lessee:
         except BaseException:
             yield from self._leave(lock_path, lease)
             raise
-        yield from release(self._engine, lock_path)
+        yield from release(self._client, lock_path)
         return found
 
     def _wait_for_room(
@@ -113,6 +127,7 @@ class Lessee:
             self._news.clear()
             try:
                 names = yield requests.get_children(self._path, lambda _: self._news.set())
+                _check_names(self._path, names)
                 if self._may_be_there or len(names) < self._most:
                     if not (yield from self._make(lock_path, lease)):
                         return None
@@ -147,8 +162,8 @@ class Lessee:
         try:
             if self._may_be_there:
                 yield from patiently(self._engine, lambda: _synced(self._path))
-                yield from release(self._engine, lease)
-            yield from release(self._engine, lock_path)
+                yield from release(self._client, lease)
+            yield from release(self._client, lock_path)
         except ZookeeperError:
             pass
 
@@ -176,7 +191,7 @@ class BaseSemaphore(BaseTaker[AnyClient, AnyHeld]):
         self._most = max_leases
 
     def _taken_by(self, news: News) -> Take:
-        return Lessee(self._client._engine, self._path, self._data, self._most, news).take
+        return Lessee(self._client, self._path, self._data, self._most, news).take
 
     def _holders(self) -> Plan[list[str]]:
         names = yield from names_of(self._path)

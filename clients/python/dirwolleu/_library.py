@@ -364,7 +364,7 @@ def _check_machine() -> None:
         raise ImportError("dirwolleu wants an interpreter with its global lock (GIL)")
 
 
-def _version_text(number: int) -> str:
+def version_text(number: int) -> str:
     """A version as people write it: 1002003 is 1.2.3."""
     return f"{number // 1000000}.{number // 1000 % 1000}.{number % 1000}"
 
@@ -372,10 +372,10 @@ def _version_text(number: int) -> str:
 def _check_version(file: str, library: ctypes.PyDLL) -> None:
     """Fails in words where the library is not of the version that this package was written for."""
     function = getattr(library, "dw_version", None)
-    found = _version_text(function()) if function else "0.2.0 or earlier"
-    if found != _version_text(VERSION):
+    found = version_text(function()) if function else "0.2.0 or earlier"
+    if found != version_text(VERSION):
         raise ImportError(
-            f"{file} is of version {found}, and this package of {_version_text(VERSION)}: install both of one version"
+            f"{file} is of version {found}, and this package of {version_text(VERSION)}: install both of one version"
         )
 
 
@@ -487,6 +487,10 @@ class Listing(NamedTuple):
     @classmethod
     def of(cls, names: Iterable[str], zxid: int) -> Listing:
         return cls(_spelled(names), zxid)
+
+    def each(self) -> list[str]:
+        """The names."""
+        return _texts_in(self.names)
 
 
 class KeptAtOnce(NamedTuple):
@@ -741,6 +745,9 @@ class LookUps(Generic[Said]):
         self._handle_at, self._output_at = byref(self._handle), byref(self._output)
         self._process = this_process()
         self._root = root
+
+    _process: object = None
+    """Where it was made: nowhere before it is."""
 
     def close(self) -> None:
         """Frees what it holds. It ends no session. In a forked child it does nothing."""

@@ -11,8 +11,8 @@ from dirwolleu import _requests as requests
 from dirwolleu._contending import BETWEEN_TRIES, AnyClient, names_of, patiently
 from dirwolleu._engine import News
 from dirwolleu._plans import Plan
-from dirwolleu._retry import is_passing
-from dirwolleu._steps import Steps, TimeIsOver, Wait, bounded, until_of
+from dirwolleu._retry import is_lived_through
+from dirwolleu._steps import Ask, Steps, TimeIsOver, Wait, bounded, until_of
 from dirwolleu.exceptions import BadVersionError, NoNodeError, ZookeeperError
 
 _ENTRY = re.compile(r"entry-(\d{3})-(?:.*-)?(\d{10})$")
@@ -45,7 +45,7 @@ class BaseQueue(Generic[AnyClient]):
                 yield from plans.ensure_path(self._path, None)
                 return str((yield requests.create(plans.child_of(self._path, tag), value, False, True)))
             except ZookeeperError as error:
-                if not is_passing(error):
+                if not is_lived_through(error):
                     raise
                 may_be_there = error.may_have_happened
             yield Wait(BETWEEN_TRIES)
@@ -81,17 +81,23 @@ class BaseQueue(Generic[AnyClient]):
             except NoNodeError:
                 yield from plans.ensure_path(self._path, None)
             except ZookeeperError as error:
-                if not is_passing(error) or error.may_have_happened:
+                if not is_lived_through(error) or error.may_have_happened:
                     raise
                 yield Wait(BETWEEN_TRIES)
 
-    def _claim(self, path: str) -> Plan[Optional[bytes]]:
-        """Deletes an entry, and answers its data: None where another one was faster."""
+    def _claim(self, path: str) -> Steps[Optional[bytes]]:
+        """Deletes an entry, and answers its data: None where another one was faster. The answer to the delete is waited for as that of
+        any call, however little time is left: else the entry might be gone with nobody told.
+        """
+        data = b""
         try:
             data, stat = yield requests.get(path, None)
-            yield requests.delete(path, stat.version)
+            yield Ask(requests.delete(path, stat.version), None)
         except (NoNodeError, BadVersionError):
             return None
+        except ZookeeperError as error:
+            error.entry = data or b"" if error.may_have_happened else None
+            raise
         return data or b""
 
     def _counting(self) -> Plan[int]:

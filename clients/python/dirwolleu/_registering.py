@@ -11,7 +11,7 @@ from dirwolleu._checks import checked_data
 from dirwolleu._contending import BETWEEN_TRIES, AnyClient, patiently, release
 from dirwolleu._engine import News
 from dirwolleu._plans import Plan
-from dirwolleu._retry import is_passing
+from dirwolleu._retry import is_lived_through
 from dirwolleu._steps import Steps, Wait
 from dirwolleu.exceptions import NodeExistsError, NoNodeError, SessionExpiredError, ZookeeperError
 from dirwolleu.types import Kept, State
@@ -35,6 +35,10 @@ class BaseRegistration(Generic[AnyClient]):
         self._news: Optional[News] = None
         client._engine.kept(path)  # a ValueError where it is no path
         client._begin(self._going_on, self._end)
+
+    def __repr__(self) -> str:
+        is_there = self._is_ours(self._client._engine.settled(self._path))
+        return f"<Registration of {self._path}, {'registered' if is_there else 'not registered'}>"
 
     @property
     def is_registered(self) -> bool:
@@ -61,8 +65,8 @@ class BaseRegistration(Generic[AnyClient]):
                     yield from self._make()
                     pause = None
                 except ZookeeperError as error:
-                    pause = BETWEEN_TRIES if is_passing(error) and engine.state is State.CONNECTED else None
-                    if not is_passing(error) and engine.is_running:
+                    pause = BETWEEN_TRIES if is_lived_through(error) and engine.state is State.CONNECTED else None
+                    if not is_lived_through(error) and engine.is_running:
                         logger.error("the registration %s failed: %s", self._path, error)
                 if self._is_wanted:
                     yield Wait(pause)
@@ -101,7 +105,7 @@ class BaseRegistration(Generic[AnyClient]):
         try:
             yield requests.set(self._path, value, -1)
         except ZookeeperError as error:
-            if not is_passing(error) and not isinstance(error, NoNodeError):
+            if not is_lived_through(error) and not isinstance(error, NoNodeError):
                 raise  # else it is made with these data, or set when the connection is back
         if self._news is not None:
             self._news.set()
@@ -117,7 +121,7 @@ class BaseRegistration(Generic[AnyClient]):
         try:
             stat = yield from patiently(self._client._engine, self._look)
             if stat is not None and stat.ephemeral_owner == self._client._engine.session_id():
-                yield from release(self._client._engine, self._path)
+                yield from release(self._client, self._path)
         except SessionExpiredError:
             pass
 

@@ -9,6 +9,7 @@ from collections.abc import Iterator
 from typing import NamedTuple, Optional
 
 from dirwolleu.exceptions import (
+    CallTimeoutError,
     ConnectionClosedError,
     ConnectionLoss,
     SessionExpiredError,
@@ -24,6 +25,11 @@ def is_passing(error: ZookeeperError) -> bool:
     """Whether a later try may bring what this one did not: the connection or the session went, or the server is busy.
     """
     return not isinstance(error, ConnectionClosedError) and error.code in _PASSING
+
+
+def is_lived_through(error: ZookeeperError) -> bool:
+    """Whether what waits longer than a call may ask again: also when no answer has come in time."""
+    return is_passing(error) or isinstance(error, CallTimeoutError)
 
 
 class _Bounds(NamedTuple):

@@ -3,8 +3,9 @@
 from __future__ import annotations
 
 import math
+import sys
 from collections.abc import Iterable
-from typing import Any, Callable, Optional, TypeVar, Union
+from typing import TYPE_CHECKING, Any, Callable, Optional, TypeVar, Union
 
 from dirwolleu import _lane as lane
 from dirwolleu import _watches as watches
@@ -15,7 +16,7 @@ from dirwolleu._freshening import freshening
 from dirwolleu._hosts import Servers
 from dirwolleu._plans import Plan
 from dirwolleu._retry import Retry
-from dirwolleu._steps import Steps
+from dirwolleu._steps import Result, Steps
 from dirwolleu.types import Kept, KeptChildren, Mark, Snapshot, State, Stats
 
 AuthData = Iterable[tuple[str, Union[str, bytes]]]
@@ -47,6 +48,10 @@ def parts_of(
     return servers, Engine(timeout, saved, tell, servers.hosts.root, _credentials_of(auth_data))
 
 
+def _named(one: object) -> str:
+    return f"{type(one).__module__.removesuffix('.client')}.{type(one).__name__}"
+
+
 class Shown:
     """What a client shows of its session, and of what it keeps."""
 
@@ -56,6 +61,21 @@ class Shown:
         self._servers, self._engine, self._retry = servers, engine, retry
         self._tasks: dict[Any, None] = {}
         """What is done that nobody waits for, until it is done."""
+
+    def __repr__(self) -> str:
+        """Its hosts, and how it stands to them: no secret."""
+        return f"<{_named(self)} of {self._servers.hosts.text}: {self.state.value}, session {self.session_id:#x}>"
+
+    def __reduce__(self) -> str:
+        raise TypeError(f"a {_named(self)} has a connection of its own: it can be neither copied nor pickled")
+
+    if not TYPE_CHECKING:
+
+        def __getattr__(self, name: str) -> Any:
+            """Says of kazoo's names of recipes where these are."""
+            package, is_recipe = _named(self).rpartition(".")[0], name in sys.modules["dirwolleu.recipes"].__all__
+            hint = f": {package}.{name}(client, ..) makes one" if is_recipe else ""
+            raise AttributeError(f"a {_named(self)} has no {name}{hint}")
 
     def _tell(self, function: Callable[[Any], object], argument: Any) -> object:
         """Has a function of the program called, not within this call."""
@@ -73,6 +93,10 @@ class Shown:
         self, begin: Callable[[News], Steps[Any]], end: Callable[[Any, Optional[BaseException]], object]
     ) -> None:
         """Has steps done that nobody waits for. `begin` makes them of the news that they wait for."""
+        raise NotImplementedError
+
+    def _do_first(self, begin: Callable[[News], Steps[Result]]) -> Optional[Result]:
+        """Has steps done before this returns, if the client waits for its answers and is started."""
         raise NotImplementedError
 
     @property
@@ -144,7 +168,8 @@ class Shown:
         """How old what is kept can be, in seconds: infinity where no server has answered yet.
 
         So long ago the newest ping or call was handed in that the server has answered. Whatever that server knew by then of
-        the nodes that the client watches, it has told. The server may itself be behind the others.
+        the nodes that the client watches, it has told. The server may itself be behind the others. It counts the time for
+        which the machine was suspended, if the system tells that, as Linux does; so does `within` of other calls.
         """
         proved_at = self._engine.contact.proved_at
         return math.inf if proved_at is None else max(moment() - proved_at, 0) / 1000

@@ -23,7 +23,9 @@ SHORTEST_ASK = 1.0
 
 
 class Ask(NamedTuple):
-    """Ask this, and wait for the answer for at most this many seconds; None is no bound."""
+    """Ask this, and wait for the answer for at most this many seconds; None is no bound but that of each call. It waits as long
+    in steps that are `bounded` too.
+    """
 
     request: Union[Request[Any], LaneRequest[Any]]
     timeout: Optional[float]
@@ -98,7 +100,7 @@ def bounded(steps: Steps[Result], until: Optional[float]) -> Steps[Result]:
             try:
                 answer = yield (step if until is None else _within(step, until))
             except CallTimeoutError as error:
-                is_over = until is not None and until <= time.monotonic()
+                is_over = until is not None and until <= time.monotonic() and not isinstance(step, Ask)
                 until = None if is_over else until
                 step = steps.throw(TimeIsOver() if is_over else error)
             except BaseException as error:

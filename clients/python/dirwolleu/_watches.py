@@ -10,6 +10,7 @@ from dirwolleu._checks import checked_function, checked_path
 from dirwolleu._engine import News
 from dirwolleu._following import Subject, Told
 from dirwolleu._steps import Steps
+from dirwolleu.exceptions import ZookeeperError
 from dirwolleu.types import Kept, KeptChildren
 
 if TYPE_CHECKING:
@@ -36,14 +37,26 @@ class _Watch(Generic[Told]):
         if self._function is not None:
             raise ValueError("a watch calls one function")
         self._function = checked_function("what a watch calls", function)
+        self._client._engine.check_process()
         subject = self._subject()
         subject.settled()  # a ValueError where the path is none
+        told: Optional[Told] = None
+
+        def begin_first(news: News) -> Steps[tuple[Optional[Told], bool]]:
+            self._news = news
+            return following.first(self._client._engine, subject, news, self._call, lambda: self._is_wanted)
 
         def begin(news: News) -> Steps[None]:
             self._news = news
-            return following.watching(self._client._engine, subject, news, self._call, lambda: self._is_wanted)
+            return following.watching(self._client._engine, subject, news, self._call, lambda: self._is_wanted, told)
 
-        self._client._begin(begin, self._end)
+        try:
+            told, goes_on = self._client._do_first(begin_first) or (None, True)
+        except ZookeeperError as error:
+            self._end(None, error)
+        else:
+            if goes_on:
+                self._client._begin(begin, self._end)
         return function
 
     def stop(self) -> None:
@@ -73,8 +86,9 @@ class DataWatch(_Watch[Kept]):
     was told to be different. A node that changes faster than it can be read is told when it comes to rest, or between
     two changes; `follow` tells each answer that was good when it came.
 
-    The function is called where watches are, one after the other, and may call the client. With asyncio it may be a
-    coroutine function. Where it answers False, and after `stop`, it is called no more. What it raises is logged. Where a
+    The first call is made before the watch is there, in the thread that makes it, as kazoo's is: if the client is started
+    and an answer comes within the timeout of the session. From then on, and always with asyncio, the function is called
+    where watches are, one after the other. It may call the client. With asyncio it may be a coroutine function. Where it answers False, and after `stop`, it is called no more. What it raises is logged. Where a
     read is refused for another reason than the connection, the session and the load of a server, the watch ends, and the
     log says why.
 

@@ -451,6 +451,9 @@ class Client(Shown):
         if self._driver is not None:
             self._driver.act_soon()
 
+    def _do_first(self, _: Callable[[AnyNews], Steps[Result]]) -> Optional[Result]:
+        return None
+
     def _begin(
         self, begin: Callable[[AnyNews], Steps[Any]], end: Callable[[Any, Optional[BaseException]], object]
     ) -> None:

@@ -414,7 +414,8 @@ class Client(Shown):
         Each answer was good when it came. Where the node changes more than once between two of them, the last one is
         told. Where there is no node, that is told too. The core keeps it good: it reads it again after each change, and
         a second after a refusal. It ends when the client is stopped or closed, or its credentials are refused, and raises
-        what `get` raises for other reasons than the connection, the session and the load of a server.
+        what `get` raises for other reasons than the connection, the session and the load of a server, such as
+        `NoAuthError`. A code of a server that has no error of its own here is logged at WARNING, and the node is read again.
         """
         return self._follow(following.data_of(self._engine, path))
 
@@ -485,6 +486,8 @@ class Client(Shown):
         except StopIteration as end:
             result: Result = end.value
             return result
+        except KeyboardInterrupt as interrupt:
+            raise interrupt.with_traceback(None)  # where within a wait it came says nothing
         finally:
             ending.rest()
 
@@ -528,6 +531,12 @@ class Client(Shown):
             threads = self._threads()  # those have ended: there may be later ones
             if threads is not None:
                 threads.loop.act()
+
+    def _do_first(self, begin: Callable[[AnyNews], Steps[Result]]) -> Optional[Result]:
+        if self._threads() is None:
+            return None
+        news = News()
+        return self._drive(begin(news), news)
 
     def _begin(
         self, begin: Callable[[AnyNews], Steps[Any]], end: Callable[[Any, Optional[BaseException]], object]

@@ -15,6 +15,7 @@ __all__ = [
     "InvalidACLError",
     "LockLostError",
     "LockTimeout",
+    "MixedNamesError",
     "NoAuthError",
     "NoChildrenForEphemeralsError",
     "NoNodeError",
@@ -47,6 +48,9 @@ class ZookeeperError(Exception):
 
     may_have_happened: bool = False
     """Whether a change that was asked for may have happened, or may still: to ask again might do it twice."""
+
+    entry: Optional[bytes] = None
+    """Of `Queue.get`, if an entry may have been taken out: its data."""
 
     _reason, _advice = "the call has failed", ""
 
@@ -167,7 +171,13 @@ class LockLostError(ZookeeperError):
 
 
 class LockTimeout(ZookeeperError, TimeoutError):
-    """A lock was not taken in time. No contender is left."""
+    """A lock was not taken in time. No contender is left, or the client goes on to delete it."""
+
+
+class MixedNamesError(ZookeeperError):
+    """Others contend for a lock by other names, beside which this contender can't stand: kazoo's beside Curator's. `path` is
+    that of the lock. No contender of its own is left.
+    """
 
 
 class SessionMovedError(ZookeeperError):

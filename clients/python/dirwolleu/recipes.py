@@ -43,7 +43,8 @@ class Held(BaseHeld[Client]):
     def release(self) -> None:
         """Lets go of it. It may be called again. Where its session is over, so is it.
 
-        A lost answer is asked for again, for twice the timeout of the session; then the error is raised.
+        A lost answer is asked for again, for twice the timeout of the session. Then `ConnectionLoss` or `CallTimeoutError` is
+        raised, and the node may still be there: the client goes on to delete it, for as long as the session lives.
         """
         self._client._drive(self._releasing())
 
@@ -57,7 +58,8 @@ class Held(BaseHeld[Client]):
 
 
 class Lock(BaseLock[Client, Held]):
-    """An exclusive lock: one of those that take it at a path holds it at a time, at each zxid.
+    """An exclusive lock: one of those that take it at a path holds it at a time, at each zxid. All contenders of a path use one
+    kind of `names`: kazoo's or Curator's.
 
     The contenders are ephemeral nodes below the path, in the order of their numbers. The proved core says which one holds,
     and with which token: it shows that no other one was before its node at the zxid of a listing, and that the node is
@@ -65,10 +67,10 @@ class Lock(BaseLock[Client, Held]):
     is so where all contenders at the path are made as these are, and by fewer than 2,147,483,648 creates; the steps around
     it, which ask, watch and wait, are tested.
 
-    A create whose answer was lost is settled, so that no contender is left which nobody waits for. Whose locks at the
-    same path contend with it is said by `names`: with `"curator"` those of Curator's `InterProcessMutex`, or of kazoo's
-    `Lock(.., extra_lock_patterns=["-lock-"])`; with `"kazoo"` those of kazoo's plain `Lock`. Curator does not see the
-    nodes of kazoo's locks, so those two do not exclude each other at one path.
+    A create whose answer was lost is settled, so that no contender is left which nobody waits for. With `names="kazoo"`
+    kazoo's `Lock`, and those of Dirwolleu in C and Rust by these names, are in the same line; with `names="curator"`
+    Curator's `InterProcessMutex` is. kazoo and Curator do not see each other's contenders. This one does: if it finds one
+    of the other names before it holds, it raises `MixedNamesError`.
 
     A program that was paused, or whose packets are late, can still believe that it holds when another one does. So work
     in small steps, `check` before each, and hand the `token` on. `on_lost` is called once, in the thread of the
@@ -87,15 +89,17 @@ class Lock(BaseLock[Client, Held]):
 
         Raises `LockTimeout` after `timeout` seconds, and leaves no contender then; a timeout of 0 tries once. Where a
         contender may be left and there is no connection, it is looked for first, for twice the timeout of the session at
-        most. Lost connections and expired sessions are lived through. Raises `ConnectionClosedError` where the client is
-        stopped, and a `ZookeeperError` that says so where the numbers of nodes at the path are used up.
+        most; after that the client goes on to delete it. Lost connections, expired sessions and calls without an answer are lived through: no `CallTimeoutError` is
+        raised. Raises `MixedNamesError` if others contend by other names; `ConnectionClosedError` when the client is stopped;
+        another `ZookeeperError` if a server refuses to make or to show the nodes, and one that says so when their numbers at
+        the path are used up.
         """
         news = News()
         return self._client._drive(self._taking(news, timeout), news)
 
     def contenders(self) -> list[str]:
         """The identifiers of those that take the lock, in their order: that of the holder first."""
-        return self._client._run(contending.contenders(self._path))
+        return self._client._run(contending.contenders(self._path, self._names))
 
     def _held(self, holding: Holding) -> Held:
         return Held(self._client, holding, self._on_lost)
@@ -112,8 +116,8 @@ class Lock(BaseLock[Client, Held]):
 class WriteLock(Lock):
     """The exclusive side of a lock that others share: it is held while no other one holds the lock, shared or not.
 
-    With `names="curator"` it contends with the `writeLock` of Curator's `InterProcessReadWriteLock` at the same path,
-    and with `names="kazoo"` with kazoo's `WriteLock`. All else is as for `Lock`.
+    With `names="kazoo"` it contends with kazoo's `WriteLock`, and with `names="curator"` with the `writeLock` of Curator's
+    `InterProcessReadWriteLock`. All else is as for `Lock`.
 
         with dirwolleu.WriteLock(client, "/locks/table") as held:
             print("writes with token", held.token)
@@ -125,9 +129,9 @@ class WriteLock(Lock):
 class ReadLock(Lock):
     """The shared side of a lock: any number hold it at a time, while no `WriteLock` and no `Lock` at the path does.
 
-    It waits for those alone that came before it and do not share. With `names="curator"` it contends with the
-    `readLock` of Curator's `InterProcessReadWriteLock`, and with `names="kazoo"` with kazoo's `ReadLock`. Those that
-    hold it together have tokens in no order that says anything; a `WriteLock` that comes after them has a greater one.
+    It waits for those alone that came before it and do not share. With `names="kazoo"` it shares with kazoo's `ReadLock`,
+    and with `names="curator"` with the `readLock` of Curator's `InterProcessReadWriteLock`. Those that hold it together
+    have tokens in no order that says anything; a `WriteLock` that comes after them has a greater one.
 
         with dirwolleu.ReadLock(client, "/locks/table") as held:
             held.check()
@@ -137,7 +141,8 @@ class ReadLock(Lock):
 
 
 class Semaphore(BaseSemaphore[Client, Held]):
-    """A lock that `max_leases` hold at a time, at each zxid, by the nodes of kazoo's `Semaphore`.
+    """A lock that `max_leases` hold at a time, at each zxid, by the nodes of kazoo's `Semaphore`. It has no other names: if the
+    path has the nodes of Curator's `InterProcessSemaphoreV2`, `acquire` raises `MixedNamesError`.
 
     The node of the path says how many they are at most. Leases are ephemeral nodes below it, and whoever takes one holds
     the lock at `PATH-__lock__` meanwhile: a transaction makes the lease only while that lock is held. The proved core says
@@ -155,7 +160,7 @@ class Semaphore(BaseSemaphore[Client, Held]):
     def acquire(self, timeout: Optional[float] = None) -> Held:
         """Waits until there is a lease, as `Lock.acquire` does.
 
-        Raises `LockTimeout`, and `ValueError` where the node says that there are more leases or fewer.
+        Raises what that raises, and `ValueError` if the node says that there are more leases or fewer.
         """
         news = News()
         return self._client._drive(self._taking(news, timeout), news)
@@ -179,8 +184,9 @@ class Semaphore(BaseSemaphore[Client, Held]):
 class Election:
     """One of the candidates at a path leads at a time: whoever holds the lock there.
 
-    Its nodes are those of a `Lock`. kazoo's `Election` takes a plain lock of kazoo's, so with `names="kazoo"` it has
-    candidates of both.
+    All candidates of a path use one kind of `names`. Its nodes are those of a `Lock`: with `names="kazoo"` it contends with
+    kazoo's `Election`, and with `names="curator"` with Curator's `LeaderSelector`. Curator's `LeaderLatch` has names of its
+    own: if `run` finds these, it raises `MixedNamesError`.
 
         election = dirwolleu.Election(client, "/leader", identifier="host-1")
         election.run(lambda held: print("leads with token", held.token))
@@ -192,7 +198,7 @@ class Election:
         path: str,
         identifier: str = "",
         *,
-        names: str = "curator",
+        names: str = contending.KAZOO,
         on_lost: Optional[Callable[[Held], object]] = None,
         keeps_while_suspended: bool = False,
     ) -> None:
@@ -201,7 +207,8 @@ class Election:
         )
 
     def run(self, lead: Callable[[Held], Returned]) -> Returned:
-        """Waits until this candidate leads, calls a function with the lock that it holds, and answers what that does.
+        """Waits until this candidate leads, calls a function with the lock that it holds, and answers what that does. Before that
+        it raises what `Lock.acquire` raises.
 
         Leadership ends with the function. It is for the function to `check`, and to return where the lock is lost.
         """
@@ -341,9 +348,8 @@ class Queue(BaseQueue[Client]):
     """Entries that each go to one of those that take them: by priority, where 0 is first, then in the order of making.
 
     An entry that was put is there once, also where an answer was lost. It is deleted before it is worked on: where its
-    taker ends then, or the answer to its delete is lost, nobody works on it. That `ConnectionLoss` says that it may have
-    happened. For work that must not be lost, see the queue of docs/COOKBOOK.md, which deletes after the work. The nodes
-    have the names of kazoo's `Queue`, with a tag more.
+    taker ends then, nobody works on it. For work that must not be lost, see the queue of docs/COOKBOOK.md, which deletes
+    after the work. The nodes have the names of kazoo's `Queue`, with a tag more.
 
         queue = dirwolleu.Queue(client, "/jobs")
         queue.put(b"one")
@@ -357,6 +363,10 @@ class Queue(BaseQueue[Client]):
     def get(self, timeout: Optional[float] = None) -> Optional[bytes]:
         """Takes the first entry out, waits for one for at most this many seconds, and answers its data: None where none
         came. A timeout of 0 tries once.
+
+        Once it has asked for the delete of an entry, it waits for the answer to that as any call does: so it may take longer
+        than `timeout`. Raises `ConnectionLoss` or `CallTimeoutError`, with `may_have_happened`, if that answer does not come:
+        the entry may be gone, its data are the error's `entry`, and its path is `path`.
         """
         news = News()
         return self._client._drive(self._taking(news, timeout), news)

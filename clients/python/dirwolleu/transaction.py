@@ -19,8 +19,8 @@ from dirwolleu.types import Stat
 
 __all__ = ["AsyncTransaction", "Outcome", "Transaction"]
 
-Outcome = Union[str, Stat, None]
-"""What an operation brings: the path of a node that was made, the Stat of one that was set, else None."""
+Outcome = Union[str, Stat, bool]
+"""What an operation brings: the path of a node that was made, the Stat of one that was set, else True, as in kazoo."""
 
 _DELETE, _SET_DATA, _CHECK, _ERROR = 2, 5, 13, -1
 _ROLLED_BACK, _NOT_TRIED = 0, -2
@@ -63,8 +63,8 @@ class _Operations:
         self._parts.append(_Part(Operation.CREATE, path, body, lambda reader, root: root.own(reader.text())))
 
     def delete(self, path: str, version: int = -1) -> None:
-        """Deletes a node of this version, where -1 is any. Its result is None."""
-        self._parts.append(_Part(_DELETE, path, _versioned(path, version), lambda *_: None))
+        """Deletes a node of this version, where -1 is any. Its result is True."""
+        self._parts.append(_Part(_DELETE, path, _versioned(path, version), lambda *_: True))
 
     def set_data(self, path: str, value: Optional[bytes], version: int = -1) -> None:
         """Sets the data of a node of this version, where -1 is any. Its result is the node's `Stat`."""
@@ -72,8 +72,8 @@ class _Operations:
         self._parts.append(_Part(_SET_DATA, path, body, lambda reader, _: reader.stat()))
 
     def check(self, path: str, version: int) -> None:
-        """Lets the transaction happen only if the node has this version, where -1 is any. Its result is None."""
-        self._parts.append(_Part(_CHECK, path, _versioned(path, version), lambda *_: None))
+        """Lets the transaction happen only if the node has this version, where -1 is any. Its result is True."""
+        self._parts.append(_Part(_CHECK, path, _versioned(path, version), lambda *_: True))
 
     def __len__(self) -> int:
         return len(self._parts)

@@ -186,7 +186,7 @@ class RealServerTest(unittest.TestCase):
     def test_twenty_contenders_of_three_clients(self) -> None:
         """Each holder makes one node and deletes it again, which fails where two hold at once.
 
-        Curator's locks do not see the nodes of kazoo's: so those of kazoo have Curator's names here.
+        All contenders of a path use one kind of names: so those of kazoo have Curator's here.
         """
         self.contend("lock", "", {"extra_lock_patterns": ["-lock-"]}, "curator", 6)
         tokens = TOKENS[:]
@@ -196,7 +196,6 @@ class RealServerTest(unittest.TestCase):
         self.contend("readwrite", "", {}, "curator", 6)
 
     def test_contenders_with_the_names_of_kazoo(self) -> None:
-        self.contend("lock", "Lock", {"extra_lock_patterns": ["-lock-"]}, "curator", 0)
         self.contend("lock", "Lock", {}, "kazoo", 0)
         self.contend("readwrite", "WriteLock", {}, "kazoo", 0)
 

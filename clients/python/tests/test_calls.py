@@ -24,6 +24,8 @@ from dirwolleu import (
     Client,
     ConnectionClosedError,
     ConnectionLoss,
+    Lock,
+    LockLostError,
     Mark,
     NodeExistsError,
     NoNodeError,
@@ -37,6 +39,7 @@ from dirwolleu import (
     aio,
 )
 from dirwolleu._clock import moment
+from dirwolleu._contending import Holding, Taken
 
 SET_DATA = 5
 
@@ -281,6 +284,17 @@ class RetryTest(ClientCase):
                 Retry(**wrong)  # type: ignore[arg-type]
 
 
+HOUR = 3600.0
+
+
+def serves_one(peer: Peer) -> None:
+    """Answers each read of data, and all else with nothing."""
+    peer.admit()
+    while True:
+        asked = peer.take()
+        peer.send(data_reply(asked, b"one") if asked.kind == GET_DATA else reply(asked))
+
+
 class AgeTest(ClientCase):
     def test_what_is_kept_is_as_old_as_the_last_answer(self) -> None:
         partner = self.partner()
@@ -304,6 +318,26 @@ class AgeTest(ClientCase):
         partner.do("set /a two", "unmute")
         within(lambda: client.kept("/a", within=60.0) is None)
         self.assertIs(getattr(client.kept("/a"), "mark"), Mark.STALE)
+
+    @unittest.skipUnless(hasattr(time, "CLOCK_BOOTTIME"), "the system has no clock that goes on while it is suspended")
+    def test_what_is_kept_gets_old_while_the_machine_is_suspended(self) -> None:
+        """The monotonic clock stands still meanwhile, and the one since the boot goes on."""
+        client = self.client(self.raw_server(serves_one).host, 3 * HOUR)
+        client.get("/a", watch=True)
+        lock = Lock(client, "/lock")
+        holding = Holding(client._engine, Taken("/lock/x", 1, lambda: 1), False)
+        held = lock._held(holding)
+        held.check(within=HOUR / 2)
+        real = time.clock_gettime_ns
+
+        def later(clock: int) -> int:
+            return real(clock) + int(HOUR * 1e9) * (clock == time.CLOCK_BOOTTIME)
+
+        with mock.patch("time.clock_gettime_ns", later):
+            self.assertGreaterEqual(client.age(), HOUR)
+            self.assertIsNone(client.kept("/a", within=HOUR / 2))
+            with self.assertRaisesRegex(LockLostError, "was not heard"):
+                held.check(within=HOUR / 2)
 
     def test_a_connection_whose_watches_are_not_set_again_makes_nothing_younger(self) -> None:
         first = threading.Event()

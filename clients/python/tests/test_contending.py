@@ -4,6 +4,7 @@ from __future__ import annotations
 
 import contextlib
 import functools
+import itertools
 import threading
 import time
 import unittest
@@ -15,7 +16,17 @@ from both import AioCase, BothCase, in_thread
 from support import WAIT, PartnerCase, within
 
 import dirwolleu
-from dirwolleu import Client, Lock, LockLostError, LockTimeout, NoNodeError, TransactionFailedError, ZookeeperError
+from dirwolleu import (
+    CallTimeoutError,
+    Client,
+    Lock,
+    LockLostError,
+    LockTimeout,
+    MixedNamesError,
+    NoNodeError,
+    TransactionFailedError,
+    ZookeeperError,
+)
 from dirwolleu import _requests as requests
 from dirwolleu._contending import _check_number
 from dirwolleu._library import Listing, Standing
@@ -101,20 +112,52 @@ class ContendingRules(BothCase):
         with mock.patch.object(engine, "standing", stands):
             held.check()
         ((directory, name, listing, markers),) = asked
-        self.assertEqual((directory, f"/locks/{name}", type(listing), markers[0]), ("/locks", held.path, Listing, "-lock-"))
+        self.assertEqual((directory, f"/locks/{name}", type(listing), markers[0]), ("/locks", held.path, Listing, "__lock__"))
         with mock.patch.object(engine, "standing", lambda *_: Standing(held.token + 1, None)):
             with self.assertRaisesRegex(LockLostError, "not known to be there"):
                 held.check()
         self.assertFalse(held.is_held)
         held.release()
 
+    @contextlib.contextmanager
+    def unanswered(self, client: Any, counts: dict[str, int]) -> Iterator[None]:
+        """As many of the calls of these names have no answer in time, whether they happen or not."""
+
+        def told(request: Any, waiter: Any) -> Any:
+            is_place = (request.path or "").startswith("/locks/")
+            name = request.call.__name__ if is_place else "listing" if isinstance(request, requests._Listing) else ""
+            if not counts.get(name, 0):
+                return waiter
+            counts[name] -= 1
+            error = CallTimeoutError("no answer has come in time", "it may still happen")
+            error.path, error.may_have_happened = request.path, not request.is_repeatable
+            waiter.set_exception(error)
+            return mock.Mock(begin=lambda: True, done=lambda: False)
+
+        with self.asked(client, told):
+            yield
+        self.assertEqual({name for name, count in counts.items() if count}, set())
+
+    def test_calls_without_an_answer_are_lived_through(self) -> None:
+        with self.unanswered(self.one, {"create": 1, "get_data": 1, "listing": 1, "delete": 1}):
+            with self.recipe("Lock", self.one, "/locks") as held:
+                held.check()
+                self.assertEqual(len(self.names()), 1)
+        self.assertEqual(self.names(), [])
+
+    def test_a_wait_that_ends_by_calls_without_an_answer_leaves_no_contender(self) -> None:
+        with self.recipe("Lock", self.other, "/locks"):
+            with self.unanswered(self.one, {"delete": 1, "listing": 1}), self.assertRaises(LockTimeout):
+                self.recipe("Lock", self.one, "/locks").acquire(0.3)
+            self.assertEqual(len(self.names()), 1)
+
     def test_a_rival_that_goes_between_the_listing_and_the_watch(self) -> None:
-        rival = f"{self.root}/locks/b5a4-lock-0000000000"
+        rival = f"{self.root}/locks/b5a4__lock__0000000000"
         self.server.do(f"create {self.root}/locks", f"create {rival}")
         gone = []
 
         def told(request: Any, waiter: Any) -> Any:
-            if request.path == "/locks/b5a4-lock-0000000000":
+            if request.path == "/locks/b5a4__lock__0000000000":
                 self.server.do(f"delete {rival}")
                 gone.append(request)
             return waiter
@@ -156,26 +199,89 @@ class ContendingRules(BothCase):
         self.assertNotEqual(waits.get(timeout=WAIT).path, own)
 
     def test_those_that_share_and_those_that_do_not_are_in_one_line(self) -> None:
-        """Nodes as those of Curator and of kazoo, before each of ours."""
-        line = "a-__READ__0000000000", "b__rlock__0000000001", "c__lock__0000000002", "other"
-        self.server.do(f"create {self.root}/locks", *(f"create {self.root}/locks/{name}" for name in line))
-        reads = [self.taking("ReadLock", self.one, names=names) for names in ("curator", "kazoo")]
+        """Nodes as those of kazoo, and as those of Curator, before each of ours."""
+        for names, shared, alone in (("kazoo", "__rlock__", "__lock__"), ("curator", "-__READ__", "-__WRIT__")):
+            with self.subTest(names):
+                line = f"a{shared}0000000000", f"b{shared}0000000001", f"c{alone}0000000002", "other"
+                self.server.do(f"create {self.root}/locks", *(f"create {self.root}/locks/{name}" for name in line))
+                self.check_line(names, *line[:3])
+                self.server.do(f"delete {self.root}/locks/other")
+                within(lambda: not self.names())
+                self.server.do(f"delete {self.root}/locks")
+
+    def check_line(self, names: str, first: str, second: str, third: str) -> None:
+        reads = [self.taking("ReadLock", self.one, names=names) for _ in range(2)]
         within(lambda: len(self.names()) == 6)
-        writes = self.taking("WriteLock", self.other)
+        writes = self.taking("WriteLock", self.other, names=names)
         within(lambda: len(self.names()) == 7)
-        self.server.do(f"delete {self.root}/locks/a-__READ__0000000000")
+        self.server.do(f"delete {self.root}/locks/{first}")
         time.sleep(0.05)
         self.assertTrue(all(one.empty() for one in (*reads, writes)))
-        self.server.do(f"delete {self.root}/locks/c__lock__0000000002")
+        self.server.do(f"delete {self.root}/locks/{third}")
         helds = [one.get(timeout=WAIT) for one in reads]
         self.assertTrue(writes.empty())
-        self.server.do(f"delete {self.root}/locks/b__rlock__0000000001")
+        self.server.do(f"delete {self.root}/locks/{second}")
         for held in helds:
             held.check()
             time.sleep(0.02)
             self.assertTrue(writes.empty())
             held.release()
-        writes.get(timeout=WAIT).check()
+        last = writes.get(timeout=WAIT)
+        last.check()
+        last.release()
+
+    def test_places_of_other_names_are_told(self) -> None:
+        """None of either kind waits for the other: the one that finds a place of the other names gives up its own."""
+        for names, others in (
+            ("kazoo", ("-lock-", "-__WRIT__", "-__READ__", "-latch-")),
+            ("curator", ("__lock__", "__rlock__", "-latch-")),
+        ):
+            for kind, other in itertools.product(("Lock", "WriteLock", "ReadLock"), others):
+                with self.subTest(f"{kind} of {names} beside {other}"):
+                    foreign = f"a{other}0000000007"
+                    self.one.create(f"/locks/{foreign}", makepath=True)
+                    with self.assertRaises(MixedNamesError) as caught:
+                        self.recipe(kind, self.one, "/locks", names=names).acquire(WAIT)
+                    words = f"{foreign} is there, by other names than those of {names}: /locks; all contenders of a path use one kind of names"
+                    self.assertEqual(str(caught.exception), words)
+                    self.assertEqual(self.names(), [foreign])
+                    self.one.delete("/locks", recursive=True)
+
+    def test_a_place_of_other_names_that_comes_in_line_is_told(self) -> None:
+        for names, other in (("kazoo", "-lock-"), ("curator", "__lock__")):
+            first = self.recipe("Lock", self.one, "/locks", names=names).acquire(WAIT)
+            waits = self.taking("Lock", self.other, names=names)
+            within(lambda: len(self.names()) == 2)
+            foreign = f"a{other}0000000000"
+            self.one.create(f"/locks/{foreign}")
+            first.check()
+            first.release()
+            self.assertIsInstance(waits.get(timeout=WAIT), MixedNamesError)
+            self.assertEqual(self.names(), [foreign])
+            self.one.delete(f"/locks/{foreign}")
+
+    def test_what_is_no_contender_is_not_waited_for(self) -> None:
+        others = "note-0000000000", "lock-0000000000", "a__lock__000000001", "a-lock-", "latch-0000000000", "a__lock__0000000000.bak"
+        for name in others:
+            self.one.create(f"/locks/{name}", makepath=True)
+        for names in ("kazoo", "curator"):
+            held = self.recipe("Lock", self.one, "/locks", names=names).acquire(WAIT)
+            held.check()
+            held.release()
+
+    def test_an_election_has_one_kind_of_names(self) -> None:
+        self.one.create("/leader/a-latch-0000000000", makepath=True)
+        election = self.recipe("Election", self.one, "/leader", names="curator")
+        with self.assertRaises(MixedNamesError):
+            election.run(lambda held: None)
+        self.assertEqual(self.one.get_children("/leader"), ["a-latch-0000000000"])
+
+    def test_a_semaphore_is_none_of_curators(self) -> None:
+        self.one.create("/leases/leases", makepath=True)
+        with self.assertRaises(MixedNamesError):
+            self.recipe("Semaphore", self.one, "/leases", max_leases=3).acquire(WAIT)
+        self.assertEqual(self.one.get_children("/leases"), ["leases"])
+        self.assertEqual(self.one.get_children("/leases-__lock__"), [])
 
     def test_data_that_are_set_in_line_end_no_wait(self) -> None:
         """The node is read again: it is its place in line that counts."""

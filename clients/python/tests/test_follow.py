@@ -3,6 +3,7 @@
 from __future__ import annotations
 
 import asyncio
+import logging
 import threading
 import time
 import unittest
@@ -13,8 +14,9 @@ import dirwolleu
 from dirwolleu import Kept, Mark, NoAuthError
 from dirwolleu.aio import Client as AioClient
 
-REFUSALS = {-4: 0.8, -127: 0.8, -112: 0.28, -118: 0.28}
-"""How many seconds there are for each read at least: there is one in a second, and with a code that ends the connection one on each."""
+REFUSALS = {-4: 0.8, -127: 0.8, -112: 0.28, -118: 0.28, -1: 0.8, -99: 0.8, -101: 0.28}
+"""How many seconds there are for each read at least: there is one in a second, with a code that ends the connection one on each, and another
+one at once where there is no node and exists says that there is one."""
 
 
 class Refusing:
@@ -82,6 +84,15 @@ class BlockingTest(PartnerCase):
                 server.code = 0
         within(lambda: all(found for found in told))
         self.assertEqual({found[0].data for found in told}, {b"one"})
+
+    def test_a_code_that_is_not_known_is_told_once(self) -> None:
+        server, told = Refusing(-99), list[Kept]()
+        with self.assertLogs("dirwolleu", logging.WARNING) as logs:
+            self.follow(self.raw_server(server.serve), told, [])
+            within(lambda: len(server.reads) >= 2)
+            server.code = 0
+            within(lambda: told)
+        self.assertEqual(logs.output, ["WARNING:dirwolleu:a read is refused, and asked again: the server answers -99: /a"])
 
     def test_another_refusal_is_raised(self) -> None:
         errors: list[Exception] = []

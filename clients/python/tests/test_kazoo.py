@@ -14,7 +14,7 @@ import tempfile
 import threading
 import time
 from collections.abc import Callable
-from typing import Any, Optional
+from typing import Any, Callable, Optional
 from unittest import mock
 
 from support import CLIENTS, GET_DATA, TIMEOUT, WAIT, Partner, PartnerCase, Peer, data_reply, reply, within
@@ -345,7 +345,8 @@ class StatesTest(KazooCase):
         refuses.set()
         waits = zk.get_async("/cut")
         waits.relay(lambda _: at_error.append(zk.client_state))
-        for get in (waits.get, lambda: zk.get("/a")):
+        gets: list[Callable[[], Any]] = [waits.get, lambda: zk.get("/a")]
+        for get in gets:
             with self.raises(exceptions.AuthFailedError, -115):
                 get()
         self.assertEqual((at_error, zk.client_state), ([KeeperState.AUTH_FAILED], KeeperState.AUTH_FAILED))
@@ -700,6 +701,22 @@ class RecipesTest(KazooCase):
         within(lambda: not lock.is_acquired)
         self.assertTrue(lock.acquire())
         self.assertEqual(lock.contenders(), ["one"])
+
+    def test_a_lock_is_free_when_all_of_it_is(self) -> None:
+        """Threads may have one lock: the next one of them takes it as soon as it is not held."""
+        nodes = list[Any]()
+
+        class Told(lock.Lock):
+            def __setattr__(self, name: str, value: Any) -> None:
+                super().__setattr__(name, value)
+                if name == "_is_held" and not value:
+                    nodes.append(self.node)
+
+        made = Told(self.one, "/lock")
+        made.acquire()
+        nodes.clear()
+        self.assertTrue(made.release())
+        self.assertEqual(nodes, [None])
 
     def test_a_lock_is_held_where_the_core_says_so(self) -> None:
         nobody = mock.patch("dirwolleu.kazoo._session.Session.standing", lambda *_: Standing(None, None))

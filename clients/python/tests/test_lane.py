@@ -119,7 +119,7 @@ class SpellingTest(LaneCase):
             transaction.set_data("/b", b"y", 3)
             transaction.check("/c", 4)
             transaction.delete("/d")
-        self.assertEqual(transaction.results, ["/a", Stat._make(struct.unpack(">qqqqiiiqiiq", STAT)), None, None])
+        self.assertEqual(transaction.results, ["/a", Stat._make(struct.unpack(">qqqqiiiqiiq", STAT)), True, True])
         spelled = (
             header(1) + text("/app/a") + text("x") + OPEN_ACL + struct.pack(">i", 0)
             + header(5) + text("/app/b") + text("y") + struct.pack(">i", 3)
@@ -416,7 +416,9 @@ class RefusedTest(BothCase):
         within(lambda: self.has_ended(client))
         dials, attempts = len(self.server.dials), client.stats().dials
         client.set_hosts(self.server.host)
-        for call in (lambda: client.get("/a"), lambda: client.sync("/"), lambda: client.get_async("/a"), lambda: self.followed(client)):
+        calls: list[Callable[[], Any]] = [lambda: client.get("/a"), lambda: client.sync("/"), lambda: client.get_async("/a")]
+        calls.append(lambda: self.followed(client))
+        for call in calls:
             with self.raises(AuthFailedError, -115):
                 call()
         time.sleep(1.2)

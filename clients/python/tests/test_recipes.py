@@ -74,12 +74,12 @@ class LockTest(RecipeCase):
                 lock.acquire(0.3)
             self.assertEqual(lock.contenders(), ["one"])
 
-    def test_names_of_kazoo_and_curator_are_in_one_line(self) -> None:
+    def test_those_of_the_same_names_are_in_one_line(self) -> None:
         curator = "_c_6fbbe9d5-8b1c-4b8a-a8a7-f9c1a1b0f3e5-lock-0000000003"
         kazoo = "b5a4f3dc0e0f4f4b8b9c3e2a1d0c9b8a__lock__0000000002"
-        older = "x-lock--000000001"
-        self.assertEqual(in_line([curator, "other", kazoo, older]), [kazoo, curator])
-        self.assertEqual(in_line([curator, "x-lock--0000000001"]), ["x-lock--0000000001", curator])
+        older, last = "x__lock__-000000001", "x__rlock__0000000007"
+        self.assertEqual(in_line([curator, last, "other", kazoo, older]), [kazoo, last])
+        self.assertEqual(in_line([curator, kazoo, "x-lock--0000000001"], "curator"), ["x-lock--0000000001", curator])
 
     def test_one_of_kazoo_that_is_first_is_waited_for(self) -> None:
         kazoos = f"{self.root}/locks/b5a4__lock__0000000000"
@@ -223,7 +223,7 @@ class LockTest(RecipeCase):
 
         def made(path: str, *words: Any) -> Any:
             request = create(path, *words)
-            if "-lock-" in path:
+            if "__lock__" in path:
                 creates.append(request)
             return request
 

@@ -3,18 +3,24 @@
 from __future__ import annotations
 
 import functools
+import struct
 import time
 import unittest
-from typing import Any
+from typing import Any, Callable
 from unittest import mock
 
 from both import AioCase, BothCase, in_thread
-from support import WAIT, within
+from support import GET_DATA, STAT, WAIT, Asked, Peer, data_reply, reply, within
 
-from dirwolleu import ConnectionLoss, LockLostError, LockTimeout
+from dirwolleu import ConnectionLoss, LockLostError, LockTimeout, aio
 from dirwolleu import _requests as requests
+from dirwolleu import _steps as steps
 from dirwolleu._contending import EXCLUSIVE, READING, WRITING
 from dirwolleu._machine import Machine
+
+
+DELETE, GET_CHILDREN_2 = 2, 12
+"""Types of requests."""
 
 
 class SharingRules(BothCase):
@@ -65,8 +71,20 @@ class SharingRules(BothCase):
         ):
             with self.recipe(name, self.one, "/names", names=names) as held:
                 self.assertRegex(held.path, f"^/names/{wanted}$")
+        for name, wanted in (("Lock", "__lock__"), ("WriteLock", "__lock__"), ("ReadLock", "__rlock__")):
+            with self.recipe(name, self.one, "/names") as held:
+                self.assertRegex(held.path, rf"^/names/[0-9a-f]{{32}}{wanted}\d{{10}}$")
+        self.assertRegex(self.leader(self.recipe("Election", self.one, "/names")), r"^/names/[0-9a-f]{32}__lock__\d{10}$")
         with self.assertRaises(ValueError):
             self.recipe("Lock", self.one, "/names", names="others")
+
+    def leader(self, election: Any) -> str:
+        """The node of a candidate that leads."""
+
+        async def lead(held: Any) -> str:
+            return str(held.path)
+
+        return str(election.run(lead) if self.module() is aio else election.run(lambda held: held.path))
 
     def test_a_lock_is_taken_again_after_the_node_of_an_earlier_session(self) -> None:
         """A node of this contender that is left of an expired session is not one that holds."""
@@ -264,6 +282,41 @@ class SharingRules(BothCase):
         with self.assertRaises(ValueError):
             entries.put(b"", 1000)
 
+    def queue_of(self, delete: Callable[[Peer, Asked], None]) -> Any:
+        """A queue with one entry, at a server that does with a delete what it is told to."""
+
+        def serve(peer: Peer) -> None:
+            peer.admit()
+            while True:
+                asked = peer.take()
+                if asked.kind == GET_CHILDREN_2:
+                    name = b"entry-100-0000000001"
+                    peer.send(reply(asked, struct.pack(">ii", 1, len(name)) + name + STAT))
+                elif asked.kind == DELETE:
+                    delete(peer, asked)
+                else:
+                    peer.send(data_reply(asked, b"one") if asked.kind == GET_DATA else reply(asked))
+
+        client = self.client(self.raw_server(serve).host, 6.0)
+        return self.recipe("Queue", client, "/queue")
+
+    def test_an_entry_whose_delete_is_answered_late_is_given(self) -> None:
+        def late(peer: Peer, asked: Asked) -> None:
+            time.sleep(0.6)
+            peer.send(reply(asked))
+
+        with mock.patch.object(steps, "SHORTEST_ASK", 0.05):
+            self.assertEqual(self.queue_of(late).get(0.1), b"one")
+
+    def test_an_entry_whose_delete_has_no_answer_is_told(self) -> None:
+        def cut(peer: Peer, _: Asked) -> None:
+            peer.reset()
+
+        with self.assertRaises(ConnectionLoss) as caught:
+            self.queue_of(cut).get(0)
+        error = caught.exception
+        self.assertEqual((error.may_have_happened, error.entry, error.path), (True, b"one", "/queue/entry-100-0000000001"))
+
     def test_many_take_each_entry_once(self) -> None:
         for number in range(20):
             self.recipe("Queue", self.one, "/queue").put(b"%d" % number)
@@ -316,15 +369,14 @@ class AioTest(AioCase, SharingRules):
 
 class OrderTest(unittest.TestCase):
     def test_which_one_is_waited_for(self) -> None:
-        """By the core, with the markers of each kind: names of kazoo and of Curator are in one line, and those that share wait for
-        those alone that do not."""
-        line = ["a-lock-0000000001", "b__rlock__0000000002", "c-__READ__0000000003", "d__lock__0000000004", "e-__READ__0000000005"]
-        line.append("f-__WRIT__0000000006")
-        kinds = (EXCLUSIVE, "curator"), (READING, "kazoo"), (READING, "curator"), (EXCLUSIVE, "kazoo"), (READING, "curator"), (WRITING, "curator")
-        listing = [*line[::-1], "g-lock--000000001", "other", "latch-0000000000"]
-        for own, (kind, names), wanted in zip(line, kinds, (None, 0, 0, 2, 3, 4)):
-            found = Machine(6000).standing("/locks", own, listing, 9, kind.markers(names))
-            self.assertEqual(found, (None, None if wanted is None else line[wanted]))
+        """By the core, with the markers of each kind: those that share wait for those alone that do not."""
+        kinds = EXCLUSIVE, READING, READING, EXCLUSIVE, READING, WRITING
+        for names in ("kazoo", "curator"):
+            line = [f"{letter}{kind.marker(names)}000000000{letter}" for letter, kind in zip("123456", kinds)]
+            listing = [*line[::-1], "7-lock--000000001", "8__lock__-000000001", "other", "latch-0000000000"]
+            for own, kind, wanted in zip(line, kinds, (None, 0, 0, 2, 3, 4)):
+                found = Machine(6000).standing("/locks", own, listing, 9, kind.markers(names))
+                self.assertEqual(found, (None, None if wanted is None else line[wanted]))
 
 
 def load_tests(loader: unittest.TestLoader, *_: Any) -> unittest.TestSuite:

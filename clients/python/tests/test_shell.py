@@ -97,12 +97,12 @@ class ShellTest(PartnerCase):
         ):  # fmt: skip
             status, printed, said = self.run_words(partner, *wrong)
             self.assertEqual((status, printed, bool(said)), (2, "", True))
-        for wrong, words in (
+        for wrong, begins in (
             (("--ca", "/none"), "get: /none: No such file or directory"), (("--ca", __file__), f"get: {__file__}: "),
             (("--key", "/none"), "get: the key /none wants its certificate"), (("--cert", "/none"), "get: /none: No such file or directory"),
         ):  # fmt: skip
             status, printed, said = self.run_words(partner, *wrong, "get", "/")
-            self.assertEqual((status, printed, said[: len(words)], said.count("\n")), (2, "", words, 1))
+            self.assertEqual((status, printed, said[: len(begins)], said.count("\n")), (2, "", begins, 1))
         partner.do("down")
         status, printed, said = self.run_words(partner, "--timeout", "0.5", "get", "/")
         self.assertEqual((status, printed), (3, ""))
@@ -142,6 +142,43 @@ class ShellTest(PartnerCase):
                 done = subprocess.run(command, stdout=full, stderr=subprocess.PIPE, text=True, env=environment, timeout=3 * WAIT)
             self.assertEqual((done.returncode, done.stderr), (4, said))
         self.assertEqual(self.printed(partner, "get", "/x"), "b\n")
+
+    @unittest.skipUnless(os.path.exists("/dev/full"), "there is no /dev/full")
+    def test_what_is_left_to_write_at_the_end_is_no_other_fault(self) -> None:
+        """The interpreter tries once more at its end, and ends with 120 where that fails."""
+        program = "import sys; sys.stdout = open(1, 'w', closefd=False); from dirwolleu.__main__ import main; sys.exit(main(['stat', '/']))"
+        environment = {**os.environ, "PYTHONPATH": str(CLIENTS / "python"), "DIRWOLLEU_HOSTS": self.partner().host}
+        with open("/dev/full", "wb") as full:
+            done = subprocess.run(
+                [sys.executable, "-c", program], stdout=full, stderr=subprocess.PIPE, text=True, env=environment, timeout=3 * WAIT
+            )
+        self.assertEqual((done.returncode, done.stderr), (4, "stat: what it tells can't be written: No space left on device\n"))
+
+    def test_what_drives_a_terminal_is_shown_with_backslashes(self) -> None:
+        partner = self.partner()
+        client = dirwolleu.Client(partner.host, 60.0)
+        self.addCleanup(client.close)
+        self.addCleanup(client.stop)
+        client.start(WAIT)
+        data = "\x1b]0;owned\x07\x1b[2J\tRED\r\nzxid 99  good  forged\x7f\x9b\u202eabc\u2066é".encode() + b"\xff"
+        client.create("/esc", data)
+        client.create("/esc/a\u202eb\u200f")
+        shown = r"\x1b]0;owned\x07\x1b[2J{}RED\r{}zxid 99  good  forged\x7f\x9b\u202eabc\u2066é\xff"
+        as_lines, as_line = shown.format("\t", "\n"), shown.format(r"\t", r"\n")
+        self.assertEqual(self.printed(partner, "get", "/esc"), f"{as_lines}\n")
+        self.assertEqual(self.printed(partner, "tree", "/esc"), f"/esc  {as_line}\n  a\\u202eb\\u200f\n")
+        self.assertEqual(self.printed(partner, "ls", "/esc"), "a\\u202eb\\u200f\n")
+        self.assertEqual(json.loads(self.printed(partner, "--json", "ls", "/esc")), ["a\u202eb\u200f"])
+        process = self.begin(partner, "watch", "/esc")
+        assert process.stdout is not None
+        self.assertRegex(process.stdout.readline(), rf"^zxid \d+  good  {re.escape(as_line)}$")
+        process.send_signal(signal.SIGINT)
+        process.communicate(timeout=3 * WAIT)
+        process = self.begin(partner, "watch", "--children", "/esc")
+        assert process.stdout is not None
+        self.assertRegex(process.stdout.readline(), r"^zxid \d+  good  a\\u202eb\\u200f$")
+        process.send_signal(signal.SIGINT)
+        process.communicate(timeout=3 * WAIT)
 
     def test_whoever_reads_no_more_ends_it_quietly(self) -> None:
         partner = self.partner()

@@ -10,7 +10,7 @@ import time
 import unittest
 from typing import Any, Callable, Optional
 
-from both import AioCase, Blocking, BothCase
+from both import AioCase, Blocking, BothCase, in_thread
 from support import GET_DATA, TIMEOUT, WAIT, Peer, data_reply, notice, reply, within
 
 import dirwolleu
@@ -192,7 +192,7 @@ class WatchRules(BothCase):
 
         client, told = self.client(self.raw_server(serve).host, 1.5), queue.Queue[Any]()
         with self.assertLogs("dirwolleu") as logs:
-            self.watch(client, "DataWatch", "/a", lambda data, _: told.put(data))
+            in_thread(lambda: self.watch(client, "DataWatch", "/a", lambda data, _: told.put(data)))  # it waits for an answer
             within(lambda: len(reads) == 2)
             client.stop()
             client.start(WAIT)
@@ -262,7 +262,60 @@ def partner_asks(client: Any, quorum: bool) -> int:
 
 
 class ThreadsWatchTest(WatchRules):
-    pass
+    def test_a_function_is_called_before_its_watch_is_there(self) -> None:
+        partner, told, threads = self.partner(), list[Any](), set[int]()
+        client = self.client(partner.host)
+        partner.do("create /a one", "create /a/b x")
+
+        def hear(*values: Any) -> None:
+            told.append(values[0])
+            threads.add(threading.get_ident())
+
+        for number in range(50):
+            self.watch(client, "DataWatch", "/a", hear)
+            self.watch(client, "ChildrenWatch", "/a", hear)
+            self.assertEqual(len(told), 2 * number + 2)
+        self.assertEqual((told, threads), (50 * [b"one", ["b"]], {threading.get_ident()}))
+        partner.do("set /a two")
+        within(lambda: len(told) == 150)
+        self.assertEqual(told[100:], 50 * [b"two"])
+
+    def test_a_function_that_wants_no_more_at_first_is_called_once(self) -> None:
+        partner, told = self.partner(), list[Any]()
+        client = self.client(partner.host)
+
+        def hear(data: Optional[bytes], _: Any) -> bool:
+            told.append(data)
+            return False
+
+        self.watch(client, "DataWatch", "/a", hear)
+        partner.do("create /a one")
+        within(lambda: client.get("/a")[0] == b"one")
+        time.sleep(0.05)
+        self.assertEqual(told, [None])
+
+    def test_a_watch_that_is_made_within_one_calls_too(self) -> None:
+        partner, told = self.partner(), queue.Queue[Any]()
+        client = self.client(partner.host)
+
+        def make(data: Optional[bytes], _: Any) -> None:
+            if data is not None:
+                client.DataWatch("/b", lambda data, stat: told.put(data))
+                told.put(data)
+
+        self.watch(client, "DataWatch", "/a", make)
+        partner.do("create /a one")
+        self.assertEqual([self.next_of(told), self.next_of(told)], [None, b"one"])
+
+    def test_a_watch_without_a_server_is_there_in_time(self) -> None:
+        partner, told = self.partner(), queue.Queue[Any]()
+        client = self.client(partner.host, 1.0)
+        partner.do("down")
+        within(lambda: client.state is not State.CONNECTED)
+        self.watch(client, "DataWatch", "/a", lambda data, stat: told.put(data))
+        self.assertTrue(told.empty())
+        partner.do("up")
+        self.assertIsNone(self.next_of(told))
 
 
 class AioWatchTest(AioCase, WatchRules):

@@ -222,7 +222,8 @@ class Lock:
             self.client.delete(join(self.path, self.node))
         except NoNodeError:
             pass
-        self._is_held, self.node, self._session = False, None, None
+        self.node, self._session = None, None
+        self._is_held = False  # last: another thread that has this lock takes it from here on, and sets the others
         self.client._used()
         return True
 

@@ -1,0 +1,76 @@
+"""A contender by kazoo: kazoo_contender.py HOST:PORT PATH KIND NAMES. README.md says what it prints and reads. Names are kazoo's alone."""
+
+from __future__ import annotations
+
+import importlib
+import sys
+import threading
+from typing import Any
+
+kazoo: Any = importlib.import_module("kazoo.client")
+exceptions: Any = importlib.import_module("kazoo.exceptions")
+
+
+def say(words: str) -> None:
+    print(words, flush=True)
+
+
+def tell_lost(state: str) -> None:
+    if state == "LOST":
+        say("lost")
+
+
+class Contender:
+    """What contends, in a thread of its own."""
+
+    def __init__(self, client: Any, path: str, kind: str) -> None:
+        makes = {"lock": client.Lock, "read": client.ReadLock, "write": client.WriteLock, "election": client.Election}
+        self.made, self.may_end = makes[kind](path), threading.Event()
+        self.thread = threading.Thread(target=self.contend, daemon=True)
+        self.thread.start()
+
+    def contend(self) -> None:
+        try:
+            if hasattr(self.made, "run"):
+                self.made.run(self.hold)
+            else:
+                with self.made:
+                    self.hold()
+        except exceptions.CancelledError:
+            pass  # it has given up
+        except Exception as error:
+            say(f"error: {error!r}")
+
+    def hold(self) -> None:
+        say("held")
+        self.may_end.wait()
+
+    def obey(self, command: str) -> None:
+        if command == "release":
+            self.may_end.set()
+            self.thread.join()
+            say("released")
+        elif command == "give up":
+            self.made.cancel()
+            self.thread.join()
+            say("given up")
+
+
+def main(hosts: str, path: str, kind: str, names: str) -> None:
+    if names != "kazoo":
+        say(f"error: kazoo has no names of {names}")
+        return
+    client = kazoo.KazooClient(hosts)
+    client.add_listener(tell_lost)
+    client.start()
+    contender = Contender(client, path, kind)
+    for line in sys.stdin:
+        contender.obey(line.strip())
+        break
+    client.remove_listener(tell_lost)
+    client.stop()
+    client.close()
+
+
+if __name__ == "__main__":
+    main(*sys.argv[1:])

@@ -1,0 +1,233 @@
+"""Tests of each way out of a lock whose request or answer is lost with its connection: nobody's place stays, and the next one takes the lock."""
+
+from __future__ import annotations
+
+import asyncio
+import contextlib
+import itertools
+import socket
+import struct
+import threading
+import time
+import unittest
+from typing import Any, Callable, Optional
+
+from both import AioCase, Blocking, BothCase
+from support import WAIT, within
+
+from dirwolleu import ConnectionLoss, LockTimeout, MixedNamesError, aio
+
+CREATE, DELETE, NONE = 1, 2, -1
+"""Types of requests, and one of none."""
+OUTAGE = 0.5
+"""For how long there is no server after a cut, where there is none, in seconds."""
+
+
+class Relay:
+    """What stands between a client and a server: it cuts the connection at a request or at its answer, once."""
+
+    def __init__(self, port: int) -> None:
+        self._port = port
+        self._listener = socket.create_server(("127.0.0.1", 0))
+        self.host = f"127.0.0.1:{self._listener.getsockname()[1]}"
+        self.kind, self.at, self.outage, self.cuts = NONE, "", 0.0, 0
+        self._xid: Optional[int] = None
+        self._opens_at = 0.0
+        threading.Thread(target=self._accept, daemon=True).start()
+
+    def cut(self, kind: int, at: str, outage: float) -> None:
+        """Cuts at the next request of this type, or at the answer to it; then there is no server for so long."""
+        self.kind, self.at, self.outage, self.cuts = kind, at, outage, 0
+
+    def opens_in(self) -> float:
+        return self._opens_at - time.monotonic()
+
+    def stop(self) -> None:
+        with contextlib.suppress(OSError):
+            self._listener.shutdown(socket.SHUT_RDWR)
+        self._listener.close()
+
+    def _accept(self) -> None:
+        with contextlib.suppress(OSError):
+            while True:
+                client, _ = self._listener.accept()
+                if time.monotonic() < self._opens_at:
+                    client.close()
+                    continue
+                server = socket.create_connection(("127.0.0.1", self._port))
+                for ends, passes in (((client, server), self._passes_request), ((server, client), self._passes_answer)):
+                    threading.Thread(target=self._run, args=(*ends, passes), daemon=True).start()
+
+    def _run(self, source: socket.socket, target: socket.socket, passes: Callable[[bytes], bool]) -> None:
+        """Passes frames on until one does not pass, or an end is closed."""
+        with contextlib.suppress(OSError, struct.error), source.makefile("rb") as frames:
+            while True:
+                head = frames.read(4)
+                frame = frames.read(*struct.unpack(">i", head))
+                if not passes(frame):
+                    break
+                target.sendall(head + frame)
+        with contextlib.suppress(OSError):
+            target.shutdown(socket.SHUT_RDWR)
+        source.close()
+
+    def _passes_request(self, frame: bytes) -> bool:
+        xid, kind = struct.unpack_from(">ii", frame)
+        if kind != self.kind:
+            return True
+        self._xid = xid
+        return self.at == "answer" or not self._cut()
+
+    def _passes_answer(self, frame: bytes) -> bool:
+        (xid,) = struct.unpack_from(">i", frame)
+        return xid != self._xid or not self._cut()
+
+    def _cut(self) -> bool:
+        self._opens_at = time.monotonic() + self.outage
+        self.kind, self._xid, self.cuts = NONE, None, self.cuts + 1
+        return True
+
+
+T, LONG_OUTAGE = 2.0, 12.0
+"""The timeout of a session in seconds, and for how long it has no server where that is longer than its recipes wait."""
+
+
+class LeavingRules(BothCase):
+    is_long = True
+
+    def setUp(self) -> None:
+        super().setUp()
+        self.server, self.root = self.shared_partner(), self.own_root()
+        self.relay = Relay(int(self.server.host.rpartition(":")[2]))
+        self.addCleanup(self.relay.stop)
+        self.one, self.other = self.client(self.relay.host + self.root), self.client(self.server.host + self.root)
+        self.other.ensure_path("/locks")
+
+    def each_cut(self, kind: int, *outages: float) -> Any:
+        """Each cut at requests of a type."""
+        for at, outage in itertools.product(("request", "answer"), outages or (0.0, OUTAGE)):
+            with self.subTest(at=at, outage=outage):
+                yield lambda at=at, outage=outage: self.relay.cut(kind, at, outage)
+                self.assertEqual(self.relay.cuts, 1)
+                self.is_free()
+
+    def is_free(self) -> None:
+        """Nobody's place is left, and the next one takes the lock."""
+        within(lambda: not self.other.get_children("/locks"))
+        self.recipe("Lock", self.other, "/locks").acquire(WAIT).release()
+
+    def lock(self, name: str = "Lock", **named: Any) -> Any:
+        return self.recipe(name, self.one, "/locks", **named)
+
+    def test_a_release(self) -> None:
+        for cut in self.each_cut(DELETE):
+            held = self.lock().acquire(WAIT)
+            cut()
+            held.release()
+
+    def test_the_end_of_a_block(self) -> None:
+        for cut in self.each_cut(DELETE):
+            with self.lock("WriteLock", names="curator"):
+                cut()
+
+    def test_the_end_of_a_leadership(self) -> None:
+        for cut in self.each_cut(DELETE):
+
+            async def lead(_: Any, cut: Any = cut) -> None:
+                cut()
+
+            election = self.lock("Election")
+            election.run(lead) if self.module() is aio else election.run(lambda _, cut=cut: cut())
+
+    def test_the_end_of_a_lease(self) -> None:
+        for cut in self.each_cut(DELETE):
+            held = self.lock("Semaphore").acquire(WAIT)
+            cut()
+            held.release()
+            within(lambda: not self.other.get_children("/locks"))
+            self.other.delete("/locks", recursive=True)
+            self.other.delete("/locks-__lock__", recursive=True)
+            self.other.ensure_path("/locks")
+
+    def test_a_wait_that_is_given_up(self) -> None:
+        for cut in self.each_cut(DELETE):
+            with self.recipe("Lock", self.other, "/locks"):
+                cut()
+                with self.assertRaises(LockTimeout):
+                    self.lock("ReadLock").acquire(0.3)
+                self.assertEqual(len(self.other.get_children("/locks")), 1)
+
+    def test_a_create_whose_answer_is_lost_and_that_is_given_up(self) -> None:
+        for cut in self.each_cut(CREATE):
+            with self.recipe("Lock", self.other, "/locks"):
+                cut()
+                with self.assertRaises(LockTimeout):
+                    self.lock().acquire(0.3)
+                self.assertEqual(len(self.other.get_children("/locks")), 1)
+
+    def test_a_create_whose_answer_is_lost_and_that_holds(self) -> None:
+        for cut in self.each_cut(CREATE):
+            cut()
+            held = self.lock().acquire(WAIT)
+            self.assertEqual(len(self.other.get_children("/locks")), 1)
+            held.release()
+
+    def test_an_outage_that_is_longer_than_a_release_waits(self) -> None:
+        """The session lives on, and its client deletes the place when it has a server again."""
+        self.one = self.client(self.relay.host + self.root, T)
+        held = self.lock(keeps_while_suspended=True).acquire(WAIT)
+        self.relay.cut(DELETE, "request", LONG_OUTAGE)
+        with self.assertRaises(ConnectionLoss):
+            held.release()
+        self.assertEqual(len(self.other.get_children("/locks")), 1)
+        self.is_free()
+
+    def test_an_outage_that_is_longer_than_a_wait_looks_for_its_place(self) -> None:
+        self.one = self.client(self.relay.host + self.root, T)
+        with self.recipe("Lock", self.other, "/locks"):
+            self.relay.cut(CREATE, "answer", LONG_OUTAGE)
+            while not self.relay.cuts:
+                with self.assertRaises(LockTimeout):
+                    self.lock().acquire(0.5)
+            self.assertGreater(self.relay.opens_in(), 0)
+            self.assertEqual(len(self.other.get_children("/locks")), 2)
+            within(lambda: len(self.other.get_children("/locks")) == 1)
+        self.is_free()
+
+    def test_a_place_beside_other_names(self) -> None:
+        for cut in self.each_cut(DELETE):
+            with self.recipe("Lock", self.other, "/locks", names="curator"):
+                cut()
+                with self.assertRaises(MixedNamesError):
+                    self.lock().acquire(WAIT)
+                self.assertEqual(len(self.other.get_children("/locks")), 1)
+
+
+class ThreadsTest(LeavingRules):
+    pass
+
+
+class AioTest(AioCase, LeavingRules):
+    def test_a_task_that_is_cancelled(self) -> None:
+        for cut in self.each_cut(DELETE):
+            with self.recipe("Lock", self.other, "/locks"):
+                cut()
+                asyncio.run_coroutine_threadsafe(self.cancelled(self.lock()), self.loop).result(3 * WAIT)
+                self.assertEqual(len(self.other.get_children("/locks")), 1)
+
+    async def cancelled(self, lock: Blocking) -> None:
+        taking = asyncio.ensure_future(lock._made.acquire())
+        while len(await self.other._made.get_children("/locks")) < 2:
+            await asyncio.sleep(0.005)
+        taking.cancel()
+        with contextlib.suppress(asyncio.CancelledError):
+            await taking
+
+
+def load_tests(loader: unittest.TestLoader, *_: Any) -> unittest.TestSuite:
+    """The rules are no test by themselves."""
+    return unittest.TestSuite(loader.loadTestsFromTestCase(one) for one in (ThreadsTest, AioTest))
+
+
+if __name__ == "__main__":
+    unittest.main()
