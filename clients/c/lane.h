@@ -435,6 +435,7 @@ static inline void dws_take_frame(dws_session *s)
     int32_t xid = dws_take_int(&reading);
     int64_t zxid = dws_take_long(&reading);
     int32_t code = dws_take_int(&reading);
+    s->beside_zxid = zxid > s->beside_zxid ? zxid : s->beside_zxid;
     if (xid == DWS_AUTH_XID && lane->introduced > 0) {
         lane->introduced--;
         if (code != 0) {
@@ -569,13 +570,11 @@ static inline bool dws_write_beside(dws_session *s, int32_t xid, int32_t type, c
     return is_put;
 }
 
-/* Writes a call that was taken out of the queue. After a write of its own the library reads once, so that no server that is behind it is gone to
- * later. */
-static inline enum dw_result dws_ask_beside(dws_session *s, dws_call *asked, uint64_t now_ms)
+/* Writes a call that was taken out of the queue. */
+static inline enum dw_result dws_ask_beside(dws_session *s, dws_call *asked)
 {
     struct dws_lane *lane = dws_lane_of(s);
     dws_lane_call *call = (dws_lane_call *)(void *)asked;
-    bool is_write = call->type == DWS_TYPE_CREATE || call->type == DWS_TYPE_SET_ACL || call->type == DWS_TYPE_MULTI;
     if (call->body.length > DWS_LONGEST_OUTGOING - 8) {
         dws_answered(s, asked->ticket);
         dws_finish(s, asked, DW_OUTCOME_TOO_LARGE);
@@ -588,11 +587,7 @@ static inline enum dw_result dws_ask_beside(dws_session *s, dws_call *asked, uin
     if (call->type != DWS_TYPE_AUTH) {
         lane->next_xid = lane->next_xid > INT32_MIN ? lane->next_xid - 1 : (int32_t)DWS_FIRST_XID;
     }
-    if (!is_write) {
-        return DW_OK;
-    }
-    enum dw_result result = dw_session_exists(&s->machine, now_ms, ++s->last_ticket, asked->until_ms, "/", 1, false);
-    return result == DW_NO_MEMORY ? DW_OK : result; /* the call itself is on its way */
+    return DW_OK;
 }
 
 /* A connection is over. */
@@ -604,10 +599,14 @@ static inline void dws_end_beside(dws_session *s)
     lane->next_xid = DWS_FIRST_XID;
 }
 
-/* A connection begins: it is told who the session is. */
+/* A connection begins: its ConnectRequest asks for a server that has what was answered here, and it is told who the session is. */
 static inline void dws_begin_beside(dws_session *s)
 {
+    enum { ZXID = 8 }; /* after the length and the version of the protocol */
     struct dws_lane *lane = dws_lane_of(s);
+    if (s->unsent.length >= ZXID + sizeof s->beside_zxid) {
+        dws_raise_zxid(s, s->unsent.bytes + ZXID);
+    }
     for (const struct dws_credentials *known = lane->known; known != NULL; known = known->next) {
         if (!dws_write_beside(s, DWS_AUTH_XID, DWS_TYPE_AUTH, &known->body)) {
             dws_fail(s, DW_NO_MEMORY);

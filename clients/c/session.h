@@ -372,8 +372,8 @@ struct dws_seen {
 
 /* What asks beside the library, on the same connection: lane.h. */
 struct dws_beside {
-    enum dw_result (*ask)(dws_session *s, dws_call *call, uint64_t now_ms);                      /* a call is to be written */
-    void (*begin)(dws_session *s);                                                               /* a connection begins */
+    enum dw_result (*ask)(dws_session *s, dws_call *call);                                       /* a call is to be written */
+    void (*begin)(dws_session *s);                                                               /* a connection begins: the ConnectRequest waits */
     void (*hear)(dws_session *s, uint64_t came_ms, const uint8_t *bytes, size_t length);         /* bytes came from the server */
     void (*end)(dws_session *s);                                                                 /* the connection is over */
     bool (*write_words)(dws_session *s, const dws_call *call, char *room, size_t size);          /* why a call has failed, where it has words */
@@ -395,14 +395,17 @@ struct dws_session {
     bool is_dial_due, is_connecting, is_expired, is_closing, is_over, is_resumed;
     bool has_more, has_news;           /* bytes that poll does not tell of, and something that a program may wait for */
     bool must_look, must_follow;       /* marks may be others; subjects are new or gone */
+    bool must_show, is_acting;         /* subjects have changed; what a step says is being taken */
     bool is_moment;                    /* what the library says is due, and no word of the server's */
     bool is_due_known;                 /* no step was made since the library was asked when something is due */
     uint64_t due_ms;
     struct dws_waiting waiting;
     struct dws_frames came;            /* where lane.h is to begin */
+    int64_t beside_zxid;               /* the greatest zxid of an answer to lane.h */
     uint64_t now_ms, last_ticket;
     struct dws_buffer unsent;
     struct dws_line queue, sent;       /* calls that are to be asked, and those that were, in the order of their tickets */
+    struct dws_line answered;          /* those that this step has answered, whose callbacks come when all that it says is taken */
     dws_call close;
     dws_subject *subjects;
     dws_tree *trees;
@@ -691,9 +694,14 @@ static inline bool dws_reserve_names(char ***names, size_t *room, size_t wanted)
     return is_there;
 }
 
+static inline void dws_mark(dws_session *s);
+
+/* Events are few: before each one all marks are looked at. */
 static inline void dws_tell(dws_session *s, enum dws_event event, const char *words)
 {
     if (s->options.told != NULL) {
+        s->must_look = true;
+        dws_mark(s);
         s->options.told(s, event, s->server, words);
     }
 }
@@ -721,13 +729,33 @@ static inline dws_call *dws_remove(struct dws_line *line, dws_call **at)
     return call;
 }
 
-/* Answers a call. */
-static inline void dws_finish(dws_session *s, dws_call *call, int32_t why)
+/* Tells a call its answer. */
+static inline void dws_call_back(dws_session *s, dws_call *call)
 {
-    call->why = why;
+    dws_mark(s);
     call->is_answered = s->has_news = true;
     if (call->then != NULL) {
         call->then(s, call);
+    }
+}
+
+/* Answers a call: within a step it is told so at the end. A step is whole before the library says anything of it, so the last zxid is that of all of
+ * it, and a mark may end by what is said last. */
+static inline void dws_finish(dws_session *s, dws_call *call, int32_t why)
+{
+    call->why = why;
+    if (s->is_acting) {
+        dws_append(&s->answered, call);
+    } else {
+        dws_call_back(s, call);
+    }
+}
+
+/* Tells all calls that a step has answered. */
+static inline void dws_call_all_back(dws_session *s)
+{
+    while (s->answered.count > 0) {
+        dws_call_back(s, dws_remove(&s->answered, &s->answered.first));
     }
 }
 
@@ -780,6 +808,7 @@ static inline void dws_answer_rest(dws_session *s)
     if (s->is_over) {
         bool may_happen = s->result == DW_OK && s->barred == 0 && dws_is_connected(s);
         dws_hang_up(s);
+        dws_call_all_back(s);
         dws_finish_all(s, &s->sent, may_happen ? (int32_t)DW_OUTCOME_LOST : dws_why_over(s));
         dws_finish_all(s, &s->queue, dws_why_over(s));
         while (dws_show_next(s)) {
@@ -1134,6 +1163,7 @@ static inline void dws_act(dws_session *s, enum dw_result result)
 {
     dw_output action;
     s->is_due_known = false;
+    s->is_acting = true;
     while (result == DW_OK && !s->is_over) {
         result = dw_session_next(&s->machine, &action);
         if (result == DW_OK) {
@@ -1142,6 +1172,8 @@ static inline void dws_act(dws_session *s, enum dw_result result)
     }
     dws_see_trees(s);
     dws_lose_beside(s, UINT64_MAX);
+    s->is_acting = false;
+    dws_call_all_back(s);
     if (s->is_over || result == DW_NONE) {
         return;
     }
@@ -1243,7 +1275,7 @@ static inline enum dw_result dws_step(dws_session *s, dws_call *call, uint64_t n
                                  (uint32_t)call->number);
     case DWS_DELETE: return dw_session_delete(machine, now_ms, ticket, until_ms, call->path, length, call->number);
     case DWS_CLOSE: return dw_session_close(machine, now_ms, ticket, until_ms);
-    case DWS_BESIDE: return s->beside->ask(s, call, now_ms);
+    case DWS_BESIDE: return s->beside->ask(s, call);
     }
     return DW_NOT_PATH;
 }
@@ -1645,13 +1677,19 @@ static inline bool dws_look_at_children(dws_session *s, dws_subject *subject, en
     return true;
 }
 
-/* Looks at all subjects, with no step between: those that are good are of one moment, that of the last zxid. */
-static inline void dws_look(dws_session *s)
+/* Looks at all subjects, if their marks may be others, with no step between: those that are good are of one moment, that of the last zxid. So it is
+ * before each callback. */
+static inline void dws_mark(dws_session *s)
 {
     enum dw_result result = DW_OK;
+    if (!s->must_look || s->is_over) {
+        return;
+    }
+    s->must_look = false;
     for (dws_subject *one = s->subjects; one != NULL && result == DW_OK; one = one->next) {
         bool is_changed = one->side == DW_SIDE_DATA ? dws_look_at_node(s, one, &result) : dws_look_at_children(s, one, &result);
         one->is_changed = one->is_changed || is_changed;
+        s->must_show = s->must_show || is_changed;
     }
     if (result != DW_OK) {
         dws_fail(s, result);
@@ -1661,10 +1699,11 @@ static inline void dws_look(dws_session *s)
 /* Shows a subject of which another thing is kept, where there is one. */
 static inline bool dws_show_next(dws_session *s)
 {
+    s->must_show = false;
     for (dws_subject *one = s->subjects; one != NULL; one = one->next) {
         if (one->is_changed) {
             one->is_changed = false;
-            s->has_news = true;
+            s->must_show = s->has_news = true;
             if (one->changed != NULL) {
                 one->changed(s, one);
             }
@@ -1797,6 +1836,15 @@ static inline void dws_spell_int(uint8_t *at, uint32_t number)
 static inline int64_t dws_read_long(const uint8_t *at)
 {
     return (int64_t)((uint64_t)dws_read_int(at) << 32 | dws_read_int(at + 4));
+}
+
+/* A zxid that is spelled here, of what the library has seen, becomes that of what the session has seen. */
+static inline void dws_raise_zxid(const dws_session *s, uint8_t *at)
+{
+    if (dws_read_long(at) < s->beside_zxid) {
+        dws_spell_int(at, (uint32_t)((uint64_t)s->beside_zxid >> 32));
+        dws_spell_int(at + 4, (uint32_t)s->beside_zxid);
+    }
 }
 
 static inline bool dws_read_node(uint8_t **at, const uint8_t *end, dws_node *node)
@@ -2093,6 +2141,7 @@ static inline void dws_lose_kept(dws_session *s)
 {
     for (dws_subject *one = s->subjects; one != NULL; one = one->next) {
         one->is_changed = one->is_changed || one->mark != 0;
+        s->must_show = s->must_show || one->is_changed;
         one->mark = (enum dw_mark)0;
         one->kind = DW_KEPT_NOTHING;
         memset(&one->stat, 0, sizeof one->stat);
@@ -2309,11 +2358,9 @@ static inline bool dws_is_late(dws_session *s)
 static inline void dws_work(dws_session *s)
 {
     dws_follow_new(s);
-    if (s->must_look && !s->is_over) {
-        s->must_look = false;
-        dws_look(s);
-        while (!s->is_over && dws_show_next(s)) {
-        }
+    dws_mark(s);
+    while (s->must_show && !s->is_over) {
+        dws_show_next(s);
     }
     dws_look_at_trees(s);
     dws_send_queued(s);
@@ -2358,7 +2405,7 @@ static inline int dws_wanted(dws_session *s, struct pollfd *polled)
     polled->fd = s->is_over ? -1 : s->wire.socket;
     polled->events = (short)(POLLIN | (s->is_connecting ? POLLOUT : s->read_wants) | (s->unsent.length > 0 ? s->write_wants : 0));
     polled->revents = 0;
-    if (s->has_news || s->is_over || s->has_more || s->is_dial_due || s->must_look || s->must_follow) {
+    if (s->has_news || s->is_over || s->has_more || s->is_dial_due || s->must_look || s->must_show || s->must_follow) {
         return 0;
     }
     uint64_t first = dws_first_due(s);
@@ -2717,7 +2764,8 @@ static inline void *dws_context(const dws_session *s)
 
 static inline int64_t dws_last_zxid(dws_session *s)
 {
-    return dw_session_last_zxid(&s->machine);
+    int64_t zxid = dw_session_last_zxid(&s->machine);
+    return zxid < s->beside_zxid ? s->beside_zxid : zxid;
 }
 
 static inline void dws_forget(dws_session *s)
@@ -2733,7 +2781,11 @@ static inline int64_t dws_heard_ms(dws_session *s)
 
 static inline enum dw_result dws_saved(dws_session *s, uint8_t *room, size_t size, size_t *length)
 {
-    return dw_session_saved(&s->machine, room, size, length);
+    enum dw_result result = dw_session_saved(&s->machine, room, size, length);
+    if (result == DW_OK && *length >= 8 && *length <= size) {
+        dws_raise_zxid(s, room + *length - 8);
+    }
+    return result;
 }
 
 static inline int64_t dws_id(dws_session *s)

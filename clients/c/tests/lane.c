@@ -169,8 +169,7 @@ static void ask_both(size_t first, size_t rest)
     hear_request(-1001, DWS_TYPE_SYNC, NULL);
     hear_request(-1002, DWS_TYPE_GET_ACL, NULL);
     hear_transaction(-1003);
-    hear_request(2, TYPE_EXISTS, NULL); /* of the library, after the write */
-    hear_request(3, TYPE_EXISTS, NULL);
+    hear_request(2, TYPE_EXISTS, NULL);
     came.length = 0;
     add_data(&came, 1, 5, "one", &STAT);
     add_synced(&came, -1001);
@@ -178,7 +177,6 @@ static void ask_both(size_t first, size_t rest)
     add_notice(&came, DW_EVENT_DATA_CHANGED, "/a");
     add_changes(&came, -1003);
     add_stat(&came, 2, 6, &STAT);
-    add_stat(&came, 3, 6, &STAT);
     answer(&came, first, rest);
     wait_for(&last.call);
     expect_said("get 0\nsync 0\nacl 0\nchange 0 mark 2 zxid 6 made /log-0000000000 version 7\nlast 0\n");
@@ -356,10 +354,8 @@ static void tell_refusals(void)
         spell_transaction(&change.lane);
         dws_commit(session, &change.lane);
         hear_transaction(-1001 - (int32_t)i);
-        hear_request(1 + (int32_t)i, TYPE_EXISTS, NULL);
         came.length = 0;
         add_rolled_back(&came, -1001 - (int32_t)i, rows[i].code);
-        add_stat(&came, 1 + (int32_t)i, 6, &STAT);
         answer(&came, 3, 5);
         EXPECT_NUMBER(rows[i].code, dws_wait(session, &change.lane.call));
         EXPECT_NUMBER(2, change.lane.refused);
@@ -497,6 +493,105 @@ static void bar(void)
     release_all();
 }
 
+static dws_subject followed;
+
+/* What is kept of a node that is followed, when the answer to a transaction comes. */
+static void tell_followed(dws_session *s, dws_call *call)
+{
+    say("change %d mark %d zxid %d\n", (int)call->why, (int)followed.mark, (int)dws_last_zxid(s));
+}
+
+/* The answer to a transaction of one operation, a set. */
+static void add_set(struct bytes *bytes, int32_t xid, int64_t zxid)
+{
+    size_t begin = bytes->length;
+    add_header(bytes, xid, zxid, 0);
+    put_type(bytes, DWS_OF_SET, 0);
+    put_stat(bytes, &STAT);
+    put_type(bytes, -1, 1);
+    end_answer(bytes, begin);
+}
+
+/* Follows /a, and sets it in a transaction at zxid 50, whose notice comes in the same bytes as the answer. */
+static void change_followed(void)
+{
+    struct bytes came;
+    open_session();
+    admit();
+    EXPECT_NUMBER(DW_OK, dws_follow(session, &followed, "/a", see_mark));
+    hear_request(1, TYPE_GET, NULL);
+    came.length = 0;
+    add_data(&came, 1, 5, "alpha", &STAT);
+    answer_at_once(&came);
+    turn(0);
+    change.lane.call.then = tell_followed;
+    dws_transaction_set(session, &change.lane, "/a", "beta", 4, -1);
+    dws_commit(session, &change.lane);
+    hear_request(-1001, DWS_TYPE_MULTI, NULL);
+    came.length = 0;
+    add_notice(&came, DW_EVENT_DATA_CHANGED, "/a");
+    add_set(&came, -1001, 50);
+    answer_at_once(&came);
+    turn(0);
+    expect_said("mark 1\nchange 0 mark 2 zxid 50\nmark 2\n");
+    hear_request(2, TYPE_GET, NULL);
+}
+
+/* Servers in memory: the first one is behind, at zxid 40, and ends the connection of a session that has seen more, as real servers do. The session
+ * tells each one of the answer to its transaction, and keeps that away too. */
+static void leave_servers_behind(void)
+{
+    uint8_t saved[DWS_LONGEST_SAVED];
+    size_t length = 0;
+    change_followed();
+    EXPECT_NUMBER(DW_OK, dws_saved(session, saved, sizeof saved, &length));
+    EXPECT_NUMBER(50, dws_read_long(saved + length - 8));
+    end_line();
+    for (int64_t last = 40; last <= 50; last += 10) { /* the zxid of the server */
+        struct bytes connected;
+        accept_line();
+        hear();
+        EXPECT_NUMBER(50, dws_read_long(out.at + 4));
+        EXPECT(!dws_is_good(&followed));
+        if (dws_read_long(out.at + 4) > last) {
+            end_line();
+        } else {
+            connected.length = 0;
+            add_connected(&connected);
+            answer_at_once(&connected);
+        }
+    }
+    hear_request(3, TYPE_GET, NULL);
+    close_all();
+    release_all();
+}
+
+/* The zxid of each answer counts, of those that refuse too. */
+static void count_each_zxid(void)
+{
+    static const dws_acl acls[] = {{DWS_MAY_ALL, "world", "anyone"}};
+    struct bytes came;
+    open_session();
+    admit();
+    dws_sync(session, &sync_call.lane, "/a");
+    dws_get_acl(session, &acl.lane, "/a");
+    dws_set_acl(session, &last.lane, "/a", acls, 1, -1);
+    dws_create_with_acl(session, &get.lane, "/a/b", "", 0, 0, acls, 1);
+    for (int32_t i = 0; i < 4; i++) {
+        hear_request(-1001 - i, i == 0 ? DWS_TYPE_SYNC : i == 1 ? DWS_TYPE_GET_ACL : i == 2 ? DWS_TYPE_SET_ACL : DWS_TYPE_CREATE, NULL);
+        came.length = 0;
+        add_header(&came, -1001 - i, 20 + i, DW_CODE_NO_NODE);
+        answer_at_once(&came);
+        EXPECT_NUMBER(20 + i, dws_last_zxid(session));
+    }
+    end_line();
+    accept_line();
+    hear();
+    EXPECT_NUMBER(23, dws_read_long(out.at + 4));
+    close_all();
+    release_all();
+}
+
 /* A frame with an xid of the lane for which nobody waits is the library's, which gives the connection up. */
 static void leave_the_rest(void)
 {
@@ -529,6 +624,8 @@ int main(int argc, char **argv)
     introduce();
     bar();
     leave_the_rest();
+    leave_servers_behind();
+    count_each_zxid();
     close(listener);
     printf("lane: passed\n");
     return EXIT_SUCCESS;

@@ -214,6 +214,45 @@ static void be_late(void)
     close_all();
 }
 
+/* What is kept of the node, when a call is answered. */
+static void tell_mark(dws_session *s, dws_call *call)
+{
+    say("%s %d mark %d zxid %d\n", (const char *)call->context, (int)call->why, (int)node.mark, (int)dws_last_zxid(s));
+}
+
+/* A node is stale in each callback of a step that has the notice of its change, whether that comes before an answer or after it: the last zxid is that
+ * of the whole step. */
+static void mark_before_callbacks(bool is_told_first)
+{
+    struct bytes came;
+    open_session();
+    admit();
+    EXPECT_NUMBER(DW_OK, dws_follow(session, &node, "/a", NULL));
+    hear_request(1, TYPE_GET, NULL);
+    answer_data(1);
+    turn(0);
+    EXPECT(dws_is_good(&node));
+    named(&set, "set")->then = named(&get, "get")->then = tell_mark;
+    dws_set(session, &set, "/a", "two", 3, -1);
+    dws_get(session, &get, "/b", false);
+    hear_request(2, TYPE_SET, NULL);
+    hear_request(3, TYPE_GET, NULL);
+    came.length = 0;
+    if (is_told_first) {
+        add_notice(&came, DW_EVENT_DATA_CHANGED, "/a");
+    }
+    add_stat(&came, 2, 6, &STAT);
+    if (!is_told_first) {
+        add_notice(&came, DW_EVENT_DATA_CHANGED, "/a");
+    }
+    add_data(&came, 3, 8, "one", &STAT);
+    answer_at_once(&came);
+    expect_said("set 0 mark 2 zxid 8\nget 0 mark 2 zxid 8\n");
+    hear_request(4, TYPE_GET, NULL);
+    close_all();
+    get.then = set.then = NULL;
+}
+
 /* After the server's word that the session is closed nothing more is done. */
 static void close_once(void)
 {
@@ -800,6 +839,8 @@ int main(int argc, char **argv)
     end_at_expiry();
     renew_at_expiry();
     be_late();
+    mark_before_callbacks(true);
+    mark_before_callbacks(false);
     close_once();
     wait_for_a_lock();
     lose_a_lock();
