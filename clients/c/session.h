@@ -131,7 +131,7 @@ struct dws_call {
     enum dws_kind kind;
     char *path, *bytes;
     size_t bytes_length, room, names_room;
-    bool watch, is_null_sent;
+    bool watch, is_null_sent, is_patient; /* that it has no limit */
     int32_t number;
     uint64_t ticket, until_ms;
     dws_call *next;
@@ -380,6 +380,13 @@ struct dws_beside {
     void (*release)(dws_session *s);                                                             /* the session is freed */
 };
 
+/* What a session goes on with by itself, until it is done or the session is freed: a place of lock.h. */
+struct dws_errand {
+    void (*go_on)(dws_session *s, struct dws_errand *errand); /* a server has accepted the session */
+    void (*end)(dws_session *s, struct dws_errand *errand);   /* the session is freed */
+    struct dws_errand *next;
+};
+
 struct dws_session {
     dw_session machine;
     dws_options options;
@@ -407,6 +414,7 @@ struct dws_session {
     struct dws_line queue, sent;       /* calls that are to be asked, and those that were, in the order of their tickets */
     struct dws_line answered;          /* those that this step has answered, whose callbacks come when all that it says is taken */
     dws_call close;
+    struct dws_errand *errands;
     dws_subject *subjects;
     dws_tree *trees;
     struct dws_gone *gone;
@@ -1053,12 +1061,22 @@ static inline void dws_take_expiry(dws_session *s)
     dws_finish_all(s, &s->queue, DW_OUTCOME_EXPIRED);
 }
 
+/* A server has accepted the session. */
+static inline void dws_take_admission(dws_session *s)
+{
+    s->is_resumed = false;
+    for (struct dws_errand *errand = s->errands, *next; errand != NULL; errand = next) {
+        next = errand->next;
+        errand->go_on(s, errand);
+    }
+    dws_tell(s, DWS_CONNECTED, "connected");
+}
+
 static inline void dws_take_state(dws_session *s, enum dw_state state)
 {
     s->must_look = s->has_news = true;
     if (state == DW_STATE_CONNECTED) {
-        s->is_resumed = false;
-        dws_tell(s, DWS_CONNECTED, "connected");
+        dws_take_admission(s);
     } else if (state == DW_STATE_EXPIRED) {
         dws_take_expiry(s);
     } else if (state == DW_STATE_CLOSED) {
@@ -2443,7 +2461,7 @@ static inline void dws_put(dws_session *s, dws_call *call)
     call->is_answered = false;
     call->why = 0;
     call->count = call->length = 0;
-    call->until_ms = s->options.patience_ms < 0 ? UINT64_MAX : dws_now_ms() + dws_patience_ms(s);
+    call->until_ms = s->options.patience_ms < 0 || call->is_patient ? UINT64_MAX : dws_now_ms() + dws_patience_ms(s);
     if (s->is_over || s->is_closing) {
         dws_finish(s, call, dws_why_over(s));
     } else {
@@ -2693,6 +2711,9 @@ static inline void dws_free(dws_session *s)
         dws_unfollow_tree(s, s->trees);
     }
     dws_answer_rest(s);
+    while (s->errands != NULL) {
+        s->errands->end(s, s->errands);
+    }
     if (s->beside != NULL) {
         s->beside->release(s);
     }

@@ -330,6 +330,16 @@ static void answer_none(int32_t xid, int64_t zxid)
     answer_at_once(&came);
 }
 
+/* The next request is a sync, which is answered. */
+static void answer_sync(int32_t xid)
+{
+    struct bytes came;
+    hear_request(xid, DWS_TYPE_SYNC, NULL);
+    came.length = 0;
+    add_created(&came, xid, 7, "/l"); /* its answer has a path too */
+    answer_at_once(&came);
+}
+
 static void notice(int32_t event, const char *path)
 {
     struct bytes came;
@@ -338,7 +348,7 @@ static void notice(int32_t event, const char *path)
     answer_at_once(&came);
 }
 
-/* An exclusive lock waits for one of Curator's that shares, and is held once that is gone. Where its place is deleted, it takes another one. */
+/* An exclusive lock waits for one that shares, and is held once that is gone. Where its place is deleted, it takes another one. */
 static void wait_for_a_lock(void)
 {
     static dws_lock lock;
@@ -350,15 +360,15 @@ static void wait_for_a_lock(void)
     hear_about(2, TYPE_GET, place);
     hear_about(3, TYPE_CHILDREN, "/l");
     answer_place(2, 6);
-    answer_names(3, 7, place + 3, "a-__READ__0000000001");
+    answer_names(3, 7, place + 3, "a__rlock__0000000001");
     EXPECT(!lock.is_held);
-    hear_about(4, TYPE_GET, "/l/a-__READ__0000000001");
+    hear_about(4, TYPE_GET, "/l/a__rlock__0000000001");
     answer_place(4, 8);
     EXPECT(!lock.is_held);
-    notice(DW_EVENT_DELETED, "/l/a-__READ__0000000001");
-    hear_about(5, TYPE_GET, "/l/a-__READ__0000000001");
+    notice(DW_EVENT_DELETED, "/l/a__rlock__0000000001");
+    hear_about(5, TYPE_GET, "/l/a__rlock__0000000001");
     answer_none(5, 9);
-    hear_about(6, TYPE_EXISTS, "/l/a-__READ__0000000001");
+    hear_about(6, TYPE_EXISTS, "/l/a__rlock__0000000001");
     answer_none(6, 9);
     hear_about(7, TYPE_CHILDREN, "/l");
     answer_names(7, 9, place + 3, "note");
@@ -426,6 +436,7 @@ static void share_a_lock(void)
     strcat(place, "0000000007");
     end_line();
     admit();
+    answer_sync(-1001);
     hear_about(2, TYPE_CHILDREN, "/l");
     answer_names(2, 7, place + 3, "a__rlock__0000000001");
     hear_about(3, TYPE_GET, place);
