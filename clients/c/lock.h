@@ -1,7 +1,8 @@
 /* A lock over session.h. All contenders of a path use names of one kind, kazoo's or Curator's: those of the other kind do not see one another, and
  * would hold beside one another. So a lock that finds places of the other kind below its path gives its own up, and says DWS_LOCK_MIXED_NAMES. With
  * kazoo's names, which zeros are, it stands in line with kazoo's Lock, ReadLock, WriteLock and Election; with Curator's with InterProcessMutex,
- * InterProcessReadWriteLock and LeaderSelector; with both with the clients for Rust and Python. Nodes that are no contenders are passed over.
+ * InterProcessReadWriteLock and LeaderSelector; with both with the clients for Rust and Python. Curator's LeaderLatch has names of its own, which are
+ * always others. Nodes that are no contenders are passed over.
  *
  * It is exclusive or shared: each contender makes an ephemeral node, its place, below the node of the lock, and the first one holds it; who shares it,
  * once no exclusive one is before it. Who holds it is the library's word, dw_session_standing; what is asked for that is tested, and not proved.
@@ -130,11 +131,11 @@ static inline bool dws_lock_is_marked(const char *name, const char *marker)
            && strncmp(name + length - before, marker, strlen(marker)) == 0;
 }
 
-/* Whether a name is that of a contender of the other kind. Those of Curator's LeaderLatch are, too. */
+/* Whether a name is that of a contender of the other kind, or of Curator's LeaderLatch, which waits for no lock. */
 static inline bool dws_place_is_foreign(const struct dws_place *place, const char *name)
 {
     enum dws_names other = place->lock->names == DWS_NAMES_CURATOR ? DWS_NAMES_KAZOO : DWS_NAMES_CURATOR;
-    bool is_foreign = other == DWS_NAMES_CURATOR && dws_lock_is_marked(name, "-latch-");
+    bool is_foreign = dws_lock_is_marked(name, "-latch-");
     for (int i = 0; i < DWS_KINDS; i++) {
         is_foreign = is_foreign || dws_lock_is_marked(name, dws_lock_marker(other, i));
     }
@@ -160,15 +161,13 @@ static inline const char *dws_lock_find(const dws_call *listed, const struct dws
 
 static inline void dws_lock_words(dws_session *s, const dws_lock *lock, char *room, size_t size)
 {
-    static const char kazoo[] = "a contender with kazoo's names is there, and this lock has Curator's";
-    static const char curator[] = "a contender with Curator's names is there, and this lock has kazoo's";
     dws_call failed;
     memset(&failed, 0, sizeof failed);
     failed.kind = DWS_CREATE;
     failed.why = lock->why;
     failed.path = dws_outer(s, lock->trouble);
     if (lock->why == DWS_LOCK_MIXED_NAMES) {
-        write_words(room, size, lock->names == DWS_NAMES_CURATOR ? kazoo : curator, lock->trouble, "use names of one kind at a path");
+        write_words(room, size, "a contender with names of another kind is there", lock->trouble, "use one kind of names for all contenders");
     } else {
         dws_words(s, &failed, room, size);
     }

@@ -363,8 +363,6 @@ static void refuse_to_delete(void)
 /* Contenders of the other names are met: the place is given up, and both are named. Others are no contenders, and nobody waits for them. */
 static void meet_other_names(enum dws_names names, enum dws_sharing sharing, const char *other, bool is_foreign)
 {
-    static const char *const kinds[] = {"a contender with Curator's names is there, and this lock has kazoo's: /l/%s; use names of one kind at a path",
-                                        "a contender with kazoo's names is there, and this lock has Curator's: /l/%s; use names of one kind at a path"};
     char why[DWS_LONGEST_LINE], wanted[400];
     static dws_lock lock;
     begin(BEFORE, SIZE_MAX);
@@ -378,7 +376,7 @@ static void meet_other_names(enum dws_names names, enum dws_sharing sharing, con
         go_on_until(is_null, &session->errands);
         expect_said("why 98\n");
         EXPECT(lock.why == DWS_LOCK_MIXED_NAMES && !lock.is_held && node_count == 1);
-        snprintf(wanted, sizeof wanted, kinds[names], other);
+        snprintf(wanted, sizeof wanted, "a contender with names of another kind is there: /l/%s; use one kind of names for all contenders", other);
         dws_lock_words(session, &lock, why, sizeof why);
         EXPECT(strcmp(why, wanted) == 0);
         EXPECT(dws_lock_let_go(session, &lock)->is_answered);
@@ -410,7 +408,7 @@ static void stand_in_line(enum dws_names names, enum dws_sharing sharing, const 
 static void try_names(void)
 {
     static const char *const curators[] = {"_c_1-lock-0000000007", "_c_1-__WRIT__0000000000", "_c_1-__READ__0000000009", "_c_1-latch-0000000000"};
-    static const char *const kazoos[] = {"1__lock__0000000000", "1__rlock__0000000007"};
+    static const char *const kazoos[] = {"1__lock__0000000000", "1__rlock__0000000007", "_c_1-latch-0000000000"};
     static const char *const others[] = {"note", "note-0000000000", "_c_1-lock-", "1__lock__000000000", "lock-0000000000", "__lock__x0000000000"};
     const enum dws_sharing kinds[] = {DWS_EXCLUSIVE, DWS_SHARED, DWS_WRITING};
     for (size_t kind = 0; kind < 3; kind++) {
