@@ -39,7 +39,7 @@ int main(int argc, char **argv)
     path = argv[2];
     enum dw_result result = dws_follow(session, &node, path, show);
     if (result != DW_OK) {
-        write_result(why, sizeof why, result, path);
+        dws_write_result(why, sizeof why, result, path);
         fprintf(stderr, "follow: %s\n", why);
     } else {
         turn_until_signal(session);

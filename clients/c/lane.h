@@ -375,7 +375,7 @@ static inline dws_call **dws_lane_place(dws_session *s, int32_t xid)
 static inline void dws_bar(dws_session *s, int32_t code)
 {
     char words[256];
-    write_code(words, sizeof words, code, NULL);
+    dws_write_code(words, sizeof words, code, NULL);
     s->barred = code;
     dws_be_over(s);
     dws_finish_all(s, &s->sent, code);
@@ -640,14 +640,14 @@ static inline void dws_write_refused(char *room, size_t size, int32_t why, bool 
     if (is_parent && slash != NULL) {
         slash[slash == place] = 0;
     }
-    write_code(room, size, why, place);
+    dws_write_code(room, size, why, place);
 }
 
 static inline bool dws_write_words_beside(dws_session *s, const dws_call *failed, char *room, size_t size)
 {
     const dws_lane_call *call = (const dws_lane_call *)(const void *)failed;
     if (call->fault != 0 && call->no_path != NULL) {
-        write_result(room, size, (enum dw_result)(DWS_REFUSED - call->fault), call->no_path);
+        dws_write_result(room, size, (enum dw_result)(DWS_REFUSED - call->fault), call->no_path);
         return true;
     }
     if (call->type == DWS_TYPE_CREATE && failed->why < 0) {
@@ -660,7 +660,7 @@ static inline bool dws_write_words_beside(dws_session *s, const dws_call *failed
     const dws_change *change = &call->changes[call->refused];
     char words[DWS_LONGEST_LINE];
     dws_write_refused(words, sizeof words, failed->why, change->operation == DWS_OF_CREATE, change->asked);
-    end_cut(room, size, snprintf(room, size, "operation %zu was refused, and nothing has happened: %s", call->refused, words));
+    dws_end_cut(room, size, snprintf(room, size, "operation %zu was refused, and nothing has happened: %s", call->refused, words));
     return true;
 }
 
@@ -732,7 +732,7 @@ static inline char *dws_put_path(dws_session *s, dws_lane_call *call, const char
     dw_kept_data kept;
     uint8_t none;
     char *outer = dws_outer(s, path);
-    enum dw_result result = outer == NULL ? DW_NO_MEMORY : words_of_path(path) != NULL ? DW_NOT_PATH : DW_OK;
+    enum dw_result result = outer == NULL ? DW_NO_MEMORY : dws_words_of_path(path) != NULL ? DW_NOT_PATH : DW_OK;
     if (result == DW_OK) {
         result = dw_session_peek_data(&s->machine, outer, strlen(outer), &kept, &none, 0);
     }

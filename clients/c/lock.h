@@ -167,7 +167,7 @@ static inline void dws_lock_words(dws_session *s, const dws_lock *lock, char *ro
     failed.why = lock->why;
     failed.path = dws_outer(s, lock->trouble);
     if (lock->why == DWS_LOCK_MIXED_NAMES) {
-        write_words(room, size, "a contender with names of another kind is there", lock->trouble, "use one kind of names for all contenders");
+        dws_write_words(room, size, "a contender with names of another kind is there", lock->trouble, "use one kind of names for all contenders");
     } else {
         dws_words(s, &failed, room, size);
     }
@@ -205,7 +205,7 @@ static inline void dws_lock_look_away(dws_session *s, dws_lock *lock)
 static inline void dws_lock_fail(dws_session *s, dws_lock *lock, int32_t why, const char *path)
 {
     struct dws_place *place = lock->place;
-    end_cut(lock->trouble, sizeof lock->trouble, snprintf(lock->trouble, sizeof lock->trouble, "%s", path));
+    dws_end_cut(lock->trouble, sizeof lock->trouble, snprintf(lock->trouble, sizeof lock->trouble, "%s", path));
     dws_lock_look_away(s, lock);
     place->is_left = true;
     dws_place_go_on(s, place);

@@ -428,7 +428,7 @@ struct dws_session {
 
 /* made by scripts/interface from include/interface.toml */
 /* What to do about what a function answered: the empty text where its words say it. */
-static inline const char *advice_of_result(enum dw_result result)
+static inline const char *dws_advice_of_result(enum dw_result result)
 {
     switch (result) {
     case DW_OK: return "";
@@ -450,7 +450,7 @@ static inline const char *advice_of_result(enum dw_result result)
 }
 
 /* What to do where there is no reply: the empty text where its words say it. */
-static inline const char *advice_of_outcome(enum dw_outcome outcome)
+static inline const char *dws_advice_of_outcome(enum dw_outcome outcome)
 {
     switch (outcome) {
     case DW_OUTCOME_REPLIED: return "";
@@ -466,7 +466,7 @@ static inline const char *advice_of_outcome(enum dw_outcome outcome)
 }
 
 /* Why a server refuses a call, by a code that the header does not name. NULL where there are no words either. */
-static inline const char *words_of_other_code(int32_t code)
+static inline const char *dws_words_of_other_code(int32_t code)
 {
     switch (code) {
     case -1: return "the server has failed";
@@ -493,7 +493,7 @@ static inline const char *words_of_other_code(int32_t code)
 }
 
 /* What to do where a server refuses a call. */
-static inline const char *advice_of_code(int32_t code)
+static inline const char *dws_advice_of_code(int32_t code)
 {
     switch (code) {
     case -4: return "it may or may not have happened: read again";
@@ -509,7 +509,7 @@ static inline const char *advice_of_code(int32_t code)
 /* end of what is made */
 
 /* Why the library takes a text that is UTF-8 for no path of a node, or NULL where this function sees no reason. */
-static inline const char *words_of_path(const char *path)
+static inline const char *dws_words_of_path(const char *path)
 {
     static const size_t longest = 4096;
     size_t length = strlen(path);
@@ -540,7 +540,7 @@ static inline const char *words_of_path(const char *path)
 }
 
 /* Ends a text that had no room for its length with two dots, which come after a whole character. */
-static inline void end_cut(char *room, size_t size, int length)
+static inline void dws_end_cut(char *room, size_t size, int length)
 {
     if (length >= 0 && (size_t)length >= size && size > 2) {
         size_t end = size - 3;
@@ -552,7 +552,7 @@ static inline void end_cut(char *room, size_t size, int length)
 }
 
 /* How many bytes the first character of a text has; 0 where it is a control character, or no UTF-8. */
-static inline size_t length_of_shown(const char *text)
+static inline size_t dws_length_of_shown(const char *text)
 {
     static const uint32_t least[] = {0, ' ', 0xa0, 0x800, 0x10000};
     unsigned char first = (unsigned char)text[0];
@@ -570,12 +570,12 @@ static inline size_t length_of_shown(const char *text)
 }
 
 /* Writes a path as messages have it, on one line: control characters and bytes that are no UTF-8 are \xNN. It gives the room back. */
-static inline const char *show_path(char *room, size_t size, const char *path)
+static inline const char *dws_show_path(char *room, size_t size, const char *path)
 {
     static const size_t most = sizeof "\\xNN" - 1; /* bytes of one character */
     size_t length = 0;
     while (*path != 0 && length + most + 2 < size) {
-        size_t count = length_of_shown(path);
+        size_t count = dws_length_of_shown(path);
         if (count > 0) {
             memcpy(room + length, path, count);
             length += count;
@@ -589,40 +589,40 @@ static inline const char *show_path(char *room, size_t size, const char *path)
 }
 
 /* Writes a reason, with the path where it is not NULL and what to do where there is something, as far as there is room. */
-static inline void write_words(char *room, size_t size, const char *reason, const char *path, const char *advice)
+static inline void dws_write_words(char *room, size_t size, const char *reason, const char *path, const char *advice)
 {
     char shown[DWS_LONGEST_LINE];
     const char *before = path != NULL ? ": " : "", *after = advice[0] != 0 ? "; " : "";
-    path = path != NULL ? show_path(shown, sizeof shown, path) : "";
-    end_cut(room, size, snprintf(room, size, "%s%s%s%s%s", reason, before, path, after, advice));
+    path = path != NULL ? dws_show_path(shown, sizeof shown, path) : "";
+    dws_end_cut(room, size, snprintf(room, size, "%s%s%s%s%s", reason, before, path, after, advice));
 }
 
 /* Writes what a function of the library answered about a path, or about none where that is NULL. */
-static inline void write_result(char *room, size_t size, enum dw_result result, const char *path)
+static inline void dws_write_result(char *room, size_t size, enum dw_result result, const char *path)
 {
     if (result == DW_NOT_PATH && path != NULL) {
         char shown[DWS_LONGEST_LINE];
-        const char *why = words_of_path(path), *before = why != NULL ? ": " : "";
-        show_path(shown, sizeof shown, path[0] != 0 ? path : "\"\"");
-        end_cut(room, size, snprintf(room, size, "%s is no path%s%s", shown, before, why != NULL ? why : ""));
+        const char *why = dws_words_of_path(path), *before = why != NULL ? ": " : "";
+        dws_show_path(shown, sizeof shown, path[0] != 0 ? path : "\"\"");
+        dws_end_cut(room, size, snprintf(room, size, "%s is no path%s%s", shown, before, why != NULL ? why : ""));
     } else {
-        write_words(room, size, dw_result_words(result), path, advice_of_result(result));
+        dws_write_words(room, size, dw_result_words(result), path, dws_advice_of_result(result));
     }
 }
 
 /* Writes why a call about a path has no reply. */
-static inline void write_outcome(char *room, size_t size, enum dw_outcome outcome, const char *path)
+static inline void dws_write_outcome(char *room, size_t size, enum dw_outcome outcome, const char *path)
 {
-    write_words(room, size, dw_outcome_words(outcome), path, advice_of_outcome(outcome));
+    dws_write_words(room, size, dw_outcome_words(outcome), path, dws_advice_of_outcome(outcome));
 }
 
 /* Writes why a server refuses a call about a path. A code that has no name in the header is told by its number. */
-static inline void write_code(char *room, size_t size, int32_t code, const char *path)
+static inline void dws_write_code(char *room, size_t size, int32_t code, const char *path)
 {
     char numbered[64];
     const char *reason = dw_code_words(code);
     if (strcmp(reason, dw_code_words(0)) == 0) { /* 0 is no error, and so has no name either */
-        reason = words_of_other_code(code);
+        reason = dws_words_of_other_code(code);
     }
     if (code == DW_CODE_INVALID_ACL) { /* the header knows calls with the open one alone */
         reason = "the server does not take this ACL";
@@ -631,7 +631,7 @@ static inline void write_code(char *room, size_t size, int32_t code, const char 
         snprintf(numbered, sizeof numbered, "the server answers %" PRId32, code);
         reason = numbered;
     }
-    write_words(room, size, reason, path, advice_of_code(code));
+    dws_write_words(room, size, reason, path, dws_advice_of_code(code));
 }
 
 /* ---- Steps: what a step of the library's session says, and calls that are handed to it. ---- */
@@ -1391,8 +1391,8 @@ static inline bool dws_read_string(dws_session *s, const char *text, char *why, 
     }
     strcpy(s->hosts_text, text);
     s->root = s->hosts_text + length + (strcmp(text + length, "/") == 0);
-    if (s->root[0] != 0 && words_of_path(s->root) != NULL) {
-        write_result(why, size, DW_NOT_PATH, s->root);
+    if (s->root[0] != 0 && dws_words_of_path(s->root) != NULL) {
+        dws_write_result(why, size, DW_NOT_PATH, s->root);
         return false;
     }
     return dws_read_hosts(s, length, why, size);
@@ -1769,10 +1769,10 @@ static inline void dws_take_refusal(dws_session *s, const dw_output *refused)
     if (subject == NULL) {
         dws_note_seen(s, refused->ticket, is_code && (dws_is_busy(why) || why == DW_CODE_NO_NODE) ? 0 : why);
     } else if (is_code) {
-        write_code(line, sizeof line, why, dws_inner(s, subject->path));
+        dws_write_code(line, sizeof line, why, dws_inner(s, subject->path));
         dws_tell(s, DWS_READ_REFUSED, line);
     } else {
-        write_outcome(line, sizeof line, (enum dw_outcome)why, dws_inner(s, subject->path));
+        dws_write_outcome(line, sizeof line, (enum dw_outcome)why, dws_inner(s, subject->path));
         dws_tell(s, DWS_READ_REFUSED, line);
     }
 }
@@ -1969,11 +1969,11 @@ static inline void dws_tree_words(dws_session *s, const dws_tree *tree, char *ro
     const char *path = tree->trouble != NULL ? tree->trouble : tree->path;
     const char *inner = path != NULL ? dws_inner(s, path) : "";
     if (tree->why > DWS_REFUSED) {
-        write_result(room, size, (enum dw_result)(DWS_REFUSED - tree->why), inner);
+        dws_write_result(room, size, (enum dw_result)(DWS_REFUSED - tree->why), inner);
     } else if (tree->why < 0) {
-        write_code(room, size, tree->why, inner);
+        dws_write_code(room, size, tree->why, inner);
     } else {
-        write_outcome(room, size, (enum dw_outcome)tree->why, inner);
+        dws_write_outcome(room, size, (enum dw_outcome)tree->why, inner);
     }
 }
 
@@ -2306,7 +2306,7 @@ static inline enum dw_result dws_follow_tree(dws_session *s, dws_tree *tree, con
     dw_kept_data kept;
     uint8_t none;
     tree->path = dws_outer(s, path);
-    enum dw_result result = tree->path == NULL ? DW_NO_MEMORY : words_of_path(path) != NULL ? DW_NOT_PATH : DW_OK;
+    enum dw_result result = tree->path == NULL ? DW_NO_MEMORY : dws_words_of_path(path) != NULL ? DW_NOT_PATH : DW_OK;
     if (result == DW_OK) {
         result = dw_session_peek_data(&s->machine, tree->path, strlen(tree->path), &kept, &none, 0);
     }
@@ -2494,7 +2494,7 @@ static inline dws_call *dws_ask(dws_session *s, dws_call *call, enum dws_kind ki
     call->is_null_sent = bytes == NULL;
     if (call->path == NULL || call->bytes == NULL) {
         dws_finish(s, call, DWS_REFUSED - (int32_t)DW_NO_MEMORY);
-    } else if (words_of_path(path) != NULL) {
+    } else if (dws_words_of_path(path) != NULL) {
         dws_finish(s, call, DWS_REFUSED - (int32_t)DW_NOT_PATH);
     } else {
         memcpy(call->bytes, bytes != NULL ? bytes : "", length);
@@ -2573,13 +2573,13 @@ static inline void dws_write_late(dws_session *s, const dws_call *call, char *ro
     char reason[64];
     if (call->why == DWS_LATE) {
         snprintf(reason, sizeof reason, "no answer came in %g s", waited_s);
-        write_words(room, size, reason, path, "it may have happened, or may yet: read again");
+        dws_write_words(room, size, reason, path, "it may have happened, or may yet: read again");
     } else if (dws_is_connected(s)) {
         snprintf(reason, sizeof reason, "other calls have waited before it for %g s", waited_s);
-        write_words(room, size, reason, path, "call again later");
+        dws_write_words(room, size, reason, path, "call again later");
     } else {
         const char *form = "no server of %s accepted the session in %g s; last: %s: %s";
-        end_cut(room, size, snprintf(room, size, form, s->hosts_text, waited_s, s->server, s->trouble));
+        dws_end_cut(room, size, snprintf(room, size, form, s->hosts_text, waited_s, s->server, s->trouble));
     }
 }
 
@@ -2592,15 +2592,15 @@ static inline void dws_words(dws_session *s, const dws_call *call, char *room, s
         return;
     }
     if (call->why > DWS_REFUSED) {
-        write_result(room, size, (enum dw_result)(DWS_REFUSED - call->why), path);
+        dws_write_result(room, size, (enum dw_result)(DWS_REFUSED - call->why), path);
     } else if (call->why == DWS_LATE || call->why == DW_OUTCOME_NOT_CONNECTED) {
         dws_write_late(s, call, room, size, path);
     } else if (call->why < 0) {
-        write_code(room, size, call->why, path);
+        dws_write_code(room, size, call->why, path);
     } else if (call->why == DW_OUTCOME_EXPIRED && !s->is_over) {
-        write_words(room, size, dw_outcome_words(DW_OUTCOME_EXPIRED), path, "call again");
+        dws_write_words(room, size, dw_outcome_words(DW_OUTCOME_EXPIRED), path, "call again");
     } else {
-        write_outcome(room, size, (enum dw_outcome)call->why, path);
+        dws_write_outcome(room, size, (enum dw_outcome)call->why, path);
     }
 }
 
@@ -2615,7 +2615,7 @@ static inline enum dw_result dws_follow_side(dws_session *s, dws_subject *subjec
     subject->path = dws_outer(s, path);
     subject->side = side;
     subject->changed = changed;
-    enum dw_result result = subject->path == NULL ? DW_NO_MEMORY : words_of_path(path) != NULL ? DW_NOT_PATH : DW_OK;
+    enum dw_result result = subject->path == NULL ? DW_NO_MEMORY : dws_words_of_path(path) != NULL ? DW_NOT_PATH : DW_OK;
     if (result == DW_OK) {
         result = dw_session_peek_data(&s->machine, subject->path, strlen(subject->path), &kept, &none, 0);
     }

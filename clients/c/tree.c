@@ -44,7 +44,7 @@ int main(int argc, char **argv)
     }
     enum dw_result result = dws_follow_tree(session, &tree, argv[2], 0, show);
     if (result != DW_OK) {
-        write_result(why, sizeof why, result, argv[2]);
+        dws_write_result(why, sizeof why, result, argv[2]);
         fprintf(stderr, "tree: %s\n", why);
     } else {
         turn_until_signal(session);

@@ -187,7 +187,7 @@ static void follow_tree(dws_session *session, const char *path, const char *most
     told[0] = 0;
     enum dw_result result = dws_follow_tree(session, &tree, path, most != NULL ? strtoul(most, NULL, 10) : 0, take_tree);
     if (result != DW_OK) {
-        write_result(why, sizeof why, result, path);
+        dws_write_result(why, sizeof why, result, path);
         print_line(why);
     }
 }

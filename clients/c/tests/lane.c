@@ -392,18 +392,18 @@ static void show_paths(void)
     };
     char why[DWS_LONGEST_LINE], large[4098], few[8];
     for (size_t i = 0; i < sizeof rows / sizeof rows[0]; i++) {
-        write_result(why, sizeof why, DW_NOT_PATH, rows[i].path);
+        dws_write_result(why, sizeof why, DW_NOT_PATH, rows[i].path);
         EXPECT(strcmp(why, rows[i].words) == 0);
     }
-    write_code(why, sizeof why, DW_CODE_NO_NODE, "/a\xff");
+    dws_write_code(why, sizeof why, DW_CODE_NO_NODE, "/a\xff");
     EXPECT(strcmp(why, "no node: /a\\xff") == 0);
-    write_code(few, sizeof few, DW_CODE_NO_NODE, "/a"); /* there is room for seven bytes */
+    dws_write_code(few, sizeof few, DW_CODE_NO_NODE, "/a"); /* there is room for seven bytes */
     EXPECT(strcmp(few, "no no..") == 0);
-    write_result(few, sizeof few, DW_NOT_PATH, "/abc\xc3\xa4/");
+    dws_write_result(few, sizeof few, DW_NOT_PATH, "/abc\xc3\xa4/");
     EXPECT(strcmp(few, "/abc..") == 0);
     memset(large, 1, sizeof large - 1);
     large[sizeof large - 1] = 0;
-    write_code(why, sizeof why, DW_CODE_NO_NODE, large);
+    dws_write_code(why, sizeof why, DW_CODE_NO_NODE, large);
     EXPECT(strlen(why) == sizeof why - 1 && strcmp(why + sizeof why - 3, "..") == 0);
     EXPECT(dws_open("zk1/a\n", NULL, why, sizeof why) == NULL);
     EXPECT(strcmp(why, "/a\\x0a is no path: a character that paths do not have") == 0);
