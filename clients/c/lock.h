@@ -1,6 +1,6 @@
 /* A lock over session.h. All contenders of a path use names of one kind, kazoo's or Curator's: those of the other kind do not see one another, and
  * would hold beside one another. So a lock that finds places of the other kind below its path gives its own up, and says DWS_LOCK_MIXED_NAMES. With
- * kazoo's names, which zeros are, it stands in line with kazoo's Lock, ReadLock, WriteLock and Election; with Curator's with InterProcessMutex,
+ * kazoo's names, which zeros are, it contends with kazoo's Lock, ReadLock, WriteLock and Election; with Curator's with InterProcessMutex,
  * InterProcessReadWriteLock and LeaderSelector; with both with the clients for Rust and Python. Curator's LeaderLatch has names of its own, which are
  * always others. Nodes that are no contenders are passed over.
  *
@@ -282,7 +282,7 @@ static inline void dws_place_free(dws_session *s, struct dws_place *place)
     free(place);
 }
 
-/* No node of a place is there any more, or a server refuses what that takes: then the place is kept. Who waits for it is told. */
+/* No node of a place is there any more, or a server refuses what that takes: then the place is kept. The call that waits for it is answered. */
 static inline void dws_place_settle(dws_session *s, struct dws_place *place, int32_t why)
 {
     dws_lock *lock = place->lock;

@@ -318,7 +318,8 @@ static inline int64_t dws_last_zxid(dws_session *s);
  * then. What is followed is followed still. */
 static inline void dws_forget(dws_session *s);
 
-/* How many milliseconds ago the server was heard last, or -1 where it was not yet. What is marked good was so at some moment since then, or later. */
+/* How many milliseconds ago the server was heard last, or -1 where it was not yet. What is marked good was so at some moment since then, or later. The
+ * time counts in which the system was suspended, too, on a system with CLOCK_BOOTTIME. */
 static inline int64_t dws_heard_ms(dws_session *s);
 
 /* The number of the session: the owner of its ephemeral nodes. It is 0 before a server has accepted it. */
@@ -410,6 +411,7 @@ struct dws_session {
     struct dws_frames came;            /* where lane.h is to begin */
     int64_t beside_zxid;               /* the greatest zxid of an answer to lane.h */
     uint64_t now_ms, last_ticket;
+    int64_t suspended_ms, heard_suspended_ms; /* how long the system was suspended: before this wait, and before the last one that brought bytes */
     struct dws_buffer unsent;
     struct dws_line queue, sent;       /* calls that are to be asked, and those that were, in the order of their tickets */
     struct dws_line answered;          /* those that this step has answered, whose callbacks come when all that it says is taken */
@@ -641,6 +643,18 @@ static inline uint64_t dws_now_ms(void)
     struct timespec now;
     clock_gettime(CLOCK_MONOTONIC, &now);
     return (uint64_t)now.tv_sec * 1000 + (uint64_t)now.tv_nsec / 1000000;
+}
+
+/* The same with the time in which the system was suspended, if it has such a clock. */
+static inline uint64_t dws_elapsed_ms(void)
+{
+#ifdef CLOCK_BOOTTIME
+    struct timespec now;
+    if (clock_gettime(CLOCK_BOOTTIME, &now) == 0) {
+        return (uint64_t)now.tv_sec * 1000 + (uint64_t)now.tv_nsec / 1000000;
+    }
+#endif
+    return dws_now_ms();
 }
 
 static inline uint64_t dws_least(uint64_t one, uint64_t other)
@@ -1532,9 +1546,19 @@ static inline ssize_t dws_write(dws_session *s, const void *bytes, size_t size)
     return send(s->wire.socket, bytes, size, MSG_NOSIGNAL);
 }
 
+/* Looks at the clocks before a wait: what it brings may have come before the system was suspended within it. The later clock is read first, so that what
+ * lies between makes an age longer. */
+static inline void dws_begin_wait(dws_session *s)
+{
+    uint64_t elapsed_ms = dws_elapsed_ms();
+    s->now_ms = dws_now_ms();
+    s->suspended_ms = (int64_t)(elapsed_ms - s->now_ms);
+}
+
 /* Hands bytes from the server to the library. */
 static inline void dws_hear(dws_session *s, uint64_t came_ms, const uint8_t *bytes, size_t length)
 {
+    s->heard_suspended_ms = s->suspended_ms;
     enum dw_result result = dw_session_bytes(&s->machine, came_ms, bytes, length);
     if (result == DW_NO_MEMORY) {
         dws_cut(s, dw_result_words(result)); /* no step was made */
@@ -2416,7 +2440,7 @@ static inline uint64_t dws_first_due(dws_session *s)
 
 static inline int dws_wanted(dws_session *s, struct pollfd *polled)
 {
-    s->now_ms = dws_now_ms();
+    dws_begin_wait(s);
     if (!s->is_over) {
         dws_work(s);
     }
@@ -2743,7 +2767,7 @@ static inline dws_session *dws_open(const char *hosts, const dws_options *option
         if (s->options.timeout_ms == 0) {
             s->options.timeout_ms = DWS_TIMEOUT_MS;
         }
-        s->now_ms = dws_now_ms();
+        dws_begin_wait(s);
         if (!dws_read_string(s, hosts, why, size)) {
             dws_free(s);
             return NULL;
@@ -2797,7 +2821,9 @@ static inline void dws_forget(dws_session *s)
 static inline int64_t dws_heard_ms(dws_session *s)
 {
     uint64_t moment_ms;
-    return dw_session_heard_at(&s->machine, &moment_ms) == DW_OK ? (int64_t)(dws_most(dws_now_ms(), moment_ms) - moment_ms) : -1;
+    bool was_heard = dw_session_heard_at(&s->machine, &moment_ms) == DW_OK;
+    int64_t ago_ms = (int64_t)(dws_elapsed_ms() - moment_ms) - s->heard_suspended_ms;
+    return !was_heard ? -1 : ago_ms > 0 ? ago_ms : 0;
 }
 
 static inline enum dw_result dws_saved(dws_session *s, uint8_t *room, size_t size, size_t *length)

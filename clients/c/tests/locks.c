@@ -385,7 +385,7 @@ static void meet_other_names(enum dws_names names, enum dws_sharing sharing, con
     close_all();
 }
 
-/* What each kind of contender is named, and whom it stands behind. */
+/* The name of each kind of contender, and whom it waits for. */
 static void stand_in_line(enum dws_names names, enum dws_sharing sharing, const char *own, const char *rival, bool waits)
 {
     static dws_lock lock;

@@ -60,6 +60,36 @@ static void ping_in_time(void)
     close_all();
 }
 
+/* How long ago the server was heard counts the time in which the system was suspended. What is read after that may have come before. */
+static void be_suspended(void)
+{
+    enum { HOUR_MS = 3600000 };
+    struct pollfd polled;
+    struct bytes came;
+    open_session();
+    admit();
+    turn(0);
+    let_pass(100);
+    suspended_ms += HOUR_MS;
+    EXPECT_NUMBER(HOUR_MS + 100, dws_heard_ms(session));
+    dws_get(session, &get, "/a", false);
+    hear_request(1, TYPE_GET, NULL);
+    dws_wanted(session, &polled);
+    came.length = 0;
+    add_data(&came, 1, 5, "one", &STAT);
+    EXPECT(send(line, came.at, came.length, MSG_NOSIGNAL) == (ssize_t)came.length);
+    suspended_ms += HOUR_MS;
+    while (!get.is_answered) {
+        dws_go_on(session, POLLIN);
+    }
+    EXPECT_NUMBER(HOUR_MS, dws_heard_ms(session));
+    hear_request(XID_PING, TYPE_PING, NULL);
+    answer_nothing(XID_PING, 5);
+    EXPECT_NUMBER(0, dws_heard_ms(session));
+    close_all();
+    dws_release(&get);
+}
+
 /* Pings are answered and a call is not: the connection is left two thirds of the timeout after the call was asked. */
 static void answer_pings_alone(void)
 {
@@ -845,6 +875,7 @@ int main(int argc, char **argv)
     (void)argv;
     begin_listening();
     ping_in_time();
+    be_suspended();
     answer_pings_alone();
     forget_unsent();
     end_at_expiry();
