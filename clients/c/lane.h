@@ -89,7 +89,7 @@ static inline dws_call *dws_create_with_acl(dws_session *s, dws_lane_call *call,
                                             const dws_acl *acls, size_t count);
 
 /* Tells the server who the session is, in the words of a scheme, as `digest` and `user:password`; where it takes that, each later connection is told
- * it before anything else. Credentials cross the network as they are: use TLS. */
+ * it before anything else. Credentials cross the network as they are: use TLS. The copies of them here are overwritten before they are freed. */
 static inline dws_call *dws_add_auth(dws_session *s, dws_lane_call *call, const char *scheme, const char *bytes, size_t length);
 
 /* Has each connection from the next one on be told that before anything else. Where a server does not take it, DWS_BARRED is told, the session is
@@ -622,6 +622,7 @@ static inline void dws_release_beside(dws_session *s)
     while (lane->known != NULL) {
         struct dws_credentials *known = lane->known;
         lane->known = known->next;
+        dws_wipe(known->body.at, known->body.length);
         free(known->body.at);
         free(known);
     }
@@ -697,6 +698,9 @@ static inline void dws_forget_question(dws_lane_call *call)
 {
     for (size_t i = 0; i < call->change_count; i++) {
         free(call->changes[i].asked);
+    }
+    if (call->type == DWS_TYPE_AUTH) {
+        dws_wipe(call->body.at, call->body.length);
     }
     call->change_count = call->acl_count = call->body.length = call->refused = 0;
     free(call->no_path);
@@ -812,6 +816,7 @@ static inline bool dws_introduce(dws_session *s, const char *scheme, const char 
     memset(&body, 0, sizeof body);
     bool is_known = lane != NULL && dws_put_credentials(&body, scheme, bytes, length) && body.length <= DWS_LONGEST_OUTGOING - 8
                     && dws_know(lane, &body);
+    dws_wipe(body.at, body.length);
     free(body.at);
     return is_known;
 }

@@ -13,7 +13,9 @@
  *     int main(void)
  *     {
  *         static dws_subject config;
- *         dws_session *session = dws_open("zk1:2181,zk2:2181/app", NULL, NULL, 0);
+ *         static dws_options options;
+ *         options.told = dws_print_event;
+ *         dws_session *session = dws_open("zk1:2181,zk2:2181/app", &options, NULL, 0);
  *         if (session == NULL || dws_follow(session, &config, "/config", show) != DW_OK) {
  *             return EXIT_FAILURE;
  *         }
@@ -211,6 +213,9 @@ struct dws_tree {
  * brackets. Names are looked up at each attempt to connect, of which the first is made at the first turn. Options may be NULL. NULL where the
  * text is no such thing, a timeout is out of range, or memory ran out: then `why`, which has `size` bytes and may be NULL with none, says so. */
 static inline dws_session *dws_open(const char *hosts, const dws_options *options, char *why, size_t size);
+
+/* Prints an event on standard error, for `told` of the options: so a program says why it has no session as long as no server can be reached. */
+static inline void dws_print_event(dws_session *s, enum dws_event event, const char *server, const char *words);
 
 /* Lets a session go, and leaves it to its timeout at the servers. Calls that wait are answered, subjects are followed no longer. */
 static inline void dws_free(dws_session *s);
@@ -718,6 +723,25 @@ static inline bool dws_reserve_names(char ***names, size_t *room, size_t wanted)
 
 static inline void dws_mark(dws_session *s);
 
+static inline void dws_print_event(dws_session *s, enum dws_event event, const char *server, const char *words)
+{
+    (void)s;
+    if (event == DWS_READ_REFUSED) {
+        fprintf(stderr, "%s\n", words);
+    } else {
+        fprintf(stderr, "%s: %s\n", server, words);
+    }
+}
+
+/* Overwrites a secret. */
+static inline void dws_wipe(void *at, size_t length)
+{
+    void *(*volatile set)(void *, int, size_t) = memset; /* so that it is not left out */
+    if (length > 0) {
+        set(at, 0, length);
+    }
+}
+
 /* Events are few: before each one all marks are looked at. */
 static inline void dws_tell(dws_session *s, enum dws_event event, const char *words)
 {
@@ -875,6 +899,7 @@ static inline void dws_hang_up(dws_session *s)
     }
     s->is_connecting = s->has_more = false;
     s->read_wants = s->write_wants = 0;
+    dws_wipe(s->unsent.bytes, s->unsent.length);
     s->unsent.length = 0;
     s->waiting.first = s->waiting.count = 0;
     memset(&s->came, 0, sizeof s->came);
@@ -1259,6 +1284,7 @@ static inline void dws_resume(dws_session *s)
     if (result == DW_OK) {
         result = dw_session_resume(&s->machine, s->options.timeout_ms, s->host_count, dws_chance(s), saved, length);
     }
+    dws_wipe(saved, sizeof saved);
     if (result != DW_OK) {
         dws_fail(s, result);
         return;
@@ -1611,6 +1637,9 @@ static inline void dws_transmit(dws_session *s)
     if (count >= 0) {
         s->unsent.length -= (size_t)count;
         memmove(s->unsent.bytes, s->unsent.bytes + count, s->unsent.length);
+        if (s->beside != NULL) { /* there may be credentials among it */
+            dws_wipe(s->unsent.bytes + s->unsent.length, (size_t)count);
+        }
         s->write_wants = POLLOUT;
     } else if (dws_is_passing(errno)) {
         s->write_wants = s->wire.wants != 0 ? s->wire.wants : POLLOUT;

@@ -1,11 +1,32 @@
 /* What a session asks beside the library, at a server that the test is itself, over 127.0.0.1: it reads each request, and answers in pieces. With
  * `quick` the stream is cut at few places. Frames are spelled by zookeeper.jute. */
 #define _POSIX_C_SOURCE 200809L
+#include <stdint.h>
+#include <stdlib.h>
+
+/* What is freed is looked at, if the test watches it. */
+static struct {
+    const uint8_t *at;
+    size_t length, wiped;
+} watched;
+
+static inline void free_watched(void *block)
+{
+    if (block != NULL && block == watched.at) {
+        watched.wiped = 0;
+        while (watched.wiped < watched.length && watched.at[watched.wiped] == 0) {
+            watched.wiped++;
+        }
+    }
+    free(block);
+}
+
+#define free free_watched
 #include "served.h"
 
 #include "../lane.h"
 
-enum { TYPE_DELETE = 2, TYPE_EXISTS = 3, TYPE_GET = 4, TYPE_SET = 5, BIG = 1 << 20 };
+enum { BIG = 1 << 20 };
 
 /* A call that says how it was answered, by its name. */
 struct named {
@@ -452,6 +473,38 @@ static void introduce(void)
     release_all();
 }
 
+static void watch_secret(const struct dws_bytes *body)
+{
+    watched.at = body->at;
+    watched.length = body->length;
+    watched.wiped = 0;
+    EXPECT(body->length > 0);
+}
+
+/* Credentials are overwritten before they are freed, and once they are sent. */
+static void wipe_credentials(void)
+{
+    open_session();
+    EXPECT(dws_introduce(session, "digest", "ann:secret", 10));
+    dws_add_auth(session, &acl.lane, "digest", "eve:secret", 10);
+    watch_secret(&acl.lane.body);
+    admit();
+    expect_credentials("ann:secret");
+    expect_credentials("eve:secret");
+    EXPECT(session->unsent.room >= 80);
+    for (size_t i = 0; i < 74; i++) { /* a ConnectRequest has 49 bytes, and credentials that come after it 40 */
+        EXPECT(memcmp(session->unsent.bytes + i, "secret", 6) != 0);
+    }
+    end_line();
+    wait_for(&acl.lane.call);
+    dws_lane_release(&acl.lane);
+    EXPECT(watched.wiped == watched.length);
+    watch_secret(&dws_lane_of(session)->known->body);
+    close_all();
+    EXPECT(watched.wiped == watched.length);
+    release_all();
+}
+
 static void see_mark(dws_session *s, dws_subject *subject)
 {
     (void)s;
@@ -622,6 +675,7 @@ int main(int argc, char **argv)
     tell_refusals();
     show_paths();
     introduce();
+    wipe_credentials();
     bar();
     leave_the_rest();
     leave_servers_behind();

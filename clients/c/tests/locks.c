@@ -4,9 +4,6 @@
 #define _POSIX_C_SOURCE 200809L
 #include "served.h"
 
-#include "../lock.h"
-
-enum { TYPE_CONNECT = 0, TYPE_CREATE = 1, TYPE_DELETE = 2, TYPE_EXISTS = 3, TYPE_GET = 4, TYPE_PING = 11, TYPE_CHILDREN = 12, TYPE_SET_WATCHES = 101 };
 enum { MOST_NODES = 8, MOST_TRIES = 100 };
 
 /* The nodes below /l, with a number each. */
@@ -435,9 +432,110 @@ static void try_names(void)
     stand_in_line(DWS_NAMES_CURATOR, DWS_WRITING, "-__WRIT__", "_c_1-__READ__0000000000", true);
 }
 
+/* An exclusive lock waits for one that shares, and is held once that is gone. Where its place is deleted, it takes another one. */
+static void wait_for_a_lock(void)
+{
+    static dws_lock lock;
+    char place[256], again[256];
+    open_session();
+    admit();
+    EXPECT(dws_lock_take(session, &lock, "/l", DWS_EXCLUSIVE, "me", NULL));
+    make_place(1, "0000000002", place, sizeof place);
+    hear_about(2, TYPE_GET, place);
+    hear_about(3, TYPE_CHILDREN, "/l");
+    answer_place(2, 6);
+    answer_names(3, 7, place + 3, "a__rlock__0000000001");
+    EXPECT(!lock.is_held);
+    hear_about(4, TYPE_GET, "/l/a__rlock__0000000001");
+    answer_place(4, 8);
+    EXPECT(!lock.is_held);
+    notice(DW_EVENT_DELETED, "/l/a__rlock__0000000001");
+    hear_about(5, TYPE_GET, "/l/a__rlock__0000000001");
+    answer_none(5, 9);
+    hear_about(6, TYPE_EXISTS, "/l/a__rlock__0000000001");
+    answer_none(6, 9);
+    hear_about(7, TYPE_CHILDREN, "/l");
+    answer_names(7, 9, place + 3, "note");
+    EXPECT(lock.is_held && lock.token == 6);
+    notice(DW_EVENT_DELETED, place);
+    hear_about(8, TYPE_GET, place);
+    EXPECT(lock.is_held); /* it is not known yet what has become of it */
+    answer_none(8, 10);
+    hear_about(9, TYPE_EXISTS, place);
+    answer_none(9, 10);
+    EXPECT(!lock.is_held);
+    make_place(10, "0000000003", again, sizeof again);
+    dws_lock_let_go(session, &lock);
+    hear_about(11, TYPE_GET, again);
+    hear_about(12, TYPE_CHILDREN, "/l");
+    hear_about(13, TYPE_DELETE, again);
+    close_all();
+    dws_lock_release(&lock);
+}
+
+/* With the session a lock is lost that was held, and it is waited for by the next session. */
+static void lose_a_lock(void)
+{
+    static dws_lock lock;
+    char place[256], again[256];
+    struct bytes expired;
+    open_session();
+    admit();
+    EXPECT(dws_lock_take(session, &lock, "/l", DWS_EXCLUSIVE, "me", NULL));
+    make_place(1, "0000000002", place, sizeof place);
+    hear_about(2, TYPE_GET, place);
+    answer_place(2, 6);
+    hear_about(3, TYPE_CHILDREN, "/l");
+    answer_names(3, 7, place + 3, "note");
+    EXPECT(lock.is_held);
+    end_line();
+    accept_line();
+    hear();
+    expired.length = 0;
+    add_expired(&expired);
+    answer_at_once(&expired);
+    turn(0);
+    EXPECT(!lock.is_held && lock.why == 0);
+    end_line();
+    admit();
+    hear_about(1, TYPE_CHILDREN, "/l");
+    answer_names(1, 8, "note", "z__lock__0000000004");
+    make_place(2, "0000000005", again, sizeof again);
+    hear_about(3, TYPE_GET, again);
+    EXPECT(!lock.is_held);
+    close_all();
+    dws_lock_release(&lock);
+}
+
+/* One that shares is held beside others that do, and waits for those that do not. A place whose making was lost is found again. */
+static void share_a_lock(void)
+{
+    static dws_lock lock;
+    char place[256];
+    open_session();
+    admit();
+    EXPECT(dws_lock_take(session, &lock, "/l", DWS_SHARED, "me", NULL));
+    hear_request(1, TYPE_CREATE, NULL);
+    text_at(8, place, sizeof place);
+    strcat(place, "0000000007");
+    end_line();
+    admit();
+    answer_sync(-1001);
+    hear_about(2, TYPE_CHILDREN, "/l");
+    answer_names(2, 7, place + 3, "a__rlock__0000000001");
+    hear_about(3, TYPE_GET, place);
+    answer_place(3, 7);
+    EXPECT(lock.is_held && lock.token == 6);
+    close_all();
+    dws_lock_release(&lock);
+}
+
 int main(void)
 {
     begin_listening();
+    wait_for_a_lock();
+    lose_a_lock();
+    share_a_lock();
     leave_in_each_way();
     refuse_to_delete();
     try_names();
