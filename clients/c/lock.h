@@ -60,6 +60,7 @@ struct dws_lock {
     struct dws_texts listing;     /* the places, by the last listing, and its zxid */
     int64_t listed;
     bool is_listed, is_seen, is_waited_for;
+    bool *is_released;            /* where that is noted while `changed` is called */
 };
 
 /* Begins to wait for the lock of a node; `changed` is called when it is held, when it is lost, and when no place can be had. The data say to others who
@@ -78,7 +79,8 @@ static inline dws_call *dws_lock_let_go(dws_session *s, dws_lock *lock);
 /* Writes why no place can be had, in words: the reason, the path, and what to do. */
 static inline void dws_lock_words(dws_session *s, const dws_lock *lock, char *room, size_t size);
 
-/* Lets a lock go that was not, and frees what it holds. What is not done then, the session goes on with by itself. */
+/* Lets a lock go that was not, and frees what it holds, also where `changed` is called. What is not done then, the session goes on with by itself: the
+ * lock may be freed. */
 static inline void dws_lock_release(dws_lock *lock);
 
 /* What follows is the session's own. */
@@ -176,14 +178,23 @@ static inline void dws_lock_words(dws_session *s, const dws_lock *lock, char *ro
 
 /* ---- What is told of a lock, and what it follows. ---- */
 
-static inline void dws_lock_tell(dws_session *s, dws_lock *lock, bool is_held, int32_t why)
+/* Whether the lock is there afterwards: who is told may free it. */
+static inline bool dws_lock_tell(dws_session *s, dws_lock *lock, bool is_held, int32_t why)
 {
-    bool is_news = lock->is_held != is_held || lock->why != why;
+    bool is_news = lock->is_held != is_held || lock->why != why, is_released = false, *outer = lock->is_released;
     lock->is_held = is_held;
     lock->why = why;
-    if (is_news && lock->changed != NULL) {
-        lock->changed(s, lock);
+    if (!is_news || lock->changed == NULL) {
+        return true;
     }
+    lock->is_released = &is_released;
+    lock->changed(s, lock);
+    if (!is_released) {
+        lock->is_released = outer;
+    } else if (outer != NULL) {
+        *outer = true;
+    }
+    return !is_released;
 }
 
 static inline void dws_lock_unfollow(dws_session *s, dws_subject *place)
@@ -571,9 +582,11 @@ static inline void dws_lock_go_on(dws_session *s, dws_lock *lock)
     if (is_gone || is_unknown) {
         dws_lock_lose(s, lock);
         lock->place->is_unsure = lock->place->is_synced = is_unknown;
-        dws_lock_tell(s, lock, false, lock->why);
+        if (!dws_lock_tell(s, lock, false, lock->why)) {
+            return;
+        }
     }
-    if (s->is_over || lock->place == NULL || lock->place->is_asked || lock->place->is_left) { /* at the end who was told may have freed the lock */
+    if (s->is_over || lock->place == NULL || lock->place->is_asked || lock->place->is_left) {
         return;
     }
     if (lock->place->node == NULL && !lock->place->is_unsure) {
@@ -641,6 +654,10 @@ static inline void dws_lock_release(dws_lock *lock)
         dws_lock_look_away(place->session, lock);
         dws_place_leave(place->session, place);
     }
+    if (lock->is_released != NULL) {
+        *lock->is_released = true;
+    }
+    lock->is_released = NULL;
     dws_release(&lock->removal);
     free(lock->listing.bytes);
     memset(&lock->listing, 0, sizeof lock->listing);

@@ -317,17 +317,51 @@ static bool leave_by(enum way way, bool is_freed, enum manner how, size_t at)
     return cuts_left == 0;
 }
 
-static void leave_in_each_way(void)
+static void leave_in_each_way(bool is_quick)
 {
-    size_t tries = 0;
+    size_t tries = 0, step = is_quick ? 5 : 1;
     for (int way = HELD; way < WAYS; way++) {
         for (int how = BEFORE; how < MANNERS; how++) {
-            for (size_t at = 0; leave_by((enum way)way, at % 2 == 1, (enum manner)how, at / 2); at++, tries++) {
+            for (size_t at = 0; leave_by((enum way)way, at % 2 == 1, (enum manner)how, at / 2); at += step, tries++) {
                 EXPECT(at < MOST_TRIES);
             }
         }
     }
     printf("locks: %zu cuts\n", tries);
+}
+
+/* A lock is freed when it is told that it is held, or that it is lost. */
+static void free_when_told(dws_session *s, dws_lock *lock)
+{
+    bool is_lost = !lock->is_held;
+    (void)s;
+    if (lock->is_held == (lock->context == NULL)) {
+        dws_lock_release(lock);
+        free(lock);
+        say(is_lost ? "freed, lost\n" : "freed, held\n");
+    }
+}
+
+static void free_in_callbacks(bool is_at_loss)
+{
+    dws_lock *lock = (dws_lock *)calloc(1, sizeof *lock);
+    char path[300];
+    begin(BEFORE, SIZE_MAX);
+    lock->context = is_at_loss ? lock : NULL;
+    EXPECT(dws_lock_take(session, lock, "/l", DWS_EXCLUSIVE, "me", free_when_told));
+    if (is_at_loss) {
+        struct bytes came;
+        go_on_until(is_true, &lock->is_held);
+        snprintf(path, sizeof path, "/l/%s", nodes[0].name);
+        node_count = 0;
+        came.length = 0;
+        add_notice(&came, DW_EVENT_DELETED, path);
+        answer_at_once(&came);
+    }
+    go_on_until(is_null, &session->errands);
+    EXPECT(node_count == 0);
+    expect_said(is_at_loss ? "freed, lost\n" : "freed, held\n");
+    close_all();
 }
 
 /* What a server refuses is told, with the place that is left, and is asked again: by the program, and at the next connection. */
@@ -530,13 +564,17 @@ static void share_a_lock(void)
     dws_lock_release(&lock);
 }
 
-int main(void)
+/* With a word each fifth cut is tried alone. */
+int main(int argc, char **argv)
 {
+    (void)argv;
     begin_listening();
     wait_for_a_lock();
     lose_a_lock();
     share_a_lock();
-    leave_in_each_way();
+    leave_in_each_way(argc > 1);
+    free_in_callbacks(false);
+    free_in_callbacks(true);
     refuse_to_delete();
     try_names();
     close(listener);
