@@ -316,7 +316,7 @@ static inline bool dws_read_lacking(const uint8_t **at, const uint8_t *end, cons
 /* The context of the options. */
 static inline void *dws_context(const dws_session *s);
 
-/* The greatest zxid seen: what is marked good holds at it. */
+/* The greatest zxid seen, in answers to lane.h too: what is marked good holds at it. */
 static inline int64_t dws_last_zxid(dws_session *s);
 
 /* Forgets all stale answers. What is kept is bounded by nothing but memory: who goes from path to path, without following them, calls this now and
