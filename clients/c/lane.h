@@ -1,7 +1,8 @@
 /* Requests beside the library, over session.h: transactions, sync, ACLs, credentials. The library does not know these. The session writes them
  * between the library's own, under xids from -1001 down, which that never uses, and takes the answers to them out of the stream before the
  * library is handed it. So for the library, what they change is changed by others: marks stay right, and what a transaction made stale is
- * stale when its `then` is called. They leave no watch. Tested, and not proved.
+ * stale when its `then` is called. The zxid of each answer counts: a server that is behind it does not admit the session later. They leave no
+ * watch. Tested, and not proved.
  *
  *     static dws_lane_call change;
  *

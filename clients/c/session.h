@@ -133,7 +133,7 @@ struct dws_call {
     enum dws_kind kind;
     char *path, *bytes;
     size_t bytes_length, room, names_room;
-    bool watch, is_null_sent, is_patient; /* that it has no limit */
+    bool watch, is_null_sent, is_patient; /* the last one: it has no limit */
     int32_t number;
     uint64_t ticket, until_ms;
     dws_call *next;
