@@ -32,8 +32,8 @@ extern "C" {
 /* Whose names the contenders of a path have. */
 enum dws_names { DWS_NAMES_KAZOO = 0, DWS_NAMES_CURATOR };
 
-/* Shared by all who read; of those two who write, with kazoo's names, are the same. With Curator's the first is InterProcessMutex, and the others are of
- * InterProcessReadWriteLock. */
+/* How a lock is held: alone, or beside others that share it. DWS_WRITING is alone too; with kazoo's names it is DWS_EXCLUSIVE. With Curator's names
+ * DWS_EXCLUSIVE is that of InterProcessMutex, and both others are those of InterProcessReadWriteLock. */
 enum dws_sharing { DWS_EXCLUSIVE, DWS_SHARED, DWS_WRITING };
 
 enum {
@@ -94,7 +94,9 @@ struct dws_place {
     dws_lane_call sync;
     char path[1024], data[256], tag[DWS_LONGEST_TAG];
     char *node;          /* the path of its node, where it is known */
-    bool is_asked, is_deleting, is_unsure, is_synced, is_left; /* `call` or `sync` waits; `removal` does; a node may be there */
+    bool is_asked, is_of_lock;  /* `call` or `sync` waits; the node of the lock is made */
+    bool is_deleting, is_left;  /* `removal` waits; the place is given up */
+    bool is_unsure, is_synced;  /* a node may be there; a listing shows whether */
 };
 
 static inline void dws_lock_go_on(dws_session *s, dws_lock *lock);
@@ -417,7 +419,7 @@ static inline void dws_lock_made(dws_session *s, dws_lock *lock, const dws_call 
 static inline void dws_place_made(dws_session *s, dws_call *call)
 {
     struct dws_place *place = (struct dws_place *)call->context;
-    bool is_of_lock = strcmp(dws_inner(s, call->path), place->path) == 0;
+    bool is_of_lock = place->is_of_lock;
     place->is_asked = false;
     place->is_unsure = !is_of_lock && (call->why == DW_OUTCOME_LOST || call->why == DWS_LATE);
     place->node = call->why == 0 && !is_of_lock ? dws_copy_of(call->text) : NULL;
@@ -436,6 +438,7 @@ static inline void dws_place_make(dws_session *s, struct dws_place *place, bool 
     char path[sizeof place->path + DWS_LONGEST_TAG];
     dws_call *call = dws_place_call(place, &place->call, &place->is_asked, dws_place_made);
     place->lock->is_listed = false;
+    place->is_of_lock = is_of_lock;
     if (is_of_lock) {
         dws_create(s, call, place->path, "", 0, DW_MODE_PERSISTENT);
     } else {
@@ -513,7 +516,7 @@ static inline void dws_lock_made(dws_session *s, dws_lock *lock, const dws_call 
     if (call->why == DW_CODE_NO_NODE && !is_of_lock) {
         dws_place_make(s, place, true);
     } else if (call->why != 0 && call->why != DW_CODE_NODE_EXISTS && !dws_place_passes(call->why)) {
-        dws_lock_fail(s, lock, call->why, dws_inner(s, call->path));
+        dws_lock_fail(s, lock, call->why, call->path != NULL ? dws_inner(s, call->path) : place->path);
     } else if (place->node == NULL || dws_lock_follow(s, lock, &lock->own, place->node)) {
         dws_lock_go_on(s, lock);
     }

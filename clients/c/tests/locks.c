@@ -2,6 +2,35 @@
  * server has done it, or with its answer; once, or at the next request too; or the session expires with it. Then another one takes the lock. And the
  * names of contenders, of one kind and of both. */
 #define _POSIX_C_SOURCE 200809L
+#include <stdbool.h>
+#include <stdlib.h>
+
+/* Requests for memory of the headers: the one of this number is refused, where it is not 0. */
+static long asked_for, refused_at;
+
+static inline bool is_refused(void)
+{
+    return refused_at != 0 && ++asked_for == refused_at;
+}
+
+static inline void *malloc_counted(size_t size)
+{
+    return is_refused() ? NULL : malloc(size);
+}
+
+static inline void *calloc_counted(size_t count, size_t size)
+{
+    return is_refused() ? NULL : calloc(count, size);
+}
+
+static inline void *realloc_counted(void *block, size_t size)
+{
+    return is_refused() ? NULL : realloc(block, size);
+}
+
+#define malloc malloc_counted
+#define calloc calloc_counted
+#define realloc realloc_counted
 #include "served.h"
 
 enum { MOST_NODES = 8, MOST_TRIES = 100 };
@@ -564,6 +593,61 @@ static void share_a_lock(void)
     dws_lock_release(&lock);
 }
 
+/* Goes on until this is so, or the session is over, or for a while. */
+static void go_on_for(bool (*is_so)(const void *), const void *at)
+{
+    enum { TURNS = 300 };
+    for (int i = 0; i < TURNS && !is_so(at) && !dws_is_over(session); i++) {
+        serve();
+        turn(i);
+    }
+}
+
+static bool is_settled(const void *at)
+{
+    const dws_lock *lock = (const dws_lock *)at;
+    return lock->is_held || lock->before.path != NULL || lock->why != 0;
+}
+
+/* A lock is taken, or waited for, or meets other names, and is let go or freed; its create is answered, or lost. A request for memory of it is refused:
+ * nothing is lost of what there was. Whether one was. */
+static bool run_short(const char *other, bool is_freed, size_t at, long number_of_request)
+{
+    dws_lock lock;
+    memset(&lock, 0, sizeof lock);
+    begin(AFTER, at);
+    if (other != NULL) {
+        add_node(other);
+        number = 1;
+    }
+    asked_for = 0;
+    refused_at = number_of_request;
+    if (dws_lock_take(session, &lock, "/l", DWS_EXCLUSIVE, "me", NULL)) {
+        go_on_for(is_settled, &lock);
+        if (!is_freed) {
+            go_on_for(is_true, &dws_lock_let_go(session, &lock)->is_answered);
+        }
+        dws_lock_release(&lock);
+        go_on_for(is_null, &session->errands);
+    }
+    bool was_refused = asked_for >= refused_at;
+    refused_at = 0;
+    close_all();
+    return was_refused;
+}
+
+static void run_out_of_memory(void)
+{
+    static const char *const others[] = {NULL, "x__lock__0000000000", "x-lock-0000000000"};
+    long runs = 0;
+    for (int i = 0; i < 12; i++) {
+        for (long at = 1; run_short(others[i % 3], i / 3 % 2 == 1, (size_t)(i / 6), at); at++) {
+            runs++;
+        }
+    }
+    printf("memory: %ld requests of locks were refused\n", runs);
+}
+
 /* With a word each fifth cut is tried alone. */
 int main(int argc, char **argv)
 {
@@ -576,6 +660,7 @@ int main(int argc, char **argv)
     free_in_callbacks(false);
     free_in_callbacks(true);
     refuse_to_delete();
+    run_out_of_memory();
     try_names();
     close(listener);
     printf("locks: passed\n");
