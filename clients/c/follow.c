@@ -30,7 +30,7 @@ int main(int argc, char **argv)
 {
     static dws_subject node;
     char why[DWS_LONGEST_LINE];
-    dws_options options = {.told = tell};
+    dws_options options = {.told = dws_print_event};
     dws_session *session = argc == 3 ? dws_open(argv[1], &options, why, sizeof why) : NULL;
     if (session == NULL) {
         fprintf(stderr, "follow: %s\n", argc == 3 ? why : "usage: follow HOST:PORT[,HOST:PORT..][/CHROOT] PATH");
@@ -39,7 +39,7 @@ int main(int argc, char **argv)
     path = argv[2];
     enum dw_result result = dws_follow(session, &node, path, show);
     if (result != DW_OK) {
-        write_result(why, sizeof why, result, path);
+        dws_write_result(why, sizeof why, result, path);
         fprintf(stderr, "follow: %s\n", why);
     } else {
         turn_until_signal(session);

@@ -1,7 +1,8 @@
 /* Requests beside the library, over session.h: transactions, sync, ACLs, credentials. The library does not know these. The session writes them
  * between the library's own, under xids from -1001 down, which that never uses, and takes the answers to them out of the stream before the
  * library is handed it. So for the library, what they change is changed by others: marks stay right, and what a transaction made stale is
- * stale when its `then` is called. They leave no watch. Tested, and not proved.
+ * stale when its `then` is called. The zxid of each answer counts: a server that is behind it does not admit the session later. They leave no
+ * watch. Tested, and not proved.
  *
  *     static dws_lane_call change;
  *
@@ -89,7 +90,7 @@ static inline dws_call *dws_create_with_acl(dws_session *s, dws_lane_call *call,
                                             const dws_acl *acls, size_t count);
 
 /* Tells the server who the session is, in the words of a scheme, as `digest` and `user:password`; where it takes that, each later connection is told
- * it before anything else. Credentials cross the network as they are: use TLS. */
+ * it before anything else. Credentials cross the network as they are: use TLS. The copies of them here are overwritten before they are freed. */
 static inline dws_call *dws_add_auth(dws_session *s, dws_lane_call *call, const char *scheme, const char *bytes, size_t length);
 
 /* Has each connection from the next one on be told that before anything else. Where a server does not take it, DWS_BARRED is told, the session is
@@ -375,7 +376,7 @@ static inline dws_call **dws_lane_place(dws_session *s, int32_t xid)
 static inline void dws_bar(dws_session *s, int32_t code)
 {
     char words[256];
-    write_code(words, sizeof words, code, NULL);
+    dws_write_code(words, sizeof words, code, NULL);
     s->barred = code;
     dws_be_over(s);
     dws_finish_all(s, &s->sent, code);
@@ -435,6 +436,7 @@ static inline void dws_take_frame(dws_session *s)
     int32_t xid = dws_take_int(&reading);
     int64_t zxid = dws_take_long(&reading);
     int32_t code = dws_take_int(&reading);
+    s->beside_zxid = zxid > s->beside_zxid ? zxid : s->beside_zxid;
     if (xid == DWS_AUTH_XID && lane->introduced > 0) {
         lane->introduced--;
         if (code != 0) {
@@ -569,13 +571,11 @@ static inline bool dws_write_beside(dws_session *s, int32_t xid, int32_t type, c
     return is_put;
 }
 
-/* Writes a call that was taken out of the queue. After a write of its own the library reads once, so that no server that is behind it is gone to
- * later. */
-static inline enum dw_result dws_ask_beside(dws_session *s, dws_call *asked, uint64_t now_ms)
+/* Writes a call that was taken out of the queue. */
+static inline enum dw_result dws_ask_beside(dws_session *s, dws_call *asked)
 {
     struct dws_lane *lane = dws_lane_of(s);
     dws_lane_call *call = (dws_lane_call *)(void *)asked;
-    bool is_write = call->type == DWS_TYPE_CREATE || call->type == DWS_TYPE_SET_ACL || call->type == DWS_TYPE_MULTI;
     if (call->body.length > DWS_LONGEST_OUTGOING - 8) {
         dws_answered(s, asked->ticket);
         dws_finish(s, asked, DW_OUTCOME_TOO_LARGE);
@@ -588,11 +588,7 @@ static inline enum dw_result dws_ask_beside(dws_session *s, dws_call *asked, uin
     if (call->type != DWS_TYPE_AUTH) {
         lane->next_xid = lane->next_xid > INT32_MIN ? lane->next_xid - 1 : (int32_t)DWS_FIRST_XID;
     }
-    if (!is_write) {
-        return DW_OK;
-    }
-    enum dw_result result = dw_session_exists(&s->machine, now_ms, ++s->last_ticket, asked->until_ms, "/", 1, false);
-    return result == DW_NO_MEMORY ? DW_OK : result; /* the call itself is on its way */
+    return DW_OK;
 }
 
 /* A connection is over. */
@@ -604,10 +600,14 @@ static inline void dws_end_beside(dws_session *s)
     lane->next_xid = DWS_FIRST_XID;
 }
 
-/* A connection begins: it is told who the session is. */
+/* A connection begins: its ConnectRequest asks for a server that has what was answered here, and it is told who the session is. */
 static inline void dws_begin_beside(dws_session *s)
 {
+    enum { ZXID = 8 }; /* after the length and the version of the protocol */
     struct dws_lane *lane = dws_lane_of(s);
+    if (s->unsent.length >= ZXID + sizeof s->beside_zxid) {
+        dws_raise_zxid(s, s->unsent.bytes + ZXID);
+    }
     for (const struct dws_credentials *known = lane->known; known != NULL; known = known->next) {
         if (!dws_write_beside(s, DWS_AUTH_XID, DWS_TYPE_AUTH, &known->body)) {
             dws_fail(s, DW_NO_MEMORY);
@@ -623,6 +623,7 @@ static inline void dws_release_beside(dws_session *s)
     while (lane->known != NULL) {
         struct dws_credentials *known = lane->known;
         lane->known = known->next;
+        dws_wipe(known->body.at, known->body.length);
         free(known->body.at);
         free(known);
     }
@@ -641,14 +642,14 @@ static inline void dws_write_refused(char *room, size_t size, int32_t why, bool 
     if (is_parent && slash != NULL) {
         slash[slash == place] = 0;
     }
-    write_code(room, size, why, place);
+    dws_write_code(room, size, why, place);
 }
 
 static inline bool dws_write_words_beside(dws_session *s, const dws_call *failed, char *room, size_t size)
 {
     const dws_lane_call *call = (const dws_lane_call *)(const void *)failed;
     if (call->fault != 0 && call->no_path != NULL) {
-        write_result(room, size, (enum dw_result)(DWS_REFUSED - call->fault), call->no_path);
+        dws_write_result(room, size, (enum dw_result)(DWS_REFUSED - call->fault), call->no_path);
         return true;
     }
     if (call->type == DWS_TYPE_CREATE && failed->why < 0) {
@@ -661,7 +662,7 @@ static inline bool dws_write_words_beside(dws_session *s, const dws_call *failed
     const dws_change *change = &call->changes[call->refused];
     char words[DWS_LONGEST_LINE];
     dws_write_refused(words, sizeof words, failed->why, change->operation == DWS_OF_CREATE, change->asked);
-    end_cut(room, size, snprintf(room, size, "operation %zu was refused, and nothing has happened: %s", call->refused, words));
+    dws_end_cut(room, size, snprintf(room, size, "operation %zu was refused, and nothing has happened: %s", call->refused, words));
     return true;
 }
 
@@ -699,6 +700,9 @@ static inline void dws_forget_question(dws_lane_call *call)
     for (size_t i = 0; i < call->change_count; i++) {
         free(call->changes[i].asked);
     }
+    if (call->type == DWS_TYPE_AUTH) {
+        dws_wipe(call->body.at, call->body.length);
+    }
     call->change_count = call->acl_count = call->body.length = call->refused = 0;
     free(call->no_path);
     call->no_path = NULL;
@@ -733,7 +737,7 @@ static inline char *dws_put_path(dws_session *s, dws_lane_call *call, const char
     dw_kept_data kept;
     uint8_t none;
     char *outer = dws_outer(s, path);
-    enum dw_result result = outer == NULL ? DW_NO_MEMORY : words_of_path(path) != NULL ? DW_NOT_PATH : DW_OK;
+    enum dw_result result = outer == NULL ? DW_NO_MEMORY : dws_words_of_path(path) != NULL ? DW_NOT_PATH : DW_OK;
     if (result == DW_OK) {
         result = dw_session_peek_data(&s->machine, outer, strlen(outer), &kept, &none, 0);
     }
@@ -813,6 +817,7 @@ static inline bool dws_introduce(dws_session *s, const char *scheme, const char 
     memset(&body, 0, sizeof body);
     bool is_known = lane != NULL && dws_put_credentials(&body, scheme, bytes, length) && body.length <= DWS_LONGEST_OUTGOING - 8
                     && dws_know(lane, &body);
+    dws_wipe(body.at, body.length);
     free(body.at);
     return is_known;
 }

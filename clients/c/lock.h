@@ -1,6 +1,11 @@
-/* A lock over session.h, exclusive or shared, with kazoo's names, among those of kazoo and of Curator: each contender makes an ephemeral node below
- * the node of the lock, and the first one holds it; who shares it, once no exclusive one is before it. Who holds it is the library's word,
- * dw_session_standing; what is asked for that is tested, and not proved.
+/* A lock over session.h. All contenders of a path use names of one kind, kazoo's or Curator's: those of the other kind do not see one another, and
+ * would hold beside one another. So a lock that finds places of the other kind below its path gives its own up, and says DWS_LOCK_MIXED_NAMES. With
+ * kazoo's names, which zeros are, it contends with kazoo's Lock, ReadLock, WriteLock and Election; with Curator's with InterProcessMutex,
+ * InterProcessReadWriteLock and LeaderSelector; with both with the clients for Rust and Python. Curator's LeaderLatch has names of its own, which are
+ * always others. Nodes that are no contenders are passed over.
+ *
+ * It is exclusive or shared: each contender makes an ephemeral node, its place, below the node of the lock, and the first one holds it; who shares it,
+ * once no exclusive one is before it. Who holds it is the library's word, dw_session_standing; what is asked for that is tested, and not proved.
  *
  *     static void changed(dws_session *session, dws_lock *lock)
  *     {
@@ -11,78 +16,187 @@
  *
  * A program that was held up, or whose packets were lost, believes that it has the lock for a while after its session has expired. So hand the
  * token on with each request to what is protected, and have that refuse a token below the greatest one that it has seen. A lock that is lost,
- * since its session has expired or somebody has deleted its place, is waited for again; once the session is over, it is lost for good. A
- * lock begins as zeros. */
+ * since its session has expired or somebody has deleted its place, is waited for again; once the session is over, it is lost for good.
+ *
+ * A place that is given up is deleted, whatever becomes of connections: the session asks for that again on each connection until no node is there, or
+ * the session is over. A place whose making was lost is looked for meanwhile. A lock begins as zeros, and lives until dws_lock_release or dws_free. */
 #ifndef DIRWOLLEU_LOCK_H
 #define DIRWOLLEU_LOCK_H
 
-#include "session.h"
+#include "lane.h"
 
 #ifdef __cplusplus
 extern "C" {
 #endif
 
-enum dws_sharing { DWS_EXCLUSIVE, DWS_SHARED };
+/* Whose names the contenders of a path have. */
+enum dws_names { DWS_NAMES_KAZOO = 0, DWS_NAMES_CURATOR };
+
+/* How a lock is held: alone, or beside others that share it. DWS_WRITING is alone too; with kazoo's names it is DWS_EXCLUSIVE. With Curator's names
+ * DWS_EXCLUSIVE is that of InterProcessMutex, and both others are those of InterProcessReadWriteLock. */
+enum dws_sharing { DWS_EXCLUSIVE, DWS_SHARED, DWS_WRITING };
+
+enum {
+    DWS_LOCK_MIXED_NAMES = 98, /* why a lock has no place: there are contenders of the other names below its path */
+    DWS_LONGEST_TAG = 64
+};
 
 typedef struct dws_lock dws_lock;
+struct dws_place;
 
 struct dws_lock {
-    bool is_held;      /* as far as the session knows: dws_lock_check asks the server */
-    int64_t token;     /* where it is held: the zxid at which its place was made, which is greater of each later holder */
-    int32_t why;       /* why no place can be had, as of a call; it is tried no further then */
-    void *context;     /* the program's own */
+    enum dws_names names; /* set it before dws_lock_take */
+    bool is_held;         /* as far as the session knows: dws_lock_check asks the server */
+    int64_t token;        /* where it is held: the zxid at which its place was made, which is greater of each later holder */
+    int32_t why;          /* why no place can be had, as of a call, or DWS_LOCK_MIXED_NAMES: it is tried no further then, and none is kept */
+    void *context;        /* the program's own */
     /* The lock's own. */
     void (*changed)(dws_session *session, dws_lock *lock);
     enum dws_sharing sharing;
-    char path[1024], tag[48], place[1200], data[256];
-    dws_call call, removal;
+    char trouble[1280];           /* the path about which `why` is */
+    struct dws_place *place;      /* NULL where there is none, and none is asked for */
+    dws_call removal;
     dws_subject own, before;      /* its place, and the one that it waits for */
-    struct dws_texts names;       /* the places, by the last listing, and its zxid */
+    struct dws_texts listing;     /* the places, by the last listing, and its zxid */
     int64_t listed;
-    bool is_asked, is_unsure, is_listed, is_seen, is_let_go;
+    bool is_listed, is_seen, is_waited_for;
+    bool *is_released;            /* where that is noted while `changed` is called */
 };
 
-/* Begins to wait for the lock of a node; `changed` is called when it is held, and when it is lost. The data say to others who waits. False where
- * the path has more than 1,023 bytes or the data have more than 255, or the lock has a call on its way: then nothing is done. */
+/* Begins to wait for the lock of a node; `changed` is called when it is held, when it is lost, and when no place can be had. The data say to others who
+ * waits. False where the path has more than 1,023 bytes or the data have more than 255, memory ran out, or the lock was taken before and that is not
+ * let go, or not done yet: then nothing is done. */
 static inline bool dws_lock_take(dws_session *s, dws_lock *lock, const char *path, enum dws_sharing sharing, const char *data,
                                  void (*changed)(dws_session *, dws_lock *));
 
 /* Asks whether the lock is held: it was, when the server answered, where `why` is 0 and the czxid of the answer is the token. */
 static inline dws_call *dws_lock_check(dws_session *s, dws_lock *lock, dws_call *call);
 
-/* Lets the lock go, or one's place in the line. The call that this gives is answered when it is done; the lock goes with the session at the latest. */
+/* Lets the lock go, or one's place in the line. The call that this gives is answered with 0 once no node of it is there: on a later connection, where
+ * this one ends. With a code where a server refuses to delete the node, whose path is that of the call: then another dws_lock_let_go asks again. */
 static inline dws_call *dws_lock_let_go(dws_session *s, dws_lock *lock);
 
-/* Frees what a lock holds that was let go. */
+/* Writes why no place can be had, in words: the reason, the path, and what to do. */
+static inline void dws_lock_words(dws_session *s, const dws_lock *lock, char *room, size_t size);
+
+/* Lets a lock go that was not, and frees what it holds, also where `changed` is called. What is not done then, the session goes on with by itself: the
+ * lock may be freed. */
 static inline void dws_lock_release(dws_lock *lock);
 
-static inline void dws_lock_go_on(dws_session *s, dws_lock *lock);
+/* What follows is the session's own. */
 
-static inline void dws_lock_tell(dws_session *s, dws_lock *lock, bool is_held, int32_t why)
+/* A place in the line, or the question whether there is one. It goes on without its lock until no node is there. */
+struct dws_place {
+    struct dws_errand errand;
+    dws_session *session;
+    dws_lock *lock;      /* NULL where that was released */
+    dws_call call, removal;
+    dws_lane_call sync;
+    char path[1024], data[256], tag[DWS_LONGEST_TAG];
+    char *node;          /* the path of its node, where it is known */
+    bool is_asked, is_of_lock;  /* `call` or `sync` waits; the node of the lock is made */
+    bool is_deleting, is_left;  /* `removal` waits; the place is given up */
+    bool is_unsure, is_synced;  /* a node may be there; a listing shows whether */
+};
+
+static inline void dws_lock_go_on(dws_session *s, dws_lock *lock);
+static inline void dws_place_go_on(dws_session *s, struct dws_place *place);
+
+/* ---- Names. ---- */
+
+enum { DWS_KINDS = 3, DWS_DIGITS = 10 };
+
+/* What stands before the number in the name of a contender, by enum dws_sharing. */
+static inline const char *dws_lock_marker(enum dws_names names, int sharing)
 {
-    bool is_news = lock->is_held != is_held || lock->why != why;
+    static const char *const kazoo[DWS_KINDS] = {"__lock__", "__rlock__", "__lock__"};
+    static const char *const curator[DWS_KINDS] = {"-lock-", "-__READ__", "-__WRIT__"};
+    return (names == DWS_NAMES_CURATOR ? curator : kazoo)[sharing];
+}
+
+/* The beginning of a name that no other node has. Curator's way of finding a node again whose making was lost is such a beginning too. */
+static inline void dws_lock_write_tag(const dws_session *s, const dws_lock *lock, char *tag)
+{
+    const char *marker = dws_lock_marker(lock->names, (int)lock->sharing);
+    uint64_t first = dws_chance(s), second = dws_chance(s);
+    if (lock->names == DWS_NAMES_CURATOR) {
+        snprintf(tag, DWS_LONGEST_TAG, "_c_%08x-%04x-%04x-%04x-%012" PRIx64 "%s", (unsigned)(first >> 32), (unsigned)(first >> 16 & 0xffff),
+                 (unsigned)(first & 0xffff), (unsigned)(second >> 48), second & 0xffffffffffff, marker);
+    } else {
+        snprintf(tag, DWS_LONGEST_TAG, "%016" PRIx64 "%016" PRIx64 "%s", first, second, marker);
+    }
+}
+
+/* Whether a name ends in a marker and ten digits. */
+static inline bool dws_lock_is_marked(const char *name, const char *marker)
+{
+    size_t length = strlen(name), before = strlen(marker) + DWS_DIGITS;
+    return length >= before && strspn(name + length - DWS_DIGITS, "0123456789") == DWS_DIGITS
+           && strncmp(name + length - before, marker, strlen(marker)) == 0;
+}
+
+/* Whether a name is that of a contender of the other kind, or of Curator's LeaderLatch, which waits for no lock. */
+static inline bool dws_place_is_foreign(const struct dws_place *place, const char *name)
+{
+    enum dws_names other = place->lock->names == DWS_NAMES_CURATOR ? DWS_NAMES_KAZOO : DWS_NAMES_CURATOR;
+    bool is_foreign = dws_lock_is_marked(name, "-latch-");
+    for (int i = 0; i < DWS_KINDS; i++) {
+        is_foreign = is_foreign || dws_lock_is_marked(name, dws_lock_marker(other, i));
+    }
+    return is_foreign;
+}
+
+/* Whether a name has the tag of a place: its own, of which it may not be known yet. */
+static inline bool dws_place_is_own(const struct dws_place *place, const char *name)
+{
+    return strncmp(name, place->tag, strlen(place->tag)) == 0;
+}
+
+/* The first name that this finds among those that are listed; NULL where there is none. */
+static inline const char *dws_lock_find(const dws_call *listed, const struct dws_place *place, bool (*is_found)(const struct dws_place *, const char *))
+{
+    for (size_t i = 0; i < listed->count; i++) {
+        if (is_found(place, listed->names[i])) {
+            return listed->names[i];
+        }
+    }
+    return NULL;
+}
+
+static inline void dws_lock_words(dws_session *s, const dws_lock *lock, char *room, size_t size)
+{
+    dws_call failed;
+    memset(&failed, 0, sizeof failed);
+    failed.kind = DWS_CREATE;
+    failed.why = lock->why;
+    failed.path = dws_outer(s, lock->trouble);
+    if (lock->why == DWS_LOCK_MIXED_NAMES) {
+        dws_write_words(room, size, "a contender with names of another kind is there", lock->trouble, "use one kind of names for all contenders");
+    } else {
+        dws_words(s, &failed, room, size);
+    }
+    free(failed.path);
+}
+
+/* ---- What is told of a lock, and what it follows. ---- */
+
+/* Whether the lock is there afterwards: who is told may free it. */
+static inline bool dws_lock_tell(dws_session *s, dws_lock *lock, bool is_held, int32_t why)
+{
+    bool is_news = lock->is_held != is_held || lock->why != why, is_released = false, *outer = lock->is_released;
     lock->is_held = is_held;
     lock->why = why;
-    if (is_news && lock->changed != NULL) {
-        lock->changed(s, lock);
+    if (!is_news || lock->changed == NULL) {
+        return true;
     }
-}
-
-/* What is kept of a place has changed. */
-static inline void dws_lock_see(dws_session *s, dws_subject *place)
-{
-    dws_lock *lock = (dws_lock *)place->context;
-    lock->is_seen = lock->is_seen || (place == &lock->own && place->kind == DW_KEPT_FULL);
-    dws_lock_go_on(s, lock);
-}
-
-static inline void dws_lock_follow(dws_session *s, dws_lock *lock, dws_subject *place, const char *path)
-{
-    place->context = lock;
-    enum dw_result result = dws_follow(s, place, path, dws_lock_see);
-    if (result != DW_OK) {
-        dws_lock_tell(s, lock, false, DWS_REFUSED - (int32_t)result);
+    lock->is_released = &is_released;
+    lock->changed(s, lock);
+    if (!is_released) {
+        lock->is_released = outer;
+    } else if (outer != NULL) {
+        *outer = true;
     }
+    return !is_released;
 }
 
 static inline void dws_lock_unfollow(dws_session *s, dws_subject *place)
@@ -92,27 +206,48 @@ static inline void dws_lock_unfollow(dws_session *s, dws_subject *place)
     }
 }
 
-/* The place is known. */
-static inline void dws_lock_know(dws_session *s, dws_lock *lock, const char *place)
-{
-    end_cut(lock->place, sizeof lock->place, snprintf(lock->place, sizeof lock->place, "%s", place));
-    lock->is_unsure = lock->is_seen = false;
-    dws_lock_follow(s, lock, &lock->own, lock->place);
-}
-
-/* The place is one no more. */
-static inline void dws_lock_lose(dws_session *s, dws_lock *lock)
+/* Nothing of a place is followed any more. */
+static inline void dws_lock_look_away(dws_session *s, dws_lock *lock)
 {
     dws_lock_unfollow(s, &lock->own);
     dws_lock_unfollow(s, &lock->before);
-    lock->place[0] = 0;
     lock->is_listed = lock->is_seen = false;
+}
+
+/* No place can be had, for a reason about this path: what there is of one is given up. */
+static inline void dws_lock_fail(dws_session *s, dws_lock *lock, int32_t why, const char *path)
+{
+    struct dws_place *place = lock->place;
+    dws_end_cut(lock->trouble, sizeof lock->trouble, snprintf(lock->trouble, sizeof lock->trouble, "%s", path));
+    dws_lock_look_away(s, lock);
+    place->is_left = true;
+    dws_place_go_on(s, place);
+    dws_lock_tell(s, lock, false, why);
+}
+
+/* What is kept of a place has changed. */
+static inline void dws_lock_see(dws_session *s, dws_subject *followed)
+{
+    dws_lock *lock = (dws_lock *)followed->context;
+    lock->is_seen = lock->is_seen || (followed == &lock->own && followed->kind == DW_KEPT_FULL);
+    dws_lock_go_on(s, lock);
+}
+
+/* Whether that can be followed. */
+static inline bool dws_lock_follow(dws_session *s, dws_lock *lock, dws_subject *followed, const char *path)
+{
+    followed->context = lock;
+    enum dw_result result = dws_follow(s, followed, path, dws_lock_see);
+    if (result != DW_OK) {
+        dws_lock_fail(s, lock, DWS_REFUSED - (int32_t)result, path);
+    }
+    return result == DW_OK;
 }
 
 /* Keeps the names of a listing as the library wants them, each after its length. */
 static inline bool dws_lock_keep(dws_lock *lock, const dws_call *listed)
 {
-    struct dws_texts *names = &lock->names;
+    struct dws_texts *names = &lock->listing;
     names->length = 0;
     for (size_t i = 0; i < listed->count; i++) {
         size_t length = strlen(listed->names[i]);
@@ -128,105 +263,293 @@ static inline bool dws_lock_keep(dws_lock *lock, const dws_call *listed)
     return true;
 }
 
-/* A name with the tag of this lock, that of a place whose making was lost; NULL where there is none. */
-static inline const char *dws_lock_mine(const dws_lock *lock, const dws_call *listed)
-{
-    for (size_t i = 0; i < listed->count; i++) {
-        if (strncmp(listed->names[i], lock->tag, strlen(lock->tag)) == 0) {
-            return listed->names[i];
-        }
-    }
-    return NULL;
-}
+/* ---- Places: how they are made, found and deleted. ---- */
 
 /* Whether a call has failed for a reason that passes. */
-static inline bool dws_lock_passes(int32_t why)
+static inline bool dws_place_passes(int32_t why)
 {
     return why == DW_OUTCOME_LOST || why == DW_OUTCOME_NOT_CONNECTED || why == DW_OUTCOME_EXPIRED || why == DWS_LATE;
 }
 
-/* The places are listed. */
-static inline void dws_lock_look(dws_session *s, dws_call *call)
+/* The next call of a place. One of a place that is given up waits for as long as it has to. */
+static inline dws_call *dws_place_call(struct dws_place *place, dws_call *call, bool *is_asked, void (*then)(dws_session *, dws_call *))
 {
-    dws_lock *lock = (dws_lock *)call->context;
-    const char *mine = call->why == 0 ? dws_lock_mine(lock, call) : NULL;
-    lock->is_asked = false;
+    *is_asked = true;
+    call->then = then;
+    call->context = place;
+    call->is_patient = place->is_left;
+    return call;
+}
+
+static inline void dws_place_free(dws_session *s, struct dws_place *place)
+{
+    struct dws_errand **at = &s->errands;
+    while (*at != &place->errand) {
+        at = &(*at)->next;
+    }
+    *at = place->errand.next;
+    dws_release(&place->call);
+    dws_release(&place->removal);
+    dws_lane_release(&place->sync);
+    free(place->node);
+    free(place);
+}
+
+/* No node of a place is there any more, or a server refuses what that takes: then the place is kept. The call that waits for it is answered. */
+static inline void dws_place_settle(dws_session *s, struct dws_place *place, int32_t why)
+{
+    dws_lock *lock = place->lock;
+    if (lock != NULL) {
+        free(lock->removal.path);
+        lock->removal.path = dws_outer(s, place->node != NULL ? place->node : place->path);
+        lock->removal.kind = DWS_DELETE;
+        lock->removal.why = why;
+        lock->place = why != 0 ? place : NULL;
+    }
+    if (why == 0) {
+        dws_place_free(s, place);
+    }
+    if (lock != NULL && lock->is_waited_for) {
+        lock->is_waited_for = false;
+        dws_call_back(s, &lock->removal);
+    }
+}
+
+static inline void dws_place_deleted(dws_session *s, dws_call *call);
+static inline void dws_place_listed(dws_session *s, dws_call *call);
+
+/* What was sent before has happened when this is answered, or never does: so what is listed after it is all. */
+static inline void dws_place_synced(dws_session *s, dws_call *call)
+{
+    struct dws_place *place = (struct dws_place *)call->context;
+    place->is_asked = false;
+    place->is_synced = !dws_place_passes(call->why);
+    dws_place_go_on(s, place);
+}
+
+/* Lists the places. Where it is not known whether one's own was made, the server is to have caught up before. */
+static inline void dws_place_list(dws_session *s, struct dws_place *place)
+{
+    if (place->is_synced || !place->is_unsure) {
+        dws_children(s, dws_place_call(place, &place->call, &place->is_asked, dws_place_listed), place->path, false);
+        return;
+    }
+    dws_place_call(place, &place->sync.call, &place->is_asked, dws_place_synced)->is_patient = false; /* what is asked after it waits for it */
+    dws_sync(s, &place->sync, place->path);
+}
+
+/* Does what is next for a place that is given up: a node that is there is deleted, and one that may have been made is looked for. With the session its
+ * node goes. */
+static inline void dws_place_leave(dws_session *s, struct dws_place *place)
+{
+    if (place->node != NULL && !place->is_deleting && !s->is_over) {
+        dws_delete(s, dws_place_call(place, &place->removal, &place->is_deleting, dws_place_deleted), place->node, -1);
+    } else if (place->is_asked || place->is_deleting) {
+        return; /* it goes on when that is answered */
+    } else if (place->is_unsure && !s->is_over) {
+        dws_place_list(s, place);
+    } else {
+        dws_place_settle(s, place, 0);
+    }
+}
+
+static inline void dws_place_forget(struct dws_place *place)
+{
+    free(place->node);
+    place->node = NULL;
+}
+
+/* Its node is the one of this name. False where there is no memory. */
+static inline bool dws_place_know(struct dws_place *place, const char *name)
+{
+    size_t room = strlen(place->path) + strlen(name) + 2;
+    dws_place_forget(place);
+    place->node = (char *)malloc(room);
+    if (place->node != NULL) {
+        snprintf(place->node, room, "%s/%s", place->path, name);
+    }
+    return place->node != NULL;
+}
+
+/* Goes on with a place that is given up after this answer. What was lost is asked again. */
+static inline void dws_place_leave_after(dws_session *s, struct dws_place *place, int32_t why)
+{
+    bool is_over = why == DW_OUTCOME_EXPIRED || why == DW_OUTCOME_CLOSED;
+    if (is_over || why == DW_CODE_NO_NODE) {
+        dws_place_forget(place);
+        place->is_unsure = false;
+    }
+    if (why == 0 || why == DW_CODE_NO_NODE || is_over || dws_place_passes(why)) {
+        dws_place_leave(s, place);
+    } else {
+        dws_place_settle(s, place, why);
+    }
+}
+
+static inline void dws_place_deleted(dws_session *s, dws_call *call)
+{
+    struct dws_place *place = (struct dws_place *)call->context;
+    place->is_deleting = false;
+    if (call->why == 0) {
+        dws_place_forget(place);
+    }
+    dws_place_leave_after(s, place, call->why);
+}
+
+static inline void dws_lock_listed(dws_session *s, dws_lock *lock, const dws_call *call);
+
+static inline void dws_place_listed(dws_session *s, dws_call *call)
+{
+    struct dws_place *place = (struct dws_place *)call->context;
+    const char *own = call->why == 0 && place->is_unsure ? dws_lock_find(call, place, dws_place_is_own) : NULL;
+    place->is_asked = place->is_synced = false;
+    place->is_unsure = place->is_unsure && call->why != 0 && call->why != DW_CODE_NO_NODE;
+    if (own != NULL && !dws_place_know(place, own)) {
+        dws_fail(s, DW_NO_MEMORY);
+    } else if (place->is_left) {
+        dws_place_leave_after(s, place, place->is_unsure ? call->why : 0);
+    } else {
+        dws_lock_listed(s, place->lock, call);
+    }
+}
+
+static inline void dws_lock_made(dws_session *s, dws_lock *lock, const dws_call *call, bool is_of_lock);
+
+/* A place is made, or may be; or the node of the lock. */
+static inline void dws_place_made(dws_session *s, dws_call *call)
+{
+    struct dws_place *place = (struct dws_place *)call->context;
+    bool is_of_lock = place->is_of_lock;
+    place->is_asked = false;
+    place->is_unsure = !is_of_lock && (call->why == DW_OUTCOME_LOST || call->why == DWS_LATE);
+    place->node = call->why == 0 && !is_of_lock ? dws_copy_of(call->text) : NULL;
+    if (call->why == 0 && !is_of_lock && place->node == NULL) {
+        dws_fail(s, DW_NO_MEMORY);
+    } else if (place->is_left) {
+        dws_place_leave(s, place);
+    } else {
+        dws_lock_made(s, place->lock, call, is_of_lock);
+    }
+}
+
+/* Makes a place at the end of the line, or the node of the lock. */
+static inline void dws_place_make(dws_session *s, struct dws_place *place, bool is_of_lock)
+{
+    char path[sizeof place->path + DWS_LONGEST_TAG];
+    dws_call *call = dws_place_call(place, &place->call, &place->is_asked, dws_place_made);
+    place->lock->is_listed = false;
+    place->is_of_lock = is_of_lock;
+    if (is_of_lock) {
+        dws_create(s, call, place->path, "", 0, DW_MODE_PERSISTENT);
+    } else {
+        snprintf(path, sizeof path, "%s/%s", place->path, place->tag);
+        dws_create(s, call, path, place->data, strlen(place->data), DW_MODE_EPHEMERAL | DW_MODE_SEQUENTIAL);
+    }
+}
+
+static inline void dws_place_go_on(dws_session *s, struct dws_place *place)
+{
+    if (place->is_left) {
+        dws_place_leave(s, place);
+    } else {
+        dws_lock_go_on(s, place->lock);
+    }
+}
+
+/* A server has accepted the session. What one before has refused is asked again. */
+static inline void dws_place_resume(dws_session *s, struct dws_errand *errand)
+{
+    struct dws_place *place = (struct dws_place *)(void *)errand;
+    if (place->is_left) {
+        dws_place_leave(s, place);
+    }
+}
+
+/* The session is freed. */
+static inline void dws_place_end(dws_session *s, struct dws_errand *errand)
+{
+    struct dws_place *place = (struct dws_place *)(void *)errand;
+    if (place->lock != NULL) {
+        place->lock->place = NULL;
+    }
+    dws_place_free(s, place);
+}
+
+/* ---- A lock that is waited for. ---- */
+
+/* The place is one no more. */
+static inline void dws_lock_lose(dws_session *s, dws_lock *lock)
+{
+    dws_lock_look_away(s, lock);
+    dws_place_forget(lock->place);
+}
+
+/* The places are listed. */
+static inline void dws_lock_listed(dws_session *s, dws_lock *lock, const dws_call *call)
+{
+    struct dws_place *place = lock->place;
+    const char *foreign = call->why == 0 ? dws_lock_find(call, place, dws_place_is_foreign) : NULL;
+    char path[DWS_LONGEST_LINE + sizeof place->path];
+    if (foreign != NULL) {
+        snprintf(path, sizeof path, "%s/%s", place->path, foreign);
+        dws_lock_fail(s, lock, DWS_LOCK_MIXED_NAMES, path);
+        return;
+    }
     if (call->why == DW_CODE_NO_NODE) {
         dws_lock_lose(s, lock);
-        lock->is_unsure = false;
     } else if (call->why == 0 && !dws_lock_keep(lock, call)) {
         dws_fail(s, DW_NO_MEMORY);
-    } else if (call->why == 0 && lock->is_unsure && mine != NULL && !lock->is_let_go) {
-        char place[DWS_LONGEST_LINE];
-        snprintf(place, sizeof place, "%s/%s", lock->path, mine);
-        dws_lock_know(s, lock, place);
-    } else if (call->why != 0 && !dws_lock_passes(call->why)) {
-        dws_lock_tell(s, lock, false, call->why);
+        return;
+    } else if (call->why != 0 && !dws_place_passes(call->why)) {
+        dws_lock_fail(s, lock, call->why, place->path);
         return;
     }
-    lock->is_unsure = lock->is_unsure && call->why != 0;
-    dws_lock_go_on(s, lock);
-}
-
-static inline void dws_lock_stood(dws_session *s, dws_call *call);
-
-/* Makes the node of the lock, or a place at the end of the line. */
-static inline void dws_lock_make(dws_session *s, dws_lock *lock, bool is_place)
-{
-    char path[1100];
-    end_cut(path, sizeof path, snprintf(path, sizeof path, "%s/%s", lock->path, lock->tag));
-    lock->is_asked = true;
-    lock->is_listed = false;
-    lock->call.then = dws_lock_stood;
-    if (is_place) {
-        dws_create(s, &lock->call, path, lock->data, strlen(lock->data), DW_MODE_EPHEMERAL | DW_MODE_SEQUENTIAL);
-    } else {
-        dws_create(s, &lock->call, lock->path, "", 0, DW_MODE_PERSISTENT);
+    if (place->node == NULL || lock->own.path != NULL || dws_lock_follow(s, lock, &lock->own, place->node)) {
+        dws_lock_go_on(s, lock);
     }
 }
 
-/* A place is made, or may be: that is looked at. The node of the lock is made where it is not there. */
-static inline void dws_lock_stood(dws_session *s, dws_call *call)
+/* The node of the lock is made where it is not there. */
+static inline void dws_lock_made(dws_session *s, dws_lock *lock, const dws_call *call, bool is_of_lock)
 {
-    dws_lock *lock = (dws_lock *)call->context;
-    bool is_of_lock = strcmp(dws_inner(s, call->path), lock->path) == 0;
-    lock->is_asked = false;
-    if (lock->is_let_go && call->why == 0 && !is_of_lock) { /* meanwhile */
-        dws_delete(s, &lock->removal, call->text, -1);
-    } else if (!lock->is_let_go && call->why == DW_CODE_NO_NODE && !is_of_lock) {
-        dws_lock_make(s, lock, false);
-    } else if (!lock->is_let_go && call->why == 0 && !is_of_lock) {
-        dws_lock_know(s, lock, call->text);
-    } else if (!lock->is_let_go && call->why != 0 && call->why != DW_CODE_NODE_EXISTS && !dws_lock_passes(call->why)) {
-        dws_lock_tell(s, lock, false, call->why);
-        return;
+    struct dws_place *place = lock->place;
+    if (call->why == DW_CODE_NO_NODE && !is_of_lock) {
+        dws_place_make(s, place, true);
+    } else if (call->why != 0 && call->why != DW_CODE_NODE_EXISTS && !dws_place_passes(call->why)) {
+        dws_lock_fail(s, lock, call->why, call->path != NULL ? dws_inner(s, call->path) : place->path);
+    } else if (place->node == NULL || dws_lock_follow(s, lock, &lock->own, place->node)) {
+        dws_lock_go_on(s, lock);
     }
-    lock->is_unsure = dws_lock_passes(call->why);
-    dws_lock_go_on(s, lock);
 }
 
-static inline void dws_lock_list(dws_session *s, dws_lock *lock)
+/* What the library is to know of names: the marker of one's own kind, and those of the kinds that are waited for, each after its length. */
+static inline size_t dws_lock_spell_markers(const dws_lock *lock, uint8_t *at)
 {
-    lock->is_asked = true;
-    lock->call.then = dws_lock_look;
-    dws_children(s, &lock->call, lock->path, false);
+    size_t end = 0;
+    for (int i = -1; i < DWS_KINDS; i++) {
+        const char *marker = dws_lock_marker(lock->names, i < 0 ? (int)lock->sharing : i);
+        if (i == DWS_SHARED && lock->sharing == DWS_SHARED) {
+            continue;
+        }
+        dws_spell_int(at + end, (uint32_t)strlen(marker));
+        memcpy(at + end + 4, marker, strlen(marker));
+        end += 4 + strlen(marker);
+    }
+    return end;
 }
 
 /* Where the place stands, is the library's word: the token is written, or the name of the place before it that is waited for. */
 static inline enum dw_result dws_lock_standing(dws_session *s, const dws_lock *lock, int64_t *token, char *before, size_t room, size_t *length)
 {
-    /* the marker of one's own kind, and those of the kinds that are waited for, each after its length */
-    static const char exclusive[] = "\0\0\0\10__lock__" "\0\0\0\6-lock-" "\0\0\0\10__lock__" "\0\0\0\11-__WRIT__" "\0\0\0\11__rlock__" "\0\0\0\11-__READ__";
-    static const char shared[] = "\0\0\0\11__rlock__" "\0\0\0\6-lock-" "\0\0\0\10__lock__" "\0\0\0\11-__WRIT__";
-    bool is_shared = lock->sharing == DWS_SHARED;
-    const uint8_t *markers = (const uint8_t *)(is_shared ? shared : exclusive);
-    const char *name = strrchr(lock->place, '/') + 1;
-    char *directory = dws_outer(s, lock->path);
+    uint8_t markers[(1 + DWS_KINDS) * 16];
+    size_t spelled = dws_lock_spell_markers(lock, markers);
+    const char *name = strrchr(lock->place->node, '/') + 1;
+    char *directory = dws_outer(s, lock->place->path);
     if (directory == NULL) {
         return DW_NO_MEMORY;
     }
-    enum dw_result result = dw_session_standing(&s->machine, directory, strlen(directory), name, strlen(name), lock->names.bytes, lock->names.length,
-                                                lock->listed, markers, (is_shared ? sizeof shared : sizeof exclusive) - 1, token, before, room, length);
+    enum dw_result result = dw_session_standing(&s->machine, directory, strlen(directory), name, strlen(name), lock->listing.bytes,
+                                                lock->listing.length, lock->listed, markers, spelled, token, before, room, length);
     free(directory);
     return result;
 }
@@ -234,7 +557,8 @@ static inline enum dw_result dws_lock_standing(dws_session *s, const dws_lock *l
 /* Looks whether the lock is held. The place before one's own is watched, and the places are listed again where that is gone. */
 static inline void dws_lock_judge(dws_session *s, dws_lock *lock)
 {
-    char before[DWS_LONGEST_LINE] = "", path[DWS_LONGEST_LINE + sizeof lock->path];
+    struct dws_place *place = lock->place;
+    char before[DWS_LONGEST_LINE] = "", path[DWS_LONGEST_LINE + sizeof place->path];
     size_t length = 0;
     int64_t token;
     enum dw_result result = dws_lock_standing(s, lock, &token, before, sizeof before - 1, &length);
@@ -243,13 +567,13 @@ static inline void dws_lock_judge(dws_session *s, dws_lock *lock)
         dws_lock_unfollow(s, &lock->before);
         dws_lock_tell(s, lock, true, 0);
     } else if (result == DW_WAITS && lock->before.path == NULL) {
-        snprintf(path, sizeof path, "%s/%s", lock->path, before);
+        snprintf(path, sizeof path, "%s/%s", place->path, before);
         dws_lock_follow(s, lock, &lock->before, path);
     } else if (result == DW_WAITS && lock->before.kind == DW_KEPT_ABSENT && dws_is_good(&lock->before)) {
         dws_lock_unfollow(s, &lock->before);
-        dws_lock_list(s, lock);
+        dws_place_list(s, place);
     } else if (result != DW_WAITS && result != DW_NONE) {
-        dws_lock_tell(s, lock, false, DWS_REFUSED - (int32_t)result);
+        dws_lock_fail(s, lock, DWS_REFUSED - (int32_t)result, place->path);
     }
 }
 
@@ -260,16 +584,18 @@ static inline void dws_lock_go_on(dws_session *s, dws_lock *lock)
     bool is_unknown = lock->is_seen && lock->own.kind == DW_KEPT_NOTHING;
     if (is_gone || is_unknown) {
         dws_lock_lose(s, lock);
-        lock->is_unsure = is_unknown;
-        dws_lock_tell(s, lock, false, lock->why);
+        lock->place->is_unsure = lock->place->is_synced = is_unknown;
+        if (!dws_lock_tell(s, lock, false, lock->why)) {
+            return;
+        }
     }
-    if (s->is_over || lock->is_asked || lock->is_let_go || lock->why != 0) { /* at the end who was told may have freed the lock */
+    if (s->is_over || lock->place == NULL || lock->place->is_asked || lock->place->is_left) {
         return;
     }
-    if (lock->place[0] == 0 && !lock->is_unsure) {
-        dws_lock_make(s, lock, true);
+    if (lock->place->node == NULL && !lock->place->is_unsure) {
+        dws_place_make(s, lock->place, false);
     } else if (!lock->is_listed) {
-        dws_lock_list(s, lock);
+        dws_place_list(s, lock->place);
     } else if (lock->is_seen) { /* so that it is seen too when what is held is lost */
         dws_lock_judge(s, lock);
     }
@@ -278,46 +604,66 @@ static inline void dws_lock_go_on(dws_session *s, dws_lock *lock)
 static inline bool dws_lock_take(dws_session *s, dws_lock *lock, const char *path, enum dws_sharing sharing, const char *data,
                                  void (*changed)(dws_session *, dws_lock *))
 {
-    if (strlen(path) >= sizeof lock->path || strlen(data) >= sizeof lock->data || lock->is_asked) {
+    struct dws_place *place = (struct dws_place *)calloc(1, sizeof *place);
+    if (place == NULL || strlen(path) >= sizeof place->path || strlen(data) >= sizeof place->data || lock->place != NULL) {
+        free(place);
         return false;
     }
-    strcpy(lock->path, path);
-    strcpy(lock->data, data);
-    snprintf(lock->tag, sizeof lock->tag, "%016" PRIx64 "%016" PRIx64 "%s", dws_chance(s), dws_chance(s), sharing == DWS_SHARED ? "__rlock__" : "__lock__");
     lock->sharing = sharing;
     lock->changed = changed;
-    lock->call.context = lock;
-    lock->place[0] = 0;
+    lock->place = place;
     lock->why = 0;
-    lock->is_let_go = lock->is_unsure = lock->is_listed = lock->is_seen = false;
+    lock->is_listed = lock->is_seen = false;
+    strcpy(place->path, path);
+    strcpy(place->data, data);
+    dws_lock_write_tag(s, lock, place->tag);
+    place->session = s;
+    place->lock = lock;
+    place->errand.go_on = dws_place_resume;
+    place->errand.end = dws_place_end;
+    place->errand.next = s->errands;
+    s->errands = &place->errand;
     dws_lock_go_on(s, lock);
     return true;
 }
 
 static inline dws_call *dws_lock_check(dws_session *s, dws_lock *lock, dws_call *call)
 {
-    return dws_exists(s, call, lock->place, false);
+    return dws_exists(s, call, lock->place != NULL && lock->place->node != NULL ? lock->place->node : "", false);
 }
 
 static inline dws_call *dws_lock_let_go(dws_session *s, dws_lock *lock)
 {
-    lock->is_let_go = true;
-    lock->is_held = false;
-    dws_lock_unfollow(s, &lock->own);
-    dws_lock_unfollow(s, &lock->before);
-    if (lock->place[0] == 0) { /* no place is known; one that is being made is deleted when that is answered */
-        dws_finish(s, &lock->removal, 0);
+    lock->is_held = lock->removal.is_answered = false;
+    lock->removal.why = 0;
+    if (lock->place == NULL) {
+        dws_call_back(s, &lock->removal);
         return &lock->removal;
     }
-    return dws_delete(s, &lock->removal, lock->place, -1);
+    lock->is_waited_for = lock->place->is_left = true;
+    dws_lock_look_away(s, lock);
+    dws_place_leave(s, lock->place);
+    return &lock->removal;
 }
 
 static inline void dws_lock_release(dws_lock *lock)
 {
-    dws_release(&lock->call);
+    struct dws_place *place = lock->place;
+    if (place != NULL) { /* so its session is not freed */
+        lock->place = NULL;
+        place->lock = NULL;
+        lock->is_held = false;
+        place->is_left = true;
+        dws_lock_look_away(place->session, lock);
+        dws_place_leave(place->session, place);
+    }
+    if (lock->is_released != NULL) {
+        *lock->is_released = true;
+    }
+    lock->is_released = NULL;
     dws_release(&lock->removal);
-    free(lock->names.bytes);
-    memset(&lock->names, 0, sizeof lock->names);
+    free(lock->listing.bytes);
+    memset(&lock->listing, 0, sizeof lock->listing);
 }
 
 #ifdef __cplusplus

@@ -13,7 +13,9 @@
  *     int main(void)
  *     {
  *         static dws_subject config;
- *         dws_session *session = dws_open("zk1:2181,zk2:2181/app", NULL, NULL, 0);
+ *         static dws_options options;
+ *         options.told = dws_print_event;
+ *         dws_session *session = dws_open("zk1:2181,zk2:2181/app", &options, NULL, 0);
  *         if (session == NULL || dws_follow(session, &config, "/config", show) != DW_OK) {
  *             return EXIT_FAILURE;
  *         }
@@ -131,7 +133,7 @@ struct dws_call {
     enum dws_kind kind;
     char *path, *bytes;
     size_t bytes_length, room, names_room;
-    bool watch, is_null_sent;
+    bool watch, is_null_sent, is_patient; /* the last one: it has no limit */
     int32_t number;
     uint64_t ticket, until_ms;
     dws_call *next;
@@ -211,6 +213,9 @@ struct dws_tree {
  * brackets. Names are looked up at each attempt to connect, of which the first is made at the first turn. Options may be NULL. NULL where the
  * text is no such thing, a timeout is out of range, or memory ran out: then `why`, which has `size` bytes and may be NULL with none, says so. */
 static inline dws_session *dws_open(const char *hosts, const dws_options *options, char *why, size_t size);
+
+/* Prints an event on standard error, for `told` of the options: so a program says why it has no session as long as no server can be reached. */
+static inline void dws_print_event(dws_session *s, enum dws_event event, const char *server, const char *words);
 
 /* Lets a session go, and leaves it to its timeout at the servers. Calls that wait are answered, subjects are followed no longer. */
 static inline void dws_free(dws_session *s);
@@ -311,14 +316,15 @@ static inline bool dws_read_lacking(const uint8_t **at, const uint8_t *end, cons
 /* The context of the options. */
 static inline void *dws_context(const dws_session *s);
 
-/* The greatest zxid seen: what is marked good holds at it. */
+/* The greatest zxid seen, in answers to lane.h too: what is marked good holds at it. */
 static inline int64_t dws_last_zxid(dws_session *s);
 
 /* Forgets all stale answers. What is kept is bounded by nothing but memory: who goes from path to path, without following them, calls this now and
  * then. What is followed is followed still. */
 static inline void dws_forget(dws_session *s);
 
-/* How many milliseconds ago the server was heard last, or -1 where it was not yet. What is marked good was so at some moment since then, or later. */
+/* How many milliseconds ago the server was heard last, or -1 where it was not yet. What is marked good was so at some moment since then, or later. The
+ * time counts in which the system was suspended, too, on a system with CLOCK_BOOTTIME. */
 static inline int64_t dws_heard_ms(dws_session *s);
 
 /* The number of the session: the owner of its ephemeral nodes. It is 0 before a server has accepted it. */
@@ -372,12 +378,19 @@ struct dws_seen {
 
 /* What asks beside the library, on the same connection: lane.h. */
 struct dws_beside {
-    enum dw_result (*ask)(dws_session *s, dws_call *call, uint64_t now_ms);                      /* a call is to be written */
-    void (*begin)(dws_session *s);                                                               /* a connection begins */
+    enum dw_result (*ask)(dws_session *s, dws_call *call);                                       /* a call is to be written */
+    void (*begin)(dws_session *s);                                                               /* a connection begins: the ConnectRequest waits */
     void (*hear)(dws_session *s, uint64_t came_ms, const uint8_t *bytes, size_t length);         /* bytes came from the server */
     void (*end)(dws_session *s);                                                                 /* the connection is over */
     bool (*write_words)(dws_session *s, const dws_call *call, char *room, size_t size);          /* why a call has failed, where it has words */
     void (*release)(dws_session *s);                                                             /* the session is freed */
+};
+
+/* What a session goes on with by itself, until it is done or the session is freed: a place of lock.h. */
+struct dws_errand {
+    void (*go_on)(dws_session *s, struct dws_errand *errand); /* a server has accepted the session */
+    void (*end)(dws_session *s, struct dws_errand *errand);   /* the session is freed */
+    struct dws_errand *next;
 };
 
 struct dws_session {
@@ -395,15 +408,20 @@ struct dws_session {
     bool is_dial_due, is_connecting, is_expired, is_closing, is_over, is_resumed;
     bool has_more, has_news;           /* bytes that poll does not tell of, and something that a program may wait for */
     bool must_look, must_follow;       /* marks may be others; subjects are new or gone */
+    bool must_show, is_acting;         /* subjects have changed; what a step says is being taken */
     bool is_moment;                    /* what the library says is due, and no word of the server's */
     bool is_due_known;                 /* no step was made since the library was asked when something is due */
     uint64_t due_ms;
     struct dws_waiting waiting;
     struct dws_frames came;            /* where lane.h is to begin */
+    int64_t beside_zxid;               /* the greatest zxid of an answer to lane.h */
     uint64_t now_ms, last_ticket;
+    int64_t suspended_ms, heard_suspended_ms; /* how long the system was suspended: before this wait, and before the last one that brought bytes */
     struct dws_buffer unsent;
     struct dws_line queue, sent;       /* calls that are to be asked, and those that were, in the order of their tickets */
+    struct dws_line answered;          /* those that this step has answered, whose callbacks come when all that it says is taken */
     dws_call close;
+    struct dws_errand *errands;
     dws_subject *subjects;
     dws_tree *trees;
     struct dws_gone *gone;
@@ -417,7 +435,7 @@ struct dws_session {
 
 /* made by scripts/interface from include/interface.toml */
 /* What to do about what a function answered: the empty text where its words say it. */
-static inline const char *advice_of_result(enum dw_result result)
+static inline const char *dws_advice_of_result(enum dw_result result)
 {
     switch (result) {
     case DW_OK: return "";
@@ -439,7 +457,7 @@ static inline const char *advice_of_result(enum dw_result result)
 }
 
 /* What to do where there is no reply: the empty text where its words say it. */
-static inline const char *advice_of_outcome(enum dw_outcome outcome)
+static inline const char *dws_advice_of_outcome(enum dw_outcome outcome)
 {
     switch (outcome) {
     case DW_OUTCOME_REPLIED: return "";
@@ -455,7 +473,7 @@ static inline const char *advice_of_outcome(enum dw_outcome outcome)
 }
 
 /* Why a server refuses a call, by a code that the header does not name. NULL where there are no words either. */
-static inline const char *words_of_other_code(int32_t code)
+static inline const char *dws_words_of_other_code(int32_t code)
 {
     switch (code) {
     case -1: return "the server has failed";
@@ -482,7 +500,7 @@ static inline const char *words_of_other_code(int32_t code)
 }
 
 /* What to do where a server refuses a call. */
-static inline const char *advice_of_code(int32_t code)
+static inline const char *dws_advice_of_code(int32_t code)
 {
     switch (code) {
     case -4: return "it may or may not have happened: read again";
@@ -498,7 +516,7 @@ static inline const char *advice_of_code(int32_t code)
 /* end of what is made */
 
 /* Why the library takes a text that is UTF-8 for no path of a node, or NULL where this function sees no reason. */
-static inline const char *words_of_path(const char *path)
+static inline const char *dws_words_of_path(const char *path)
 {
     static const size_t longest = 4096;
     size_t length = strlen(path);
@@ -529,7 +547,7 @@ static inline const char *words_of_path(const char *path)
 }
 
 /* Ends a text that had no room for its length with two dots, which come after a whole character. */
-static inline void end_cut(char *room, size_t size, int length)
+static inline void dws_end_cut(char *room, size_t size, int length)
 {
     if (length >= 0 && (size_t)length >= size && size > 2) {
         size_t end = size - 3;
@@ -541,7 +559,7 @@ static inline void end_cut(char *room, size_t size, int length)
 }
 
 /* How many bytes the first character of a text has; 0 where it is a control character, or no UTF-8. */
-static inline size_t length_of_shown(const char *text)
+static inline size_t dws_length_of_shown(const char *text)
 {
     static const uint32_t least[] = {0, ' ', 0xa0, 0x800, 0x10000};
     unsigned char first = (unsigned char)text[0];
@@ -559,12 +577,12 @@ static inline size_t length_of_shown(const char *text)
 }
 
 /* Writes a path as messages have it, on one line: control characters and bytes that are no UTF-8 are \xNN. It gives the room back. */
-static inline const char *show_path(char *room, size_t size, const char *path)
+static inline const char *dws_show_path(char *room, size_t size, const char *path)
 {
     static const size_t most = sizeof "\\xNN" - 1; /* bytes of one character */
     size_t length = 0;
     while (*path != 0 && length + most + 2 < size) {
-        size_t count = length_of_shown(path);
+        size_t count = dws_length_of_shown(path);
         if (count > 0) {
             memcpy(room + length, path, count);
             length += count;
@@ -578,40 +596,40 @@ static inline const char *show_path(char *room, size_t size, const char *path)
 }
 
 /* Writes a reason, with the path where it is not NULL and what to do where there is something, as far as there is room. */
-static inline void write_words(char *room, size_t size, const char *reason, const char *path, const char *advice)
+static inline void dws_write_words(char *room, size_t size, const char *reason, const char *path, const char *advice)
 {
     char shown[DWS_LONGEST_LINE];
     const char *before = path != NULL ? ": " : "", *after = advice[0] != 0 ? "; " : "";
-    path = path != NULL ? show_path(shown, sizeof shown, path) : "";
-    end_cut(room, size, snprintf(room, size, "%s%s%s%s%s", reason, before, path, after, advice));
+    path = path != NULL ? dws_show_path(shown, sizeof shown, path) : "";
+    dws_end_cut(room, size, snprintf(room, size, "%s%s%s%s%s", reason, before, path, after, advice));
 }
 
 /* Writes what a function of the library answered about a path, or about none where that is NULL. */
-static inline void write_result(char *room, size_t size, enum dw_result result, const char *path)
+static inline void dws_write_result(char *room, size_t size, enum dw_result result, const char *path)
 {
     if (result == DW_NOT_PATH && path != NULL) {
         char shown[DWS_LONGEST_LINE];
-        const char *why = words_of_path(path), *before = why != NULL ? ": " : "";
-        show_path(shown, sizeof shown, path[0] != 0 ? path : "\"\"");
-        end_cut(room, size, snprintf(room, size, "%s is no path%s%s", shown, before, why != NULL ? why : ""));
+        const char *why = dws_words_of_path(path), *before = why != NULL ? ": " : "";
+        dws_show_path(shown, sizeof shown, path[0] != 0 ? path : "\"\"");
+        dws_end_cut(room, size, snprintf(room, size, "%s is no path%s%s", shown, before, why != NULL ? why : ""));
     } else {
-        write_words(room, size, dw_result_words(result), path, advice_of_result(result));
+        dws_write_words(room, size, dw_result_words(result), path, dws_advice_of_result(result));
     }
 }
 
 /* Writes why a call about a path has no reply. */
-static inline void write_outcome(char *room, size_t size, enum dw_outcome outcome, const char *path)
+static inline void dws_write_outcome(char *room, size_t size, enum dw_outcome outcome, const char *path)
 {
-    write_words(room, size, dw_outcome_words(outcome), path, advice_of_outcome(outcome));
+    dws_write_words(room, size, dw_outcome_words(outcome), path, dws_advice_of_outcome(outcome));
 }
 
 /* Writes why a server refuses a call about a path. A code that has no name in the header is told by its number. */
-static inline void write_code(char *room, size_t size, int32_t code, const char *path)
+static inline void dws_write_code(char *room, size_t size, int32_t code, const char *path)
 {
     char numbered[64];
     const char *reason = dw_code_words(code);
     if (strcmp(reason, dw_code_words(0)) == 0) { /* 0 is no error, and so has no name either */
-        reason = words_of_other_code(code);
+        reason = dws_words_of_other_code(code);
     }
     if (code == DW_CODE_INVALID_ACL) { /* the header knows calls with the open one alone */
         reason = "the server does not take this ACL";
@@ -620,7 +638,7 @@ static inline void write_code(char *room, size_t size, int32_t code, const char 
         snprintf(numbered, sizeof numbered, "the server answers %" PRId32, code);
         reason = numbered;
     }
-    write_words(room, size, reason, path, advice_of_code(code));
+    dws_write_words(room, size, reason, path, dws_advice_of_code(code));
 }
 
 /* ---- Steps: what a step of the library's session says, and calls that are handed to it. ---- */
@@ -630,6 +648,18 @@ static inline uint64_t dws_now_ms(void)
     struct timespec now;
     clock_gettime(CLOCK_MONOTONIC, &now);
     return (uint64_t)now.tv_sec * 1000 + (uint64_t)now.tv_nsec / 1000000;
+}
+
+/* The same with the time in which the system was suspended, if it has such a clock. */
+static inline uint64_t dws_elapsed_ms(void)
+{
+#ifdef CLOCK_BOOTTIME
+    struct timespec now;
+    if (clock_gettime(CLOCK_BOOTTIME, &now) == 0) {
+        return (uint64_t)now.tv_sec * 1000 + (uint64_t)now.tv_nsec / 1000000;
+    }
+#endif
+    return dws_now_ms();
 }
 
 static inline uint64_t dws_least(uint64_t one, uint64_t other)
@@ -691,9 +721,33 @@ static inline bool dws_reserve_names(char ***names, size_t *room, size_t wanted)
     return is_there;
 }
 
+static inline void dws_mark(dws_session *s);
+
+static inline void dws_print_event(dws_session *s, enum dws_event event, const char *server, const char *words)
+{
+    (void)s;
+    if (event == DWS_READ_REFUSED) {
+        fprintf(stderr, "%s\n", words);
+    } else {
+        fprintf(stderr, "%s: %s\n", server, words);
+    }
+}
+
+/* Overwrites a secret. */
+static inline void dws_wipe(void *at, size_t length)
+{
+    void *(*volatile set)(void *, int, size_t) = memset; /* so that it is not left out */
+    if (length > 0) {
+        set(at, 0, length);
+    }
+}
+
+/* Events are few: before each one all marks are looked at. */
 static inline void dws_tell(dws_session *s, enum dws_event event, const char *words)
 {
     if (s->options.told != NULL) {
+        s->must_look = true;
+        dws_mark(s);
         s->options.told(s, event, s->server, words);
     }
 }
@@ -721,13 +775,33 @@ static inline dws_call *dws_remove(struct dws_line *line, dws_call **at)
     return call;
 }
 
-/* Answers a call. */
-static inline void dws_finish(dws_session *s, dws_call *call, int32_t why)
+/* Tells a call its answer. */
+static inline void dws_call_back(dws_session *s, dws_call *call)
 {
-    call->why = why;
+    dws_mark(s);
     call->is_answered = s->has_news = true;
     if (call->then != NULL) {
         call->then(s, call);
+    }
+}
+
+/* Answers a call: within a step it is told so at the end. A step is whole before the library says anything of it, so the last zxid is that of all of
+ * it, and a mark may end by what is said last. */
+static inline void dws_finish(dws_session *s, dws_call *call, int32_t why)
+{
+    call->why = why;
+    if (s->is_acting) {
+        dws_append(&s->answered, call);
+    } else {
+        dws_call_back(s, call);
+    }
+}
+
+/* Tells all calls that a step has answered. */
+static inline void dws_call_all_back(dws_session *s)
+{
+    while (s->answered.count > 0) {
+        dws_call_back(s, dws_remove(&s->answered, &s->answered.first));
     }
 }
 
@@ -780,6 +854,7 @@ static inline void dws_answer_rest(dws_session *s)
     if (s->is_over) {
         bool may_happen = s->result == DW_OK && s->barred == 0 && dws_is_connected(s);
         dws_hang_up(s);
+        dws_call_all_back(s);
         dws_finish_all(s, &s->sent, may_happen ? (int32_t)DW_OUTCOME_LOST : dws_why_over(s));
         dws_finish_all(s, &s->queue, dws_why_over(s));
         while (dws_show_next(s)) {
@@ -824,6 +899,7 @@ static inline void dws_hang_up(dws_session *s)
     }
     s->is_connecting = s->has_more = false;
     s->read_wants = s->write_wants = 0;
+    dws_wipe(s->unsent.bytes, s->unsent.length);
     s->unsent.length = 0;
     s->waiting.first = s->waiting.count = 0;
     memset(&s->came, 0, sizeof s->came);
@@ -1024,12 +1100,22 @@ static inline void dws_take_expiry(dws_session *s)
     dws_finish_all(s, &s->queue, DW_OUTCOME_EXPIRED);
 }
 
+/* A server has accepted the session. */
+static inline void dws_take_admission(dws_session *s)
+{
+    s->is_resumed = false;
+    for (struct dws_errand *errand = s->errands, *next; errand != NULL; errand = next) {
+        next = errand->next;
+        errand->go_on(s, errand);
+    }
+    dws_tell(s, DWS_CONNECTED, "connected");
+}
+
 static inline void dws_take_state(dws_session *s, enum dw_state state)
 {
     s->must_look = s->has_news = true;
     if (state == DW_STATE_CONNECTED) {
-        s->is_resumed = false;
-        dws_tell(s, DWS_CONNECTED, "connected");
+        dws_take_admission(s);
     } else if (state == DW_STATE_EXPIRED) {
         dws_take_expiry(s);
     } else if (state == DW_STATE_CLOSED) {
@@ -1134,6 +1220,7 @@ static inline void dws_act(dws_session *s, enum dw_result result)
 {
     dw_output action;
     s->is_due_known = false;
+    s->is_acting = true;
     while (result == DW_OK && !s->is_over) {
         result = dw_session_next(&s->machine, &action);
         if (result == DW_OK) {
@@ -1142,6 +1229,8 @@ static inline void dws_act(dws_session *s, enum dw_result result)
     }
     dws_see_trees(s);
     dws_lose_beside(s, UINT64_MAX);
+    s->is_acting = false;
+    dws_call_all_back(s);
     if (s->is_over || result == DW_NONE) {
         return;
     }
@@ -1195,6 +1284,7 @@ static inline void dws_resume(dws_session *s)
     if (result == DW_OK) {
         result = dw_session_resume(&s->machine, s->options.timeout_ms, s->host_count, dws_chance(s), saved, length);
     }
+    dws_wipe(saved, sizeof saved);
     if (result != DW_OK) {
         dws_fail(s, result);
         return;
@@ -1243,7 +1333,7 @@ static inline enum dw_result dws_step(dws_session *s, dws_call *call, uint64_t n
                                  (uint32_t)call->number);
     case DWS_DELETE: return dw_session_delete(machine, now_ms, ticket, until_ms, call->path, length, call->number);
     case DWS_CLOSE: return dw_session_close(machine, now_ms, ticket, until_ms);
-    case DWS_BESIDE: return s->beside->ask(s, call, now_ms);
+    case DWS_BESIDE: return s->beside->ask(s, call);
     }
     return DW_NOT_PATH;
 }
@@ -1341,8 +1431,8 @@ static inline bool dws_read_string(dws_session *s, const char *text, char *why, 
     }
     strcpy(s->hosts_text, text);
     s->root = s->hosts_text + length + (strcmp(text + length, "/") == 0);
-    if (s->root[0] != 0 && words_of_path(s->root) != NULL) {
-        write_result(why, size, DW_NOT_PATH, s->root);
+    if (s->root[0] != 0 && dws_words_of_path(s->root) != NULL) {
+        dws_write_result(why, size, DW_NOT_PATH, s->root);
         return false;
     }
     return dws_read_hosts(s, length, why, size);
@@ -1482,9 +1572,19 @@ static inline ssize_t dws_write(dws_session *s, const void *bytes, size_t size)
     return send(s->wire.socket, bytes, size, MSG_NOSIGNAL);
 }
 
+/* Looks at the clocks before a wait: what it brings may have come before the system was suspended within it. The later clock is read first, so that what
+ * lies between makes an age longer. */
+static inline void dws_begin_wait(dws_session *s)
+{
+    uint64_t elapsed_ms = dws_elapsed_ms();
+    s->now_ms = dws_now_ms();
+    s->suspended_ms = (int64_t)(elapsed_ms - s->now_ms);
+}
+
 /* Hands bytes from the server to the library. */
 static inline void dws_hear(dws_session *s, uint64_t came_ms, const uint8_t *bytes, size_t length)
 {
+    s->heard_suspended_ms = s->suspended_ms;
     enum dw_result result = dw_session_bytes(&s->machine, came_ms, bytes, length);
     if (result == DW_NO_MEMORY) {
         dws_cut(s, dw_result_words(result)); /* no step was made */
@@ -1537,6 +1637,9 @@ static inline void dws_transmit(dws_session *s)
     if (count >= 0) {
         s->unsent.length -= (size_t)count;
         memmove(s->unsent.bytes, s->unsent.bytes + count, s->unsent.length);
+        if (s->beside != NULL) { /* there may be credentials among it */
+            dws_wipe(s->unsent.bytes + s->unsent.length, (size_t)count);
+        }
         s->write_wants = POLLOUT;
     } else if (dws_is_passing(errno)) {
         s->write_wants = s->wire.wants != 0 ? s->wire.wants : POLLOUT;
@@ -1645,13 +1748,19 @@ static inline bool dws_look_at_children(dws_session *s, dws_subject *subject, en
     return true;
 }
 
-/* Looks at all subjects, with no step between: those that are good are of one moment, that of the last zxid. */
-static inline void dws_look(dws_session *s)
+/* Looks at all subjects, if their marks may be others, with no step between: those that are good are of one moment, that of the last zxid. So it is
+ * before each callback. */
+static inline void dws_mark(dws_session *s)
 {
     enum dw_result result = DW_OK;
+    if (!s->must_look || s->is_over) {
+        return;
+    }
+    s->must_look = false;
     for (dws_subject *one = s->subjects; one != NULL && result == DW_OK; one = one->next) {
         bool is_changed = one->side == DW_SIDE_DATA ? dws_look_at_node(s, one, &result) : dws_look_at_children(s, one, &result);
         one->is_changed = one->is_changed || is_changed;
+        s->must_show = s->must_show || is_changed;
     }
     if (result != DW_OK) {
         dws_fail(s, result);
@@ -1661,10 +1770,11 @@ static inline void dws_look(dws_session *s)
 /* Shows a subject of which another thing is kept, where there is one. */
 static inline bool dws_show_next(dws_session *s)
 {
+    s->must_show = false;
     for (dws_subject *one = s->subjects; one != NULL; one = one->next) {
         if (one->is_changed) {
             one->is_changed = false;
-            s->has_news = true;
+            s->must_show = s->has_news = true;
             if (one->changed != NULL) {
                 one->changed(s, one);
             }
@@ -1712,10 +1822,10 @@ static inline void dws_take_refusal(dws_session *s, const dw_output *refused)
     if (subject == NULL) {
         dws_note_seen(s, refused->ticket, is_code && (dws_is_busy(why) || why == DW_CODE_NO_NODE) ? 0 : why);
     } else if (is_code) {
-        write_code(line, sizeof line, why, dws_inner(s, subject->path));
+        dws_write_code(line, sizeof line, why, dws_inner(s, subject->path));
         dws_tell(s, DWS_READ_REFUSED, line);
     } else {
-        write_outcome(line, sizeof line, (enum dw_outcome)why, dws_inner(s, subject->path));
+        dws_write_outcome(line, sizeof line, (enum dw_outcome)why, dws_inner(s, subject->path));
         dws_tell(s, DWS_READ_REFUSED, line);
     }
 }
@@ -1797,6 +1907,15 @@ static inline void dws_spell_int(uint8_t *at, uint32_t number)
 static inline int64_t dws_read_long(const uint8_t *at)
 {
     return (int64_t)((uint64_t)dws_read_int(at) << 32 | dws_read_int(at + 4));
+}
+
+/* A zxid that is spelled here, of what the library has seen, becomes that of what the session has seen. */
+static inline void dws_raise_zxid(const dws_session *s, uint8_t *at)
+{
+    if (dws_read_long(at) < s->beside_zxid) {
+        dws_spell_int(at, (uint32_t)((uint64_t)s->beside_zxid >> 32));
+        dws_spell_int(at + 4, (uint32_t)s->beside_zxid);
+    }
 }
 
 static inline bool dws_read_node(uint8_t **at, const uint8_t *end, dws_node *node)
@@ -1903,11 +2022,11 @@ static inline void dws_tree_words(dws_session *s, const dws_tree *tree, char *ro
     const char *path = tree->trouble != NULL ? tree->trouble : tree->path;
     const char *inner = path != NULL ? dws_inner(s, path) : "";
     if (tree->why > DWS_REFUSED) {
-        write_result(room, size, (enum dw_result)(DWS_REFUSED - tree->why), inner);
+        dws_write_result(room, size, (enum dw_result)(DWS_REFUSED - tree->why), inner);
     } else if (tree->why < 0) {
-        write_code(room, size, tree->why, inner);
+        dws_write_code(room, size, tree->why, inner);
     } else {
-        write_outcome(room, size, (enum dw_outcome)tree->why, inner);
+        dws_write_outcome(room, size, (enum dw_outcome)tree->why, inner);
     }
 }
 
@@ -2093,6 +2212,7 @@ static inline void dws_lose_kept(dws_session *s)
 {
     for (dws_subject *one = s->subjects; one != NULL; one = one->next) {
         one->is_changed = one->is_changed || one->mark != 0;
+        s->must_show = s->must_show || one->is_changed;
         one->mark = (enum dw_mark)0;
         one->kind = DW_KEPT_NOTHING;
         memset(&one->stat, 0, sizeof one->stat);
@@ -2239,7 +2359,7 @@ static inline enum dw_result dws_follow_tree(dws_session *s, dws_tree *tree, con
     dw_kept_data kept;
     uint8_t none;
     tree->path = dws_outer(s, path);
-    enum dw_result result = tree->path == NULL ? DW_NO_MEMORY : words_of_path(path) != NULL ? DW_NOT_PATH : DW_OK;
+    enum dw_result result = tree->path == NULL ? DW_NO_MEMORY : dws_words_of_path(path) != NULL ? DW_NOT_PATH : DW_OK;
     if (result == DW_OK) {
         result = dw_session_peek_data(&s->machine, tree->path, strlen(tree->path), &kept, &none, 0);
     }
@@ -2309,11 +2429,9 @@ static inline bool dws_is_late(dws_session *s)
 static inline void dws_work(dws_session *s)
 {
     dws_follow_new(s);
-    if (s->must_look && !s->is_over) {
-        s->must_look = false;
-        dws_look(s);
-        while (!s->is_over && dws_show_next(s)) {
-        }
+    dws_mark(s);
+    while (s->must_show && !s->is_over) {
+        dws_show_next(s);
     }
     dws_look_at_trees(s);
     dws_send_queued(s);
@@ -2351,14 +2469,14 @@ static inline uint64_t dws_first_due(dws_session *s)
 
 static inline int dws_wanted(dws_session *s, struct pollfd *polled)
 {
-    s->now_ms = dws_now_ms();
+    dws_begin_wait(s);
     if (!s->is_over) {
         dws_work(s);
     }
     polled->fd = s->is_over ? -1 : s->wire.socket;
     polled->events = (short)(POLLIN | (s->is_connecting ? POLLOUT : s->read_wants) | (s->unsent.length > 0 ? s->write_wants : 0));
     polled->revents = 0;
-    if (s->has_news || s->is_over || s->has_more || s->is_dial_due || s->must_look || s->must_follow) {
+    if (s->has_news || s->is_over || s->has_more || s->is_dial_due || s->must_look || s->must_show || s->must_follow) {
         return 0;
     }
     uint64_t first = dws_first_due(s);
@@ -2396,7 +2514,7 @@ static inline void dws_put(dws_session *s, dws_call *call)
     call->is_answered = false;
     call->why = 0;
     call->count = call->length = 0;
-    call->until_ms = s->options.patience_ms < 0 ? UINT64_MAX : dws_now_ms() + dws_patience_ms(s);
+    call->until_ms = s->options.patience_ms < 0 || call->is_patient ? UINT64_MAX : dws_now_ms() + dws_patience_ms(s);
     if (s->is_over || s->is_closing) {
         dws_finish(s, call, dws_why_over(s));
     } else {
@@ -2429,7 +2547,7 @@ static inline dws_call *dws_ask(dws_session *s, dws_call *call, enum dws_kind ki
     call->is_null_sent = bytes == NULL;
     if (call->path == NULL || call->bytes == NULL) {
         dws_finish(s, call, DWS_REFUSED - (int32_t)DW_NO_MEMORY);
-    } else if (words_of_path(path) != NULL) {
+    } else if (dws_words_of_path(path) != NULL) {
         dws_finish(s, call, DWS_REFUSED - (int32_t)DW_NOT_PATH);
     } else {
         memcpy(call->bytes, bytes != NULL ? bytes : "", length);
@@ -2508,13 +2626,13 @@ static inline void dws_write_late(dws_session *s, const dws_call *call, char *ro
     char reason[64];
     if (call->why == DWS_LATE) {
         snprintf(reason, sizeof reason, "no answer came in %g s", waited_s);
-        write_words(room, size, reason, path, "it may have happened, or may yet: read again");
+        dws_write_words(room, size, reason, path, "it may have happened, or may yet: read again");
     } else if (dws_is_connected(s)) {
         snprintf(reason, sizeof reason, "other calls have waited before it for %g s", waited_s);
-        write_words(room, size, reason, path, "call again later");
+        dws_write_words(room, size, reason, path, "call again later");
     } else {
         const char *form = "no server of %s accepted the session in %g s; last: %s: %s";
-        end_cut(room, size, snprintf(room, size, form, s->hosts_text, waited_s, s->server, s->trouble));
+        dws_end_cut(room, size, snprintf(room, size, form, s->hosts_text, waited_s, s->server, s->trouble));
     }
 }
 
@@ -2527,15 +2645,15 @@ static inline void dws_words(dws_session *s, const dws_call *call, char *room, s
         return;
     }
     if (call->why > DWS_REFUSED) {
-        write_result(room, size, (enum dw_result)(DWS_REFUSED - call->why), path);
+        dws_write_result(room, size, (enum dw_result)(DWS_REFUSED - call->why), path);
     } else if (call->why == DWS_LATE || call->why == DW_OUTCOME_NOT_CONNECTED) {
         dws_write_late(s, call, room, size, path);
     } else if (call->why < 0) {
-        write_code(room, size, call->why, path);
+        dws_write_code(room, size, call->why, path);
     } else if (call->why == DW_OUTCOME_EXPIRED && !s->is_over) {
-        write_words(room, size, dw_outcome_words(DW_OUTCOME_EXPIRED), path, "call again");
+        dws_write_words(room, size, dw_outcome_words(DW_OUTCOME_EXPIRED), path, "call again");
     } else {
-        write_outcome(room, size, (enum dw_outcome)call->why, path);
+        dws_write_outcome(room, size, (enum dw_outcome)call->why, path);
     }
 }
 
@@ -2550,7 +2668,7 @@ static inline enum dw_result dws_follow_side(dws_session *s, dws_subject *subjec
     subject->path = dws_outer(s, path);
     subject->side = side;
     subject->changed = changed;
-    enum dw_result result = subject->path == NULL ? DW_NO_MEMORY : words_of_path(path) != NULL ? DW_NOT_PATH : DW_OK;
+    enum dw_result result = subject->path == NULL ? DW_NO_MEMORY : dws_words_of_path(path) != NULL ? DW_NOT_PATH : DW_OK;
     if (result == DW_OK) {
         result = dw_session_peek_data(&s->machine, subject->path, strlen(subject->path), &kept, &none, 0);
     }
@@ -2646,6 +2764,9 @@ static inline void dws_free(dws_session *s)
         dws_unfollow_tree(s, s->trees);
     }
     dws_answer_rest(s);
+    while (s->errands != NULL) {
+        s->errands->end(s, s->errands);
+    }
     if (s->beside != NULL) {
         s->beside->release(s);
     }
@@ -2675,7 +2796,7 @@ static inline dws_session *dws_open(const char *hosts, const dws_options *option
         if (s->options.timeout_ms == 0) {
             s->options.timeout_ms = DWS_TIMEOUT_MS;
         }
-        s->now_ms = dws_now_ms();
+        dws_begin_wait(s);
         if (!dws_read_string(s, hosts, why, size)) {
             dws_free(s);
             return NULL;
@@ -2717,7 +2838,8 @@ static inline void *dws_context(const dws_session *s)
 
 static inline int64_t dws_last_zxid(dws_session *s)
 {
-    return dw_session_last_zxid(&s->machine);
+    int64_t zxid = dw_session_last_zxid(&s->machine);
+    return zxid < s->beside_zxid ? s->beside_zxid : zxid;
 }
 
 static inline void dws_forget(dws_session *s)
@@ -2728,12 +2850,18 @@ static inline void dws_forget(dws_session *s)
 static inline int64_t dws_heard_ms(dws_session *s)
 {
     uint64_t moment_ms;
-    return dw_session_heard_at(&s->machine, &moment_ms) == DW_OK ? (int64_t)(dws_most(dws_now_ms(), moment_ms) - moment_ms) : -1;
+    bool was_heard = dw_session_heard_at(&s->machine, &moment_ms) == DW_OK;
+    int64_t ago_ms = (int64_t)(dws_elapsed_ms() - moment_ms) - s->heard_suspended_ms;
+    return !was_heard ? -1 : ago_ms > 0 ? ago_ms : 0;
 }
 
 static inline enum dw_result dws_saved(dws_session *s, uint8_t *room, size_t size, size_t *length)
 {
-    return dw_session_saved(&s->machine, room, size, length);
+    enum dw_result result = dw_session_saved(&s->machine, room, size, length);
+    if (result == DW_OK && *length >= 8 && *length <= size) {
+        dws_raise_zxid(s, room + *length - 8);
+    }
+    return result;
 }
 
 static inline int64_t dws_id(dws_session *s)

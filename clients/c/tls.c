@@ -18,7 +18,7 @@ static void show(dws_session *session, dws_subject *node)
 int main(int argc, char **argv)
 {
     static dws_subject node;
-    dws_options options = {.told = tell, .read = tls_read, .write = tls_write};
+    dws_options options = {.told = dws_print_event, .read = tls_read, .write = tls_write};
     char why[DWS_LONGEST_LINE] = "usage: tls HOST:PORT[,HOST:PORT..][/CHROOT] PATH CA-FILE";
     options.context = argc == 4 ? tls_of_ca(argv[3]) : NULL;
     dws_session *session = options.context != NULL ? dws_open(argv[1], &options, why, sizeof why) : NULL;

@@ -1,4 +1,4 @@
-/* What the example programs share: they tell what happens to connections, and end well at a signal. */
+/* What the example programs share: they print what nodes hold, and end well at a signal. */
 #ifndef TOLD_H
 #define TOLD_H
 
@@ -16,17 +16,6 @@ static inline void wake(int signal_number)
     (void)signal_number;
     (void)written;
     errno = kept;
-}
-
-/* Tells what happens to connections on standard error. */
-static inline void tell(dws_session *session, enum dws_event event, const char *server, const char *words)
-{
-    (void)session;
-    if (event == DWS_READ_REFUSED) {
-        fprintf(stderr, "%s\n", words);
-    } else {
-        fprintf(stderr, "%s: %s\n", server, words);
-    }
 }
 
 /* Prints bytes in quotes. */

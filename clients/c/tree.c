@@ -36,7 +36,7 @@ int main(int argc, char **argv)
 {
     static dws_tree tree;
     char why[DWS_LONGEST_LINE];
-    dws_options options = {.told = tell};
+    dws_options options = {.told = dws_print_event};
     dws_session *session = argc == 3 ? dws_open(argv[1], &options, why, sizeof why) : NULL;
     if (session == NULL) {
         fprintf(stderr, "tree: %s\n", argc == 3 ? why : "usage: tree HOST:PORT[,HOST:PORT..][/CHROOT] PATH");
@@ -44,7 +44,7 @@ int main(int argc, char **argv)
     }
     enum dw_result result = dws_follow_tree(session, &tree, argv[2], 0, show);
     if (result != DW_OK) {
-        write_result(why, sizeof why, result, argv[2]);
+        dws_write_result(why, sizeof why, result, argv[2]);
         fprintf(stderr, "tree: %s\n", why);
     } else {
         turn_until_signal(session);

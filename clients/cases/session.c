@@ -187,7 +187,7 @@ static void follow_tree(dws_session *session, const char *path, const char *most
     told[0] = 0;
     enum dw_result result = dws_follow_tree(session, &tree, path, most != NULL ? strtoul(most, NULL, 10) : 0, take_tree);
     if (result != DW_OK) {
-        write_result(why, sizeof why, result, path);
+        dws_write_result(why, sizeof why, result, path);
         print_line(why);
     }
 }
@@ -217,6 +217,15 @@ static void take_lock(dws_session *session, const char *path)
     }
     print_line(last_token != 0 && lock.token > last_token ? "held with a greater token" : "held");
     last_token = lock.token;
+}
+
+/* Contends for a lock until another place is waited for. */
+static void contend(dws_session *session, const char *path)
+{
+    dws_lock_take(session, &lock, path, DWS_EXCLUSIVE, "", NULL);
+    while (lock.before.path == NULL && dws_turn(session)) {
+    }
+    print_line("waits");
 }
 
 static void use_lock(dws_session *session, const char *name)
@@ -365,6 +374,8 @@ static bool obey(dws_session *session, char *line)
         print_subtree(session);
     } else if (strcmp(name, "lock") == 0) {
         take_lock(session, path);
+    } else if (strcmp(name, "contend") == 0) {
+        contend(session, path);
     } else if (strcmp(name, "check") == 0 || strcmp(name, "release") == 0) {
         use_lock(session, name);
     } else if (strcmp(name, "close") == 0) {

@@ -23,7 +23,9 @@ static void show(dws_session *session, dws_subject *changed)
 
 int main(void)
 {
-    dws_session *session = dws_open("127.0.0.1:2181", NULL, NULL, 0);
+    static dws_options options;
+    options.told = dws_print_event;
+    dws_session *session = dws_open("127.0.0.1:2181", &options, NULL, 0);
     if (session == NULL || dws_follow(session, &leader, "/leader", show) != DW_OK) {
         return EXIT_FAILURE;
     }

@@ -9,7 +9,7 @@ static void changed(dws_session *session, dws_lock *lock)
         printf("held at zxid %" PRId64 " with token %" PRId64 "\n", dws_last_zxid(session), lock->token);
         fflush(stdout);
     } else if (lock->why != 0) {
-        dws_words(session, &lock->call, why, sizeof why);
+        dws_lock_words(session, lock, why, sizeof why);
         fprintf(stderr, "lock: %s\n", why);
         dws_end(session);
     }
@@ -18,7 +18,9 @@ static void changed(dws_session *session, dws_lock *lock)
 int main(void)
 {
     static dws_lock lock;
-    dws_session *session = dws_open("127.0.0.1:2181", NULL, NULL, 0);
+    static dws_options options;
+    options.told = dws_print_event;
+    dws_session *session = dws_open("127.0.0.1:2181", &options, NULL, 0);
     if (session == NULL) {
         return EXIT_FAILURE;
     }

@@ -31,7 +31,9 @@ int main(void)
     static dws_call call, listed;
     char path[256], why[DWS_LONGEST_LINE];
     const char *first;
-    dws_session *session = dws_open("127.0.0.1:2181", NULL, NULL, 0);
+    static dws_options options;
+    options.told = dws_print_event;
+    dws_session *session = dws_open("127.0.0.1:2181", &options, NULL, 0);
     if (session == NULL) {
         return EXIT_FAILURE;
     }

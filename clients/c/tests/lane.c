@@ -1,11 +1,32 @@
 /* What a session asks beside the library, at a server that the test is itself, over 127.0.0.1: it reads each request, and answers in pieces. With
  * `quick` the stream is cut at few places. Frames are spelled by zookeeper.jute. */
 #define _POSIX_C_SOURCE 200809L
+#include <stdint.h>
+#include <stdlib.h>
+
+/* What is freed is looked at, if the test watches it. */
+static struct {
+    const uint8_t *at;
+    size_t length, wiped;
+} watched;
+
+static inline void free_watched(void *block)
+{
+    if (block != NULL && block == watched.at) {
+        watched.wiped = 0;
+        while (watched.wiped < watched.length && watched.at[watched.wiped] == 0) {
+            watched.wiped++;
+        }
+    }
+    free(block);
+}
+
+#define free free_watched
 #include "served.h"
 
 #include "../lane.h"
 
-enum { TYPE_DELETE = 2, TYPE_EXISTS = 3, TYPE_GET = 4, TYPE_SET = 5, BIG = 1 << 20 };
+enum { BIG = 1 << 20 };
 
 /* A call that says how it was answered, by its name. */
 struct named {
@@ -169,8 +190,7 @@ static void ask_both(size_t first, size_t rest)
     hear_request(-1001, DWS_TYPE_SYNC, NULL);
     hear_request(-1002, DWS_TYPE_GET_ACL, NULL);
     hear_transaction(-1003);
-    hear_request(2, TYPE_EXISTS, NULL); /* of the library, after the write */
-    hear_request(3, TYPE_EXISTS, NULL);
+    hear_request(2, TYPE_EXISTS, NULL);
     came.length = 0;
     add_data(&came, 1, 5, "one", &STAT);
     add_synced(&came, -1001);
@@ -178,7 +198,6 @@ static void ask_both(size_t first, size_t rest)
     add_notice(&came, DW_EVENT_DATA_CHANGED, "/a");
     add_changes(&came, -1003);
     add_stat(&came, 2, 6, &STAT);
-    add_stat(&came, 3, 6, &STAT);
     answer(&came, first, rest);
     wait_for(&last.call);
     expect_said("get 0\nsync 0\nacl 0\nchange 0 mark 2 zxid 6 made /log-0000000000 version 7\nlast 0\n");
@@ -356,10 +375,8 @@ static void tell_refusals(void)
         spell_transaction(&change.lane);
         dws_commit(session, &change.lane);
         hear_transaction(-1001 - (int32_t)i);
-        hear_request(1 + (int32_t)i, TYPE_EXISTS, NULL);
         came.length = 0;
         add_rolled_back(&came, -1001 - (int32_t)i, rows[i].code);
-        add_stat(&came, 1 + (int32_t)i, 6, &STAT);
         answer(&came, 3, 5);
         EXPECT_NUMBER(rows[i].code, dws_wait(session, &change.lane.call));
         EXPECT_NUMBER(2, change.lane.refused);
@@ -396,18 +413,18 @@ static void show_paths(void)
     };
     char why[DWS_LONGEST_LINE], large[4098], few[8];
     for (size_t i = 0; i < sizeof rows / sizeof rows[0]; i++) {
-        write_result(why, sizeof why, DW_NOT_PATH, rows[i].path);
+        dws_write_result(why, sizeof why, DW_NOT_PATH, rows[i].path);
         EXPECT(strcmp(why, rows[i].words) == 0);
     }
-    write_code(why, sizeof why, DW_CODE_NO_NODE, "/a\xff");
+    dws_write_code(why, sizeof why, DW_CODE_NO_NODE, "/a\xff");
     EXPECT(strcmp(why, "no node: /a\\xff") == 0);
-    write_code(few, sizeof few, DW_CODE_NO_NODE, "/a"); /* there is room for seven bytes */
+    dws_write_code(few, sizeof few, DW_CODE_NO_NODE, "/a"); /* there is room for seven bytes */
     EXPECT(strcmp(few, "no no..") == 0);
-    write_result(few, sizeof few, DW_NOT_PATH, "/abc\xc3\xa4/");
+    dws_write_result(few, sizeof few, DW_NOT_PATH, "/abc\xc3\xa4/");
     EXPECT(strcmp(few, "/abc..") == 0);
     memset(large, 1, sizeof large - 1);
     large[sizeof large - 1] = 0;
-    write_code(why, sizeof why, DW_CODE_NO_NODE, large);
+    dws_write_code(why, sizeof why, DW_CODE_NO_NODE, large);
     EXPECT(strlen(why) == sizeof why - 1 && strcmp(why + sizeof why - 3, "..") == 0);
     EXPECT(dws_open("zk1/a\n", NULL, why, sizeof why) == NULL);
     EXPECT(strcmp(why, "/a\\x0a is no path: a character that paths do not have") == 0);
@@ -456,6 +473,38 @@ static void introduce(void)
     release_all();
 }
 
+static void watch_secret(const struct dws_bytes *body)
+{
+    watched.at = body->at;
+    watched.length = body->length;
+    watched.wiped = 0;
+    EXPECT(body->length > 0);
+}
+
+/* Credentials are overwritten before they are freed, and once they are sent. */
+static void wipe_credentials(void)
+{
+    open_session();
+    EXPECT(dws_introduce(session, "digest", "ann:secret", 10));
+    dws_add_auth(session, &acl.lane, "digest", "eve:secret", 10);
+    watch_secret(&acl.lane.body);
+    admit();
+    expect_credentials("ann:secret");
+    expect_credentials("eve:secret");
+    EXPECT(session->unsent.room >= 80);
+    for (size_t i = 0; i < 74; i++) { /* a ConnectRequest has 49 bytes, and credentials that come after it 40 */
+        EXPECT(memcmp(session->unsent.bytes + i, "secret", 6) != 0);
+    }
+    end_line();
+    wait_for(&acl.lane.call);
+    dws_lane_release(&acl.lane);
+    EXPECT(watched.wiped == watched.length);
+    watch_secret(&dws_lane_of(session)->known->body);
+    close_all();
+    EXPECT(watched.wiped == watched.length);
+    release_all();
+}
+
 static void see_mark(dws_session *s, dws_subject *subject)
 {
     (void)s;
@@ -497,6 +546,105 @@ static void bar(void)
     release_all();
 }
 
+static dws_subject followed;
+
+/* What is kept of a node that is followed, when the answer to a transaction comes. */
+static void tell_followed(dws_session *s, dws_call *call)
+{
+    say("change %d mark %d zxid %d\n", (int)call->why, (int)followed.mark, (int)dws_last_zxid(s));
+}
+
+/* The answer to a transaction of one operation, a set. */
+static void add_set(struct bytes *bytes, int32_t xid, int64_t zxid)
+{
+    size_t begin = bytes->length;
+    add_header(bytes, xid, zxid, 0);
+    put_type(bytes, DWS_OF_SET, 0);
+    put_stat(bytes, &STAT);
+    put_type(bytes, -1, 1);
+    end_answer(bytes, begin);
+}
+
+/* Follows /a, and sets it in a transaction at zxid 50, whose notice comes in the same bytes as the answer. */
+static void change_followed(void)
+{
+    struct bytes came;
+    open_session();
+    admit();
+    EXPECT_NUMBER(DW_OK, dws_follow(session, &followed, "/a", see_mark));
+    hear_request(1, TYPE_GET, NULL);
+    came.length = 0;
+    add_data(&came, 1, 5, "alpha", &STAT);
+    answer_at_once(&came);
+    turn(0);
+    change.lane.call.then = tell_followed;
+    dws_transaction_set(session, &change.lane, "/a", "beta", 4, -1);
+    dws_commit(session, &change.lane);
+    hear_request(-1001, DWS_TYPE_MULTI, NULL);
+    came.length = 0;
+    add_notice(&came, DW_EVENT_DATA_CHANGED, "/a");
+    add_set(&came, -1001, 50);
+    answer_at_once(&came);
+    turn(0);
+    expect_said("mark 1\nchange 0 mark 2 zxid 50\nmark 2\n");
+    hear_request(2, TYPE_GET, NULL);
+}
+
+/* Servers in memory: the first one is behind, at zxid 40, and ends the connection of a session that has seen more, as real servers do. The session
+ * tells each one of the answer to its transaction, and keeps that away too. */
+static void leave_servers_behind(void)
+{
+    uint8_t saved[DWS_LONGEST_SAVED];
+    size_t length = 0;
+    change_followed();
+    EXPECT_NUMBER(DW_OK, dws_saved(session, saved, sizeof saved, &length));
+    EXPECT_NUMBER(50, dws_read_long(saved + length - 8));
+    end_line();
+    for (int64_t last = 40; last <= 50; last += 10) { /* the zxid of the server */
+        struct bytes connected;
+        accept_line();
+        hear();
+        EXPECT_NUMBER(50, dws_read_long(out.at + 4));
+        EXPECT(!dws_is_good(&followed));
+        if (dws_read_long(out.at + 4) > last) {
+            end_line();
+        } else {
+            connected.length = 0;
+            add_connected(&connected);
+            answer_at_once(&connected);
+        }
+    }
+    hear_request(3, TYPE_GET, NULL);
+    close_all();
+    release_all();
+}
+
+/* The zxid of each answer counts, of those that refuse too. */
+static void count_each_zxid(void)
+{
+    static const dws_acl acls[] = {{DWS_MAY_ALL, "world", "anyone"}};
+    struct bytes came;
+    open_session();
+    admit();
+    dws_sync(session, &sync_call.lane, "/a");
+    dws_get_acl(session, &acl.lane, "/a");
+    dws_set_acl(session, &last.lane, "/a", acls, 1, -1);
+    dws_create_with_acl(session, &get.lane, "/a/b", "", 0, 0, acls, 1);
+    for (int32_t i = 0; i < 4; i++) {
+        hear_request(-1001 - i, i == 0 ? DWS_TYPE_SYNC : i == 1 ? DWS_TYPE_GET_ACL : i == 2 ? DWS_TYPE_SET_ACL : DWS_TYPE_CREATE, NULL);
+        came.length = 0;
+        add_header(&came, -1001 - i, 20 + i, DW_CODE_NO_NODE);
+        answer_at_once(&came);
+        EXPECT_NUMBER(20 + i, dws_last_zxid(session));
+    }
+    end_line();
+    accept_line();
+    hear();
+    EXPECT_NUMBER(23, dws_read_long(out.at + 4));
+    close_all();
+    release_all();
+}
+
 /* A frame with an xid of the lane for which nobody waits is the library's, which gives the connection up. */
 static void leave_the_rest(void)
 {
@@ -527,8 +675,11 @@ int main(int argc, char **argv)
     tell_refusals();
     show_paths();
     introduce();
+    wipe_credentials();
     bar();
     leave_the_rest();
+    leave_servers_behind();
+    count_each_zxid();
     close(listener);
     printf("lane: passed\n");
     return EXIT_SUCCESS;

@@ -1,6 +1,6 @@
 """What the tests of programs share: the server in memory, a server that does what a test says, and processes whose lines are waited for.
 
-  programs.py OUT SERVER     runs the tests of follow.py, tree.py and servers.py side by side, with the programs that are in OUT
+  programs.py OUT SERVER     runs the tests of follow.py, tree.py, servers.py and short.py side by side, with the programs that are in OUT
 """
 
 import concurrent.futures
@@ -197,7 +197,7 @@ class Case(unittest.TestCase):
 def run_side_by_side():
     """Runs each test in a thread of its own, since most of their time is waits. Answers whether all have passed."""
     loader = unittest.defaultTestLoader
-    modules = [importlib.import_module(name) for name in ("follow", "tree", "servers")]
+    modules = [importlib.import_module(name) for name in ("follow", "tree", "servers", "short")]
     tests = [test for module in modules for suite in loader.loadTestsFromModule(module) for test in suite]
     with concurrent.futures.ThreadPoolExecutor(AT_ONCE) as pool:
         results = list(pool.map(lambda test: test.run(), tests))

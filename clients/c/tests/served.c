@@ -1,12 +1,11 @@
-/* A session of session.h at a server that the test is itself: the moment of a ping, when the server was heard, expired sessions, a lock, trees of
- * which reads are refused, and memory that runs out within a session, each request for it in turn. */
+/* A session of session.h at a server that the test is itself: the moment of a ping, when the server was heard, expired sessions, what is
+ * lost with a session, trees of which reads are refused, and memory that runs out within a session, each request for it in turn. */
 #define _POSIX_C_SOURCE 200809L
 #include "refusing_heap.h"
 #include "served.h"
 
-#include "../lock.h"
 
-enum { TYPE_CONNECT = 0, TYPE_CREATE = 1, TYPE_EXISTS = 3, TYPE_GET = 4, TYPE_SET = 5, TYPE_PING = 11, TYPE_CHILDREN = 12, PATIENCE_MS = 50 };
+enum { PATIENCE_MS = 50 };
 
 static dws_call get, set, many[2 * DWS_MOST_ASKED];
 static dws_subject node;
@@ -58,6 +57,36 @@ static void ping_in_time(void)
     }
     EXPECT(!has_told(DWS_CUT));
     close_all();
+}
+
+/* How long ago the server was heard counts the time in which the system was suspended. What is read after that may have come before. */
+static void be_suspended(void)
+{
+    enum { HOUR_MS = 3600000 };
+    struct pollfd polled;
+    struct bytes came;
+    open_session();
+    admit();
+    turn(0);
+    let_pass(100);
+    suspended_ms += HOUR_MS;
+    EXPECT_NUMBER(HOUR_MS + 100, dws_heard_ms(session));
+    dws_get(session, &get, "/a", false);
+    hear_request(1, TYPE_GET, NULL);
+    dws_wanted(session, &polled);
+    came.length = 0;
+    add_data(&came, 1, 5, "one", &STAT);
+    EXPECT(send(line, came.at, came.length, MSG_NOSIGNAL) == (ssize_t)came.length);
+    suspended_ms += HOUR_MS;
+    while (!get.is_answered) {
+        dws_go_on(session, POLLIN);
+    }
+    EXPECT_NUMBER(HOUR_MS, dws_heard_ms(session));
+    hear_request(XID_PING, TYPE_PING, NULL);
+    answer_nothing(XID_PING, 5);
+    EXPECT_NUMBER(0, dws_heard_ms(session));
+    close_all();
+    dws_release(&get);
 }
 
 /* Pings are answered and a call is not: the connection is left two thirds of the timeout after the call was asked. */
@@ -214,6 +243,45 @@ static void be_late(void)
     close_all();
 }
 
+/* What is kept of the node, when a call is answered. */
+static void tell_mark(dws_session *s, dws_call *call)
+{
+    say("%s %d mark %d zxid %d\n", (const char *)call->context, (int)call->why, (int)node.mark, (int)dws_last_zxid(s));
+}
+
+/* A node is stale in each callback of a step that has the notice of its change, whether that comes before an answer or after it: the last zxid is that
+ * of the whole step. */
+static void mark_before_callbacks(bool is_told_first)
+{
+    struct bytes came;
+    open_session();
+    admit();
+    EXPECT_NUMBER(DW_OK, dws_follow(session, &node, "/a", NULL));
+    hear_request(1, TYPE_GET, NULL);
+    answer_data(1);
+    turn(0);
+    EXPECT(dws_is_good(&node));
+    named(&set, "set")->then = named(&get, "get")->then = tell_mark;
+    dws_set(session, &set, "/a", "two", 3, -1);
+    dws_get(session, &get, "/b", false);
+    hear_request(2, TYPE_SET, NULL);
+    hear_request(3, TYPE_GET, NULL);
+    came.length = 0;
+    if (is_told_first) {
+        add_notice(&came, DW_EVENT_DATA_CHANGED, "/a");
+    }
+    add_stat(&came, 2, 6, &STAT);
+    if (!is_told_first) {
+        add_notice(&came, DW_EVENT_DATA_CHANGED, "/a");
+    }
+    add_data(&came, 3, 8, "one", &STAT);
+    answer_at_once(&came);
+    expect_said("set 0 mark 2 zxid 8\nget 0 mark 2 zxid 8\n");
+    hear_request(4, TYPE_GET, NULL);
+    close_all();
+    get.then = set.then = NULL;
+}
+
 /* After the server's word that the session is closed nothing more is done. */
 static void close_once(void)
 {
@@ -230,170 +298,6 @@ static void close_once(void)
     }
     EXPECT(accept(listener, NULL, NULL) < 0);
     close_all();
-}
-
-/* The text that stands at this place of the request that was read last. */
-static void text_at(size_t place, char *room, size_t size)
-{
-    snprintf(room, size, "%.*s", (int)dws_read_int(out.at + place), (const char *)out.at + place + 4);
-}
-
-/* The place that a lock asks for is made, with this number. */
-static void make_place(int32_t xid, const char *number, char *place, size_t size)
-{
-    struct bytes came;
-    hear_request(xid, TYPE_CREATE, NULL);
-    text_at(8, place, size);
-    strncat(place, number, size - strlen(place) - 1);
-    came.length = 0;
-    add_created(&came, xid, 6, place);
-    answer_at_once(&came);
-}
-
-/* The next request is about this path. */
-static void hear_about(int32_t xid, int32_t type, const char *path)
-{
-    char asked[256];
-    hear_request(xid, type, NULL);
-    text_at(8, asked, sizeof asked);
-    EXPECT(strcmp(asked, path) == 0);
-}
-
-static void add_place(struct bytes *came, int32_t xid, int64_t zxid)
-{
-    dw_stat stat = STAT;
-    stat.czxid = 6;
-    stat.ephemeral_owner = SESSION;
-    add_data(came, xid, zxid, "", &stat);
-}
-
-static void answer_place(int32_t xid, int64_t zxid)
-{
-    struct bytes came;
-    came.length = 0;
-    add_place(&came, xid, zxid);
-    answer_at_once(&came);
-}
-
-static void answer_names(int32_t xid, int64_t zxid, const char *first, const char *second)
-{
-    struct bytes came;
-    came.length = 0;
-    add_names(&came, xid, zxid, first, second, &STAT);
-    answer_at_once(&came);
-}
-
-static void answer_none(int32_t xid, int64_t zxid)
-{
-    struct bytes came;
-    came.length = 0;
-    add_header(&came, xid, zxid, CODE_NO_NODE);
-    answer_at_once(&came);
-}
-
-static void notice(int32_t event, const char *path)
-{
-    struct bytes came;
-    came.length = 0;
-    add_notice(&came, event, path);
-    answer_at_once(&came);
-}
-
-/* An exclusive lock waits for one of Curator's that shares, and is held once that is gone. Where its place is deleted, it takes another one. */
-static void wait_for_a_lock(void)
-{
-    static dws_lock lock;
-    char place[256], again[256];
-    open_session();
-    admit();
-    EXPECT(dws_lock_take(session, &lock, "/l", DWS_EXCLUSIVE, "me", NULL));
-    make_place(1, "0000000002", place, sizeof place);
-    hear_about(2, TYPE_GET, place);
-    hear_about(3, TYPE_CHILDREN, "/l");
-    answer_place(2, 6);
-    answer_names(3, 7, place + 3, "a-__READ__0000000001");
-    EXPECT(!lock.is_held);
-    hear_about(4, TYPE_GET, "/l/a-__READ__0000000001");
-    answer_place(4, 8);
-    EXPECT(!lock.is_held);
-    notice(DW_EVENT_DELETED, "/l/a-__READ__0000000001");
-    hear_about(5, TYPE_GET, "/l/a-__READ__0000000001");
-    answer_none(5, 9);
-    hear_about(6, TYPE_EXISTS, "/l/a-__READ__0000000001");
-    answer_none(6, 9);
-    hear_about(7, TYPE_CHILDREN, "/l");
-    answer_names(7, 9, place + 3, "note");
-    EXPECT(lock.is_held && lock.token == 6);
-    notice(DW_EVENT_DELETED, place);
-    hear_about(8, TYPE_GET, place);
-    EXPECT(lock.is_held); /* it is not known yet what has become of it */
-    answer_none(8, 10);
-    hear_about(9, TYPE_EXISTS, place);
-    answer_none(9, 10);
-    EXPECT(!lock.is_held);
-    make_place(10, "0000000003", again, sizeof again);
-    dws_lock_let_go(session, &lock);
-    hear_about(11, TYPE_GET, again);
-    hear_about(12, TYPE_CHILDREN, "/l");
-    hear_about(13, 2, again);
-    close_all();
-    dws_lock_release(&lock);
-}
-
-/* With the session a lock is lost that was held, and it is waited for by the next session. */
-static void lose_a_lock(void)
-{
-    static dws_lock lock;
-    char place[256], again[256];
-    struct bytes expired;
-    open_session();
-    admit();
-    EXPECT(dws_lock_take(session, &lock, "/l", DWS_EXCLUSIVE, "me", NULL));
-    make_place(1, "0000000002", place, sizeof place);
-    hear_about(2, TYPE_GET, place);
-    answer_place(2, 6);
-    hear_about(3, TYPE_CHILDREN, "/l");
-    answer_names(3, 7, place + 3, "note");
-    EXPECT(lock.is_held);
-    end_line();
-    accept_line();
-    hear();
-    expired.length = 0;
-    add_expired(&expired);
-    answer_at_once(&expired);
-    turn(0);
-    EXPECT(!lock.is_held && lock.why == 0);
-    end_line();
-    admit();
-    hear_about(1, TYPE_CHILDREN, "/l");
-    answer_names(1, 8, "note", "z__lock__0000000004");
-    make_place(2, "0000000005", again, sizeof again);
-    hear_about(3, TYPE_GET, again);
-    EXPECT(!lock.is_held);
-    close_all();
-    dws_lock_release(&lock);
-}
-
-/* One that shares is held beside others that do, and waits for those that do not. A place whose making was lost is found again. */
-static void share_a_lock(void)
-{
-    static dws_lock lock;
-    char place[256];
-    open_session();
-    admit();
-    EXPECT(dws_lock_take(session, &lock, "/l", DWS_SHARED, "me", NULL));
-    hear_request(1, TYPE_CREATE, NULL);
-    text_at(8, place, sizeof place);
-    strcat(place, "0000000007");
-    end_line();
-    admit();
-    hear_about(2, TYPE_CHILDREN, "/l");
-    answer_names(2, 7, place + 3, "a__rlock__0000000001");
-    hear_about(3, TYPE_GET, place);
-    answer_place(3, 7);
-    EXPECT(lock.is_held && lock.token == 6);
-    close_all();
-    dws_lock_release(&lock);
 }
 
 static void answer_node(int32_t xid)
@@ -795,21 +699,21 @@ int main(int argc, char **argv)
     (void)argv;
     begin_listening();
     ping_in_time();
+    be_suspended();
     answer_pings_alone();
     forget_unsent();
     end_at_expiry();
     renew_at_expiry();
     be_late();
+    mark_before_callbacks(true);
+    mark_before_callbacks(false);
     close_once();
-    wait_for_a_lock();
-    lose_a_lock();
     lose_all_at_expiry(false);
     lose_all_at_expiry(true);
     lose_all_at_close(true, false);
     lose_all_at_close(false, false);
     lose_all_at_close(false, true);
     close_before_a_lock();
-    share_a_lock();
     refuse_nodes();
     unfollow_tree();
     find_no_path();

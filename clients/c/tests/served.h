@@ -5,13 +5,26 @@
 
 #include "clock.h"
 
-#include "../session.h"
+#include "../lock.h"
 #include "expect.h"
 #include "frames.h"
 
 #include <stdarg.h>
 
 enum { SHORT_TURNS = 50, MOST_TURNS = 20000 };
+
+/* Types of requests. */
+enum {
+    TYPE_CONNECT = 0,
+    TYPE_CREATE = 1,
+    TYPE_DELETE = 2,
+    TYPE_EXISTS = 3,
+    TYPE_GET = 4,
+    TYPE_SET = 5,
+    TYPE_PING = 11,
+    TYPE_CHILDREN = 12,
+    TYPE_SET_WATCHES = 101
+};
 
 static const dw_stat STAT = {3, 5, 1000, 2000, 0, 4, 7, 2, 9, 3, 0};
 
@@ -253,6 +266,83 @@ static inline void wait_for(const dws_call *call)
     for (int i = 0; !call->is_answered; i++) {
         turn(i);
     }
+}
+
+/* The text that stands at this place of the request that was read last. */
+static inline void text_at(size_t place, char *room, size_t size)
+{
+    snprintf(room, size, "%.*s", (int)dws_read_int(out.at + place), (const char *)out.at + place + 4);
+}
+
+/* The place that a lock asks for is made, with this number. */
+static inline void make_place(int32_t xid, const char *number, char *place, size_t size)
+{
+    struct bytes came;
+    hear_request(xid, TYPE_CREATE, NULL);
+    text_at(8, place, size);
+    strncat(place, number, size - strlen(place) - 1);
+    came.length = 0;
+    add_created(&came, xid, 6, place);
+    answer_at_once(&came);
+}
+
+/* The next request is about this path. */
+static inline void hear_about(int32_t xid, int32_t type, const char *path)
+{
+    char asked[256];
+    hear_request(xid, type, NULL);
+    text_at(8, asked, sizeof asked);
+    EXPECT(strcmp(asked, path) == 0);
+}
+
+static inline void add_place(struct bytes *came, int32_t xid, int64_t zxid)
+{
+    dw_stat stat = STAT;
+    stat.czxid = 6;
+    stat.ephemeral_owner = SESSION;
+    add_data(came, xid, zxid, "", &stat);
+}
+
+static inline void answer_place(int32_t xid, int64_t zxid)
+{
+    struct bytes came;
+    came.length = 0;
+    add_place(&came, xid, zxid);
+    answer_at_once(&came);
+}
+
+static inline void answer_names(int32_t xid, int64_t zxid, const char *first, const char *second)
+{
+    struct bytes came;
+    came.length = 0;
+    add_names(&came, xid, zxid, first, second, &STAT);
+    answer_at_once(&came);
+}
+
+static inline void answer_none(int32_t xid, int64_t zxid)
+{
+    struct bytes came;
+    came.length = 0;
+    add_header(&came, xid, zxid, CODE_NO_NODE);
+    answer_at_once(&came);
+}
+
+/* The next request is a sync, which is answered. */
+static inline void answer_sync(int32_t xid)
+{
+    struct bytes came;
+    hear_request(xid, DWS_TYPE_SYNC, NULL);
+    came.length = 0;
+    add_created(&came, xid, 7, "/l"); /* its answer has a path too */
+    answer_at_once(&came);
+}
+
+static inline void notice(int32_t event, const char *path)
+{
+    struct bytes came;
+    came.length = 0;
+    add_notice(&came, event, path);
+    answer_at_once(&came);
 }
 
 /* Listens, for all sessions of the test. */
