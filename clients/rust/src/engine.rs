@@ -18,11 +18,12 @@ use crate::introductions::Introductions;
 use crate::lane::{Credentials, Lane};
 use crate::machine::Machine;
 use crate::moment::{Clock, Moment};
+use crate::outbox::Outbox;
 use crate::saved::SavedSession;
-use crate::stream::Outgoing;
 use crate::ticket::{Ending, Slot};
 use crate::told::{Event, Outcome, Told};
 use std::collections::BTreeMap;
+use std::mem;
 use std::net::SocketAddr;
 use std::sync::Arc;
 use std::time::Duration;
@@ -62,6 +63,8 @@ enum Course {
     Barred,
     /// Its program has let it go.
     Stopped,
+    /// What dials, reads or writes for it has panicked.
+    Panicked,
 }
 
 /// An attempt to connect that the machine has asked for.
@@ -103,7 +106,11 @@ pub(crate) struct Engine {
     attempts: u64,
     wanted: Option<Attempt>,
     dialling: Option<u64>,
-    line: Option<Box<dyn Outgoing>>,
+    line: Option<Arc<Outbox>>,
+    /// Those to which something was put, or which are over: to be written without the lock.
+    outboxes: Vec<Arc<Outbox>>,
+    /// Whether nothing was sent on the connection yet.
+    greets: bool,
     /// The server that the connection was made to last.
     address: Option<SocketAddr>,
     inbox: Vec<u8>,
@@ -141,6 +148,8 @@ impl Engine {
             wanted: None,
             dialling: None,
             line: None,
+            outboxes: Vec::new(),
+            greets: false,
             address: None,
             inbox: Vec::new(),
             lane: Lane::default(),
@@ -155,6 +164,9 @@ impl Engine {
 
     /// Goes on with a new machine: of a new session where this one is over, and else of the same session.
     pub(crate) fn renew(&mut self) -> Result<(), Fault> {
+        if self.course == Course::Panicked {
+            return Err(Fault::Panicked);
+        }
         let saved = self.saved_for_renewal()?;
         let (timeout, count) = (self.asked_timeout, self.hosts.len());
         let renewed = Machine::resume(timeout, count, chance(), &saved)?;
@@ -215,16 +227,27 @@ impl Engine {
 
     /// It is over with everything: each call is answered.
     pub(crate) fn stop(&mut self) {
-        let reason = if self.machine.state() == State::Connected {
-            NoReply::ConnectionLoss
-        } else {
-            NoReply::NotConnected
+        self.let_go(Course::Stopped);
+    }
+
+    /// The same, since what it is kept alive by has panicked.
+    pub(crate) fn panicked(&mut self) {
+        if self.course != Course::Stopped {
+            self.let_go(Course::Panicked);
+        }
+    }
+
+    fn let_go(&mut self, course: Course) {
+        let reason = match course {
+            _ if self.machine.state() == State::Connected => NoReply::ConnectionLoss.into(),
+            Course::Panicked => Fault::Panicked.into(),
+            _ => NoReply::NotConnected.into(),
         };
         // Memory that ran out leaves calls without an answer.
         let _ = self.end();
         self.hang_up();
-        self.course = Course::Stopped;
-        self.calls.end_all(&reason.into());
+        self.course = course;
+        self.calls.end_all(&reason);
     }
 }
 
@@ -232,6 +255,11 @@ impl Engine {
 impl Engine {
     pub(crate) fn machine(&self) -> &Machine {
         &self.machine
+    }
+
+    /// The session, to be taken up by another one: also what the lane has seen counts.
+    pub(crate) fn saved(&self) -> Result<SavedSession, Fault> {
+        Ok(self.lane.saved(&self.machine.saved()?))
     }
 
     pub(crate) fn chroot(&self) -> &Chroot {
@@ -244,8 +272,10 @@ impl Engine {
 
     /// The state, and none where something was due so long ago that nobody has done: then nobody knows.
     pub(crate) fn state(&self, lateness: Duration) -> Option<State> {
-        if let Course::Ended(state) = self.course {
-            return Some(state);
+        match self.course {
+            Course::Ended(state) => return Some(state),
+            Course::Panicked => return None,
+            _ => {}
         }
         let late = self.due().saturating_add(lateness);
         let is_served = self.line.is_none() || self.clock.now() < late;
@@ -285,6 +315,7 @@ impl Engine {
             Course::Halted(fault) => fault.clone().into(),
             Course::Barred => ErrorKind::Server(Code::AUTH_FAILED),
             Course::Stopped => NoReply::NotConnected.into(),
+            Course::Panicked => Fault::Panicked.into(),
         })
     }
 
@@ -296,10 +327,11 @@ impl Engine {
         }
     }
 
-    /// It fails where the machine has halted.
+    /// It fails where the machine has halted, or what keeps the session alive has panicked.
     pub(crate) fn halt(&self) -> Result<(), Fault> {
         match &self.course {
             Course::Halted(fault) => Err(fault.clone()),
+            Course::Panicked => Err(Fault::Panicked),
             _ => Ok(()),
         }
     }
@@ -349,6 +381,17 @@ impl Engine {
         self.line.is_some()
     }
 
+    /// The connection, where something waits to be written to it.
+    pub(crate) fn unwritten(&self) -> Option<Arc<Outbox>> {
+        let line = self.line.as_ref()?;
+        (line.waiting() > 0).then(|| Arc::clone(line))
+    }
+
+    /// The connections that are to be written to, or to be closed.
+    pub(crate) fn take_outboxes(&mut self) -> Vec<Arc<Outbox>> {
+        mem::take(&mut self.outboxes)
+    }
+
     /// Notes what became of the last attempt to find a server, for calls that wait for one.
     fn note_attempt(&mut self, last: String) {
         let hosts = self.hosts.to_string();
@@ -360,7 +403,7 @@ impl Engine {
 impl Engine {
     /// What is to be done next, until this moment at most.
     pub(crate) fn plan(&mut self, until: Moment) -> Plan {
-        if self.course == Course::Stopped {
+        if matches!(self.course, Course::Stopped | Course::Panicked) {
             return Plan::Stop;
         }
         if self.is_over() {
@@ -420,13 +463,12 @@ impl Engine {
 
 #[cfg(test)]
 mod tests {
-    use super::{
-        Beginning, Engine, ErrorKind, Fault, Hosts, NoReply, Order, Outgoing, Plan, Slot, NEVER,
-    };
+    use super::{Beginning, Engine, ErrorKind, Fault, Hosts, NoReply, Order, Plan, Slot, NEVER};
     use crate::action::Refusal;
     use crate::client::State;
     use crate::jute::Writer;
     use crate::request::Request;
+    use crate::stream::Outgoing;
     use crate::told::{Shows, TreeNews};
     use std::io;
     use std::net::SocketAddr;
@@ -438,8 +480,8 @@ mod tests {
     struct Nowhere;
 
     impl Outgoing for Nowhere {
-        fn write_all(&mut self, _: &[u8]) -> io::Result<()> {
-            Ok(())
+        fn write(&mut self, bytes: &[u8], _: Duration) -> io::Result<usize> {
+            Ok(bytes.len())
         }
 
         fn close(&mut self) {}

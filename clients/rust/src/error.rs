@@ -29,6 +29,8 @@ pub enum ErrorKind {
     /// The limit of a call has come after it was sent, or that of a [`Ticket::wait_for`](crate::Ticket::wait_for). A write may have happened,
     /// or may yet.
     TimedOut,
+    /// More than 16 MiB wait to be written to the server, which reads slowly: the call was not sent, and never is.
+    QueueFull,
     /// The caller's limit has passed before a tree was whole: some of it is not read, or changes faster than it is read. It is read on.
     NotWhole,
     /// A transaction has not happened: the server refuses the operation at this place, from 0 on.
@@ -53,8 +55,8 @@ impl ErrorKind {
         )
     }
 
-    /// Whether the same read may be answered later: [`Code::is_passing`], and where the connection was lost, there is none, too many
-    /// calls wait, or a limit has passed. An expired session is no such kind: it is to be renewed.
+    /// Whether the same read may be answered later: [`Code::is_passing`], and where the connection was lost, there is none, too much
+    /// waits, or a limit has passed. An expired session is no such kind: it is to be renewed.
     pub fn is_passing(&self) -> bool {
         match self {
             ErrorKind::Server(code) => code.is_passing(),
@@ -62,7 +64,7 @@ impl ErrorKind {
                 reason,
                 NoReply::ConnectionLoss | NoReply::NotConnected | NoReply::TooManyPending
             ),
-            ErrorKind::TimedOut | ErrorKind::NotWhole => true,
+            ErrorKind::TimedOut | ErrorKind::QueueFull | ErrorKind::NotWhole => true,
             ErrorKind::Fault(_) | ErrorKind::RolledBack { .. } => false,
         }
     }
@@ -74,6 +76,7 @@ impl ErrorKind {
             ErrorKind::NoReply(reason) => reason.advice(),
             ErrorKind::Fault(fault) => fault.advice(),
             ErrorKind::TimedOut => "it may still happen",
+            ErrorKind::QueueFull => "call again when some of it was",
             ErrorKind::NotWhole => "it is read on",
         }
     }
@@ -87,6 +90,7 @@ impl fmt::Display for ErrorKind {
             ErrorKind::NoReply(reason) => reason.fmt(f),
             ErrorKind::Fault(fault) => f.write_str(fault.reason()),
             ErrorKind::TimedOut => f.write_str("no answer has come in time"),
+            ErrorKind::QueueFull => f.write_str("more than 16 MiB wait to be written"),
             ErrorKind::NotWhole => f.write_str("the tree was not whole in time"),
             ErrorKind::RolledBack { index, code, .. } => {
                 write!(

@@ -6,6 +6,7 @@ use crate::hosts::{Hosts, HostsFault, Order};
 use crate::keeper::{Keeper, Shared};
 use crate::lane::Credentials;
 use crate::local::LocalSession;
+use crate::outbox::Writer;
 use crate::retry::Retry;
 use crate::saved::SavedSession;
 use crate::session::Session;
@@ -179,7 +180,7 @@ impl SessionOptions {
         OpenError: From<H::Error>,
     {
         let (retry, limit, renews) = (self.retry, self.limit, self.renews);
-        let keeper = self.keeper(hosts.try_into()?)?;
+        let keeper = self.keeper(hosts.try_into()?, Writer::Passing)?;
         Session::kept_by(keeper, retry, limit, renews).map_err(OpenError::Thread)
     }
 
@@ -193,10 +194,11 @@ impl SessionOptions {
         H: TryInto<Hosts>,
         OpenError: From<H::Error>,
     {
-        Ok(LocalSession::kept_by(self.keeper(hosts.try_into()?)?))
+        let keeper = self.keeper(hosts.try_into()?, Writer::Alone)?;
+        Ok(LocalSession::kept_by(keeper))
     }
 
-    fn keeper(self, hosts: Hosts) -> Result<Keeper, Fault> {
+    fn keeper(self, hosts: Hosts, writer: Writer) -> Result<Keeper, Fault> {
         let engine = Engine::new(Beginning {
             timeout: self.timeout,
             hosts,
@@ -206,7 +208,8 @@ impl SessionOptions {
             limit: self.limit,
             credentials: self.credentials,
         })?;
-        Ok(Keeper::new(Shared::new(engine), self.dial, self.order))
+        let shared = Shared::new(engine, writer);
+        Ok(Keeper::new(shared, self.dial, self.order))
     }
 }
 

@@ -5,10 +5,11 @@ use crate::both::{calls, look_ups, watch, Asks};
 use crate::client::State;
 use crate::engine::Engine;
 use crate::error::Error;
+use crate::events::Events;
 use crate::fault::{Fault, NoReply};
 use crate::follow::Follow;
 use crate::hosts::Hosts;
-use crate::keeper::{ask, Keeper, Shared};
+use crate::keeper::{ask, Keeper, Poller, Shared};
 use crate::kept::{Children, DataAnswer, Kept, Mark};
 use crate::node::{Mode, Node, Stat};
 use crate::options::{OpenError, SessionOptions};
@@ -25,7 +26,6 @@ use std::fmt;
 use std::io;
 use std::ops::Deref;
 use std::sync::Arc;
-use std::task::{Context, Poll};
 use std::thread::{self, Builder};
 use std::time::{Duration, Instant};
 
@@ -239,36 +239,9 @@ impl Session {
         self.shared.next_event(until)
     }
 
-    /// The same for a runtime: where no event waits, the waker of this context is woken when there may be one. It is the session's thread
-    /// that wakes it, so it serves under each runtime, or without one.
-    ///
-    /// ```no_run
-    /// use dirwolleu::{Event, Fault, Session};
-    /// use std::future::poll_fn;
-    ///
-    /// /// Prints what happens to a session, until it is over.
-    /// async fn tell(session: &Session) -> Result<(), Fault> {
-    ///     while let Some(event) = poll_fn(|context| session.poll_event(context)).await? {
-    ///         println!("{event:?}");
-    ///     }
-    ///     Ok(())
-    /// }
-    /// ```
-    ///
-    /// # Errors
-    ///
-    /// As [`next_event`](Session::next_event).
-    pub fn poll_event(&self, context: &mut Context<'_>) -> Poll<Result<Option<Event>, Fault>> {
-        self.shared.poll(context, |engine| {
-            if let Some(event) = engine.next_event() {
-                return Poll::Ready(Ok(Some(event)));
-            }
-            match engine.halt() {
-                Err(fault) => Poll::Ready(Err(fault)),
-                Ok(()) if engine.is_over() => Poll::Ready(Ok(None)),
-                Ok(()) => Poll::Pending,
-            }
-        })
+    /// The same for a runtime: [`Events::poll_next`] does not wait.
+    pub fn events(&self) -> Events {
+        Events::new(&self.shared)
     }
 
     /// Does something with the engine.
@@ -282,13 +255,9 @@ impl Session {
         self.shared.wait_while(None, holds);
     }
 
-    /// Looks, and is woken later where nothing is found.
-    pub(crate) fn poll<R>(
-        &self,
-        context: &Context<'_>,
-        look: impl FnOnce(&mut Engine) -> Poll<R>,
-    ) -> Poll<R> {
-        self.shared.poll(context, look)
+    /// One more that polls.
+    pub(crate) fn poller(&self) -> Poller {
+        self.shared.poller()
     }
 
     /// Follows a node: the iterator waits, and gives what the node holds at first, and at each change, also where it changed while there

@@ -84,7 +84,7 @@ impl View<'_> {
     ///
     /// [`Fault::NoMemory`] alone.
     pub fn saved(&self) -> Result<SavedSession, Fault> {
-        self.engine.machine().saved()
+        self.engine.saved()
     }
 
     /// What is kept about the data of a path that was read with a watch, with its mark, and none where nothing is. The data are copied.

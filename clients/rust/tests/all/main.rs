@@ -32,3 +32,4 @@ mod sessions;
 mod threads;
 mod tree_reads;
 mod trees;
+mod writes;

@@ -5,8 +5,8 @@ use crate::memory;
 use crate::partner::{Line, Partner};
 use crate::runtime::block_on;
 use dirwolleu::{
-    Code, Error, ErrorKind, Event, Hosts, LocalSession, Mode, NoReply, Request, Retry, Session,
-    SessionOptions, State, Ticket, ANY_VERSION,
+    Code, Error, ErrorKind, Event, Fault, Hosts, LocalSession, Mode, NoReply, Request, Retry,
+    Session, SessionOptions, State, Ticket, ANY_VERSION,
 };
 use std::fmt::Debug;
 use std::io;
@@ -309,9 +309,15 @@ fn a_dial_that_panics_leaves_nobody_waiting() {
     let answer: Ticket<_> = session.ask(Request::get("/a"));
     assert_eq!(
         kind_of(answer.wait_for(PATIENCE)),
-        ErrorKind::NoReply(NoReply::NotConnected)
+        ErrorKind::Fault(Fault::Panicked)
     );
-    assert_eq!(session.next_event(None).map(drop), Ok(()));
+    assert_eq!(session.next_event(None), Err(Fault::Panicked));
+    assert_eq!(session.renew(), Err(Fault::Panicked));
+    assert_eq!(session.state(), None);
+    assert_eq!(
+        session.get("/a").unwrap_err().to_string(),
+        "the session's thread has panicked: /a; open another session"
+    );
 }
 
 #[test]
