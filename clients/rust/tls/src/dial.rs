@@ -180,9 +180,8 @@ impl Writes {
     fn flush(&mut self, until: Instant) -> io::Result<()> {
         while self.written < self.sealed.len() {
             let wait = until.saturating_duration_since(Instant::now());
-            self.stream
-                .set_write_timeout(Some(wait.max(SHORTEST_WAIT)))?;
-            self.written += self.stream.write(&self.sealed[self.written..])?;
+            let rest = &self.sealed[self.written..];
+            self.written += Outgoing::write(&mut self.stream, rest, wait)?;
             if self.written < self.sealed.len() {
                 left(until)?;
             }
