@@ -2,6 +2,7 @@
 //! waits for what the machine tells. What is decided of the session is decided by the machine.
 
 mod asking;
+mod deleting;
 mod following;
 mod stepping;
 mod trees;
@@ -9,7 +10,8 @@ mod trees;
 use crate::calls::Calls;
 use crate::chroot::Chroot;
 use crate::client::{Client, State};
-use crate::error::{ErrorKind, Search};
+use crate::deletions::Deletions;
+use crate::error::{Error, ErrorKind, Search};
 use crate::fault::{Code, Fault, NoReply};
 use crate::followed::Followed;
 use crate::growing::Growing;
@@ -30,6 +32,9 @@ use std::time::Duration;
 
 /// How long the admission of a session is waited for at a time: a call that was asked meanwhile may have a limit.
 const LOOK_ROUND: Duration = Duration::from_millis(250);
+
+/// The most reasons that are told for which no server was found.
+const MOST_REASONS: usize = 16;
 
 /// The moment that never comes.
 pub(crate) const NEVER: Moment = Moment::from_millis(u64::MAX);
@@ -113,10 +118,13 @@ pub(crate) struct Engine {
     greets: bool,
     /// The server that the connection was made to last.
     address: Option<SocketAddr>,
+    /// Why no server was found since the session was connected last: the last reason of each address.
+    reasons: Vec<String>,
     inbox: Vec<u8>,
     lane: Lane,
     answers: Vec<(u64, Outcome)>,
     introductions: Introductions,
+    deletions: Deletions,
     /// The call that is to end the session, where one was asked.
     closing: Option<u64>,
     course: Course,
@@ -151,10 +159,12 @@ impl Engine {
             outboxes: Vec::new(),
             greets: false,
             address: None,
+            reasons: Vec::new(),
             inbox: Vec::new(),
             lane: Lane::default(),
             answers: Vec::new(),
             introductions: Introductions::of(beginning.credentials),
+            deletions: Deletions::default(),
             closing: None,
             course: Course::GoesOn,
         };
@@ -176,6 +186,7 @@ impl Engine {
         self.calls.end_all(&NoReply::ConnectionLoss.into());
         self.machine = renewed;
         self.places.begin_again();
+        self.deletions.begin_again();
         self.trees.values_mut().for_each(Growing::begin_again);
         if self.course != Course::Stopped {
             self.course = Course::GoesOn;
@@ -209,6 +220,7 @@ impl Engine {
         }
         self.hosts = hosts;
         self.places.begin_again();
+        self.forget_attempts();
         self.note_hosts();
         let (now, count) = (self.now(), self.hosts.len());
         if !self.is_over() {
@@ -294,8 +306,21 @@ impl Engine {
     }
 
     /// Whether a server has accepted the session, so that calls are sent.
-    fn is_connected(&self) -> bool {
+    pub(crate) fn is_connected(&self) -> bool {
         self.machine.state() == State::Connected && !self.is_over()
+    }
+
+    /// Why no server has accepted the session, which was waited for for so long. None where one has.
+    pub(crate) fn fault_of_opening(&self, waited: Duration) -> Option<Error> {
+        if self.is_connected() {
+            return None;
+        }
+        let kind = self.refusal_of_all();
+        let error = Error::from(kind.unwrap_or(NoReply::NotConnected.into()));
+        Some(match self.calls.search() {
+            Some(search) => error.after(search, waited),
+            None => error,
+        })
     }
 
     /// Why a session is over that was not closed.
@@ -343,6 +368,7 @@ impl Engine {
     /// Whether who waits for events, or for news, has something to look at.
     pub(crate) fn has_event(&mut self) -> bool {
         let is_news = self.takes_tree_news() | self.followed.takes_news();
+        let is_news = self.deletions.takes_news() | is_news;
         is_news || self.told.has_event() || self.is_over()
     }
 
@@ -392,10 +418,22 @@ impl Engine {
         mem::take(&mut self.outboxes)
     }
 
-    /// Notes what became of the last attempt to find a server, for calls that wait for one.
+    /// Notes what became of the last attempt to find a server, for calls that wait for one. The last reason of each address is told.
     fn note_attempt(&mut self, last: String) {
-        let hosts = self.hosts.to_string();
+        let place = |reason: &str| reason.split_once(": ").map(|it| String::from(it.0));
+        let of = place(&last);
+        self.reasons.retain(|reason| place(reason) != of);
+        self.reasons.push(last);
+        let surplus = self.reasons.len().saturating_sub(MOST_REASONS);
+        self.reasons.drain(..surplus);
+        let (hosts, last) = (self.hosts.to_string(), self.reasons.join("; "));
         self.calls.wait_for(Some(Search { hosts, last }));
+    }
+
+    /// A server was found, or another one is looked for.
+    fn forget_attempts(&mut self) {
+        self.reasons.clear();
+        self.calls.wait_for(None);
     }
 }
 

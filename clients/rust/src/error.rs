@@ -2,6 +2,7 @@
 
 use crate::action::Refusal;
 use crate::fault::{Code, Fault, NoReply};
+use crate::lock::LockNames;
 use crate::path_fault::Shown;
 use std::error;
 use std::fmt;
@@ -33,6 +34,15 @@ pub enum ErrorKind {
     QueueFull,
     /// The caller's limit has passed before a tree was whole: some of it is not read, or changes faster than it is read. It is read on.
     NotWhole,
+    /// The caller's limit has passed before a lock was held: its place is given up.
+    LockTimeout,
+    /// The path of a lock has a place by the other names: all contenders of a path use one kind.
+    MixedNames {
+        /// The names that were asked for.
+        names: LockNames,
+        /// The name of that place.
+        place: String,
+    },
     /// A transaction has not happened: the server refuses the operation at this place, from 0 on.
     RolledBack {
         /// The place of the operation.
@@ -64,8 +74,13 @@ impl ErrorKind {
                 reason,
                 NoReply::ConnectionLoss | NoReply::NotConnected | NoReply::TooManyPending
             ),
-            ErrorKind::TimedOut | ErrorKind::QueueFull | ErrorKind::NotWhole => true,
-            ErrorKind::Fault(_) | ErrorKind::RolledBack { .. } => false,
+            ErrorKind::TimedOut
+            | ErrorKind::QueueFull
+            | ErrorKind::NotWhole
+            | ErrorKind::LockTimeout => true,
+            ErrorKind::Fault(_) | ErrorKind::MixedNames { .. } | ErrorKind::RolledBack { .. } => {
+                false
+            }
         }
     }
 
@@ -78,6 +93,8 @@ impl ErrorKind {
             ErrorKind::TimedOut => "it may still happen",
             ErrorKind::QueueFull => "call again when some of it was",
             ErrorKind::NotWhole => "it is read on",
+            ErrorKind::LockTimeout => "",
+            ErrorKind::MixedNames { .. } => "use one kind of names for all contenders",
         }
     }
 }
@@ -92,6 +109,14 @@ impl fmt::Display for ErrorKind {
             ErrorKind::TimedOut => f.write_str("no answer has come in time"),
             ErrorKind::QueueFull => f.write_str("more than 16 MiB wait to be written"),
             ErrorKind::NotWhole => f.write_str("the tree was not whole in time"),
+            ErrorKind::LockTimeout => f.write_str("the lock was not held in time"),
+            ErrorKind::MixedNames { names, place } => write!(
+                f,
+                "a contender has the names of {}, {}, and this one those of {}",
+                names.other().word(),
+                Shown(place),
+                names.word()
+            ),
             ErrorKind::RolledBack { index, code, .. } => {
                 write!(
                     f,
@@ -136,7 +161,7 @@ impl From<Fault> for ErrorKind {
 pub(crate) struct Search {
     /// The hosts, as the program has named them.
     pub(crate) hosts: String,
-    /// What became of the last attempt.
+    /// What became of the last attempt at each address.
     pub(crate) last: String,
 }
 

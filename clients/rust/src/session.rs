@@ -78,7 +78,8 @@ pub struct Session {
 
 /// How a session begins and ends.
 impl Session {
-    /// A session at these hosts, which asks for this timeout. Without a host it never connects. [`SessionOptions`] opens one otherwise.
+    /// A session at these hosts, which asks for this timeout. It waits until a server has accepted the session, for 15 seconds at most.
+    /// [`SessionOptions`] opens one otherwise, and [`SessionOptions::open_lazily`] one that is not waited for.
     ///
     /// # Errors
     ///
@@ -107,6 +108,15 @@ impl Session {
             limit,
             renews,
         })
+    }
+
+    /// Waits until a server has accepted the session, for so long at most.
+    pub(crate) fn wait_for_server(&self, limit: Duration) -> Result<(), Error> {
+        let begun = Instant::now();
+        self.wait_while(begun.checked_add(limit), |engine| !engine.is_connected());
+        let waited = begun.elapsed();
+        let fault = self.shared.look(|engine| engine.fault_of_opening(waited));
+        fault.map_or(Ok(()), Err)
     }
 
     /// A handle of this session, which is cloned for each thread. With the last one the session is let go.
@@ -251,8 +261,7 @@ impl Session {
 
     /// Waits until there are news of what is followed by this ticket, or the session is over.
     pub(crate) fn wait_for_news(&self, ticket: u64) {
-        let holds = |engine: &Engine| !engine.is_over() && !engine.has_news(ticket);
-        self.shared.wait_while(None, holds);
+        self.wait_while(None, |engine| !engine.has_news(ticket));
     }
 
     /// One more that polls.
@@ -327,9 +336,14 @@ impl Session {
     }
 
     /// Waits while this holds, until this instant at most, and until the session is over.
-    pub(crate) fn wait_until(&self, until: Option<Instant>, holds: impl Fn(View<'_>) -> bool) {
-        let holds = |engine: &Engine| !engine.is_over() && holds(View::of(engine));
+    pub(crate) fn wait_while(&self, until: Option<Instant>, holds: impl Fn(&Engine) -> bool) {
+        let holds = |engine: &Engine| !engine.is_over() && holds(engine);
         self.shared.wait_while(until, holds);
+    }
+
+    /// The same, of what is looked up.
+    pub(crate) fn wait_until(&self, until: Option<Instant>, holds: impl Fn(View<'_>) -> bool) {
+        self.wait_while(until, |engine| holds(View::of(engine)));
     }
 
     /// Other hosts, from the next attempt to connect on, in a new order. The connection that is there stays.

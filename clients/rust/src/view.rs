@@ -6,6 +6,7 @@ use crate::kept::{Children, DataAnswer, Kept, Mark};
 use crate::machine::Machine;
 use crate::saved::SavedSession;
 use crate::snapshot::Snapshot;
+use crate::standing::{Contender, Standing};
 use std::borrow::Cow;
 use std::fmt;
 use std::time::Duration;
@@ -102,6 +103,18 @@ impl View<'_> {
             DataAnswer::Known(stat) | DataAnswer::Full { stat, .. } => Some(stat.ephemeral_owner),
             DataAnswer::Absent => None,
         }
+    }
+
+    /// Where a contender stands.
+    pub(crate) fn standing(self, contender: &Contender<'_>) -> Result<Standing, Fault> {
+        let looked = self.at(contender.directory, |machine, directory| {
+            let contender = Contender {
+                directory,
+                ..*contender
+            };
+            machine.standing(&contender).map(Some)
+        });
+        Ok(looked?.unwrap_or(Standing::Unsure))
     }
 
     /// The mark of what is kept about the data of a path, and none where nothing is. It copies no data.

@@ -61,6 +61,7 @@ impl Engine {
         } else if news.state == Some(State::Connected) {
             self.put_queued();
         }
+        self.ask_deletions();
         taken
     }
 
@@ -81,15 +82,17 @@ impl Engine {
     /// Notes what the machine tells of the session, and asks for.
     fn note(&mut self, now: Moment, news: &News) {
         if news.state == Some(State::Connected) {
-            self.calls.wait_for(None);
+            self.forget_attempts();
         }
         if news.is_expired {
+            self.deletions.clear();
             self.trees.values_mut().for_each(Growing::is_past);
             if !self.renews {
                 self.end_course(Course::Ended(State::Expired));
             }
         }
         if news.state == Some(State::Closed) {
+            self.deletions.clear();
             self.end_course(Course::Ended(State::Closed));
         }
         if let Some((place, within)) = news.dial.filter(|_| !self.is_over()) {
@@ -126,6 +129,7 @@ impl Engine {
                 self.bar();
                 is_end = true;
             }
+            self.deletions.hear(self.clock.now(), ticket, &outcome);
             self.calls.end(ticket, outcome);
         }
         is_end

@@ -251,7 +251,7 @@ fn credentials_that_are_refused_end_all_calls() {
         line.refuse(AUTH_XID, Code::AUTH_FAILED.0);
     });
     let options = SessionOptions::new(TIMEOUT).auth("nobody", b"knows");
-    let session = options.open(partner.address).unwrap();
+    let session = options.open_lazily(partner.address).unwrap();
     let refused = Some(Code::AUTH_FAILED);
     while session.next_event(Some(Instant::now() + PATIENCE)).unwrap()
         != Some(Event::CredentialsRefused)

@@ -21,6 +21,7 @@ mod benches;
 #[cfg(dirwolleu_bench)]
 mod cuts;
 mod lane;
+mod lock_cuts;
 mod locks;
 mod machines;
 mod messages;
