@@ -274,6 +274,16 @@ impl Engine {
         Ok(self.lane.saved(&self.machine.saved()?))
     }
 
+    /// The greatest zxid seen. A reply to the lane counts once the machine has what came before it.
+    pub(crate) fn last_zxid(&self) -> i64 {
+        let of_core = self.machine.last_zxid();
+        if self.inbox.is_empty() {
+            of_core.max(self.lane.zxid())
+        } else {
+            of_core
+        }
+    }
+
     pub(crate) fn chroot(&self) -> &Chroot {
         &self.chroot
     }

@@ -34,10 +34,10 @@ const SHORTEST_DIAL: Duration = Duration::from_millis(1);
 /// How long a session waits before it tries again what there was no memory for.
 const WAIT_FOR_MEMORY: Duration = Duration::from_millis(10);
 
-/// How long a wait for room lasts at a time: a thread that does something else besides does not wait.
+/// How long a helper waits for room at a time, and a session without helpers while something waits to be written.
 const WAIT_FOR_ROOM: Duration = Duration::from_millis(20);
 
-/// Those who poll, by their keys.
+/// The wakers of those that poll, by their keys.
 #[derive(Default)]
 struct Wakers {
     last: u64,
@@ -49,7 +49,7 @@ pub(crate) struct Shared {
     engine: Mutex<Engine>,
     changed: Signal,
     wakers: Mutex<Wakers>,
-    /// Who writes what there is no room for at once: a helper, or who keeps the session.
+    /// Which thread writes what there is no room for at once: a helper, or the one that keeps the session.
     writer: Writer,
     own: Weak<Shared>,
 }
@@ -96,7 +96,7 @@ impl Shared {
         }
     }
 
-    /// Has all look again: who rests, and who was told to poll later.
+    /// Wakes all that rest, and all that poll.
     fn tell_all(&self) {
         self.changed.tell_all();
         let wakers = mem::take(&mut self.wakers().waiting);
@@ -107,7 +107,7 @@ impl Shared {
         self.wakers.lock().unwrap_or_else(PoisonError::into_inner)
     }
 
-    /// One more that polls.
+    /// One that polls.
     pub(crate) fn poller(&self) -> Poller {
         let mut wakers = self.wakers();
         wakers.last += 1;
@@ -128,7 +128,7 @@ impl Shared {
         self.changed.wait(engine, Some(wait.min(LONGEST_WAIT)))
     }
 
-    /// Writes what waits for a connection, and closes one that is over. Whether something waits for room.
+    /// Writes what waits for a connection, and closes one that is over. Whether something waits for room still.
     fn write(&self, outbox: &Arc<Outbox>, writer: Writer, wait: Duration) -> bool {
         let mut guard = Guard {
             shared: self,
@@ -140,14 +140,14 @@ impl Shared {
             Written::All => false,
             Written::Some => true,
             Written::WantsHelper => self.begin_to_help(outbox),
-            Written::Nothing => {
+            Written::Failed => {
                 self.with(|engine| engine.is_broken(outbox));
                 false
             }
         }
     }
 
-    /// A thread writes what there is no room for, until nothing waits. Where the system has not made one, the connection is over.
+    /// A thread of its own writes what there is no room for, until nothing waits. If the system makes none, the connection is over.
     fn begin_to_help(&self, outbox: &Arc<Outbox>) -> bool {
         let Some(shared) = self.own.upgrade() else {
             return false;
@@ -162,7 +162,7 @@ impl Shared {
         true
     }
 
-    /// Where nobody helps: writes on for a while. Whether something waits for room.
+    /// Writes on for a while, in a session without helpers. Whether something waits for room still.
     fn writes_on(&self) -> bool {
         if self.writer != Writer::Alone {
             return false;
@@ -253,7 +253,7 @@ impl Drop for Poller {
     }
 }
 
-/// What ends a session where its program's own writer panics.
+/// Ends a session if what writes for it panics.
 struct Guard<'a> {
     shared: &'a Shared,
     is_done: bool,

@@ -38,7 +38,7 @@ const REPLY_HEADER: usize = 16;
 /// Where a `ConnectRequest` has the last zxid that was seen: after the length of the frame and the version of the protocol.
 const ZXID_OF_CONNECT_REQUEST: usize = 8;
 
-/// Has the zxid that stands there be this one at least.
+/// Raises the zxid at this place to this one, unless it is greater.
 fn raise_zxid(least: i64, bytes: &mut [u8], at: usize) {
     let Some(place) = bytes.get_mut(at..at + size_of::<i64>()) else {
         return;
@@ -475,6 +475,11 @@ impl Lane {
         self.pending.remove(place);
         self.zxid = self.zxid.max(zxid);
         Some(answer)
+    }
+
+    /// The greatest zxid of a reply.
+    pub(crate) fn zxid(&self) -> i64 {
+        self.zxid
     }
 
     /// Has a `ConnectRequest`, after its length, ask for a server that has all that the lane has seen: what it says was seen last is raised.

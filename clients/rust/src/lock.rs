@@ -1,4 +1,4 @@
-//! Locks and elections, over the calls of a session. Who comes first is the core's verdict; the rest is tested, and not proved.
+//! Locks and elections, over the calls of a session. The core decides which contender comes first; the rest is tested, and not proved.
 
 use crate::deletions::{child_of, Place};
 use crate::error::{Error, ErrorKind};
@@ -193,7 +193,7 @@ impl<'d> LockOptions<'d> {
     }
 
     /// What its place says of the one that contends.
-    pub const fn data<'e>(self, data: &'e [u8]) -> LockOptions<'e> {
+    pub const fn data(self, data: &[u8]) -> LockOptions<'_> {
         LockOptions {
             names: self.names,
             sharing: self.sharing,
@@ -349,7 +349,7 @@ struct Line<'a> {
 
 impl Line<'_> {
     /// Waits until the lock is held.
-    fn hold<'s>(self, session: &'s Session) -> Result<Lock<'s>, Error> {
+    fn hold(self, session: &Session) -> Result<Lock<'_>, Error> {
         let mut claim = Claim {
             session,
             place: None,
@@ -517,8 +517,8 @@ fn make(session: &Session, path: &str) -> Result<(), Error> {
 }
 
 /// An election: each candidate leads once those before it have resigned or are gone. All candidates of a path use one kind of names,
-/// [`LockNames`]. It is an exclusive lock whose places say who has made them: by the names of kazoo it stands beside kazoo's `Election`, and
-/// by those of Curator beside its `LeaderSelector`, and not its `LeaderLatch`.
+/// [`LockNames`]. It is an exclusive lock whose places say who has made them: by the names of kazoo it goes with kazoo's `Election`, and
+/// by those of Curator with its `LeaderSelector`, and not with its `LeaderLatch`.
 ///
 /// ```no_run
 /// use dirwolleu::{Election, Session};

@@ -50,7 +50,8 @@ impl Moment {
     }
 }
 
-/// A clock of moments over [`Instant`], which begins at 0.
+/// A clock of moments over [`Instant`], which begins at 0. On Linux that stands still while the machine is suspended: a session learns after it
+/// from the server alone that it has expired.
 ///
 /// ```
 /// use dirwolleu::{Client, Clock};

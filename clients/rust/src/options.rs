@@ -212,7 +212,7 @@ impl SessionOptions {
     ///
     /// # Errors
     ///
-    /// As [`OpenError`] says, but for [`OpenError::NotConnected`].
+    /// As [`OpenError`] says, except [`OpenError::NotConnected`].
     pub fn open_lazily<H>(self, hosts: H) -> Result<Session, OpenError>
     where
         H: TryInto<Hosts>,

@@ -1,4 +1,4 @@
-//! What goes to a server, until it is written: by one thread at a time, and without the lock of the session.
+//! Frames that wait to be written to a server. One thread at a time writes them, without the lock of the session.
 
 use crate::stream::{is_late, Outgoing};
 use std::io;
@@ -6,10 +6,10 @@ use std::mem;
 use std::sync::{Arc, Mutex, MutexGuard, PoisonError};
 use std::time::Duration;
 
-/// The most pieces that a thread writes which does something else besides: others may ask all the while.
+/// The most pieces that a passing thread writes, since other threads may put frames there all the while.
 const MOST_PIECES: usize = 16;
 
-/// The half of a connection that is written, and what of the bytes that were taken for it is not written yet.
+/// The half of a connection that is written, and the bytes that were taken for it, of which the first ones are written.
 struct Line {
     outgoing: Box<dyn Outgoing>,
     taken: Vec<u8>,
@@ -33,40 +33,41 @@ impl Line {
     }
 }
 
-/// What waits, and who writes.
+/// What the lock of an outbox guards. It is never held while something is written.
 struct Held {
     /// None while a thread writes, and once it is closed.
     line: Option<Line>,
-    /// How many bytes are not written of those that were taken.
+    /// How many bytes of the line are not written.
     left: usize,
-    /// Whole frames, behind those bytes.
+    /// Whole frames, after those bytes.
     frames: Vec<u8>,
+    /// Whether a helper writes: no other thread does then.
     is_helped: bool,
     is_over: bool,
 }
 
-/// Who writes.
+/// Which thread writes.
 #[derive(Clone, Copy, Debug, PartialEq, Eq)]
 pub(crate) enum Writer {
-    /// A thread that does something else besides: it leaves to the helper what there is no room for.
+    /// A thread that has something else to do: a helper writes what there is no room for.
     Passing,
-    /// The same, where there is no helper.
+    /// The same in a session without helpers.
     Alone,
-    /// The helper.
+    /// A thread that only writes.
     Helper,
 }
 
-/// What has become of a write.
+/// How a write ended.
 #[derive(Clone, Copy, Debug, PartialEq, Eq)]
 pub(crate) enum Written {
     /// Nothing waits, or another thread writes it.
     All,
     /// There was no room in time, and something waits.
     Some,
-    /// The same, and a helper is to begin.
+    /// The same, and a helper has to begin.
     WantsHelper,
-    /// The connection is over.
-    Nothing,
+    /// The write failed: the connection is over.
+    Failed,
 }
 
 /// The frames that go to a server on one connection.
@@ -122,7 +123,10 @@ impl Outbox {
             let is_full = done.is_err() || line.left() > 0 || piece == MOST_PIECES;
             let wants_helper = self.put_back(line, writer, is_full);
             match done {
-                Err(fault) if !is_late(&fault) => return Written::Nothing,
+                Err(fault) if !is_late(&fault) => {
+                    self.is_unhelped();
+                    return Written::Failed;
+                }
                 _ if wants_helper => return Written::WantsHelper,
                 _ if is_full => return Written::Some,
                 _ => {}
@@ -166,8 +170,96 @@ impl Outbox {
         begins
     }
 
-    /// No helper could begin.
+    /// No helper writes any more.
     pub(crate) fn is_unhelped(&self) {
         self.held().is_helped = false;
+    }
+}
+
+#[cfg(test)]
+mod tests {
+    use super::{Outbox, Writer, Written};
+    use crate::stream::Outgoing;
+    use std::io::{self, ErrorKind};
+    use std::sync::{Arc, Mutex};
+    use std::time::Duration;
+
+    /// What a line was handed, and whether it was closed.
+    #[derive(Default)]
+    struct Seen {
+        bytes: Vec<u8>,
+        is_closed: bool,
+    }
+
+    /// A line that does these things in turn, and then takes all.
+    struct Scripted {
+        turns: Vec<Result<usize, ErrorKind>>,
+        seen: Arc<Mutex<Seen>>,
+    }
+
+    impl Outgoing for Scripted {
+        fn write(&mut self, bytes: &[u8], _: Duration) -> io::Result<usize> {
+            let turn = self.turns.pop().unwrap_or(Ok(bytes.len()));
+            let count = turn.map_err(io::Error::from)?;
+            self.seen.lock().unwrap().bytes.extend(&bytes[..count]);
+            Ok(count)
+        }
+
+        fn close(&mut self) {
+            self.seen.lock().unwrap().is_closed = true;
+        }
+    }
+
+    fn scripted(turns: &[Result<usize, ErrorKind>]) -> (Arc<Outbox>, Arc<Mutex<Seen>>) {
+        let (turns, seen) = (turns.iter().rev().copied().collect(), Arc::default());
+        let line = Scripted {
+            turns,
+            seen: Arc::clone(&seen),
+        };
+        (Outbox::new(Box::new(line)), seen)
+    }
+
+    fn write(outbox: &Outbox, writer: Writer) -> Written {
+        outbox.write(writer, Duration::ZERO)
+    }
+
+    #[test]
+    fn a_helper_writes_what_there_was_no_room_for() {
+        let (outbox, seen) = scripted(&[Ok(2), Err(ErrorKind::WouldBlock), Ok(1)]);
+        outbox.put(b"first");
+        assert_eq!(write(&outbox, Writer::Passing), Written::WantsHelper);
+        outbox.put(b" second");
+        assert_eq!(outbox.waiting(), 10);
+        assert_eq!(write(&outbox, Writer::Passing), Written::All);
+        assert_eq!(write(&outbox, Writer::Helper), Written::Some);
+        assert_eq!(write(&outbox, Writer::Helper), Written::Some);
+        assert_eq!(write(&outbox, Writer::Helper), Written::All);
+        outbox.put(b" third");
+        assert_eq!(write(&outbox, Writer::Passing), Written::All);
+        assert_eq!(seen.lock().unwrap().bytes, b"first second third");
+    }
+
+    #[test]
+    fn what_a_helper_cannot_write_ends_the_line() {
+        let (outbox, seen) = scripted(&[Err(ErrorKind::TimedOut), Err(ErrorKind::BrokenPipe)]);
+        outbox.put(b"first");
+        assert_eq!(write(&outbox, Writer::Passing), Written::WantsHelper);
+        assert_eq!(write(&outbox, Writer::Helper), Written::Failed);
+        outbox.end();
+        assert_eq!(write(&outbox, Writer::Passing), Written::All);
+        let seen = seen.lock().unwrap();
+        assert!(seen.is_closed && seen.bytes.is_empty());
+    }
+
+    #[test]
+    fn a_line_that_is_over_is_closed_by_the_helper_that_has_it() {
+        let (outbox, seen) = scripted(&[Err(ErrorKind::TimedOut)]);
+        outbox.put(b"first");
+        assert_eq!(write(&outbox, Writer::Passing), Written::WantsHelper);
+        outbox.end();
+        assert_eq!(write(&outbox, Writer::Passing), Written::All);
+        assert!(!seen.lock().unwrap().is_closed);
+        assert_eq!(write(&outbox, Writer::Helper), Written::All);
+        assert!(seen.lock().unwrap().is_closed);
     }
 }

@@ -51,7 +51,7 @@ const LATENESS: u32 = 6;
 /// [`SessionOptions::limit`], else the timeout of the session, and a second at least.
 ///
 /// Where a call, a ping or the request for the session has no answer after two thirds of the timeout, and a second at least, whatever else
-/// the server sends, the connection is over.
+/// the server sends, the connection is over. That time includes the writing, so a server that reads slowly is left too.
 ///
 /// All functions take `&self`, and threads may call them at once: [`shared`](Session::shared) gives handles to hand to them. To let a
 /// session go ends its thread and leaves the session to its timeout at the servers: [`close`](Session::close) ends it.
@@ -131,7 +131,7 @@ impl Session {
     ///
     /// # Errors
     ///
-    /// [`Fault::NoMemory`]; then the session is as it was.
+    /// [`Fault::NoMemory`]; then the session is as it was. [`Fault::Panicked`].
     pub fn renew(&self) -> Result<(), Fault> {
         let renewed = self.shared.with(Engine::renew);
         self.shared.wake();
@@ -177,8 +177,8 @@ impl Session {
     /// there is no reply, [`ErrorKind::TimedOut`](crate::ErrorKind::TimedOut) where its limit has come after it was sent, so that a write
     /// may have happened, or may yet; where it was not sent, and never is, [`NotConnected`](NoReply::NotConnected), or
     /// [`TooManyPending`](NoReply::TooManyPending) with a connection; and
-    /// [`ErrorKind::Fault`](crate::ErrorKind::Fault) of [`Fault::NotPath`], [`Fault::NoMemory`], [`Fault::Halted`] or
-    /// [`Fault::UnknownNumber`].
+    /// [`ErrorKind::Fault`](crate::ErrorKind::Fault) of [`Fault::NotPath`], [`Fault::NoMemory`], [`Fault::Halted`],
+    /// [`Fault::UnknownNumber`] or [`Fault::Panicked`]. [`QueueFull`](crate::ErrorKind::QueueFull) where too much waits to be written.
     pub fn call<T>(&self, mut request: Request<T>) -> Result<T, Error> {
         let limit = request.asked.limit.or(self.limit);
         let until = limit.and_then(|limit| Instant::now().checked_add(limit));
@@ -231,7 +231,7 @@ impl Session {
     look_ups! {}
 
     /// The state. None where something was due on the connection for more than a sixth of the timeout and the session's thread has not
-    /// come to do it, as where the process was stopped: then nobody knows.
+    /// come to do it, as where the process was stopped, or that thread has panicked: then nobody knows.
     pub fn state(&self) -> Option<State> {
         let lateness = self.timeout() / LATENESS;
         self.shared.with(|engine| engine.state(lateness))
@@ -244,7 +244,7 @@ impl Session {
     ///
     /// # Errors
     ///
-    /// [`Fault::Halted`] and [`Fault::UnknownNumber`].
+    /// [`Fault::Halted`], [`Fault::UnknownNumber`] and [`Fault::Panicked`].
     pub fn next_event(&self, until: Option<Instant>) -> Result<Option<Event>, Fault> {
         self.shared.next_event(until)
     }
@@ -264,7 +264,7 @@ impl Session {
         self.wait_while(None, |engine| !engine.has_news(ticket));
     }
 
-    /// One more that polls.
+    /// One that polls.
     pub(crate) fn poller(&self) -> Poller {
         self.shared.poller()
     }
@@ -284,7 +284,10 @@ impl Session {
     /// # fn main() -> Result<(), Box<dyn std::error::Error>> {
     /// let session = SessionOptions::new(Duration::from_secs(10)).renews(true).open("127.0.0.1:2181")?;
     /// for node in session.follow("/config") {
-    ///     println!("{:?}", node?.map(|node| node.data)); // none where there is no node
+    ///     match node {
+    ///         Ok(node) => println!("{:?}", node.map(|node| node.data)), // none where there is no node
+    ///         Err(error) => eprintln!("{error}"),
+    ///     }
     /// }
     /// # Ok(())
     /// # }

@@ -151,7 +151,7 @@ pub struct Connection {
 ///     }
 ///     Tcp.dial(server, within)
 /// };
-/// let session = SessionOptions::new(Duration::from_secs(10)).dial(guarded).open("10.0.0.1:2181")?;
+/// let session = SessionOptions::new(Duration::from_secs(10)).dial(guarded).open_lazily("10.0.0.1:2181")?;
 /// # Ok(())
 /// # }
 /// ```

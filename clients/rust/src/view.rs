@@ -54,9 +54,10 @@ impl<'a> View<'a> {
 
 /// Look-ups ask nobody. Those of a path fail with [`Fault::NotPath`] and [`Fault::NoMemory`].
 impl View<'_> {
-    /// The greatest zxid seen, not below 0. A good answer is what the servers' history has at it.
+    /// The greatest zxid seen, not below 0. A good answer is what the servers' history has at it. That is proved of the replies that the core
+    /// knows. Those to transactions, `sync` and ACLs count too: a server tells what was watched before them, which is tested.
     pub fn last_zxid(&self) -> i64 {
-        self.engine.machine().last_zxid()
+        self.engine.last_zxid()
     }
 
     /// The timeout of the session: the one that a server granted last, or the one to ask for.
@@ -65,7 +66,8 @@ impl View<'_> {
     }
 
     /// How long ago a server was heard last, on any connection, and none where it was not heard yet. What is kept and good was so at some
-    /// moment since then.
+    /// moment since then. It goes by [`Instant`](std::time::Instant), which on Linux stands still while the machine is suspended: that time
+    /// is not counted.
     pub fn age(&self) -> Option<Duration> {
         self.engine.age()
     }

@@ -100,6 +100,7 @@ fn what_a_transaction_made_stale_is_stale_when_its_caller_goes_on() {
     let changes = session.transaction().delete("/a", ANY_VERSION).commit();
     assert_eq!(changes, Ok(vec![Change::Deleted]));
     assert_eq!(session.data_mark("/a"), Ok(Some(Mark::Stale)));
+    assert_eq!(session.last_zxid(), 6);
 }
 
 /// A server whose last transaction is this one: as one of version 3.8.0, it leaves a client that has seen a later one.

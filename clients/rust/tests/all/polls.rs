@@ -72,7 +72,7 @@ impl Wake for Flag {
     fn wake(self: Arc<Self>) {}
 }
 
-/// How many of so many wakers are kept after that many polls, each with another one.
+/// How many wakers are kept after a number of polls, each with another one.
 fn kept_after(polls: usize, mut poll: impl FnMut(&mut Context<'_>)) -> usize {
     let wakers = (0..polls).map(|_| {
         let flag = Arc::new(Flag);

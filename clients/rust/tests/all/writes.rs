@@ -90,7 +90,7 @@ fn a_connection_on_which_a_frame_is_not_written_in_time_is_left() {
     assert!(session.call(Request::get("/a").within(PATIENCE)).is_ok());
 }
 
-/// A writer of a program's own: it does this before each write, and has room for so many bytes every other time.
+/// A writer of a program's own: it does this before each write, and has room for this many bytes every other time.
 struct Own<F> {
     inner: Box<dyn Outgoing>,
     before: F,
