@@ -7,7 +7,7 @@ mod partner;
 
 extern crate dirwolleu_rustls as dirwolleu;
 
-use dirwolleu::{rustls, NoReply, Request, Session, SessionOptions, State, Tls};
+use dirwolleu::{rustls, Request, Session, SessionOptions, State, Tls};
 use jute::{PING, PONG, SET_DATA};
 use partner::Line;
 use rustls::{
@@ -197,9 +197,12 @@ fn a_server_of_another_name_is_not_talked_to() {
     let address = start(Arc::clone(&trust.server), |_, mut line| {
         assert!(line.frame().is_none(), "nothing is said to it");
     });
-    let session = open(&trust, address, Duration::from_millis(1_500));
-    let nobody = session.get("/a").unwrap_err();
-    assert_eq!(nobody.no_reply(), Some(NoReply::NotConnected));
+    let options = SessionOptions::new(TIMEOUT).dial(Tls::new(Arc::clone(&trust.client)));
+    let options = options.opens_within(Duration::from_secs(2));
+    let nobody = options.open(format!("localhost:{}", address.port()));
+    let told = nobody.unwrap_err().to_string();
+    assert!(told.contains("; last: 127.0.0.1:"), "{told}");
+    assert!(told.contains("certificate"), "{told}");
 }
 
 /// Begins a record of 16 KiB, and sends of it a byte now and then, until the client ends the connection.
