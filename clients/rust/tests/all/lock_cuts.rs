@@ -1,5 +1,5 @@
-//! Locks whose connection is cut at a request of a way out: the session gives the place up all the same, and another one takes the lock. Where
-//! there is no python3, each test says so and passes.
+//! Locks whose connection is cut at a request of a way out: the session still gives the place up, and another one takes the lock. Without
+//! python3 each test says so and passes.
 
 use crate::jute::{CREATE, DELETE};
 use crate::server::Server;
