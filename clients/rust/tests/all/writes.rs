@@ -13,7 +13,7 @@ use std::sync::{Arc, OnceLock};
 use std::thread::{self, sleep};
 use std::time::{Duration, Instant};
 
-const TIMEOUT: Duration = Duration::from_secs(30);
+const TIMEOUT: Duration = Duration::from_secs(90);
 
 /// How long what is awaited may take.
 const PATIENCE: Duration = Duration::from_secs(120);
@@ -23,7 +23,7 @@ const MANY: usize = 60;
 const LARGE: usize = 1_000_000;
 
 /// How long a server that reads a byte a second may hold a program up: a write used to wait for a third of the timeout and more.
-const AT_ONCE: Duration = Duration::from_secs(5);
+const AT_ONCE: Duration = Duration::from_secs(20);
 
 /// Answers reads, until the client ends the connection.
 fn serve_well(mut line: Line) {
@@ -46,7 +46,7 @@ fn read_slowly(mut line: Line) {
 #[test]
 fn a_server_that_reads_a_byte_a_second_holds_nobody_up() {
     let partner = Partner::start(|_, mut line| {
-        line.admit(30_000);
+        line.admit(90_000);
         read_slowly(line);
     });
     let session = Session::open(partner.address, TIMEOUT).unwrap();
@@ -123,7 +123,7 @@ where
             let (mut made, end) = connection();
             thread::spawn(move || {
                 let mut line = Line::over(end);
-                line.admit(30_000);
+                line.admit(90_000);
                 serve_well(line);
             });
             made.outgoing = Box::new(Own {

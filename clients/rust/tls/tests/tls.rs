@@ -30,7 +30,7 @@ const TIMEOUT: Duration = Duration::from_secs(10);
 const PATIENCE: Duration = Duration::from_secs(30);
 
 /// How long a server that does not read may hold a program up, whose writes wait for a third of the timeout otherwise.
-const AT_ONCE: Duration = Duration::from_secs(8);
+const AT_ONCE: Duration = Duration::from_secs(20);
 
 /// A folder that goes with its test.
 struct Folder(PathBuf);
@@ -240,10 +240,10 @@ fn a_server_that_reads_nothing_holds_nobody_up() {
         return;
     };
     let address = start(Arc::clone(&trust.server), |_, mut line| {
-        line.admit(30_000);
+        line.admit(90_000);
         sleep(Duration::from_secs(3_600));
     });
-    let session = open(&trust, address, Duration::from_secs(30));
+    let session = open(&trust, address, Duration::from_secs(90));
     session.next_event(None).unwrap();
     let data = vec![7; 1_000_000];
     let begun = Instant::now();
