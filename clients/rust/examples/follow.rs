@@ -1,23 +1,42 @@
-//! Follows a node: `follow HOST:PORT[,HOST:PORT..] PATH` prints what it holds at first, and at each change, whatever the servers do.
+//! Follows a node: `follow HOST:PORT[,HOST:PORT..] PATH` prints what it holds at first, and at each change, whatever the servers do. What a
+//! server refuses is said on standard error, and it goes on.
 
-use dirwolleu::SessionOptions;
+use dirwolleu::{KeptNode, SessionOptions};
+use std::error::Error;
+use std::io::{stdout, Write};
+use std::process::ExitCode;
 use std::{env, time::Duration};
 
-fn main() -> Result<(), Box<dyn std::error::Error>> {
-    let words: Vec<String> = env::args().skip(1).collect();
-    let [hosts, path] = words.as_slice() else {
-        return Err("usage: follow HOST:PORT[,HOST:PORT..] PATH".into());
+/// What a node holds, in a line.
+fn line(path: &str, node: Option<KeptNode>) -> String {
+    let Some(node) = node else {
+        return format!("{path} is not there");
     };
+    let text = String::from_utf8_lossy(node.data.as_deref().unwrap_or_default());
+    format!("{path} version {}: {text}", node.stat.version)
+}
+
+fn follow(hosts: &str, path: &str) -> Result<(), Box<dyn Error>> {
     let options = SessionOptions::new(Duration::from_secs(10)).renews(true);
     let session = options.open(hosts)?;
     for node in session.follow(path) {
-        match node? {
-            Some(node) => {
-                let text = String::from_utf8_lossy(node.data.as_deref().unwrap_or_default());
-                println!("{path} version {}: {text}", node.stat.version);
-            }
-            None => println!("{path} is not there"),
+        match node {
+            Ok(node) => writeln!(stdout(), "{}", line(path, node))?,
+            Err(error) => eprintln!("{error}"),
         }
     }
     Ok(())
+}
+
+fn main() -> ExitCode {
+    let words: Vec<String> = env::args().skip(1).collect();
+    let done = match words.as_slice() {
+        [hosts, path] => follow(hosts, path),
+        _ => Err("usage: follow HOST:PORT[,HOST:PORT..] PATH".into()),
+    };
+    if let Err(error) = done {
+        eprintln!("follow: {error}");
+        return ExitCode::FAILURE;
+    }
+    ExitCode::SUCCESS
 }

@@ -236,7 +236,7 @@ macro_rules! look_ups {
             self.view(|view| view.timeout())
         }
 
-        /// How long ago a server was heard last; see [`View::age`].
+        /// How long ago a server was heard last, without the time in which the machine was suspended; see [`View::age`].
         pub fn age(&self) -> Option<Duration> {
             self.view(|view| view.age())
         }

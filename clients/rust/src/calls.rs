@@ -61,6 +61,11 @@ impl Calls {
         self.search = search;
     }
 
+    /// The search for a server, where calls wait for one.
+    pub(crate) fn search(&self) -> Option<&Search> {
+        self.search.as_ref()
+    }
+
     /// A ticket that nobody has: of a call whose answer nobody waits for, or of a subject. Each is above those before.
     pub(crate) fn next_ticket(&mut self) -> u64 {
         self.last_ticket += 1;

@@ -2,6 +2,7 @@
 //! waits for what the machine tells. What is decided of the session is decided by the machine.
 
 mod asking;
+mod deleting;
 mod following;
 mod stepping;
 mod trees;
@@ -9,7 +10,8 @@ mod trees;
 use crate::calls::Calls;
 use crate::chroot::Chroot;
 use crate::client::{Client, State};
-use crate::error::{ErrorKind, Search};
+use crate::deletions::Deletions;
+use crate::error::{Error, ErrorKind, Search};
 use crate::fault::{Code, Fault, NoReply};
 use crate::followed::Followed;
 use crate::growing::Growing;
@@ -18,17 +20,21 @@ use crate::introductions::Introductions;
 use crate::lane::{Credentials, Lane};
 use crate::machine::Machine;
 use crate::moment::{Clock, Moment};
+use crate::outbox::Outbox;
 use crate::saved::SavedSession;
-use crate::stream::Outgoing;
 use crate::ticket::{Ending, Slot};
 use crate::told::{Event, Outcome, Told};
 use std::collections::BTreeMap;
+use std::mem;
 use std::net::SocketAddr;
 use std::sync::Arc;
 use std::time::Duration;
 
 /// How long the admission of a session is waited for at a time: a call that was asked meanwhile may have a limit.
 const LOOK_ROUND: Duration = Duration::from_millis(250);
+
+/// The most reasons that are told for which no server was found.
+const MOST_REASONS: usize = 16;
 
 /// The moment that never comes.
 pub(crate) const NEVER: Moment = Moment::from_millis(u64::MAX);
@@ -62,6 +68,8 @@ enum Course {
     Barred,
     /// Its program has let it go.
     Stopped,
+    /// What dials, reads or writes for it has panicked.
+    Panicked,
 }
 
 /// An attempt to connect that the machine has asked for.
@@ -103,13 +111,20 @@ pub(crate) struct Engine {
     attempts: u64,
     wanted: Option<Attempt>,
     dialling: Option<u64>,
-    line: Option<Box<dyn Outgoing>>,
+    line: Option<Arc<Outbox>>,
+    /// Those to which something was put, or which are over: to be written without the lock.
+    outboxes: Vec<Arc<Outbox>>,
+    /// Whether nothing was sent on the connection yet.
+    greets: bool,
     /// The server that the connection was made to last.
     address: Option<SocketAddr>,
+    /// Why no server was found since the session was connected last: the last reason of each address.
+    reasons: Vec<String>,
     inbox: Vec<u8>,
     lane: Lane,
     answers: Vec<(u64, Outcome)>,
     introductions: Introductions,
+    deletions: Deletions,
     /// The call that is to end the session, where one was asked.
     closing: Option<u64>,
     course: Course,
@@ -141,11 +156,15 @@ impl Engine {
             wanted: None,
             dialling: None,
             line: None,
+            outboxes: Vec::new(),
+            greets: false,
             address: None,
+            reasons: Vec::new(),
             inbox: Vec::new(),
             lane: Lane::default(),
             answers: Vec::new(),
             introductions: Introductions::of(beginning.credentials),
+            deletions: Deletions::default(),
             closing: None,
             course: Course::GoesOn,
         };
@@ -155,6 +174,9 @@ impl Engine {
 
     /// Goes on with a new machine: of a new session where this one is over, and else of the same session.
     pub(crate) fn renew(&mut self) -> Result<(), Fault> {
+        if self.course == Course::Panicked {
+            return Err(Fault::Panicked);
+        }
         let saved = self.saved_for_renewal()?;
         let (timeout, count) = (self.asked_timeout, self.hosts.len());
         let renewed = Machine::resume(timeout, count, chance(), &saved)?;
@@ -164,6 +186,7 @@ impl Engine {
         self.calls.end_all(&NoReply::ConnectionLoss.into());
         self.machine = renewed;
         self.places.begin_again();
+        self.deletions.begin_again();
         self.trees.values_mut().for_each(Growing::begin_again);
         if self.course != Course::Stopped {
             self.course = Course::GoesOn;
@@ -197,6 +220,7 @@ impl Engine {
         }
         self.hosts = hosts;
         self.places.begin_again();
+        self.forget_attempts();
         self.note_hosts();
         let (now, count) = (self.now(), self.hosts.len());
         if !self.is_over() {
@@ -215,16 +239,27 @@ impl Engine {
 
     /// It is over with everything: each call is answered.
     pub(crate) fn stop(&mut self) {
-        let reason = if self.machine.state() == State::Connected {
-            NoReply::ConnectionLoss
-        } else {
-            NoReply::NotConnected
+        self.let_go(Course::Stopped);
+    }
+
+    /// The same, since what it is kept alive by has panicked.
+    pub(crate) fn panicked(&mut self) {
+        if self.course != Course::Stopped {
+            self.let_go(Course::Panicked);
+        }
+    }
+
+    fn let_go(&mut self, course: Course) {
+        let reason = match course {
+            _ if self.machine.state() == State::Connected => NoReply::ConnectionLoss.into(),
+            Course::Panicked => Fault::Panicked.into(),
+            _ => NoReply::NotConnected.into(),
         };
         // Memory that ran out leaves calls without an answer.
         let _ = self.end();
         self.hang_up();
-        self.course = Course::Stopped;
-        self.calls.end_all(&reason.into());
+        self.course = course;
+        self.calls.end_all(&reason);
     }
 }
 
@@ -232,6 +267,21 @@ impl Engine {
 impl Engine {
     pub(crate) fn machine(&self) -> &Machine {
         &self.machine
+    }
+
+    /// The session, to be taken up by another one: also what the lane has seen counts.
+    pub(crate) fn saved(&self) -> Result<SavedSession, Fault> {
+        Ok(self.lane.saved(&self.machine.saved()?))
+    }
+
+    /// The greatest zxid seen. A reply to the lane counts once the machine has what came before it.
+    pub(crate) fn last_zxid(&self) -> i64 {
+        let of_core = self.machine.last_zxid();
+        if self.inbox.is_empty() {
+            of_core.max(self.lane.zxid())
+        } else {
+            of_core
+        }
     }
 
     pub(crate) fn chroot(&self) -> &Chroot {
@@ -244,8 +294,10 @@ impl Engine {
 
     /// The state, and none where something was due so long ago that nobody has done: then nobody knows.
     pub(crate) fn state(&self, lateness: Duration) -> Option<State> {
-        if let Course::Ended(state) = self.course {
-            return Some(state);
+        match self.course {
+            Course::Ended(state) => return Some(state),
+            Course::Panicked => return None,
+            _ => {}
         }
         let late = self.due().saturating_add(lateness);
         let is_served = self.line.is_none() || self.clock.now() < late;
@@ -264,8 +316,21 @@ impl Engine {
     }
 
     /// Whether a server has accepted the session, so that calls are sent.
-    fn is_connected(&self) -> bool {
+    pub(crate) fn is_connected(&self) -> bool {
         self.machine.state() == State::Connected && !self.is_over()
+    }
+
+    /// Why no server has accepted the session, which was waited for for so long. None where one has.
+    pub(crate) fn fault_of_opening(&self, waited: Duration) -> Option<Error> {
+        if self.is_connected() {
+            return None;
+        }
+        let kind = self.refusal_of_all();
+        let error = Error::from(kind.unwrap_or(NoReply::NotConnected.into()));
+        Some(match self.calls.search() {
+            Some(search) => error.after(search, waited),
+            None => error,
+        })
     }
 
     /// Why a session is over that was not closed.
@@ -285,6 +350,7 @@ impl Engine {
             Course::Halted(fault) => fault.clone().into(),
             Course::Barred => ErrorKind::Server(Code::AUTH_FAILED),
             Course::Stopped => NoReply::NotConnected.into(),
+            Course::Panicked => Fault::Panicked.into(),
         })
     }
 
@@ -296,10 +362,11 @@ impl Engine {
         }
     }
 
-    /// It fails where the machine has halted.
+    /// It fails where the machine has halted, or what keeps the session alive has panicked.
     pub(crate) fn halt(&self) -> Result<(), Fault> {
         match &self.course {
             Course::Halted(fault) => Err(fault.clone()),
+            Course::Panicked => Err(Fault::Panicked),
             _ => Ok(()),
         }
     }
@@ -311,6 +378,7 @@ impl Engine {
     /// Whether who waits for events, or for news, has something to look at.
     pub(crate) fn has_event(&mut self) -> bool {
         let is_news = self.takes_tree_news() | self.followed.takes_news();
+        let is_news = self.deletions.takes_news() | is_news;
         is_news || self.told.has_event() || self.is_over()
     }
 
@@ -349,10 +417,33 @@ impl Engine {
         self.line.is_some()
     }
 
-    /// Notes what became of the last attempt to find a server, for calls that wait for one.
+    /// The connection, where something waits to be written to it.
+    pub(crate) fn unwritten(&self) -> Option<Arc<Outbox>> {
+        let line = self.line.as_ref()?;
+        (line.waiting() > 0).then(|| Arc::clone(line))
+    }
+
+    /// The connections that are to be written to, or to be closed.
+    pub(crate) fn take_outboxes(&mut self) -> Vec<Arc<Outbox>> {
+        mem::take(&mut self.outboxes)
+    }
+
+    /// Notes what became of the last attempt to find a server, for calls that wait for one. The last reason of each address is told.
     fn note_attempt(&mut self, last: String) {
-        let hosts = self.hosts.to_string();
+        let place = |reason: &str| reason.split_once(": ").map(|it| String::from(it.0));
+        let of = place(&last);
+        self.reasons.retain(|reason| place(reason) != of);
+        self.reasons.push(last);
+        let surplus = self.reasons.len().saturating_sub(MOST_REASONS);
+        self.reasons.drain(..surplus);
+        let (hosts, last) = (self.hosts.to_string(), self.reasons.join("; "));
         self.calls.wait_for(Some(Search { hosts, last }));
+    }
+
+    /// A server was found, or another one is looked for.
+    fn forget_attempts(&mut self) {
+        self.reasons.clear();
+        self.calls.wait_for(None);
     }
 }
 
@@ -360,7 +451,7 @@ impl Engine {
 impl Engine {
     /// What is to be done next, until this moment at most.
     pub(crate) fn plan(&mut self, until: Moment) -> Plan {
-        if self.course == Course::Stopped {
+        if matches!(self.course, Course::Stopped | Course::Panicked) {
             return Plan::Stop;
         }
         if self.is_over() {
@@ -420,13 +511,12 @@ impl Engine {
 
 #[cfg(test)]
 mod tests {
-    use super::{
-        Beginning, Engine, ErrorKind, Fault, Hosts, NoReply, Order, Outgoing, Plan, Slot, NEVER,
-    };
+    use super::{Beginning, Engine, ErrorKind, Fault, Hosts, NoReply, Order, Plan, Slot, NEVER};
     use crate::action::Refusal;
     use crate::client::State;
     use crate::jute::Writer;
     use crate::request::Request;
+    use crate::stream::Outgoing;
     use crate::told::{Shows, TreeNews};
     use std::io;
     use std::net::SocketAddr;
@@ -438,8 +528,8 @@ mod tests {
     struct Nowhere;
 
     impl Outgoing for Nowhere {
-        fn write_all(&mut self, _: &[u8]) -> io::Result<()> {
-            Ok(())
+        fn write(&mut self, bytes: &[u8], _: Duration) -> io::Result<usize> {
+            Ok(bytes.len())
         }
 
         fn close(&mut self) {}

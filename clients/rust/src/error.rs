@@ -2,6 +2,7 @@
 
 use crate::action::Refusal;
 use crate::fault::{Code, Fault, NoReply};
+use crate::lock::LockNames;
 use crate::path_fault::Shown;
 use std::error;
 use std::fmt;
@@ -29,8 +30,19 @@ pub enum ErrorKind {
     /// The limit of a call has come after it was sent, or that of a [`Ticket::wait_for`](crate::Ticket::wait_for). A write may have happened,
     /// or may yet.
     TimedOut,
+    /// More than 16 MiB wait to be written to the server, which reads slowly: the call was not sent, and never is.
+    QueueFull,
     /// The caller's limit has passed before a tree was whole: some of it is not read, or changes faster than it is read. It is read on.
     NotWhole,
+    /// The caller's limit has passed before a lock was held: its place is given up.
+    LockTimeout,
+    /// The path of a lock has a place by the other names: all contenders of a path use one kind.
+    MixedNames {
+        /// The names that were asked for.
+        names: LockNames,
+        /// The name of that place.
+        place: String,
+    },
     /// A transaction has not happened: the server refuses the operation at this place, from 0 on.
     RolledBack {
         /// The place of the operation.
@@ -53,8 +65,8 @@ impl ErrorKind {
         )
     }
 
-    /// Whether the same read may be answered later: [`Code::is_passing`], and where the connection was lost, there is none, too many
-    /// calls wait, or a limit has passed. An expired session is no such kind: it is to be renewed.
+    /// Whether the same read may be answered later: [`Code::is_passing`], and where the connection was lost, there is none, too much
+    /// waits, or a limit has passed. An expired session is no such kind: it is to be renewed.
     pub fn is_passing(&self) -> bool {
         match self {
             ErrorKind::Server(code) => code.is_passing(),
@@ -62,8 +74,13 @@ impl ErrorKind {
                 reason,
                 NoReply::ConnectionLoss | NoReply::NotConnected | NoReply::TooManyPending
             ),
-            ErrorKind::TimedOut | ErrorKind::NotWhole => true,
-            ErrorKind::Fault(_) | ErrorKind::RolledBack { .. } => false,
+            ErrorKind::TimedOut
+            | ErrorKind::QueueFull
+            | ErrorKind::NotWhole
+            | ErrorKind::LockTimeout => true,
+            ErrorKind::Fault(_) | ErrorKind::MixedNames { .. } | ErrorKind::RolledBack { .. } => {
+                false
+            }
         }
     }
 
@@ -74,7 +91,10 @@ impl ErrorKind {
             ErrorKind::NoReply(reason) => reason.advice(),
             ErrorKind::Fault(fault) => fault.advice(),
             ErrorKind::TimedOut => "it may still happen",
+            ErrorKind::QueueFull => "call again when some of it was",
             ErrorKind::NotWhole => "it is read on",
+            ErrorKind::LockTimeout => "",
+            ErrorKind::MixedNames { .. } => "use one kind of names for all contenders",
         }
     }
 }
@@ -87,7 +107,16 @@ impl fmt::Display for ErrorKind {
             ErrorKind::NoReply(reason) => reason.fmt(f),
             ErrorKind::Fault(fault) => f.write_str(fault.reason()),
             ErrorKind::TimedOut => f.write_str("no answer has come in time"),
+            ErrorKind::QueueFull => f.write_str("more than 16 MiB wait to be written"),
             ErrorKind::NotWhole => f.write_str("the tree was not whole in time"),
+            ErrorKind::LockTimeout => f.write_str("the lock was not held in time"),
+            ErrorKind::MixedNames { names, place } => write!(
+                f,
+                "a contender has the names of {}, {}, and this one those of {}",
+                names.other().word(),
+                Shown(place),
+                names.word()
+            ),
             ErrorKind::RolledBack { index, code, .. } => {
                 write!(
                     f,
@@ -132,7 +161,7 @@ impl From<Fault> for ErrorKind {
 pub(crate) struct Search {
     /// The hosts, as the program has named them.
     pub(crate) hosts: String,
-    /// What became of the last attempt.
+    /// What became of the last attempt at each address.
     pub(crate) last: String,
 }
 

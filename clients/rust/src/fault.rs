@@ -94,6 +94,9 @@ pub enum Fault {
         /// The version of the library, as a number in which 1.2.3 is 1002003.
         library: u32,
     },
+    /// What dials, reads or writes for the session has panicked, and with that the session's thread is gone. It is of no use any more, and
+    /// the servers end it at its timeout.
+    Panicked,
     /// The library gives a number that this crate does not know. The client has no use any more, and neither has one that resumes it.
     UnknownNumber(UnknownNumber),
 }
@@ -117,7 +120,7 @@ impl Fault {
         }
     }
 
-    /// The number that the library has for it. It has none where it is of another version.
+    /// The number that the library has for it. It has none where it is of another version, or the fault is not its own.
     fn number(&self) -> Option<i32> {
         Some(match self {
             Fault::Halted => result::HALTED,
@@ -127,21 +130,25 @@ impl Fault {
             Fault::NotSaved => result::NOT_SAVED,
             Fault::NotWhole => result::NOT_WHOLE,
             Fault::TooManyNodes => result::TOO_MANY,
-            Fault::OtherVersion { .. } | Fault::UnknownNumber(_) => return None,
+            Fault::OtherVersion { .. } | Fault::UnknownNumber(_) | Fault::Panicked => return None,
         })
     }
 
     pub(crate) fn reason(&self) -> &'static str {
         match self.number() {
             Some(number) => words::result(number).unwrap_or_default(),
+            None if *self == Fault::Panicked => "the session's thread has panicked",
             None => "the library is of another version than this crate",
         }
     }
 
     /// What to do. Nothing where the reason says it.
     pub(crate) fn advice(&self) -> &'static str {
-        self.number()
-            .map_or("take both of one version", advice::result)
+        match self.number() {
+            Some(number) => advice::result(number),
+            None if *self == Fault::Panicked => "open another session",
+            None => "take both of one version",
+        }
     }
 
     /// Whether the client has no use any more.

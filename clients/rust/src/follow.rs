@@ -2,6 +2,7 @@
 
 use crate::engine::Engine;
 use crate::error::Error;
+use crate::keeper::Poller;
 use crate::node::DataStat;
 use crate::session::Session;
 use std::fmt;
@@ -57,6 +58,7 @@ pub struct Follow<'a> {
     session: &'a Session,
     path: String,
     ticket: Option<u64>,
+    poller: Option<Poller>,
     is_over: bool,
 }
 
@@ -66,6 +68,7 @@ impl<'a> Follow<'a> {
             session,
             path: String::from(path),
             ticket: None,
+            poller: None,
             is_over: false,
         }
     }
@@ -122,8 +125,11 @@ impl<'a> Follow<'a> {
             Ok(ticket) => ticket,
             Err(error) => return Poll::Ready(Some(Err(error))),
         };
-        let session = self.session;
-        session.poll(context, |engine| self.take(ticket, engine))
+        let poller = self.poller.take();
+        let poller = poller.unwrap_or_else(|| self.session.poller());
+        let found = poller.poll(context, |engine| self.take(ticket, engine));
+        self.poller = Some(poller);
+        found
     }
 }
 

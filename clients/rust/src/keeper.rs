@@ -4,17 +4,19 @@ use crate::engine::{Attempt, Engine, Plan, NEVER};
 use crate::fault::Fault;
 use crate::hosts::{Addresses, Order};
 use crate::moment::Moment;
+use crate::outbox::{Outbox, Writer, Written};
 use crate::request::Request;
 use crate::signal::Signal;
 use crate::stream::{self, Connection, Dial, Incoming, Server};
 use crate::ticket::{KeepsTime, Limit, Slot, Ticket};
 use crate::told::Event;
+use std::collections::HashMap;
 use std::io;
 use std::mem;
 use std::net::SocketAddr;
 use std::sync::{Arc, Mutex, MutexGuard, PoisonError, Weak};
 use std::task::{Context, Poll, Waker};
-use std::thread;
+use std::thread::{self, Builder};
 use std::time::{Duration, Instant};
 
 /// The most bytes that one read is asked for.
@@ -32,19 +34,35 @@ const SHORTEST_DIAL: Duration = Duration::from_millis(1);
 /// How long a session waits before it tries again what there was no memory for.
 const WAIT_FOR_MEMORY: Duration = Duration::from_millis(10);
 
+/// How long a helper waits for room at a time, and a session without helpers while something waits to be written.
+const WAIT_FOR_ROOM: Duration = Duration::from_millis(20);
+
+/// The wakers of those that poll, by their keys.
+#[derive(Default)]
+struct Wakers {
+    last: u64,
+    waiting: HashMap<u64, Waker>,
+}
+
 /// An engine that threads share.
 pub(crate) struct Shared {
     engine: Mutex<Engine>,
     changed: Signal,
-    wakers: Mutex<Vec<Waker>>,
+    wakers: Mutex<Wakers>,
+    /// Which thread writes what there is no room for at once: a helper, or the one that keeps the session.
+    writer: Writer,
+    own: Weak<Shared>,
 }
 
+/// How it begins, and what is done under its lock.
 impl Shared {
-    pub(crate) fn new(engine: Engine) -> Arc<Shared> {
-        Arc::new(Shared {
+    pub(crate) fn new(engine: Engine, writer: Writer) -> Arc<Shared> {
+        Arc::new_cyclic(|own| Shared {
             engine: Mutex::new(engine),
             changed: Signal::default(),
             wakers: Mutex::default(),
+            writer,
+            own: Weak::clone(own),
         })
     }
 
@@ -61,11 +79,15 @@ impl Shared {
         result
     }
 
-    /// Lets the engine go, so that whoever is woken can have it.
+    /// Lets the engine go, so that whoever is woken can have it, and writes what is to be written.
     fn hand_out(&self, mut engine: MutexGuard<'_, Engine>) {
         let answers = engine.take_answers();
+        let outboxes = engine.take_outboxes();
         let is_news = engine.has_event();
         drop(engine);
+        for outbox in outboxes {
+            self.write(&outbox, self.writer, Duration::ZERO);
+        }
         for (slot, ending) in answers {
             slot.tell(ending);
         }
@@ -74,29 +96,25 @@ impl Shared {
         }
     }
 
-    /// Has all look again: who rests, and who was told to poll later.
+    /// Wakes all that rest, and all that poll.
     fn tell_all(&self) {
         self.changed.tell_all();
-        let wakers = mem::take(&mut *self.wakers());
-        wakers.into_iter().for_each(Waker::wake);
+        let wakers = mem::take(&mut self.wakers().waiting);
+        wakers.into_values().for_each(Waker::wake);
     }
 
-    fn wakers(&self) -> MutexGuard<'_, Vec<Waker>> {
+    fn wakers(&self) -> MutexGuard<'_, Wakers> {
         self.wakers.lock().unwrap_or_else(PoisonError::into_inner)
     }
 
-    /// Looks, and where nothing is found, has the waker of this context wake who is to look again. Another thread may do so at once.
-    pub(crate) fn poll<R>(
-        &self,
-        context: &Context<'_>,
-        look: impl FnOnce(&mut Engine) -> Poll<R>,
-    ) -> Poll<R> {
+    /// One that polls.
+    pub(crate) fn poller(&self) -> Poller {
         let mut wakers = self.wakers();
-        if !wakers.iter().any(|waker| waker.will_wake(context.waker())) {
-            wakers.push(context.waker().clone());
+        wakers.last += 1;
+        Poller {
+            shared: Weak::clone(&self.own),
+            key: wakers.last,
         }
-        drop(wakers);
-        look(&mut self.lock())
     }
 
     /// Has whoever rests look again. It waits until none of them is between a look and its rest.
@@ -108,6 +126,49 @@ impl Shared {
     /// Waits until something is changed, for so long at most.
     fn rest<'a>(&self, engine: MutexGuard<'a, Engine>, wait: Duration) -> MutexGuard<'a, Engine> {
         self.changed.wait(engine, Some(wait.min(LONGEST_WAIT)))
+    }
+
+    /// Writes what waits for a connection, and closes one that is over. Whether something waits for room still.
+    fn write(&self, outbox: &Arc<Outbox>, writer: Writer, wait: Duration) -> bool {
+        let mut guard = Guard {
+            shared: self,
+            is_done: false,
+        };
+        let written = outbox.write(writer, wait);
+        guard.is_done = true;
+        match written {
+            Written::All => false,
+            Written::Some => true,
+            Written::WantsHelper => self.begin_to_help(outbox),
+            Written::Failed => {
+                self.with(|engine| engine.is_broken(outbox));
+                false
+            }
+        }
+    }
+
+    /// A thread of its own writes what there is no room for, until nothing waits. If the system makes none, the connection is over.
+    fn begin_to_help(&self, outbox: &Arc<Outbox>) -> bool {
+        let Some(shared) = self.own.upgrade() else {
+            return false;
+        };
+        let helped = Arc::clone(outbox);
+        let help = move || while shared.write(&helped, Writer::Helper, WAIT_FOR_ROOM) {};
+        let thread = Builder::new().name(String::from("dirwolleu"));
+        if thread.spawn(help).is_err() {
+            outbox.is_unhelped();
+            self.with(|engine| engine.is_broken(outbox));
+        }
+        true
+    }
+
+    /// Writes on for a while, in a session without helpers. Whether something waits for room still.
+    fn writes_on(&self) -> bool {
+        if self.writer != Writer::Alone {
+            return false;
+        }
+        let unwritten = self.look(Engine::unwritten);
+        unwritten.is_some_and(|outbox| self.write(&outbox, Writer::Alone, WAIT_FOR_ROOM))
     }
 
     /// Looks at the engine, which goes no further.
@@ -155,6 +216,54 @@ impl Shared {
                 return Ok(None);
             }
             engine = self.rest(engine, left);
+        }
+    }
+}
+
+/// One that polls a session. Its waker is kept until it is woken, polls again, or is dropped.
+pub(crate) struct Poller {
+    shared: Weak<Shared>,
+    key: u64,
+}
+
+impl Poller {
+    /// Looks, and where nothing is found, has the waker of this context wake who is to look again. Another thread may do so at once.
+    pub(crate) fn poll<R>(
+        &self,
+        context: &Context<'_>,
+        look: impl FnOnce(&mut Engine) -> Poll<R>,
+    ) -> Poll<R> {
+        let Some(shared) = self.shared.upgrade() else {
+            return Poll::Pending;
+        };
+        let waker = context.waker().clone();
+        let before = shared.wakers().waiting.insert(self.key, waker);
+        drop(before); // without the lock: what it holds may poll too
+        let looked = look(&mut shared.lock());
+        looked
+    }
+}
+
+impl Drop for Poller {
+    fn drop(&mut self) {
+        if let Some(shared) = self.shared.upgrade() {
+            let waker = shared.wakers().waiting.remove(&self.key);
+            drop(waker);
+        }
+    }
+}
+
+/// Ends a session if what writes for it panics.
+struct Guard<'a> {
+    shared: &'a Shared,
+    is_done: bool,
+}
+
+impl Drop for Guard<'_> {
+    fn drop(&mut self) {
+        if !self.is_done {
+            self.shared.with(Engine::panicked);
+            self.shared.tell_all();
         }
     }
 }
@@ -282,7 +391,10 @@ impl Keeper {
     /// Hands in what the connection brings next. Where something was due before, it catches up.
     fn listen(&mut self, until: Moment) -> Result<(), Fault> {
         let now = self.shared.with(|engine| engine.clock().now());
-        let wait = until.saturating_duration_since(now).min(LONGEST_WAIT);
+        let mut wait = until.saturating_duration_since(now).min(LONGEST_WAIT);
+        if self.shared.writes_on() {
+            wait = wait.min(WAIT_FOR_ROOM);
+        }
         match self.hear(wait)? {
             Heard::End | Heard::Bytes { is_late: false } => Ok(()),
             Heard::Nothing | Heard::Bytes { is_late: true } => self.catch_up(),
@@ -343,11 +455,16 @@ impl Keeper {
     }
 }
 
-/// The end of a thread that kept a session alive, also where what dials has panicked: nobody waits any longer.
+/// The end of a thread that kept a session alive, also where what dials or reads has panicked: nobody waits any longer.
 struct End(Arc<Shared>);
 
 impl Drop for End {
     fn drop(&mut self) {
-        self.0.with(Engine::stop);
+        if thread::panicking() {
+            self.0.with(Engine::panicked);
+        } else {
+            self.0.with(Engine::stop);
+        }
+        self.0.tell_all();
     }
 }

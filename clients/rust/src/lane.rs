@@ -10,10 +10,11 @@ use crate::fault::{Code, Fault, NoReply};
 use crate::jute::{Reader, Writer};
 use crate::moment::Moment;
 use crate::node::Mode;
+use crate::saved::SavedSession;
 use crate::told::{Found, Outcome};
 use crate::transaction::Change;
 use std::collections::VecDeque;
-use std::mem;
+use std::mem::{self, size_of};
 
 /// The first xid of the lane, of which each further one is one less. Those of the core are -8 and up.
 const FIRST_XID: i32 = -1_001;
@@ -33,6 +34,20 @@ const FOREVER: Moment = Moment::from_millis(u64::MAX);
 
 /// How many bytes the header of a reply has.
 const REPLY_HEADER: usize = 16;
+
+/// Where a `ConnectRequest` has the last zxid that was seen: after the length of the frame and the version of the protocol.
+const ZXID_OF_CONNECT_REQUEST: usize = 8;
+
+/// Raises the zxid at this place to this one, unless it is greater.
+fn raise_zxid(least: i64, bytes: &mut [u8], at: usize) {
+    let Some(place) = bytes.get_mut(at..at + size_of::<i64>()) else {
+        return;
+    };
+    let mut zxid = [0; size_of::<i64>()];
+    zxid.copy_from_slice(place);
+    let zxid = i64::from_be_bytes(zxid).max(least);
+    place.copy_from_slice(&zxid.to_be_bytes());
+}
 
 /// Numbers of operations, as `zookeeper.jute` has them.
 mod number {
@@ -373,11 +388,13 @@ impl Filter {
     }
 }
 
-/// The requests of the lane on one connection.
+/// The requests of the lane on one connection, and what was seen on all.
 pub(crate) struct Lane {
     next_xid: i32,
     pending: VecDeque<Pending>,
     filter: Filter,
+    /// The greatest zxid of a reply to the lane.
+    zxid: i64,
 }
 
 impl Default for Lane {
@@ -386,6 +403,7 @@ impl Default for Lane {
             next_xid: FIRST_XID,
             pending: VecDeque::new(),
             filter: Filter::default(),
+            zxid: 0,
         }
     }
 }
@@ -447,7 +465,7 @@ impl Lane {
     fn answer(&mut self, frame: &[u8], root: &Chroot) -> Option<(u64, Outcome)> {
         let mut reply = Reader::new(frame);
         let xid = reply.int()?;
-        let (_zxid, code) = (reply.long()?, reply.int()?);
+        let (zxid, code) = (reply.long()?, reply.int()?);
         let place = self.pending.iter().position(|pending| pending.xid == xid)?;
         let Pending { ticket, call, .. } = &self.pending[place];
         let answer = match code {
@@ -455,7 +473,26 @@ impl Lane {
             code => (*ticket, Err(ErrorKind::Server(Code(code)))),
         };
         self.pending.remove(place);
+        self.zxid = self.zxid.max(zxid);
         Some(answer)
+    }
+
+    /// The greatest zxid of a reply.
+    pub(crate) fn zxid(&self) -> i64 {
+        self.zxid
+    }
+
+    /// Has a `ConnectRequest`, after its length, ask for a server that has all that the lane has seen: what it says was seen last is raised.
+    pub(crate) fn raise_zxid_of(&self, request: &mut [u8]) {
+        raise_zxid(self.zxid, request, ZXID_OF_CONNECT_REQUEST);
+    }
+
+    /// The same, of a session that is put away.
+    pub(crate) fn saved(&self, saved: &SavedSession) -> SavedSession {
+        let mut bytes = saved.as_bytes().to_vec();
+        let at = bytes.len().saturating_sub(size_of::<i64>());
+        raise_zxid(self.zxid, &mut bytes, at);
+        SavedSession::from_bytes(bytes)
     }
 
     /// Since when the request waits that has waited longest.

@@ -3,6 +3,22 @@
 //! the call that has waited longest, and once a session has expired or is closed nothing is kept. What this rests on is in the
 //! header of the core, `include/dirwolleu.h`.
 //!
+//! ```no_run
+//! use dirwolleu::SessionOptions;
+//! use std::time::Duration;
+//!
+//! # fn main() -> Result<(), Box<dyn std::error::Error>> {
+//! let session = SessionOptions::new(Duration::from_secs(10)).renews(true).open("127.0.0.1:2181")?;
+//! for node in session.follow("/config") {
+//!     match node {
+//!         Ok(node) => println!("{:?}", node.map(|node| node.data)), // none where there is no node
+//!         Err(error) => eprintln!("{error}"),                       // it is read again
+//!     }
+//! }
+//! # Ok(())
+//! # }
+//! ```
+//!
 //! There are four ways to use it:
 //!
 //! - [`Session`] is a session that a thread of its own keeps alive. Its calls wait for their answers, or give a [`Ticket`], which is a
@@ -14,11 +30,12 @@
 //! **Proved** is the core: what each function of its header says. So it is when which host is dialled, which calls wait, when they are
 //! late, which are asked again after a lost connection, and when what is followed is read. **Tested** is all that is above it, in this
 //! crate: connections, tickets, retries, chroots, the addresses of hosts, what is asked beside the core, when a [`Tree`] is read and shown,
-//! and [`Lock`], [`Election`] and [`Registration`]. Which nodes a [`TreeSnapshot`] and a [`Snapshot`] have, and that all of them are of one moment, the core says.
+//! and [`Registration`]; and of a [`Lock`] and an [`Election`] all but who comes first, which the core says. Which nodes a [`TreeSnapshot`] and a [`Snapshot`] have, and that all of them are of one moment, the core says.
 //!
 //! A session asks beside the core what the core does not know: transactions, ACLs, credentials and `sync`. It writes these requests
 //! between those of the core, and takes their answers out of the stream before the core is handed it. So for the core, what they change
-//! is changed by others: marks stay right, and what a transaction made stale is stale when its caller goes on. They leave no watch.
+//! is changed by others: marks stay right, and what a transaction made stale is stale when its caller goes on. They leave no watch. The
+//! zxid of each reply counts when the next server is chosen: one that is behind it does not admit the session.
 //!
 //! Enums that a later version may add to are `non_exhaustive`. [`State`], [`Mark`], [`Sharing`] and [`Watch`] are whole.
 //!
@@ -34,8 +51,10 @@ mod both;
 mod calls;
 mod chroot;
 mod client;
+mod deletions;
 mod engine;
 mod error;
+mod events;
 mod fault;
 #[allow(unsafe_code)]
 mod ffi;
@@ -56,6 +75,7 @@ mod moment;
 mod node;
 mod numbers;
 mod options;
+mod outbox;
 mod output;
 mod path_fault;
 mod registration;
@@ -79,12 +99,13 @@ pub use acl::{Acl, Permissions};
 pub use action::{Action, Actions, Refusal};
 pub use client::{Client, State};
 pub use error::{Error, ErrorKind};
+pub use events::Events;
 pub use fault::{Code, Fault, NoReply, UnknownNumber};
 pub use follow::{Follow, KeptNode};
 pub use hosts::{Hosts, HostsFault};
 pub use kept::{Children, DataAnswer, Kept, Mark};
 pub use local::LocalSession;
-pub use lock::{Election, Lock, Sharing};
+pub use lock::{Election, Lock, LockNames, LockOptions, Sharing};
 pub use machine::Machine;
 pub use moment::{Clock, Moment};
 pub use node::{DataStat, Mode, Node, NodeEvent, Side, Stat, Watch, ANY_VERSION};

@@ -50,7 +50,8 @@ impl Moment {
     }
 }
 
-/// A clock of moments over [`Instant`], which begins at 0.
+/// A clock of moments over [`Instant`], which begins at 0. On Linux that stands still while the machine is suspended. If a session has
+/// expired meanwhile, only a server tells it.
 ///
 /// ```
 /// use dirwolleu::{Client, Clock};

@@ -1,11 +1,13 @@
 //! How a session is opened.
 
 use crate::engine::{Beginning, Engine};
+use crate::error::Error;
 use crate::fault::Fault;
 use crate::hosts::{Hosts, HostsFault, Order};
 use crate::keeper::{Keeper, Shared};
 use crate::lane::Credentials;
 use crate::local::LocalSession;
+use crate::outbox::Writer;
 use crate::retry::Retry;
 use crate::saved::SavedSession;
 use crate::session::Session;
@@ -19,12 +21,17 @@ use std::time::Duration;
 /// Why a session was not opened. Its `Debug` has the words that it prints, for a `main` that returns it.
 ///
 /// ```
-/// use dirwolleu::{OpenError, Session};
+/// use dirwolleu::{OpenError, Session, SessionOptions};
 /// use std::time::Duration;
 ///
 /// let refused = Session::open("zk1:2181,", Duration::from_secs(10)).unwrap_err();
 /// assert!(matches!(refused, OpenError::Hosts(_)));
 /// assert_eq!(refused.to_string(), "'' is no HOST:PORT");
+///
+/// let hasty = SessionOptions::new(Duration::from_secs(10)).opens_within(Duration::from_secs(1));
+/// let nobody = hasty.open("127.0.0.1:1").unwrap_err();
+/// let told = "no server of 127.0.0.1:1 accepted the session in 1 s; last: 127.0.0.1:1: connection refused";
+/// assert_eq!(nobody.to_string(), told);
 /// ```
 #[non_exhaustive]
 pub enum OpenError {
@@ -34,6 +41,9 @@ pub enum OpenError {
     Fault(Fault),
     /// The system has not made a thread.
     Thread(io::Error),
+    /// No server has accepted the session in time, or the servers refuse it: the error of a call that would have been asked. It has the
+    /// last reason of each address.
+    NotConnected(Error),
 }
 
 impl fmt::Display for OpenError {
@@ -42,6 +52,7 @@ impl fmt::Display for OpenError {
             OpenError::Hosts(fault) => fault.fmt(f),
             OpenError::Fault(fault) => fault.fmt(f),
             OpenError::Thread(fault) => write!(f, "no thread for the session: {fault}"),
+            OpenError::NotConnected(error) => error.fmt(f),
         }
     }
 }
@@ -98,7 +109,11 @@ pub struct SessionOptions {
     saved: Option<SavedSession>,
     credentials: Vec<Credentials>,
     dial: Box<dyn Dial>,
+    opens_within: Duration,
 }
+
+/// How long a first server is waited for, unless the options say otherwise.
+const OPENS_WITHIN: Duration = Duration::from_secs(15);
 
 impl SessionOptions {
     /// A session that asks for this timeout, in whole milliseconds: 1 to 2,147,483,647.
@@ -112,6 +127,7 @@ impl SessionOptions {
             saved: None,
             credentials: Vec::new(),
             dial: Box::new(Tcp),
+            opens_within: OPENS_WITHIN,
         }
     }
 
@@ -168,18 +184,42 @@ impl SessionOptions {
         self
     }
 
-    /// Opens a session that is kept alive by a thread of its own. It dials at once.
+    /// How long [`open`](SessionOptions::open) waits at most for a server that accepts the session: 15 seconds, unless this says otherwise.
+    pub fn opens_within(mut self, limit: Duration) -> SessionOptions {
+        self.opens_within = limit;
+        self
+    }
+
+    /// Opens a session that is kept alive by a thread of its own, and waits until a server has accepted it.
     ///
     /// # Errors
     ///
-    /// As [`OpenError`] says.
+    /// As [`OpenError`] says: [`OpenError::NotConnected`] where none has in time, with the last reason of each address.
     pub fn open<H>(self, hosts: H) -> Result<Session, OpenError>
     where
         H: TryInto<Hosts>,
         OpenError: From<H::Error>,
     {
+        let limit = self.opens_within;
+        let session = self.open_lazily(hosts)?;
+        session
+            .wait_for_server(limit)
+            .map_err(OpenError::NotConnected)?;
+        Ok(session)
+    }
+
+    /// The same, and does not wait: it dials at once, and its calls wait for a server. So a task of a runtime opens a session.
+    ///
+    /// # Errors
+    ///
+    /// As [`OpenError`] says, except [`OpenError::NotConnected`].
+    pub fn open_lazily<H>(self, hosts: H) -> Result<Session, OpenError>
+    where
+        H: TryInto<Hosts>,
+        OpenError: From<H::Error>,
+    {
         let (retry, limit, renews) = (self.retry, self.limit, self.renews);
-        let keeper = self.keeper(hosts.try_into()?)?;
+        let keeper = self.keeper(hosts.try_into()?, Writer::Passing)?;
         Session::kept_by(keeper, retry, limit, renews).map_err(OpenError::Thread)
     }
 
@@ -193,10 +233,11 @@ impl SessionOptions {
         H: TryInto<Hosts>,
         OpenError: From<H::Error>,
     {
-        Ok(LocalSession::kept_by(self.keeper(hosts.try_into()?)?))
+        let keeper = self.keeper(hosts.try_into()?, Writer::Alone)?;
+        Ok(LocalSession::kept_by(keeper))
     }
 
-    fn keeper(self, hosts: Hosts) -> Result<Keeper, Fault> {
+    fn keeper(self, hosts: Hosts, writer: Writer) -> Result<Keeper, Fault> {
         let engine = Engine::new(Beginning {
             timeout: self.timeout,
             hosts,
@@ -206,7 +247,8 @@ impl SessionOptions {
             limit: self.limit,
             credentials: self.credentials,
         })?;
-        Ok(Keeper::new(Shared::new(engine), self.dial, self.order))
+        let shared = Shared::new(engine, writer);
+        Ok(Keeper::new(shared, self.dial, self.order))
     }
 }
 

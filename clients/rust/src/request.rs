@@ -205,6 +205,15 @@ impl Request<(Vec<String>, Stat)> {
     }
 }
 
+impl Request<(Vec<String>, i64)> {
+    /// The names of the children of a node, and the zxid at which it has these.
+    pub(crate) fn listing(path: &str) -> Request<(Vec<String>, i64)> {
+        Request::new(path, Call::Core(CoreCall::Children(Watch::No)), |ending| {
+            ending.map(|found| (found.names, found.zxid))
+        })
+    }
+}
+
 impl Request<Stat> {
     /// Sets the data of a node that has this version; [`ANY_VERSION`](crate::ANY_VERSION) is that of each node.
     pub fn set(path: &str, data: &[u8], version: i32) -> Request<Stat> {

@@ -5,10 +5,11 @@ use crate::both::{calls, look_ups, watch, Asks};
 use crate::client::State;
 use crate::engine::Engine;
 use crate::error::Error;
+use crate::events::Events;
 use crate::fault::{Fault, NoReply};
 use crate::follow::Follow;
 use crate::hosts::Hosts;
-use crate::keeper::{ask, Keeper, Shared};
+use crate::keeper::{ask, Keeper, Poller, Shared};
 use crate::kept::{Children, DataAnswer, Kept, Mark};
 use crate::node::{Mode, Node, Stat};
 use crate::options::{OpenError, SessionOptions};
@@ -25,7 +26,6 @@ use std::fmt;
 use std::io;
 use std::ops::Deref;
 use std::sync::Arc;
-use std::task::{Context, Poll};
 use std::thread::{self, Builder};
 use std::time::{Duration, Instant};
 
@@ -51,7 +51,7 @@ const LATENESS: u32 = 6;
 /// [`SessionOptions::limit`], else the timeout of the session, and a second at least.
 ///
 /// Where a call, a ping or the request for the session has no answer after two thirds of the timeout, and a second at least, whatever else
-/// the server sends, the connection is over.
+/// the server sends, the connection is over. That time includes the writing, so a server that reads slowly is left too.
 ///
 /// All functions take `&self`, and threads may call them at once: [`shared`](Session::shared) gives handles to hand to them. To let a
 /// session go ends its thread and leaves the session to its timeout at the servers: [`close`](Session::close) ends it.
@@ -78,7 +78,8 @@ pub struct Session {
 
 /// How a session begins and ends.
 impl Session {
-    /// A session at these hosts, which asks for this timeout. Without a host it never connects. [`SessionOptions`] opens one otherwise.
+    /// A session at these hosts, which asks for this timeout. It waits until a server has accepted the session, for 15 seconds at most.
+    /// [`SessionOptions`] opens one otherwise, and [`SessionOptions::open_lazily`] one that is not waited for.
     ///
     /// # Errors
     ///
@@ -109,6 +110,15 @@ impl Session {
         })
     }
 
+    /// Waits until a server has accepted the session, for so long at most.
+    pub(crate) fn wait_for_server(&self, limit: Duration) -> Result<(), Error> {
+        let begun = Instant::now();
+        self.wait_while(begun.checked_add(limit), |engine| !engine.is_connected());
+        let waited = begun.elapsed();
+        let fault = self.shared.look(|engine| engine.fault_of_opening(waited));
+        fault.map_or(Ok(()), Err)
+    }
+
     /// A handle of this session, which is cloned for each thread. With the last one the session is let go.
     pub fn shared(self) -> SharedSession {
         SharedSession {
@@ -121,7 +131,7 @@ impl Session {
     ///
     /// # Errors
     ///
-    /// [`Fault::NoMemory`]; then the session is as it was.
+    /// [`Fault::NoMemory`]; then the session is as it was. [`Fault::Panicked`].
     pub fn renew(&self) -> Result<(), Fault> {
         let renewed = self.shared.with(Engine::renew);
         self.shared.wake();
@@ -167,8 +177,8 @@ impl Session {
     /// there is no reply, [`ErrorKind::TimedOut`](crate::ErrorKind::TimedOut) where its limit has come after it was sent, so that a write
     /// may have happened, or may yet; where it was not sent, and never is, [`NotConnected`](NoReply::NotConnected), or
     /// [`TooManyPending`](NoReply::TooManyPending) with a connection; and
-    /// [`ErrorKind::Fault`](crate::ErrorKind::Fault) of [`Fault::NotPath`], [`Fault::NoMemory`], [`Fault::Halted`] or
-    /// [`Fault::UnknownNumber`].
+    /// [`ErrorKind::Fault`](crate::ErrorKind::Fault) of [`Fault::NotPath`], [`Fault::NoMemory`], [`Fault::Halted`],
+    /// [`Fault::UnknownNumber`] or [`Fault::Panicked`]. [`QueueFull`](crate::ErrorKind::QueueFull) where too much waits to be written.
     pub fn call<T>(&self, mut request: Request<T>) -> Result<T, Error> {
         let limit = request.asked.limit.or(self.limit);
         let until = limit.and_then(|limit| Instant::now().checked_add(limit));
@@ -221,7 +231,7 @@ impl Session {
     look_ups! {}
 
     /// The state. None where something was due on the connection for more than a sixth of the timeout and the session's thread has not
-    /// come to do it, as where the process was stopped: then nobody knows.
+    /// come to do it, as where the process was stopped, or that thread has panicked: then nobody knows.
     pub fn state(&self) -> Option<State> {
         let lateness = self.timeout() / LATENESS;
         self.shared.with(|engine| engine.state(lateness))
@@ -234,41 +244,14 @@ impl Session {
     ///
     /// # Errors
     ///
-    /// [`Fault::Halted`] and [`Fault::UnknownNumber`].
+    /// [`Fault::Halted`], [`Fault::UnknownNumber`] and [`Fault::Panicked`].
     pub fn next_event(&self, until: Option<Instant>) -> Result<Option<Event>, Fault> {
         self.shared.next_event(until)
     }
 
-    /// The same for a runtime: where no event waits, the waker of this context is woken when there may be one. It is the session's thread
-    /// that wakes it, so it serves under each runtime, or without one.
-    ///
-    /// ```no_run
-    /// use dirwolleu::{Event, Fault, Session};
-    /// use std::future::poll_fn;
-    ///
-    /// /// Prints what happens to a session, until it is over.
-    /// async fn tell(session: &Session) -> Result<(), Fault> {
-    ///     while let Some(event) = poll_fn(|context| session.poll_event(context)).await? {
-    ///         println!("{event:?}");
-    ///     }
-    ///     Ok(())
-    /// }
-    /// ```
-    ///
-    /// # Errors
-    ///
-    /// As [`next_event`](Session::next_event).
-    pub fn poll_event(&self, context: &mut Context<'_>) -> Poll<Result<Option<Event>, Fault>> {
-        self.shared.poll(context, |engine| {
-            if let Some(event) = engine.next_event() {
-                return Poll::Ready(Ok(Some(event)));
-            }
-            match engine.halt() {
-                Err(fault) => Poll::Ready(Err(fault)),
-                Ok(()) if engine.is_over() => Poll::Ready(Ok(None)),
-                Ok(()) => Poll::Pending,
-            }
-        })
+    /// The same for a runtime: [`Events::poll_next`] does not wait.
+    pub fn events(&self) -> Events {
+        Events::new(&self.shared)
     }
 
     /// Does something with the engine.
@@ -278,17 +261,12 @@ impl Session {
 
     /// Waits until there are news of what is followed by this ticket, or the session is over.
     pub(crate) fn wait_for_news(&self, ticket: u64) {
-        let holds = |engine: &Engine| !engine.is_over() && !engine.has_news(ticket);
-        self.shared.wait_while(None, holds);
+        self.wait_while(None, |engine| !engine.has_news(ticket));
     }
 
-    /// Looks, and is woken later where nothing is found.
-    pub(crate) fn poll<R>(
-        &self,
-        context: &Context<'_>,
-        look: impl FnOnce(&mut Engine) -> Poll<R>,
-    ) -> Poll<R> {
-        self.shared.poll(context, look)
+    /// One that polls.
+    pub(crate) fn poller(&self) -> Poller {
+        self.shared.poller()
     }
 
     /// Follows a node: the iterator waits, and gives what the node holds at first, and at each change, also where it changed while there
@@ -306,7 +284,10 @@ impl Session {
     /// # fn main() -> Result<(), Box<dyn std::error::Error>> {
     /// let session = SessionOptions::new(Duration::from_secs(10)).renews(true).open("127.0.0.1:2181")?;
     /// for node in session.follow("/config") {
-    ///     println!("{:?}", node?.map(|node| node.data)); // none where there is no node
+    ///     match node {
+    ///         Ok(node) => println!("{:?}", node.map(|node| node.data)), // none where there is no node
+    ///         Err(error) => eprintln!("{error}"),
+    ///     }
     /// }
     /// # Ok(())
     /// # }
@@ -358,9 +339,14 @@ impl Session {
     }
 
     /// Waits while this holds, until this instant at most, and until the session is over.
-    pub(crate) fn wait_until(&self, until: Option<Instant>, holds: impl Fn(View<'_>) -> bool) {
-        let holds = |engine: &Engine| !engine.is_over() && holds(View::of(engine));
+    pub(crate) fn wait_while(&self, until: Option<Instant>, holds: impl Fn(&Engine) -> bool) {
+        let holds = |engine: &Engine| !engine.is_over() && holds(engine);
         self.shared.wait_while(until, holds);
+    }
+
+    /// The same, of what is looked up.
+    pub(crate) fn wait_until(&self, until: Option<Instant>, holds: impl Fn(View<'_>) -> bool) {
+        self.wait_while(until, |engine| holds(View::of(engine)));
     }
 
     /// Other hosts, from the next attempt to connect on, in a new order. The connection that is there stays.

@@ -66,36 +66,39 @@ pub trait Incoming: Send {
     fn read(&mut self, room: &mut [u8], wait: Duration) -> io::Result<usize>;
 }
 
-/// The half of a connection that is written. Any thread writes to it, one at a time, while another one reads.
+/// The half of a connection that is written. Any thread writes to it, one at a time, while another one reads. The session has no lock
+/// meanwhile, so this may look at its session, and ask it.
 ///
 /// ```
 /// use dirwolleu::Outgoing;
-/// use std::io;
+/// use std::{io, time::Duration};
 ///
 /// /// Keeps what is said to a server, for a test.
 /// struct Kept(Vec<u8>);
 ///
 /// impl Outgoing for Kept {
-///     fn write_all(&mut self, bytes: &[u8]) -> io::Result<()> {
+///     fn write(&mut self, bytes: &[u8], _: Duration) -> io::Result<usize> {
 ///         self.0.extend(bytes);
-///         Ok(())
+///         Ok(bytes.len())
 ///     }
 ///
 ///     fn close(&mut self) {}
 /// }
 ///
 /// let mut kept = Kept(Vec::new());
-/// kept.write_all(b"one")?;
+/// assert_eq!(kept.write(b"one", Duration::ZERO)?, 3);
 /// assert_eq!(kept.0, b"one");
 /// # Ok::<(), io::Error>(())
 /// ```
 pub trait Outgoing: Send {
-    /// Writes all of these bytes and has them sent. It waits for room for as long as the attempt to connect could have taken.
+    /// Waits until there is room, for so long at most, and writes as many bytes as there is room for. The rest is handed in again; so are
+    /// the same bytes where there was no room in time.
     ///
     /// # Errors
     ///
-    /// With any error the connection is over.
-    fn write_all(&mut self, bytes: &[u8]) -> io::Result<()>;
+    /// [`ErrorKind::WouldBlock`], [`ErrorKind::TimedOut`] or [`ErrorKind::Interrupted`] where there was no room in time; with another
+    /// kind, and with `Ok(0)`, the connection is over.
+    fn write(&mut self, bytes: &[u8], wait: Duration) -> io::Result<usize>;
 
     /// Ends the connection: a read that waits at the other half ends soon.
     fn close(&mut self);
@@ -117,7 +120,7 @@ pub trait Outgoing: Send {
 /// }
 ///
 /// impl Outgoing for Gone {
-///     fn write_all(&mut self, _: &[u8]) -> io::Result<()> {
+///     fn write(&mut self, _: &[u8], _: Duration) -> io::Result<usize> {
 ///         Err(io::ErrorKind::BrokenPipe.into())
 ///     }
 ///
@@ -148,7 +151,7 @@ pub struct Connection {
 ///     }
 ///     Tcp.dial(server, within)
 /// };
-/// let session = SessionOptions::new(Duration::from_secs(10)).dial(guarded).open("10.0.0.1:2181")?;
+/// let session = SessionOptions::new(Duration::from_secs(10)).dial(guarded).open_lazily("10.0.0.1:2181")?;
 /// # Ok(())
 /// # }
 /// ```
@@ -186,10 +189,9 @@ impl Dial for Tcp {
     fn dial(&mut self, server: &Server<'_>, within: Duration) -> io::Result<Connection> {
         let stream = TcpStream::connect_timeout(&server.address, within)?;
         stream.set_nodelay(true)?;
-        stream.set_write_timeout(Some(within))?;
         Ok(Connection {
             incoming: Box::new(Bounded::new(stream.try_clone()?)),
-            outgoing: Box::new(stream),
+            outgoing: Box::new(Bounded::new(stream)),
         })
     }
 }
@@ -201,8 +203,8 @@ impl Incoming for TcpStream {
     }
 }
 
-/// A stream that is read, and the bound on a wait that the system knows. Most reads are to wait for about as long as the one before: they
-/// do not tell it again.
+/// A stream that is read or written, and the bound on a wait that the system knows. Most reads are to wait for about as long as the one
+/// before, and so are most writes: they do not tell it again.
 struct Bounded {
     stream: TcpStream,
     bound: Duration,
@@ -214,10 +216,14 @@ impl Bounded {
         Bounded { stream, bound }
     }
 
-    /// Has a wait last for so long at most, and for half of that at least.
-    fn bind(&mut self, wait: Duration) -> io::Result<()> {
+    /// Has a wait last for so long at most, and for half of that at least. The system is told so by this function.
+    fn bind(
+        &mut self,
+        wait: Duration,
+        tell: fn(&TcpStream, Option<Duration>) -> io::Result<()>,
+    ) -> io::Result<()> {
         if self.bound > wait || self.bound.saturating_mul(2) < wait {
-            self.stream.set_read_timeout(Some(wait))?;
+            tell(&self.stream, Some(wait))?;
             self.bound = wait;
         }
         Ok(())
@@ -228,7 +234,7 @@ impl Incoming for Bounded {
     fn read(&mut self, room: &mut [u8], wait: Duration) -> io::Result<usize> {
         let mut left = wait.max(SHORTEST_WAIT);
         loop {
-            self.bind(left)?;
+            self.bind(left, TcpStream::set_read_timeout)?;
             match Read::read(&mut self.stream, room) {
                 Err(fault) if is_past(&fault) && self.bound < left => {
                     left = left.saturating_sub(self.bound);
@@ -240,13 +246,25 @@ impl Incoming for Bounded {
 }
 
 impl Outgoing for TcpStream {
-    fn write_all(&mut self, bytes: &[u8]) -> io::Result<()> {
-        Write::write_all(self, bytes)
+    fn write(&mut self, bytes: &[u8], wait: Duration) -> io::Result<usize> {
+        self.set_write_timeout(Some(wait.max(SHORTEST_WAIT)))?;
+        Write::write(self, bytes)
     }
 
     fn close(&mut self) {
         // It fails where the server has closed it already.
         let _ = self.shutdown(Shutdown::Both);
+    }
+}
+
+impl Outgoing for Bounded {
+    fn write(&mut self, bytes: &[u8], wait: Duration) -> io::Result<usize> {
+        self.bind(wait.max(SHORTEST_WAIT), TcpStream::set_write_timeout)?;
+        Write::write(&mut self.stream, bytes)
+    }
+
+    fn close(&mut self) {
+        self.stream.close();
     }
 }
 
@@ -260,12 +278,12 @@ pub(crate) fn fault_of(place: &dyn Display, fault: &io::Error) -> io::Error {
     io::Error::new(fault.kind(), format!("{place}: {words}"))
 }
 
-/// Whether a read that failed so may succeed later: nothing came in time, or it was interrupted.
+/// Whether a read or a write that failed so may succeed later: its time has passed, or it was interrupted.
 pub(crate) fn is_late(fault: &io::Error) -> bool {
     is_past(fault) || fault.kind() == ErrorKind::Interrupted
 }
 
-/// Whether a read has failed since nothing came in time.
+/// Whether a read or a write has failed since its time has passed.
 fn is_past(fault: &io::Error) -> bool {
     matches!(fault.kind(), ErrorKind::WouldBlock | ErrorKind::TimedOut)
 }

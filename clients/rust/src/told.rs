@@ -66,6 +66,8 @@ pub enum Event {
 /// What a reply brings. What its call does not ask for is empty.
 #[derive(Debug, Default)]
 pub(crate) struct Found {
+    /// The zxid at which it holds, of a reply of the core.
+    pub(crate) zxid: i64,
     pub(crate) data: Option<Vec<u8>>,
     pub(crate) path: String,
     pub(crate) names: Vec<String>,
@@ -157,8 +159,10 @@ impl Found {
 
 /// The answer to a call, out of the library.
 fn answer_of(outcome: Result<Reply<'_>, NoReply>, chroot: &Chroot) -> Outcome {
-    let brought = outcome?.result?;
-    Ok(Found::of(&brought, chroot))
+    let reply = outcome?;
+    let mut found = Found::of(&reply.result?, chroot);
+    found.zxid = reply.zxid;
+    Ok(found)
 }
 
 /// The event of a connection that is given up. Where there is no memory for the words, its code is there in their place.

@@ -4,7 +4,7 @@ use crate::engine::Engine;
 use crate::error::{Error, ErrorKind};
 use crate::fault::NoReply;
 use crate::growing::Shown;
-use crate::keeper::Shared;
+use crate::keeper::{Poller, Shared};
 use crate::tree_snapshot::TreeSnapshot;
 use std::fmt;
 use std::iter::FusedIterator;
@@ -129,6 +129,7 @@ impl Tree {
         Snapshots {
             tree: self,
             told: 0,
+            poller: None,
             is_over: false,
         }
     }
@@ -165,6 +166,7 @@ impl fmt::Debug for Tree {
 pub struct Snapshots<'a> {
     tree: &'a Tree,
     told: u64,
+    poller: Option<Poller>,
     is_over: bool,
 }
 
@@ -248,8 +250,11 @@ impl Snapshots<'_> {
         if self.is_over {
             return Poll::Ready(None);
         }
-        let session = Arc::clone(&self.tree.session);
-        session.poll(context, |engine| self.take(engine))
+        let poller = self.poller.take();
+        let poller = poller.unwrap_or_else(|| self.tree.session.poller());
+        let news = poller.poll(context, |engine| self.take(engine));
+        self.poller = Some(poller);
+        news
     }
 }
 

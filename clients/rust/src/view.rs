@@ -6,6 +6,7 @@ use crate::kept::{Children, DataAnswer, Kept, Mark};
 use crate::machine::Machine;
 use crate::saved::SavedSession;
 use crate::snapshot::Snapshot;
+use crate::standing::{Contender, Standing};
 use std::borrow::Cow;
 use std::fmt;
 use std::time::Duration;
@@ -53,9 +54,10 @@ impl<'a> View<'a> {
 
 /// Look-ups ask nobody. Those of a path fail with [`Fault::NotPath`] and [`Fault::NoMemory`].
 impl View<'_> {
-    /// The greatest zxid seen, not below 0. A good answer is what the servers' history has at it.
+    /// The greatest zxid seen, not below 0. A good answer is what the servers' history has at it. That is proved of the replies that the core
+    /// knows. Those to transactions, `sync` and ACLs count too: a server tells what was watched before them, which is tested.
     pub fn last_zxid(&self) -> i64 {
-        self.engine.machine().last_zxid()
+        self.engine.last_zxid()
     }
 
     /// The timeout of the session: the one that a server granted last, or the one to ask for.
@@ -64,7 +66,8 @@ impl View<'_> {
     }
 
     /// How long ago a server was heard last, on any connection, and none where it was not heard yet. What is kept and good was so at some
-    /// moment since then.
+    /// moment since then. It goes by [`Instant`](std::time::Instant), which on Linux stands still while the machine is suspended: that time
+    /// is not counted.
     pub fn age(&self) -> Option<Duration> {
         self.engine.age()
     }
@@ -84,7 +87,7 @@ impl View<'_> {
     ///
     /// [`Fault::NoMemory`] alone.
     pub fn saved(&self) -> Result<SavedSession, Fault> {
-        self.engine.machine().saved()
+        self.engine.saved()
     }
 
     /// What is kept about the data of a path that was read with a watch, with its mark, and none where nothing is. The data are copied.
@@ -102,6 +105,18 @@ impl View<'_> {
             DataAnswer::Known(stat) | DataAnswer::Full { stat, .. } => Some(stat.ephemeral_owner),
             DataAnswer::Absent => None,
         }
+    }
+
+    /// Where a contender stands.
+    pub(crate) fn standing(self, contender: &Contender<'_>) -> Result<Standing, Fault> {
+        let looked = self.at(contender.directory, |machine, directory| {
+            let contender = Contender {
+                directory,
+                ..*contender
+            };
+            machine.standing(&contender).map(Some)
+        });
+        Ok(looked?.unwrap_or(Standing::Unsure))
     }
 
     /// The mark of what is kept about the data of a path, and none where nothing is. It copies no data.

@@ -1,8 +1,8 @@
 //! Sessions at a real server, whose address is in `DIRWOLLEU_SERVER`: `scripts/clients` starts one. Without it each test says `skipped`.
 
 use dirwolleu::{
-    Acl, Change, Code, Election, Error, ErrorKind, Event, LocalSession, Lock, Mode, Operations,
-    Permissions, Request, Session, SessionOptions, Sharing, State, ANY_VERSION,
+    Acl, Change, Code, Election, Error, ErrorKind, Event, LocalSession, Lock, LockOptions, Mode,
+    Operations, Permissions, Request, Session, SessionOptions, Sharing, State, ANY_VERSION,
 };
 use std::env;
 use std::io::{BufRead, BufReader};
@@ -153,13 +153,7 @@ fn the_last_zxid_rises_to_that_of_a_transaction() {
     let [Change::Set(stat)] = changes[..] else {
         panic!("{changes:?}");
     };
-    let until = Instant::now() + PATIENCE;
-    while session.last_zxid() < stat.mzxid {
-        assert!(Instant::now() < until, "nothing was read by the core");
-        session
-            .next_event(Some(Instant::now() + Duration::from_millis(20)))
-            .unwrap();
-    }
+    assert_eq!(session.last_zxid(), stat.mzxid);
 }
 
 #[test]
@@ -232,7 +226,7 @@ fn a_scheme_that_is_not_there_is_refused() {
     }
     let barred = SessionOptions::new(TIMEOUT)
         .auth("nobody", b"knows")
-        .open(&place)
+        .open_lazily(&place)
         .unwrap();
     let until = Some(Instant::now() + PATIENCE);
     while barred.next_event(until).unwrap() != Some(Event::CredentialsRefused) {}
@@ -252,10 +246,11 @@ fn a_lock_is_held_by_one_at_a_time() {
     let lock = Lock::acquire(&first, "/lock/a", Sharing::Exclusive, b"first").unwrap();
     assert_eq!(lock.check(), Ok(true));
     let limit = Duration::from_millis(300);
-    let late = Lock::acquire_within(&second, "/lock/a", Sharing::Shared, b"", limit);
+    let late = LockOptions::new().sharing(Sharing::Shared).within(limit);
+    let late = late.acquire(&second, "/lock/a");
     assert_eq!(
         late.map(drop).map_err(Error::into_kind),
-        Err(ErrorKind::TimedOut)
+        Err(ErrorKind::LockTimeout)
     );
     let token = lock.token();
     thread::scope(|scope| {
@@ -305,10 +300,11 @@ fn a_lock_goes_with_those_of_kazoo() {
         return;
     }
     let limit = Duration::from_millis(300);
-    let late = Lock::acquire_within(&session, "/lock/b", Sharing::Exclusive, b"", limit);
+    let late = LockOptions::new().within(limit);
+    let late = late.acquire(&session, "/lock/b");
     assert_eq!(
         late.map(drop).map_err(Error::into_kind),
-        Err(ErrorKind::TimedOut),
+        Err(ErrorKind::LockTimeout),
         "kazoo has it"
     );
     thread::scope(|scope| {

@@ -3,10 +3,9 @@
 use super::{Course, Engine, NEVER};
 use crate::calls::Queued;
 use crate::error::ErrorKind;
-use crate::fault::{Code, Fault, NoReply};
+use crate::fault::{Code, NoReply};
 use crate::lane::LaneCall;
 use crate::moment::Moment;
-use crate::node::Watch;
 use crate::request::{Asked, Call, CoreCall};
 use crate::ticket::Slot;
 use crate::told::Event;
@@ -18,6 +17,9 @@ const SHORTEST_PATIENCE: Duration = Duration::from_secs(1);
 
 /// How long a close waits at most for a server that accepts the session, which ends by its timeout all the same.
 const LONGEST_CLOSE: Duration = Duration::from_secs(1);
+
+/// The most bytes that may wait to be written to a server where a call is asked.
+const MOST_UNWRITTEN: usize = 16 * 1_048_576;
 
 /// When a call was asked, and when its limit comes.
 #[derive(Clone, Copy, Debug)]
@@ -36,7 +38,8 @@ impl Engine {
             until,
             is_to_wake: self.line.is_none(),
         };
-        if let Some(refusal) = self.refusal_of_all() {
+        let refusal = self.refusal_of_all();
+        if let Some(refusal) = refusal.or(self.refusal_of_backlog(&asked)) {
             let ticket = self.calls.begin(slot);
             self.calls.end(ticket, Err(refusal));
             return wait;
@@ -49,6 +52,13 @@ impl Engine {
             self.put(&queued);
         }
         wait
+    }
+
+    /// Why no call is asked while a server reads slowly. To end the session always may be.
+    fn refusal_of_backlog(&self, asked: &Asked) -> Option<ErrorKind> {
+        let waiting = self.line.as_ref().map_or(0, |line| line.waiting());
+        let is_refused = waiting > MOST_UNWRITTEN && asked.call != Call::Core(CoreCall::Close);
+        is_refused.then_some(ErrorKind::QueueFull)
     }
 
     /// To which moment a call waits: by its own limit, else by that of the session, else for as long as the timeout. A close waits for no longer
@@ -109,11 +119,7 @@ impl Engine {
         if let LaneCall::Auth(credentials) = call {
             self.introductions.adds(ticket, credentials.clone());
         }
-        if !self.write(&frame) {
-            self.end()?;
-        } else if !call.is_read() {
-            self.raise_zxid(until);
-        }
+        self.write(&frame);
         Ok(())
     }
 
@@ -131,17 +137,8 @@ impl Engine {
         self.closing.is_some_and(|ticket| self.calls.waits(ticket))
     }
 
-    /// Reads once by the core after a write of the lane, so that no server that is behind it is gone to later.
-    fn raise_zxid(&mut self, until: Moment) {
-        let (now, ticket) = (self.now(), self.calls.next_ticket());
-        // Where it cannot be asked, the zxid is raised by the next reply.
-        let _ = self.step(now, |machine, now| {
-            machine.exists(now, ticket, Some(until), "/", Watch::No)
-        });
-    }
-
     /// Tells a connection that begins who the session is.
-    pub(super) fn introduce(&mut self) -> Result<(), Fault> {
+    pub(super) fn introduce(&mut self) {
         for credentials in self.introductions.known() {
             let ticket = self.calls.next_ticket();
             let call = LaneCall::Auth(credentials);
@@ -151,11 +148,8 @@ impl Engine {
                 continue;
             };
             self.introductions.sends(ticket);
-            if !self.write(&frame) {
-                return self.end();
-            }
+            self.write(&frame);
         }
-        Ok(())
     }
 
     /// The servers do not take the credentials: nothing more happens.

@@ -8,11 +8,13 @@ use crate::fault::{Code, Fault, NoReply};
 use crate::growing::Growing;
 use crate::machine::Machine;
 use crate::moment::Moment;
+use crate::outbox::Outbox;
 use crate::stream::Outgoing;
 use crate::told::News;
 use std::io;
 use std::mem;
 use std::net::SocketAddr;
+use std::sync::Arc;
 
 /// Steps.
 impl Engine {
@@ -36,8 +38,7 @@ impl Engine {
         self.settle(now, taken)
     }
 
-    /// Does what the machine has said at a step, in its order. The connection is over where the machine says so or has no use any more, and
-    /// where a write fails.
+    /// Does what the machine has said at a step, in its order. The connection is over where the machine says so or has no use any more.
     pub(super) fn settle(&mut self, now: Moment, taken: Result<(), Fault>) -> Result<(), Fault> {
         let mut news = mem::take(&mut self.told.news);
         if let Some(fault) = taken.as_ref().err().filter(|fault| fault.is_final()) {
@@ -51,9 +52,7 @@ impl Engine {
         }
         self.note_followed(&mut news);
         self.note(now, &news);
-        if !self.send() {
-            self.end()?;
-        }
+        self.send();
         if self.end_answered() {
             self.end()?;
         }
@@ -62,6 +61,7 @@ impl Engine {
         } else if news.state == Some(State::Connected) {
             self.put_queued();
         }
+        self.ask_deletions();
         taken
     }
 
@@ -82,15 +82,17 @@ impl Engine {
     /// Notes what the machine tells of the session, and asks for.
     fn note(&mut self, now: Moment, news: &News) {
         if news.state == Some(State::Connected) {
-            self.calls.wait_for(None);
+            self.forget_attempts();
         }
         if news.is_expired {
+            self.deletions.clear();
             self.trees.values_mut().for_each(Growing::is_past);
             if !self.renews {
                 self.end_course(Course::Ended(State::Expired));
             }
         }
         if news.state == Some(State::Closed) {
+            self.deletions.clear();
             self.end_course(Course::Ended(State::Closed));
         }
         if let Some((place, within)) = news.dial.filter(|_| !self.is_over()) {
@@ -127,25 +129,40 @@ impl Engine {
                 self.bar();
                 is_end = true;
             }
+            self.deletions.hear(self.clock.now(), ticket, &outcome);
             self.calls.end(ticket, outcome);
         }
         is_end
     }
 
-    /// Writes the frames of the core. Whether all was written, or there is nobody to write to.
-    fn send(&mut self) -> bool {
+    /// Has the frames of the core written. The first one of a connection is a `ConnectRequest`.
+    fn send(&mut self) {
         let mut frames = mem::take(&mut self.told.frames);
-        let is_sent = self.write(&frames);
+        if mem::take(&mut self.greets) {
+            self.lane.raise_zxid_of(&mut frames);
+        }
+        self.write(&frames);
         frames.clear();
         self.told.frames = frames;
-        is_sent
     }
 
-    /// Writes whole frames. Whether all was written, or there is nobody to write to.
-    pub(super) fn write(&mut self, frames: &[u8]) -> bool {
-        match &mut self.line {
-            Some(line) if !frames.is_empty() => line.write_all(frames).is_ok(),
-            _ => true,
+    /// Has whole frames written, where there is a connection.
+    pub(super) fn write(&mut self, frames: &[u8]) {
+        if let Some(line) = self.line.as_ref().filter(|_| !frames.is_empty()) {
+            line.put(frames);
+            self.outboxes.push(Arc::clone(line));
+        }
+    }
+
+    /// A write to this connection has failed.
+    pub(crate) fn is_broken(&mut self, outbox: &Arc<Outbox>) {
+        if self
+            .line
+            .as_ref()
+            .is_some_and(|line| Arc::ptr_eq(line, outbox))
+        {
+            // A machine that halts tells it to whoever asks next.
+            let _ = self.end();
         }
     }
 }
@@ -180,20 +197,23 @@ impl Engine {
         &mut self,
         number: u64,
         address: SocketAddr,
-        mut outgoing: Box<dyn Outgoing>,
+        outgoing: Box<dyn Outgoing>,
     ) -> Result<(), Fault> {
+        let line = Outbox::new(outgoing);
         if !self.takes_attempt(number) {
-            outgoing.close();
+            line.end();
+            self.outboxes.push(line);
             return Ok(());
         }
         self.note_attempt(format!(
             "{address}: connected, and it has not accepted the session"
         ));
-        self.line = Some(outgoing);
+        self.line = Some(line);
         self.address = Some(address);
+        self.greets = true;
         self.step(self.clock.now(), Machine::opened)?;
         if self.is_open() {
-            self.introduce()?;
+            self.introduce();
         }
         Ok(())
     }
@@ -257,8 +277,9 @@ impl Engine {
         let lost = self.lane.end().into_iter();
         let lost = lost.map(|ticket| (ticket, Err(NoReply::ConnectionLoss.into())));
         self.told.answers.extend(lost);
-        if let Some(mut line) = self.line.take() {
-            line.close();
+        if let Some(line) = self.line.take() {
+            line.end();
+            self.outboxes.push(line);
         }
     }
 }

@@ -2,7 +2,8 @@
 
 use crate::server::Server;
 use dirwolleu::{
-    Code, Election, Error, ErrorKind, Lock, Mark, Mode, NoReply, Session, Sharing, ANY_VERSION,
+    Code, Election, Error, ErrorKind, Lock, LockNames, LockOptions, Mark, Mode, NoReply, Session,
+    Sharing, ANY_VERSION,
 };
 use std::sync::mpsc;
 use std::thread;
@@ -58,13 +59,14 @@ fn a_limit_gives_the_place_up() {
     };
     let (first, second) = (session_at(&server), session_at(&server));
     let lock = exclusive(&first);
-    let late = Lock::acquire_within(&second, "/locks/a", Sharing::Exclusive, b"", A_WHILE);
-    assert_eq!(
-        late.map(drop).map_err(Error::into_kind),
-        Err(ErrorKind::TimedOut)
-    );
+    let late = LockOptions::new().within(A_WHILE);
+    let late = late.acquire(&second, "/locks/a").map(drop).unwrap_err();
+    assert_eq!(late.kind(), &ErrorKind::LockTimeout);
+    assert!(!late.may_have_happened());
+    assert_eq!(late.to_string(), "the lock was not held in time: /locks/a");
     lock.release().unwrap();
-    let next = Lock::acquire_within(&first, "/locks/a", Sharing::Exclusive, b"", PATIENCE);
+    let next = LockOptions::new().within(PATIENCE);
+    let next = next.acquire(&first, "/locks/a");
     next.unwrap().release().unwrap();
 }
 
@@ -74,7 +76,8 @@ fn those_that_share_hold_together_and_wait_for_who_does_not() {
         return;
     };
     let session = session_at(&server);
-    let shared = |limit| Lock::acquire_within(&session, "/locks/a", Sharing::Shared, b"", limit);
+    let shared = LockOptions::new().sharing(Sharing::Shared);
+    let shared = |limit| shared.within(limit).acquire(&session, "/locks/a");
     let (one, other) = (shared(PATIENCE).unwrap(), shared(PATIENCE).unwrap());
     thread::scope(|scope| {
         let waits = scope.spawn(|| exclusive(&session));
@@ -84,7 +87,7 @@ fn those_that_share_hold_together_and_wait_for_who_does_not() {
         let late = shared(A_WHILE);
         assert_eq!(
             late.map(drop).map_err(Error::into_kind),
-            Err(ErrorKind::TimedOut),
+            Err(ErrorKind::LockTimeout),
             "an exclusive one is before it"
         );
         one.release().unwrap();
@@ -183,4 +186,77 @@ fn a_lock_below_an_ephemeral_node_is_refused() {
         refused.map_err(Error::into_kind),
         Err(ErrorKind::Server(Code::NO_CHILDREN_FOR_EPHEMERALS))
     );
+}
+
+#[test]
+fn a_node_that_is_no_place_counts_for_nothing() {
+    let Some(server) = Server::start(&[]) else {
+        return;
+    };
+    let session = session_at(&server);
+    session.create("/locks", b"", Mode::Persistent).unwrap();
+    session.create("/locks/a", b"", Mode::Persistent).unwrap();
+    for name in ["note-", "lock-", "x"] {
+        let path = format!("/locks/a/{name}");
+        let made = session.create(&path, b"", Mode::PersistentSequential);
+        made.unwrap();
+    }
+    for names in [LockNames::Kazoo, LockNames::Curator] {
+        let options = LockOptions::new().names(names).within(PATIENCE);
+        let lock = options.acquire(&session, "/locks/a").unwrap();
+        lock.release().unwrap();
+    }
+}
+
+#[test]
+fn a_place_of_the_other_names_is_told() {
+    let Some(server) = Server::start(&[]) else {
+        return;
+    };
+    let (first, second) = (session_at(&server), session_at(&server));
+    for (names, other) in [
+        (LockNames::Kazoo, LockNames::Curator),
+        (LockNames::Curator, LockNames::Kazoo),
+    ] {
+        for sharing in [Sharing::Exclusive, Sharing::Writing, Sharing::Shared] {
+            let held = LockOptions::new().names(names).sharing(sharing);
+            let held = held.acquire(&first, "/locks/a").unwrap();
+            let place = first.children("/locks/a").unwrap().0.remove(0);
+            let mixed = LockOptions::new().names(other);
+            let mixed = mixed.acquire(&second, "/locks/a").map(drop).unwrap_err();
+            let told = mixed.to_string();
+            assert!(told.contains("/locks/a") && told.contains(&place), "{told}");
+            let names = other;
+            let kind = ErrorKind::MixedNames { names, place };
+            assert_eq!(mixed.into_kind(), kind);
+            assert_eq!(held.check(), Ok(true));
+            while first.children("/locks/a").unwrap().0.len() > 1 {
+                thread::sleep(Duration::from_millis(5));
+            }
+            held.release().unwrap();
+        }
+    }
+}
+
+#[test]
+fn those_of_one_path_and_names_never_hold_together() {
+    let Some(server) = Server::start(&[]) else {
+        return;
+    };
+    let (first, second) = (session_at(&server), session_at(&server));
+    let kinds = [Sharing::Exclusive, Sharing::Writing, Sharing::Shared];
+    for names in [LockNames::Kazoo, LockNames::Curator] {
+        for (one, other) in kinds
+            .iter()
+            .flat_map(|one| kinds.map(|other| (*one, other)))
+        {
+            let options = LockOptions::new().names(names).within(A_WHILE);
+            let held = options.sharing(one).acquire(&first, "/locks/a").unwrap();
+            let next = options.sharing(other).acquire(&second, "/locks/a");
+            let is_shared = one == Sharing::Shared && other == Sharing::Shared;
+            assert_eq!(next.is_ok(), is_shared, "{names:?} {one:?} {other:?}");
+            next.map(|lock| lock.release().unwrap()).ok();
+            held.release().unwrap();
+        }
+    }
 }

@@ -84,7 +84,7 @@ fn a_limit_comes_while_a_server_is_dialled() {
         Err(std::io::ErrorKind::TimedOut.into())
     };
     let options = SessionOptions::new(10 * SLACK).dial(dial); // a third of it is more than the slack
-    let session = options.open("127.0.0.1:1").unwrap();
+    let session = options.open_lazily("127.0.0.1:1").unwrap();
     let begun = Instant::now();
     let late = session.call(Request::get("/a").within(millis(300)));
     let took = begun.elapsed();
@@ -122,7 +122,8 @@ fn calls_that_wait_for_a_connection_are_sent_in_their_order() {
             answer(&mut line, request.xid, request.kind);
         }
     });
-    let session = Session::open(Hosts::default(), TIMEOUT).unwrap();
+    let options = SessionOptions::new(TIMEOUT);
+    let session = options.open_lazily(Hosts::default()).unwrap();
     let first = session.ask(Request::get("/a"));
     let second = session.ask(Request::sync("/"));
     let third = session.ask(Request::exists("/a"));
@@ -136,7 +137,8 @@ fn calls_that_wait_for_a_connection_are_sent_in_their_order() {
 
 #[test]
 fn a_call_of_the_lane_waits_to_its_limit_too() {
-    let nowhere = Session::open(Hosts::default(), TIMEOUT).unwrap();
+    let options = SessionOptions::new(TIMEOUT);
+    let nowhere = options.open_lazily(Hosts::default()).unwrap();
     let waits = Request::sync("/").within(millis(200));
     let late = nowhere.call(waits).unwrap_err();
     assert_eq!(late.no_reply(), Some(NoReply::NotConnected));

@@ -21,6 +21,7 @@ mod benches;
 #[cfg(dirwolleu_bench)]
 mod cuts;
 mod lane;
+mod lock_cuts;
 mod locks;
 mod machines;
 mod messages;
@@ -32,3 +33,4 @@ mod sessions;
 mod threads;
 mod tree_reads;
 mod trees;
+mod writes;

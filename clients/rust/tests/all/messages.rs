@@ -133,7 +133,8 @@ fn a_text_that_is_no_path_says_why() {
 
 #[test]
 fn where_no_server_is_there_the_last_attempt_is_told() {
-    let session = Session::open(NOBODY, Duration::from_secs(3)).unwrap();
+    let options = SessionOptions::new(Duration::from_secs(3));
+    let session = options.open_lazily(NOBODY).unwrap();
     let (seconds, last) = searched(&printed(session.get("/a")), &format!(" of {NOBODY}"));
     assert!(seconds >= 3.0, "{seconds}");
     assert_eq!(last, format!("{NOBODY}: connection refused"));
@@ -142,7 +143,7 @@ fn where_no_server_is_there_the_last_attempt_is_told() {
 #[test]
 fn a_call_whose_limit_has_passed_tells_it_too() {
     let options = SessionOptions::new(TIMEOUT).limit(Duration::from_secs(2));
-    let session = options.open(NOBODY).unwrap();
+    let session = options.open_lazily(NOBODY).unwrap();
     let (seconds, last) = searched(&printed(session.get("/a")), &format!(" of {NOBODY}"));
     assert!((2.0..10.0).contains(&seconds), "{seconds}");
     assert_eq!(last, format!("{NOBODY}: connection refused"));
@@ -154,15 +155,31 @@ fn a_server_that_says_nothing_is_told() {
     let address = listener.local_addr().unwrap();
     thread::spawn(move || listener.incoming().map(Result::unwrap).collect::<Vec<_>>());
     let options = SessionOptions::new(TIMEOUT).limit(Duration::from_secs(2)); // before the server is left
-    let session = options.open(address).unwrap();
+    let session = options.open_lazily(address).unwrap();
     let (_, last) = searched(&printed(session.get("/a")), &format!(" of {address}"));
     let wanted = format!("{address}: connected, and it has not accepted the session");
     assert_eq!(last, wanted);
 }
 
 #[test]
+fn who_opens_a_session_where_no_server_is_there_is_told_why() {
+    let options = SessionOptions::new(TIMEOUT).shuffles(false);
+    let hosts = format!("{NOBODY},127.0.0.1:2");
+    let limit = Duration::from_secs(3);
+    let nobody = options.opens_within(limit).open(hosts.as_str());
+    let (seconds, last) = searched(&printed(nobody), &format!(" of {hosts}"));
+    assert!(seconds >= 3.0, "{seconds}");
+    let each = last.split("; ").map(|reason| reason.split_once(": "));
+    let mut each: Vec<_> = each.map(Option::unwrap).collect();
+    each.sort_unstable();
+    let refused = ["127.0.0.1:1", "127.0.0.1:2"].map(|address| (address, "connection refused"));
+    assert_eq!(each, refused);
+}
+
+#[test]
 fn a_session_without_a_host_says_so() {
-    let session = Session::open(Hosts::default(), Duration::from_secs(1)).unwrap();
+    let options = SessionOptions::new(Duration::from_secs(1));
+    let session = options.open_lazily(Hosts::default()).unwrap();
     let (_, last) = searched(&printed(session.get("/a")), "");
     assert_eq!(last, "the session has no host");
 }

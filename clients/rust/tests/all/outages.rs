@@ -131,7 +131,7 @@ fn counting(address: SocketAddr, timeout: Duration) -> (Session, Arc<AtomicUsize
         dirwolleu::Dial::dial(&mut Tcp, server, within)
     };
     let options = SessionOptions::new(timeout).dial(dial);
-    (options.open(address).unwrap(), dials)
+    (options.open_lazily(address).unwrap(), dials)
 }
 
 #[test]

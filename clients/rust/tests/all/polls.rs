@@ -6,8 +6,9 @@ use crate::runtime::block_on;
 use crate::server::Server;
 use dirwolleu::{Event, KeptNode, Session, SessionOptions, State};
 use std::future::poll_fn;
-use std::sync::mpsc;
-use std::time::Duration;
+use std::sync::{mpsc, Arc};
+use std::task::{Context, Wake};
+use std::time::{Duration, Instant};
 
 fn renewing(server: &Server) -> Session {
     let options = SessionOptions::new(Duration::from_secs(10)).renews(true);
@@ -52,15 +53,55 @@ fn events_are_told_to_any_runtime() {
     };
     server.tell("create /a one");
     let session = renewing(&server).shared();
-    let next = || block_on(poll_fn(|context| session.poll_event(context)));
-    assert_eq!(next(), Ok(Some(Event::State(State::Connecting))));
-    assert_eq!(next(), Ok(Some(Event::State(State::Connected))));
+    let mut events = session.events();
+    let mut next = || block_on(poll_fn(|context| events.poll_next(context)));
+    assert_eq!(next(), Some(Ok(Event::State(State::Connecting))));
+    assert_eq!(next(), Some(Ok(Event::State(State::Connected))));
     session.watch("/a").unwrap();
     server.tell("set /a two");
-    assert!(matches!(next(), Ok(Some(Event::Report { .. }))));
+    assert!(matches!(next(), Some(Ok(Event::Report { .. }))));
     session.close().unwrap();
-    assert_eq!(next(), Ok(Some(Event::State(State::Closed))));
-    assert_eq!(next(), Ok(None));
+    assert_eq!(next(), Some(Ok(Event::State(State::Closed))));
+    assert_eq!(next(), None);
+}
+
+/// A waker of its own for each poll.
+struct Flag;
+
+impl Wake for Flag {
+    fn wake(self: Arc<Self>) {}
+}
+
+/// How many wakers are kept after a number of polls, each with another one.
+fn kept_after(polls: usize, mut poll: impl FnMut(&mut Context<'_>)) -> usize {
+    let wakers = (0..polls).map(|_| {
+        let flag = Arc::new(Flag);
+        let weak = Arc::downgrade(&flag);
+        let waker = flag.into();
+        poll(&mut Context::from_waker(&waker));
+        weak
+    });
+    let wakers: Vec<_> = wakers.collect();
+    wakers.iter().filter(|weak| weak.strong_count() > 0).count()
+}
+
+#[test]
+fn one_that_polls_keeps_one_waker_and_none_once_it_is_gone() {
+    let partner = Partner::start(|_, line| deny_once(line, &mpsc::channel().0));
+    let session = Session::open(partner.address, Duration::from_secs(60)).unwrap();
+    let mut nodes = session.follow("/a");
+    assert!(block_on(poll_fn(|context| nodes.poll_next(context))).is_some());
+    let mut events = session.events();
+    while session.next_event(Some(Instant::now())) != Ok(None) {}
+    let kept = kept_after(60_000, |context| {
+        assert!(events.poll_next(context).is_pending());
+        assert!(nodes.poll_next(context).is_pending());
+    });
+    assert!(kept <= 1, "{kept} wakers");
+    let kept = kept_after(1, |context| {
+        assert!(session.events().poll_next(context).is_pending());
+    });
+    assert_eq!(kept, 0);
 }
 
 /// Refuses the first read, says that there is a node, and then has data.

@@ -9,6 +9,7 @@ use dirwolleu::{
     ANY_VERSION,
 };
 use std::fmt::Debug;
+use std::fs::OpenOptions;
 use std::io::{BufRead, BufReader};
 use std::process::{Command, Stdio};
 use std::sync::mpsc::channel;
@@ -216,6 +217,56 @@ fn the_example_goes_on_where_a_read_is_refused() {
     assert!(
         took >= millis(2_000),
         "two of four refusals leave the connection, and the read is made again after a second each: {took:?}"
+    );
+}
+
+/// Answers the first read with a code that nobody knows.
+fn refuse_once(mut line: Line) {
+    line.admit(10_000);
+    let mut is_refused = false;
+    while let Some(request) = line.request() {
+        match request.kind {
+            GET_DATA if !is_refused => {
+                is_refused = true;
+                line.refuse(request.xid, -999)
+            }
+            GET_DATA => line.tell_data(request.xid),
+            _ => line.refuse(request.xid, 0),
+        };
+    }
+}
+
+#[test]
+fn the_example_tells_a_code_that_nobody_knows_and_goes_on() {
+    let partner = Partner::start(|_, line| refuse_once(line));
+    let mut command = Command::new(example::follow());
+    command.arg(partner.address.to_string()).arg("/config");
+    command.stdout(Stdio::piped()).stderr(Stdio::piped());
+    let mut child = command.spawn().unwrap();
+    let mut output = BufReader::new(child.stdout.take().unwrap());
+    let mut said = BufReader::new(child.stderr.take().unwrap());
+    let (mut line, mut error) = (String::new(), String::new());
+    output.read_line(&mut line).unwrap();
+    said.read_line(&mut error).unwrap();
+    child.kill().unwrap();
+    child.wait().unwrap();
+    assert_eq!(line, "/config version 0: one\n");
+    assert_eq!(error, "the server answers -999: /config\n");
+}
+
+#[test]
+fn the_example_says_why_it_cannot_print() {
+    let partner = Partner::start(|_, line| refuse_once(line));
+    let full = OpenOptions::new().write(true).open("/dev/full").unwrap();
+    let mut command = Command::new(example::follow());
+    command.arg(partner.address.to_string()).arg("/config");
+    let ended = command.stdout(full).output().unwrap();
+    let said = String::from_utf8(ended.stderr).unwrap();
+    assert_eq!(ended.status.code(), Some(1), "{said}");
+    let last = said.lines().last().unwrap();
+    assert!(
+        last.starts_with("follow: No space left on device"),
+        "{said}"
     );
 }
 

@@ -309,7 +309,8 @@ fn a_session_is_taken_up_by_another() {
 
 #[test]
 fn nobody_answers_where_there_is_no_server() {
-    let session = Session::open([], Duration::from_millis(100)).unwrap();
+    let options = SessionOptions::new(Duration::from_millis(100));
+    let session = options.open_lazily([]).unwrap();
     let nobody = session.get("/a");
     assert_eq!(kind_of(nobody), ErrorKind::NoReply(NoReply::NotConnected));
 }

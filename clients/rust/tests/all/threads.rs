@@ -5,8 +5,8 @@ use crate::memory;
 use crate::partner::{Line, Partner};
 use crate::runtime::block_on;
 use dirwolleu::{
-    Code, Error, ErrorKind, Event, Hosts, LocalSession, Mode, NoReply, Request, Retry, Session,
-    SessionOptions, State, Ticket, ANY_VERSION,
+    Code, Error, ErrorKind, Event, Fault, Hosts, LocalSession, Mode, NoReply, Request, Retry,
+    Session, SessionOptions, State, Ticket, ANY_VERSION,
 };
 use std::fmt::Debug;
 use std::io;
@@ -184,7 +184,7 @@ fn a_limit_says_whether_a_call_may_still_happen() {
     assert!(late.may_have_happened());
     let nowhere = SessionOptions::new(millis(10_000))
         .limit(millis(100))
-        .open(Hosts::default())
+        .open_lazily(Hosts::default())
         .unwrap();
     let not_sent = nowhere.set("/a", b"one", 0).unwrap_err();
     assert_eq!(not_sent.no_reply(), Some(NoReply::NotConnected));
@@ -193,7 +193,8 @@ fn a_limit_says_whether_a_call_may_still_happen() {
 
 #[test]
 fn a_call_waits_for_a_connection_as_long_as_the_timeout() {
-    let session = Session::open(Hosts::default(), millis(1_500)).unwrap();
+    let options = SessionOptions::new(millis(1_500));
+    let session = options.open_lazily(Hosts::default()).unwrap();
     let begun = Instant::now();
     let nobody = session.get("/a");
     assert_eq!(kind_of(nobody), ErrorKind::NoReply(NoReply::NotConnected));
@@ -205,7 +206,7 @@ fn a_call_waits_for_a_connection_as_long_as_the_timeout() {
 #[test]
 fn a_close_waits_a_second_for_a_connection() {
     let options = || SessionOptions::new(PATIENCE).limit(PATIENCE);
-    let session = options().open(Hosts::default()).unwrap().shared();
+    let session = options().open_lazily(Hosts::default()).unwrap().shared();
     let local = options().open_local(Hosts::default()).unwrap();
     let begun = Instant::now();
     for closed in [session.close(), local.close()] {
@@ -290,7 +291,8 @@ fn each_ticket_is_answered_where_the_session_is_let_go() {
         kind_of(sent.wait_for(PATIENCE)),
         ErrorKind::NoReply(NoReply::ConnectionLoss)
     );
-    let nowhere = Session::open(Hosts::default(), millis(10_000)).unwrap();
+    let options = SessionOptions::new(millis(10_000));
+    let nowhere = options.open_lazily(Hosts::default()).unwrap();
     let not_sent = nowhere.ask(Request::get("/a"));
     drop(nowhere);
     assert_eq!(
@@ -305,13 +307,19 @@ fn a_dial_that_panics_leaves_nobody_waiting() {
         panic!("as the test has it")
     };
     let options = SessionOptions::new(millis(10_000)).dial(panics);
-    let session = options.open("127.0.0.1:1").unwrap();
+    let session = options.open_lazily("127.0.0.1:1").unwrap();
     let answer: Ticket<_> = session.ask(Request::get("/a"));
     assert_eq!(
         kind_of(answer.wait_for(PATIENCE)),
-        ErrorKind::NoReply(NoReply::NotConnected)
+        ErrorKind::Fault(Fault::Panicked)
     );
-    assert_eq!(session.next_event(None).map(drop), Ok(()));
+    assert_eq!(session.next_event(None), Err(Fault::Panicked));
+    assert_eq!(session.renew(), Err(Fault::Panicked));
+    assert_eq!(session.state(), None);
+    assert_eq!(
+        session.get("/a").unwrap_err().to_string(),
+        "the session's thread has panicked: /a; open another session"
+    );
 }
 
 #[test]
@@ -383,7 +391,8 @@ fn hosts_are_changed_while_the_session_lives() {
         line.admit(10_000);
         serve_well(&mut line);
     });
-    let session = Session::open(Hosts::default(), millis(10_000)).unwrap();
+    let options = SessionOptions::new(millis(10_000));
+    let session = options.open_lazily(Hosts::default()).unwrap();
     let ticket = session.ask(Request::get("/a"));
     let other_root: Hosts = "127.0.0.1:1/app".parse().unwrap();
     assert_eq!(session.change_hosts(other_root.clone()), Err(other_root));

@@ -163,7 +163,7 @@ fn more_nodes_than_wanted_are_told() {
 
 #[test]
 fn what_is_no_tree_is_refused() {
-    let session = Session::open([], TIMEOUT).unwrap();
+    let session = SessionOptions::new(TIMEOUT).open_lazily([]).unwrap();
     for path in ["t", "/t/", ""] {
         let refused = session.tree(path).unwrap_err();
         assert!(matches!(refused, Fault::NotPath { .. }), "{refused}");

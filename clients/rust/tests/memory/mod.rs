@@ -67,8 +67,9 @@ impl Incoming for Half {
 }
 
 impl Outgoing for Half {
-    fn write_all(&mut self, bytes: &[u8]) -> io::Result<()> {
-        self.to_server.put(bytes)
+    fn write(&mut self, bytes: &[u8], _: Duration) -> io::Result<usize> {
+        self.to_server.put(bytes)?;
+        Ok(bytes.len())
     }
 
     fn close(&mut self) {

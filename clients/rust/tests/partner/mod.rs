@@ -44,6 +44,13 @@ impl Line {
         Some(frame)
     }
 
+    /// The next byte, and none where the client has ended the connection.
+    pub fn byte(&mut self) -> Option<u8> {
+        let mut byte = [0];
+        self.stream.read_exact(&mut byte).ok()?;
+        Some(byte[0])
+    }
+
     /// Sends bytes. Whether the client has not ended the connection.
     pub fn send(&mut self, bytes: &[u8]) -> bool {
         self.stream.write_all(bytes).is_ok()

@@ -5,12 +5,19 @@ use rustls::{ClientConfig, ClientConnection, ServerName};
 use std::error::Error;
 use std::fmt;
 use std::io::{self, ErrorKind, Read, Write};
+use std::mem;
 use std::net::{Shutdown, TcpStream};
 use std::sync::{Arc, Mutex, MutexGuard, PoisonError};
 use std::time::{Duration, Instant};
 
 /// The shortest time that the system takes for a bound on a wait.
 const SHORTEST_WAIT: Duration = Duration::from_millis(1);
+
+/// How long the end of a connection waits for room, to be told to the server.
+const WAIT_AT_END: Duration = Duration::from_millis(20);
+
+/// The most bytes that are sealed at a time.
+const PIECE: usize = 65_536;
 
 /// Makes connections over TLS.
 #[derive(Clone)]
@@ -40,18 +47,18 @@ impl Dial for Tls {
         let mut tls = ClientConnection::new(config, name).map_err(broken)?;
         let mut stream = TcpStream::connect_timeout(&server.address, within)?;
         stream.set_nodelay(true)?;
-        stream.set_write_timeout(Some(within))?;
         while tls.is_handshaking() {
-            stream.set_read_timeout(Some(left(until)?))?;
-            tls.complete_io(&mut stream)?;
+            shake_hands(&mut tls, &mut stream, until)?;
         }
-        let half = Half {
-            tls: Arc::new(Mutex::new(tls)),
-            stream,
+        flush(&mut tls, &mut stream, until)?;
+        let tls = Arc::new(Mutex::new(tls));
+        let incoming = Reads {
+            tls: Arc::clone(&tls),
+            stream: stream.try_clone()?,
         };
         Ok(Connection {
-            incoming: Box::new(half.twin()?),
-            outgoing: Box::new(half),
+            incoming: Box::new(incoming),
+            outgoing: Box::new(Writes::new(tls, stream)),
         })
     }
 }
@@ -68,24 +75,45 @@ fn left(until: Instant) -> io::Result<Duration> {
     left.ok_or_else(|| ErrorKind::TimedOut.into())
 }
 
-/// A half of a connection. Both have the one state of TLS, which neither holds while it waits for bytes.
-struct Half {
+/// Sends what TLS has for the server, and takes what comes next.
+fn shake_hands(
+    tls: &mut ClientConnection,
+    stream: &mut TcpStream,
+    until: Instant,
+) -> io::Result<()> {
+    flush(tls, stream, until)?;
+    stream.set_read_timeout(Some(left(until)?))?;
+    if tls.read_tls(stream)? == 0 {
+        return Err(ErrorKind::UnexpectedEof.into());
+    }
+    let state = tls.process_new_packets();
+    state.map(drop).map_err(|fault| {
+        // What is said to a server whose bytes do not read may not come to it.
+        let _ = flush(tls, stream, until);
+        broken(fault)
+    })
+}
+
+/// Writes what TLS has for the server.
+fn flush(tls: &mut ClientConnection, stream: &mut TcpStream, until: Instant) -> io::Result<()> {
+    while tls.wants_write() {
+        stream.set_write_timeout(Some(left(until)?))?;
+        tls.write_tls(stream)?;
+    }
+    Ok(())
+}
+
+fn lock(tls: &Mutex<ClientConnection>) -> MutexGuard<'_, ClientConnection> {
+    tls.lock().unwrap_or_else(PoisonError::into_inner)
+}
+
+/// The half that is read. Both halves have the one state of TLS, which neither holds while it waits.
+struct Reads {
     tls: Arc<Mutex<ClientConnection>>,
     stream: TcpStream,
 }
 
-impl Half {
-    fn twin(&self) -> io::Result<Half> {
-        Ok(Half {
-            tls: Arc::clone(&self.tls),
-            stream: self.stream.try_clone()?,
-        })
-    }
-
-    fn lock(&self) -> MutexGuard<'_, ClientConnection> {
-        self.tls.lock().unwrap_or_else(PoisonError::into_inner)
-    }
-
+impl Reads {
     /// Waits until the stream has bytes, or its end.
     fn wait(&mut self, until: Instant) -> io::Result<()> {
         let wait = until.saturating_duration_since(Instant::now());
@@ -94,32 +122,19 @@ impl Half {
         self.stream.peek(&mut [0]).map(drop)
     }
 
-    /// Takes what the stream has, of which there is something, and answers what TLS has to answer.
+    /// Takes what the stream has, of which there is something. What TLS has to say to it goes with what is written next.
     fn take(&mut self) -> io::Result<()> {
-        let mut stream = &self.stream;
-        let mut tls = self.lock();
-        tls.read_tls(&mut stream)?;
-        let state = tls.process_new_packets();
-        // What is said to a server whose bytes do not read may not come to it.
-        let flushed = flush(&mut tls, stream);
-        state.map_err(broken)?;
-        flushed
+        let mut tls = lock(&self.tls);
+        tls.read_tls(&mut self.stream)?;
+        tls.process_new_packets().map(drop).map_err(broken)
     }
 }
 
-/// Writes what TLS has for the server.
-fn flush(tls: &mut ClientConnection, mut stream: &TcpStream) -> io::Result<()> {
-    while tls.wants_write() {
-        tls.write_tls(&mut stream)?;
-    }
-    Ok(())
-}
-
-impl Incoming for Half {
+impl Incoming for Reads {
     fn read(&mut self, room: &mut [u8], wait: Duration) -> io::Result<usize> {
         let until = Instant::now() + wait;
         loop {
-            let plain = self.lock().reader().read(room);
+            let plain = lock(&self.tls).reader().read(room);
             match plain {
                 Err(fault) if fault.kind() == ErrorKind::WouldBlock => {}
                 plain => return plain,
@@ -130,22 +145,68 @@ impl Incoming for Half {
     }
 }
 
-impl Outgoing for Half {
-    fn write_all(&mut self, mut bytes: &[u8]) -> io::Result<()> {
-        let mut tls = self.lock();
-        while !bytes.is_empty() {
-            let taken = tls.writer().write(bytes)?;
-            bytes = &bytes[taken..];
-            flush(&mut tls, &self.stream)?;
+/// The half that is written: it alone writes to the stream.
+struct Writes {
+    tls: Arc<Mutex<ClientConnection>>,
+    stream: TcpStream,
+    /// What is written as it is here, how much of that was, and how many bytes it says.
+    sealed: Vec<u8>,
+    written: usize,
+    said: usize,
+}
+
+impl Writes {
+    fn new(tls: Arc<Mutex<ClientConnection>>, stream: TcpStream) -> Writes {
+        Writes {
+            tls,
+            stream,
+            sealed: Vec::new(),
+            written: 0,
+            said: 0,
         }
+    }
+
+    /// Seals these bytes.
+    fn seal(&mut self, bytes: &[u8]) -> io::Result<usize> {
+        let mut tls = lock(&self.tls);
+        let count = tls.writer().write(bytes)?;
+        while tls.wants_write() {
+            tls.write_tls(&mut self.sealed)?;
+        }
+        Ok(count)
+    }
+
+    /// Writes what is sealed. It fails where there is no room for all of it by this instant.
+    fn flush(&mut self, until: Instant) -> io::Result<()> {
+        while self.written < self.sealed.len() {
+            let wait = until.saturating_duration_since(Instant::now());
+            let rest = &self.sealed[self.written..];
+            self.written += Outgoing::write(&mut self.stream, rest, wait)?;
+            if self.written < self.sealed.len() {
+                left(until)?;
+            }
+        }
+        self.sealed.clear();
+        self.written = 0;
         Ok(())
+    }
+}
+
+impl Outgoing for Writes {
+    fn write(&mut self, bytes: &[u8], wait: Duration) -> io::Result<usize> {
+        let until = Instant::now() + wait;
+        if self.said == 0 {
+            self.said = self.seal(&bytes[..bytes.len().min(PIECE)])?;
+        }
+        self.flush(until)?;
+        Ok(mem::take(&mut self.said))
     }
 
     fn close(&mut self) {
-        let mut tls = self.lock();
-        tls.send_close_notify();
-        // A server that is gone is not told.
-        let _ = flush(&mut tls, &self.stream);
+        lock(&self.tls).send_close_notify();
+        // A server that is gone is not told, nor is one that does not read.
+        let _ = self.seal(&[]);
+        let _ = self.flush(Instant::now() + WAIT_AT_END);
         let _ = self.stream.shutdown(Shutdown::Both);
     }
 }

@@ -7,13 +7,15 @@ mod partner;
 
 extern crate dirwolleu_rustls as dirwolleu;
 
-use dirwolleu::{rustls, NoReply, Request, Session, SessionOptions, State, Tls};
+use dirwolleu::{rustls, Request, Session, SessionOptions, State, Tls};
 use jute::{PING, PONG, SET_DATA};
 use partner::Line;
 use rustls::{
     Certificate, ClientConfig, PrivateKey, RootCertStore, ServerConfig, ServerConnection,
     StreamOwned,
 };
+use std::io::Write;
+use std::iter::repeat;
 use std::net::{SocketAddr, TcpListener, TcpStream};
 use std::path::{Path, PathBuf};
 use std::process::Command;
@@ -26,6 +28,9 @@ const TIMEOUT: Duration = Duration::from_secs(10);
 
 /// How long what is awaited may take.
 const PATIENCE: Duration = Duration::from_secs(30);
+
+/// How long a server that does not read may hold a program up, whose writes wait for a third of the timeout otherwise.
+const AT_ONCE: Duration = Duration::from_secs(20);
 
 /// A folder that goes with its test.
 struct Folder(PathBuf);
@@ -192,7 +197,59 @@ fn a_server_of_another_name_is_not_talked_to() {
     let address = start(Arc::clone(&trust.server), |_, mut line| {
         assert!(line.frame().is_none(), "nothing is said to it");
     });
-    let session = open(&trust, address, Duration::from_millis(1_500));
-    let nobody = session.get("/a").unwrap_err();
-    assert_eq!(nobody.no_reply(), Some(NoReply::NotConnected));
+    let options = SessionOptions::new(TIMEOUT).dial(Tls::new(Arc::clone(&trust.client)));
+    let options = options.opens_within(Duration::from_secs(2));
+    let nobody = options.open(format!("localhost:{}", address.port()));
+    let told = nobody.unwrap_err().to_string();
+    assert!(told.contains("; last: 127.0.0.1:"), "{told}");
+    assert!(told.contains("certificate"), "{told}");
+}
+
+/// Begins a record of 16 KiB, and sends of it a byte now and then, until the client ends the connection.
+fn drip(mut stream: TcpStream) {
+    let mut next = [22, 3, 3, 64, 0].into_iter().chain(repeat(0));
+    while next
+        .next()
+        .is_some_and(|byte| stream.write_all(&[byte]).is_ok())
+    {
+        sleep(Duration::from_millis(200));
+    }
+}
+
+#[test]
+fn a_handshake_that_drips_ends_with_its_attempt() {
+    let Some(trust) = trust("drips", "localhost") else {
+        return;
+    };
+    let listener = TcpListener::bind("127.0.0.1:0").unwrap();
+    let address = listener.local_addr().unwrap();
+    let config = Arc::clone(&trust.server);
+    thread::spawn(move || {
+        drip(listener.accept().unwrap().0);
+        let mut line = Line::over(secured(&config, listener.accept().unwrap().0));
+        line.admit(3_000);
+        serve_well(line);
+    });
+    let session = open(&trust, address, Duration::from_secs(3));
+    assert!(session.call(Request::get("/a").within(PATIENCE)).is_ok());
+}
+
+#[test]
+fn a_server_that_reads_nothing_holds_nobody_up() {
+    let Some(trust) = trust("slow", "localhost") else {
+        return;
+    };
+    let address = start(Arc::clone(&trust.server), |_, mut line| {
+        line.admit(90_000);
+        sleep(Duration::from_secs(3_600));
+    });
+    let session = open(&trust, address, Duration::from_secs(90));
+    session.next_event(None).unwrap();
+    let data = vec![7; 1_000_000];
+    let begun = Instant::now();
+    for _ in 0..40 {
+        drop(session.ask(Request::set("/a", &data, -1)));
+        assert!(session.state().is_some());
+        assert!(begun.elapsed() < AT_ONCE, "{:?}", begun.elapsed());
+    }
 }

@@ -4,7 +4,7 @@
 //!
 //! The client knows nothing of the runtime: its tickets are futures, what it follows is polled, and the session's own thread wakes the tasks.
 
-use dirwolleu::{Error, Request, SessionOptions, SharedSession};
+use dirwolleu::{Request, SessionOptions, SharedSession};
 use std::env;
 use std::future::poll_fn;
 use std::time::Duration;
@@ -12,16 +12,16 @@ use tokio::runtime::Builder;
 use tokio::task::LocalSet;
 use tokio::time::timeout;
 
-/// Prints what a node holds, at first and at each change.
-async fn follow(session: SharedSession, path: String) -> Result<(), Error> {
+/// Prints what a node holds, at first and at each change. It goes on where a server refuses a read.
+async fn follow(session: SharedSession, path: String) {
     let mut nodes = session.follow(&path);
     while let Some(node) = poll_fn(|context| nodes.poll_next(context)).await {
-        match node?.and_then(|node| node.data) {
-            Some(data) => println!("{path} {}", String::from_utf8_lossy(&data)),
-            None => println!("{path} has no data"),
+        match node.map(|node| node.and_then(|node| node.data)) {
+            Ok(Some(data)) => println!("{path} {}", String::from_utf8_lossy(&data)),
+            Ok(None) => println!("{path} has no data"),
+            Err(error) => println!("{error}"),
         }
     }
-    Ok(())
 }
 
 /// Asks for the children of the root, for a second at most. The call may be answered later; nobody waits for it then.
@@ -46,7 +46,7 @@ fn main() -> Result<(), Box<dyn std::error::Error>> {
             .map(|path| tokio::task::spawn_local(follow(session.clone(), path)))
             .collect();
         for task in followed {
-            task.await??;
+            task.await?;
         }
         Ok(())
     })

@@ -1,0 +1,65 @@
+//! Places that are given up: the session deletes them.
+
+use super::{Engine, NEVER};
+use crate::deletions::{Place, Step};
+use crate::error::ErrorKind;
+use crate::lane::LaneCall;
+use crate::node::{Watch, ANY_VERSION};
+
+impl Engine {
+    /// A place is given up: the number by which what becomes of it is told.
+    pub(crate) fn delete(&mut self, place: Place, is_awaited: bool) -> u64 {
+        let number = self.deletions.add(place, is_awaited);
+        self.ask_deletions();
+        number
+    }
+
+    /// Whether a place may be there still that was given up.
+    pub(crate) fn is_left(&self, number: u64) -> bool {
+        self.deletions.is_left(number)
+    }
+
+    /// Why a place is left that was given up. None where it is not left.
+    pub(crate) fn fault_of_deletion(&mut self, number: u64) -> Option<ErrorKind> {
+        if let Some(refusal) = self.deletions.take_refusal(number) {
+            return Some(refusal);
+        }
+        let is_left = self.deletions.is_left(number);
+        let fault = self.fault_of_end().unwrap_or(ErrorKind::TimedOut);
+        is_left.then_some(fault)
+    }
+
+    /// Asks for what is due, where a server has accepted the session.
+    pub(super) fn ask_deletions(&mut self) {
+        let now = self.clock.now();
+        while self.deletions.is_due(now) && self.is_connected() && !self.is_closing() {
+            let ticket = self.calls.next_ticket();
+            let Some((step, place)) = self.deletions.ask(now, ticket) else {
+                return;
+            };
+            if let Err(fault) = self.ask_deletion(ticket, step, &place) {
+                self.deletions.hear(self.clock.now(), ticket, &Err(fault));
+            }
+        }
+    }
+
+    fn ask_deletion(&mut self, ticket: u64, step: Step, place: &Place) -> Result<(), ErrorKind> {
+        let path = match place {
+            Place::Node(path) => path,
+            Place::Tagged { directory, .. } => directory,
+        };
+        if step == Step::Sync {
+            let (now, root) = (self.clock.now(), &self.chroot);
+            let sync = LaneCall::Sync;
+            let frame = self.lane.frame(now, ticket, NEVER, path, &sync, root)?;
+            self.write(&frame);
+            return Ok(());
+        }
+        let path = self.chroot.outer(path)?.into_owned();
+        self.step(self.now(), |machine, now| match step {
+            Step::Delete => machine.delete(now, ticket, None, &path, ANY_VERSION),
+            _ => machine.get_children(now, ticket, None, &path, Watch::No),
+        })?;
+        Ok(())
+    }
+}

@@ -1,0 +1,265 @@
+//! Frames that wait to be written to a server. One thread at a time writes them, without the lock of the session.
+
+use crate::stream::{is_late, Outgoing};
+use std::io;
+use std::mem;
+use std::sync::{Arc, Mutex, MutexGuard, PoisonError};
+use std::time::Duration;
+
+/// The most pieces that a passing thread writes, since other threads may put frames there all the while.
+const MOST_PIECES: usize = 16;
+
+/// The half of a connection that is written, and the bytes that were taken for it, of which the first ones are written.
+struct Line {
+    outgoing: Box<dyn Outgoing>,
+    taken: Vec<u8>,
+    written: usize,
+}
+
+impl Line {
+    fn left(&self) -> usize {
+        self.taken.len() - self.written
+    }
+
+    /// Writes some of what was taken.
+    fn write(&mut self, wait: Duration) -> io::Result<()> {
+        match self.outgoing.write(&self.taken[self.written..], wait)? {
+            0 => Err(io::ErrorKind::WriteZero.into()),
+            count => {
+                self.written += count.min(self.left());
+                Ok(())
+            }
+        }
+    }
+}
+
+/// What the lock of an outbox guards. It is never held while something is written.
+struct Held {
+    /// None while a thread writes, and once it is closed.
+    line: Option<Line>,
+    /// How many bytes of the line are not written.
+    left: usize,
+    /// Whole frames, after those bytes.
+    frames: Vec<u8>,
+    /// Whether a helper writes: no other thread does then.
+    is_helped: bool,
+    is_over: bool,
+}
+
+/// Which thread writes.
+#[derive(Clone, Copy, Debug, PartialEq, Eq)]
+pub(crate) enum Writer {
+    /// A thread that has something else to do: a helper writes what there is no room for.
+    Passing,
+    /// The same in a session without helpers.
+    Alone,
+    /// A thread that only writes.
+    Helper,
+}
+
+/// How a write ended.
+#[derive(Clone, Copy, Debug, PartialEq, Eq)]
+pub(crate) enum Written {
+    /// Nothing waits, or another thread writes it.
+    All,
+    /// There was no room in time, and something waits.
+    Some,
+    /// The same, and a helper has to begin.
+    WantsHelper,
+    /// The write failed: the connection is over.
+    Failed,
+}
+
+/// The frames that go to a server on one connection.
+pub(crate) struct Outbox {
+    held: Mutex<Held>,
+}
+
+impl Outbox {
+    pub(crate) fn new(outgoing: Box<dyn Outgoing>) -> Arc<Outbox> {
+        let line = Some(Line {
+            outgoing,
+            taken: Vec::new(),
+            written: 0,
+        });
+        Arc::new(Outbox {
+            held: Mutex::new(Held {
+                line,
+                left: 0,
+                frames: Vec::new(),
+                is_helped: false,
+                is_over: false,
+            }),
+        })
+    }
+
+    fn held(&self) -> MutexGuard<'_, Held> {
+        self.held.lock().unwrap_or_else(PoisonError::into_inner)
+    }
+
+    /// These frames are to be written.
+    pub(crate) fn put(&self, frames: &[u8]) {
+        self.held().frames.extend(frames);
+    }
+
+    /// How many bytes wait.
+    pub(crate) fn waiting(&self) -> usize {
+        let held = self.held();
+        held.left + held.frames.len()
+    }
+
+    /// The connection is over: who writes next closes it.
+    pub(crate) fn end(&self) {
+        self.held().is_over = true;
+    }
+
+    /// Writes what waits, and closes what is over. It waits for room once, for so long at most.
+    pub(crate) fn write(&self, writer: Writer, wait: Duration) -> Written {
+        for piece in 1..=MOST_PIECES {
+            let Some(mut line) = self.begin(writer) else {
+                return Written::All;
+            };
+            let done = line.write(wait);
+            let is_full = done.is_err() || line.left() > 0 || piece == MOST_PIECES;
+            let wants_helper = self.put_back(line, writer, is_full);
+            match done {
+                Err(fault) if !is_late(&fault) => {
+                    self.is_unhelped();
+                    return Written::Failed;
+                }
+                _ if wants_helper => return Written::WantsHelper,
+                _ if is_full => return Written::Some,
+                _ => {}
+            }
+        }
+        Written::Some
+    }
+
+    /// Takes what is to be written, where nobody else writes.
+    fn begin(&self, writer: Writer) -> Option<Line> {
+        let mut held = self.held();
+        if held.is_helped && writer != Writer::Helper {
+            return None;
+        }
+        if held.left + held.frames.len() == 0 && !held.is_over {
+            held.is_helped = false;
+            return None;
+        }
+        let mut line = held.line.take()?;
+        if held.is_over {
+            drop(held);
+            line.outgoing.close();
+            return None;
+        }
+        if held.left == 0 {
+            line.taken.clear();
+            line.written = 0;
+            mem::swap(&mut line.taken, &mut held.frames);
+            held.left = line.left();
+        }
+        Some(line)
+    }
+
+    /// Another thread may write. Whether a helper is to begin, since there was no room.
+    fn put_back(&self, line: Line, writer: Writer, is_full: bool) -> bool {
+        let mut held = self.held();
+        held.left = line.left();
+        held.line = Some(line);
+        let begins = is_full && writer == Writer::Passing;
+        held.is_helped |= begins;
+        begins
+    }
+
+    /// No helper writes any more.
+    pub(crate) fn is_unhelped(&self) {
+        self.held().is_helped = false;
+    }
+}
+
+#[cfg(test)]
+mod tests {
+    use super::{Outbox, Writer, Written};
+    use crate::stream::Outgoing;
+    use std::io::{self, ErrorKind};
+    use std::sync::{Arc, Mutex};
+    use std::time::Duration;
+
+    /// What a line was handed, and whether it was closed.
+    #[derive(Default)]
+    struct Seen {
+        bytes: Vec<u8>,
+        is_closed: bool,
+    }
+
+    /// A line that does these things in turn, and then takes all.
+    struct Scripted {
+        turns: Vec<Result<usize, ErrorKind>>,
+        seen: Arc<Mutex<Seen>>,
+    }
+
+    impl Outgoing for Scripted {
+        fn write(&mut self, bytes: &[u8], _: Duration) -> io::Result<usize> {
+            let turn = self.turns.pop().unwrap_or(Ok(bytes.len()));
+            let count = turn.map_err(io::Error::from)?;
+            self.seen.lock().unwrap().bytes.extend(&bytes[..count]);
+            Ok(count)
+        }
+
+        fn close(&mut self) {
+            self.seen.lock().unwrap().is_closed = true;
+        }
+    }
+
+    fn scripted(turns: &[Result<usize, ErrorKind>]) -> (Arc<Outbox>, Arc<Mutex<Seen>>) {
+        let (turns, seen) = (turns.iter().rev().copied().collect(), Arc::default());
+        let line = Scripted {
+            turns,
+            seen: Arc::clone(&seen),
+        };
+        (Outbox::new(Box::new(line)), seen)
+    }
+
+    fn write(outbox: &Outbox, writer: Writer) -> Written {
+        outbox.write(writer, Duration::ZERO)
+    }
+
+    #[test]
+    fn a_helper_writes_what_there_was_no_room_for() {
+        let (outbox, seen) = scripted(&[Ok(2), Err(ErrorKind::WouldBlock), Ok(1)]);
+        outbox.put(b"first");
+        assert_eq!(write(&outbox, Writer::Passing), Written::WantsHelper);
+        outbox.put(b" second");
+        assert_eq!(outbox.waiting(), 10);
+        assert_eq!(write(&outbox, Writer::Passing), Written::All);
+        assert_eq!(write(&outbox, Writer::Helper), Written::Some);
+        assert_eq!(write(&outbox, Writer::Helper), Written::Some);
+        assert_eq!(write(&outbox, Writer::Helper), Written::All);
+        outbox.put(b" third");
+        assert_eq!(write(&outbox, Writer::Passing), Written::All);
+        assert_eq!(seen.lock().unwrap().bytes, b"first second third");
+    }
+
+    #[test]
+    fn what_a_helper_cannot_write_ends_the_line() {
+        let (outbox, seen) = scripted(&[Err(ErrorKind::TimedOut), Err(ErrorKind::BrokenPipe)]);
+        outbox.put(b"first");
+        assert_eq!(write(&outbox, Writer::Passing), Written::WantsHelper);
+        assert_eq!(write(&outbox, Writer::Helper), Written::Failed);
+        outbox.end();
+        assert_eq!(write(&outbox, Writer::Passing), Written::All);
+        let seen = seen.lock().unwrap();
+        assert!(seen.is_closed && seen.bytes.is_empty());
+    }
+
+    #[test]
+    fn a_line_that_is_over_is_closed_by_the_helper_that_has_it() {
+        let (outbox, seen) = scripted(&[Err(ErrorKind::TimedOut)]);
+        outbox.put(b"first");
+        assert_eq!(write(&outbox, Writer::Passing), Written::WantsHelper);
+        outbox.end();
+        assert_eq!(write(&outbox, Writer::Passing), Written::All);
+        assert!(!seen.lock().unwrap().is_closed);
+        assert_eq!(write(&outbox, Writer::Helper), Written::All);
+        assert!(seen.lock().unwrap().is_closed);
+    }
+}
