@@ -18,7 +18,8 @@ The last line is `N seen, M unseen`, and the exit status is 1 where an edit is u
 
   scripts/wrong_definitions.py            all edits
   scripts/wrong_definitions.py WORD..     those whose names, or whose definitions, have one of the words
-  scripts/wrong_definitions.py --touched    those whose files the last commit or the work tree has changed, as the gate does
+  scripts/wrong_definitions.py --gate     those that a proof refuses, of definitions that changed since the base (scripts/since), 24 at most; a line
+                                          `skipped: ..` says how many it leaves out, and --list which it tries
   scripts/wrong_definitions.py --check    tries none: says where an edit stands no longer, and which definition has none
   --jobs N                                this many edits side by side (2)
 """
@@ -37,10 +38,13 @@ from pathlib import Path
 
 sys.dont_write_bytecode = True
 from edits import crates_listed  # noqa: E402
+from pin_changes import changed_since_base  # noqa: E402
 
 TOP = Path(__file__).resolve().parent.parent
 TURNS, LAWS, LOCAL = "zk_turns", "zk_laws", "theory_local"
 KINDS = ("weaker", "narrower", "wrong")
+# how many the gate tries
+MOST = 24
 # the crates of laws above one
 ABOVE = {
     TURNS: ["theory_pieces", "theory_rules"],
@@ -109,12 +113,6 @@ def listed_definitions():
     return found | {(file, name.lstrip("+")) for file, name in listed if name[0] != "+" or file.startswith(of_laws)}
 
 
-def touched_files():
-    """The files below crates/ that the last commit or the work tree has changed; none where there is no commit before it."""
-    run = subprocess.run(["git", "diff", "--name-only", "HEAD^1"], cwd=TOP, capture_output=True, text=True, check=False)
-    return {name.removeprefix("crates/") for name in run.stdout.splitlines()}
-
-
 def definition_at(whole, place):
     """The name of the definition in which a place of a file stands; a function or a clause of one, in the code."""
     heads = re.finditer(r"^ *(?:(?:abbrev|unfoldable) pub|pub (?:record|data|fn)) ([\w']+)", whole, re.M)
@@ -145,6 +143,21 @@ def edits_of(kind):
 
 def all_edits():
     return [edit for kind in KINDS for edit in edits_of(kind)]
+
+
+def chosen_in_gate(edits):
+    """The edits that a proof refuses, of definitions that changed since the base, of each definition one before another; prints how many are left out."""
+    changed, seen = {one.key for one in changed_since_base()}, Counter()
+    ranked = []
+    for edit in edits:
+        key = f"{edit.crate}/{edit.file} {edit.definition}"
+        if edit.kind != "weaker" and key in changed:
+            ranked.append((seen[key], edit))
+            seen[key] += 1
+    meant = [edit for _, edit in sorted(ranked, key=lambda it: it[0])]
+    if meant[MOST:]:
+        print(f"skipped: {len(meant[MOST:])} of the {len(meant)} wrong definitions whose definitions changed", flush=True)
+    return meant[:MOST]
 
 
 def faults(edits):
@@ -264,7 +277,8 @@ def main():
     reader.add_argument("words", metavar="WORD", nargs="*", help=argparse.SUPPRESS)
     reader.add_argument("--jobs", metavar="N", type=int, default=2, help=argparse.SUPPRESS)
     reader.add_argument("--check", action="store_true", help=argparse.SUPPRESS)
-    reader.add_argument("--touched", action="store_true", help=argparse.SUPPRESS)
+    reader.add_argument("--gate", action="store_true", help=argparse.SUPPRESS)
+    reader.add_argument("--list", action="store_true", help=argparse.SUPPRESS)
     asked = reader.parse_args()
     edits = all_edits()
     wrong = [*faults(edits)]
@@ -273,8 +287,10 @@ def main():
         counts = Counter(edit.kind for edit in edits)
         print(f"{len(edits)} edits: {', '.join(f'{counts[kind]} {kind}' for kind in reversed(KINDS))}")
         sys.exit(1 if wrong else 0)
-    touched = touched_files() if asked.touched else set()
-    meant = [edit for edit in edits if edit.is_meant_by(asked.words) and (not asked.touched or f"{edit.crate}/{edit.file}" in touched)]
+    meant = chosen_in_gate(edits) if asked.gate else [edit for edit in edits if edit.is_meant_by(asked.words)]
+    if asked.list:
+        print(*(f"{edit.kind}: {edit.name} ({edit.definition})" for edit in meant), sep="\n")
+        return
     there = [edit for edit in meant if edit.count == 1]
     signal.signal(signal.SIGTERM, lambda *_: sys.exit(1))
     with tempfile.TemporaryDirectory(prefix="wrong-definitions-", ignore_cleanup_errors=True) as folder:
