@@ -3,14 +3,13 @@
 from __future__ import annotations
 
 import difflib
-import io
-import subprocess
-import tarfile
 from collections import Counter
 from collections.abc import Iterable, Iterator, Mapping
 from dataclasses import dataclass
+from functools import cache
 
-from pins import TOP, Part, Parts, Pin, is_pinned, numbered, stating
+import base
+from pins import Part, Parts, Pin, is_pinned, numbered, parts_of, pins_of, stating, texts_here
 
 GONE, NEW, OTHERWISE, MOVED = "went away", "was added", "reads otherwise", "moved as it was"
 At = tuple[str, str]
@@ -96,10 +95,90 @@ def told(change: Change, before: Words, after: Words) -> Iterator[str]:
 
 def texts_at(commit: str) -> dict[str, str]:
     """The texts that are pinned, as a commit has them; none where there is no such commit."""
-    run = subprocess.run(["git", "archive", commit, "crates"], cwd=TOP, capture_output=True, check=False)
-    if run.returncode:
-        return {}
-    with tarfile.open(fileobj=io.BytesIO(run.stdout)) as archive:
-        names = {it.name.removeprefix("crates/"): it for it in archive if it.isfile()}
-        read = {name: archive.extractfile(it) for name, it in names.items() if is_pinned(name)}
-        return stating({name: part.read().decode("utf-8", "replace") for name, part in read.items() if part})
+    texts = {name.removeprefix("crates/"): text for name, text in base.texts_at(commit, "crates").items()}
+    return stating({name: text for name, text in texts.items() if is_pinned(name)})
+
+
+# What changed, in a word for whoever relies on it
+
+RENAMED = "was renamed"
+KINDS = ("record", "data", "fn", "struct", "enum")
+MEANING = {
+    ("requires", NEW): "narrower: callers are asked for more",
+    ("requires", GONE): "wider: callers are asked for less",
+    ("ensures", NEW): "promises more",
+    ("ensures", GONE): "promises less",
+    ("record", NEW): "narrower: holds of less",
+    ("record", GONE): "wider: holds of more",
+    ("data", NEW): "wider: has a case more",
+    ("data", GONE): "narrower: has a case less",
+}
+
+
+def names_in(key: str) -> tuple[str, ...]:
+    """The words by which a message may name a line: its name, a function of a trait also by its type; what a file gives, by the file."""
+    file, _, name = key.partition(" ")
+    name = name.partition(" #")[0]
+    owner, _, last = name.rpartition("::")
+    if last in ("exports", ""):
+        return (file, owner)
+    return (name, f"{owner.partition(' as ')[0]}::{last}" if owner else "")
+
+
+def shape(key: str, pin: Pin) -> tuple[tuple[str, str], ...]:
+    """The parts of a line without its own name."""
+    last = names_in(key)[0].rpartition("::")[2]
+    return tuple((part.label, part.words.replace(last, "")) for part in pin.parts)
+
+
+def renamed(found: Iterable[Change], before: Mapping[str, Pin], after: Mapping[str, Pin]) -> dict[str, str]:
+    """Of the lines that went away whole, the new key of each that says the same by another name."""
+    come = {shape(one.key, after[one.key]): one.key for one in found if one.kind == NEW and not one.label}
+    gone = {one.key: shape(one.key, before[one.key]) for one in found if one.kind == GONE and not one.label}
+    return {key: come[kept] for key, kept in gone.items() if kept in come}
+
+
+def meaning(change: Change, after: Mapping[str, Pin], renames: Mapping[str, str]) -> str:
+    """What a change means for whoever relies on the line."""
+    if not change.label:
+        return f"{RENAMED}, to {renames[change.key]}" if change.key in renames else change.kind
+    labels = [part.label for part in after[change.key].parts] if change.key in after else []
+    word = change.label.split()[0].rstrip("*")
+    kind = word if word in ("requires", "ensures") else next((it for it in KINDS if it in labels), "")
+    return f"{change.label}: {MEANING.get((kind, change.kind), change.kind)}"
+
+
+@dataclass(frozen=True)
+class Changed:
+    """A line that was there and is not as it was."""
+
+    key: str
+    meanings: tuple[str, ...]
+
+    @property
+    def crate(self) -> str:
+        return self.key.partition("/")[0]
+
+    @property
+    def is_named(self) -> bool:
+        return base.is_named(*names_in(self.key))
+
+    def __str__(self) -> str:
+        return f"{self.key}: {'; '.join(self.meanings)}"
+
+
+def changed_between(before: Mapping[str, Pin], after: Mapping[str, Pin]) -> list[Changed]:
+    """What was there and is not as it was. A line that only moved to another file is as it was, and so is a file that gives its callers more."""
+    found = changes({key: parts_of(pin) for key, pin in before.items()}, {key: parts_of(pin) for key, pin in after.items()})
+    renames = renamed(found, before, after)
+    told: dict[str, list[str]] = {}
+    for one in found:
+        is_given = one.kind == NEW and one.key.endswith("exports")
+        if one.key in before and one.kind != MOVED and not is_given:
+            told.setdefault(one.key, []).append(meaning(one, after, renames))
+    return [Changed(key, tuple(meanings)) for key, meanings in told.items()]
+
+
+@cache
+def changed_since_base() -> list[Changed]:
+    return changed_between(pins_of(texts_at(base.base())), pins_of(texts_here()))

@@ -296,7 +296,12 @@ def definitions(lines: list[str]) -> Iterator[Definition]:
     """The definitions of a file of specs/, each with the modules that are around it."""
     around: list[str] = []
     current: Definition | None = None
+    is_open = False
     for line in lines:
+        if is_open:
+            around[-1] += line
+            is_open = not line.endswith(" where")
+            continue
         indent = indent_of(line)
         around = around if indent else []
         found = DEFINITION.match(line.lstrip())
@@ -309,6 +314,7 @@ def definitions(lines: list[str]) -> Iterator[Definition]:
         current = None
         if line.strip().startswith("module "):
             around = [line]
+            is_open = not line.endswith(" where")
         elif not NO_DEFINITION.match(line):
             current = Definition(found[1] or "", found[2], around, [line])
     if current:
@@ -344,12 +350,12 @@ def pins_in(file: str, text: str) -> tuple[Pin, ...]:
     return tuple(Block(file, Scope()).pins([line.rstrip() for line in lines]))
 
 
-OF_PROOFS = re.compile(r"^ *(?:pub |ghost )*use Rattle\.(\w+)\.proofs\.(\w+)\b", re.M)
+OF_PROOFS = re.compile(r"^ *(?:pub |ghost )*use Rattle\.(\w+)\.proofs\.([\w.]+)", re.M)
 
 
 def is_pinned(file: str) -> bool:
     """Whether a file below crates/ states anything, or one of proofs/ may."""
-    return not file.startswith(NOT_PINNED) and bool(re.match(r"[^/]+/(?:(?:specs/.*|proofs/\w+)\.antt|src/.*\.rt)$", file))
+    return not file.startswith(NOT_PINNED) and bool(re.match(r"[^/]+/(?:(?:specs|proofs)/.*\.antt|src/.*\.rt)$", file))
 
 
 def stating(texts: Mapping[str, str]) -> dict[str, str]:
@@ -358,14 +364,20 @@ def stating(texts: Mapping[str, str]) -> dict[str, str]:
     rest = {name for name in texts if "/proofs/" not in name}
     while rest:
         found |= rest
-        named = {f"{crate}/proofs/{module}.antt" for name in rest for crate, module in OF_PROOFS.findall(texts[name])}
+        named = {file for name in rest for found in OF_PROOFS.findall(texts[name]) for file in files_of_proofs(*found)}
         rest = (named & texts.keys()) - found
     return {name: texts[name] for name in sorted(found)}
 
 
+def files_of_proofs(crate: str, path: str) -> Iterator[str]:
+    """The files that a path of an import may be of, or in."""
+    parts = path.strip(".").split(".")
+    return (f"{crate}/proofs/{'/'.join(parts[: at + 1])}.antt" for at in range(len(parts)))
+
+
 def texts_here() -> dict[str, str]:
     """The texts that are pinned, as they are in the work tree."""
-    found = [*CRATES.glob("*/specs/**/*.antt"), *CRATES.glob("*/proofs/*.antt"), *CRATES.glob("*/src/**/*.rt")]
+    found = [*CRATES.glob("*/specs/**/*.antt"), *CRATES.glob("*/proofs/**/*.antt"), *CRATES.glob("*/src/**/*.rt")]
     names = {str(path.relative_to(CRATES)): path for path in found}
     return stating({name: path.read_text(encoding="utf-8") for name, path in names.items() if is_pinned(name)})
 
@@ -395,7 +407,7 @@ def parts_of(pin: Pin) -> dict[str, str]:
 # STATEMENTS.lock
 
 LOCK = TOP / "STATEMENTS.lock"
-HEAD = "# What the crates state. scripts/statements writes this, and says in words what changed: scripts/statements --compare\n"
+HEAD = "# What the crates state. scripts/statements writes this, and scripts/since says in words what changed\n"
 
 
 def lock_of(pins: Mapping[str, Pin]) -> str:

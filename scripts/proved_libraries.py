@@ -1,44 +1,61 @@
-"""Libraries that `rt ci` has proved and left in crates/*/out, for other commands of the toolchain.
+"""Libraries that `rt ci` has proved, for other commands of the toolchain.
 
-What `rt ci` leaves has no note of the text that it was made from, and each other command would prove a library again that has none. So the
-notes are written here.
+What `rt ci` leaves in crates/*/out has no note of the text that it was made from, and each other command would prove a library again that has
+none. The notes are written here, by what texts and libraries hold and not by their times: of a library that is noted already, and of one that
+`rt ci` keeps beside the kit, for whichever checkout on this machine has the same text over the same libraries.
 """
 
 from __future__ import annotations
 
-import functools
+import hashlib
 import importlib.machinery
 import importlib.util
 import os
+import re
 import shutil
 import sys
+from collections.abc import Iterable
 from pathlib import Path
 from types import ModuleType
 from typing import Any
 
 TOP = Path(__file__).resolve().parent.parent
+MEMORY = 3_700_000_000
+
+
+def lanes() -> int:
+    """As many crates side by side as there are processors and, at 3.7 GB each, which is the most that one takes, memory; one at least."""
+    free = re.search(r"MemAvailable:\s+(\d+)", Path("/proc/meminfo").read_text(encoding="utf-8"))
+    return max(1, min(len(os.sched_getaffinity(0)), int(free[1]) * 1024 // MEMORY if free else 1))
 
 
 def toolchain() -> ModuleType:
-    """The module of the toolchain's command that knows crates and what a library was made from."""
+    """The toolchain's command, as a module that reads the crates of this repository as `rt ci` does."""
     command = shutil.which("rt")
     if command is None:
         sys.exit("there is no rt: the Rattle toolchain is not in the path")
-    place = os.path.join(os.path.dirname(os.path.realpath(command)), "rtlib.py")
     sys.dont_write_bytecode = True
-    loader = importlib.machinery.SourceFileLoader("rtlib", place)
-    spec = importlib.util.spec_from_loader("rtlib", loader)
+    loader = importlib.machinery.SourceFileLoader("rt", os.path.realpath(command))
+    spec = importlib.util.spec_from_loader("rt", loader)
     if spec is None:
-        sys.exit(f"{place} cannot be read")
+        sys.exit(f"{command} cannot be read")
     module = importlib.util.module_from_spec(spec)
-    sys.modules["rtlib"] = module
     loader.exec_module(module)
+    module.rtlib.Crate = module.Crate
+    module.Crate.allowed = module.handles_of(str(TOP))
     return module
 
 
-def libraries_below(rtlib: ModuleType, name: str) -> list[Any]:
-    """The libraries of the repository below a crate, as the toolchain has them."""
-    return list(rtlib.Crate(str(TOP / "crates" / name), str(TOP), {}).below())
+def libraries_below(rt: ModuleType, *names: str) -> list[Any]:
+    """The libraries of the repository below these crates, lowest first."""
+    known: dict[str, Any] = {}
+    crates = [rt.Crate(str(TOP / "crates" / name), str(TOP), known) for name in names]
+    return list({it.name: it for crate in crates for it in crate.below()}.values())
+
+
+def sum_of_texts(libraries: Iterable[Any]) -> str:
+    """A checksum of all that these libraries are made from."""
+    return hashlib.sha256(repr([it.stamp() for it in libraries]).encode()).hexdigest()
 
 
 def note(library: Any) -> None:
@@ -46,12 +63,18 @@ def note(library: Any) -> None:
     Path(library.folder, "out/rlib/stamp").write_text(library.stamp(), encoding="utf-8")
 
 
-@functools.cache
-def is_current(rtlib: ModuleType, library: Any) -> bool:
-    """Whether no file of a library, and of those below it, has been written since it was made."""
-    if not os.path.isdir(library.rlib):
-        return False
-    made = os.path.getmtime(library.rlib)
-    return all(os.path.getmtime(file) <= made for file in rtlib.files_of(library.folder)) and all(
-        is_current(rtlib, below) for below in library.deps
-    )
+def take(rt: ModuleType, libraries: list[Any]) -> list[str]:
+    """Takes those libraries that are proved, lowest first, and gives the names of the others, each with what is above it."""
+    kept = rt.Kept(libraries)
+    others: set[str] = set()
+    for library in libraries:
+        if any(it.name in others for it in library.deps):
+            others.add(library.name)
+            continue
+        if not library.is_built():
+            if not kept.give(library, False, kept.key(library)):
+                others.add(library.name)
+                continue
+            note(library)
+        kept.is_built(library)
+    return [it.name for it in libraries if it.name in others]

@@ -55,8 +55,3 @@ def fields_of(text: str) -> dict[str, str]:
     """The fields of a file MADE, whose lines are `NAME: VALUE`."""
     lines = [line.partition(": ") for line in text.splitlines()]
     return {name: value for name, _, value in lines}
-
-
-def toolchains_of(made: dict[str, str]) -> list[str]:
-    """The toolchains that are known to give the archive that a file MADE is about."""
-    return made["toolchain"].split("; ")

@@ -2,7 +2,7 @@
 
 A definition is reached where a clause, a ghost field, a view or an invariant of a public function or type names it, or a definition that is
 reached does. A function is public where callers outside of its crate can name it. What the imports of a file take a name for, and what binds it
-nearer, is gone by. `scripts/definitions` and `scripts/believed` go by this.
+nearer, is gone by. `scripts/definitions` goes by this.
 """
 
 from __future__ import annotations

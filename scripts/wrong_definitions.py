@@ -1,25 +1,24 @@
 #!/usr/bin/env python3
-"""Wrong definitions, premises on servers that are too narrow, and promises that are too weak: each has to be refused.
+"""Wrong definitions, and premises on servers that are too narrow: each has to be refused by a proof.
 
 Copies the repository, with what its checks keep in out/, into a temporary folder for each job. There it makes one edit at a time and prints
-what refused it. There are three lists, in the folder wrong_definitions:
+what refused it. There are two lists, in the folder wrong_definitions:
 
   wrong      wrong definitions. The crate is checked, and where each of its laws is still proved, the crates of laws above it
   narrower   premises that are harder to meet than they should be. A law that has such a premise is still true: it is refused by what the
              laws say of servers by themselves, by the schedules that meet the premise, by the laws of theory_rules and by theory_witnesses
-  weaker     promises that say less, or something else. Each law may still be proved: they are refused by scripts/statements, which compares
-             the code with STATEMENTS.md and STATEMENTS.lock, and by scripts/definitions, which compares it with docs/DEFINITIONS.md
 
-An edit is four lines: what it turns, the file below crates/, the old text and the new one, where \\n is the end of a line. Each
-definition of sections 1 to 6, 10 to 15 and 18 of docs/DEFINITIONS.md that the client or theory_local names is to have an edit that is
-narrower or weaker, or a reason in EXCEPTIONS: --check says which has none. An edit that nothing refuses is a hole. So is one that stands no longer, or whose file cannot be
-read with it.
-The last line is `N seen, M unseen`, and the exit status is 1 where an edit is unseen or a definition has none.
+A promise that says less may still be proved: scripts/statements refuses that, whichever clause or line it is (--each).
+
+An edit is four lines: what it turns, the file below crates/, the old text and the new one, where \\n is the end of a line. An edit that nothing
+refuses is a hole. So is one that stands no longer, or whose file cannot be read with it. The last line is `N seen, M unseen`, and the exit
+status is 1 where an edit is unseen.
 
   scripts/wrong_definitions.py            all edits
   scripts/wrong_definitions.py WORD..     those whose names, or whose definitions, have one of the words
-  scripts/wrong_definitions.py --touched    those whose files the last commit or the work tree has changed, as the gate does
-  scripts/wrong_definitions.py --check    tries none: says where an edit stands no longer, and which definition has none
+  scripts/wrong_definitions.py --gate     those of definitions that changed since the base (scripts/since), 24 at most; a line `skipped: ..`
+                                          says how many it leaves out, and --list which it tries
+  scripts/wrong_definitions.py --check    tries none: says where an edit stands no longer
   --jobs N                                this many edits side by side (2)
 """
 import argparse
@@ -37,38 +36,19 @@ from pathlib import Path
 
 sys.dont_write_bytecode = True
 from edits import crates_listed  # noqa: E402
+from pin_changes import changed_since_base  # noqa: E402
 
 TOP = Path(__file__).resolve().parent.parent
 TURNS, LAWS, LOCAL = "zk_turns", "zk_laws", "theory_local"
-KINDS = ("weaker", "narrower", "wrong")
+KINDS = ("narrower", "wrong")
+# how many the gate tries
+MOST = 24
 # the crates of laws above one
 ABOVE = {
     TURNS: ["theory_pieces", "theory_rules"],
     LAWS: ["theory_messages", "theory_serving", "theory_rules"],
     LOCAL: ["theory_witnesses"],
     "zk_conclusions": ["theory_witnesses"],
-}
-# the sections of docs/DEFINITIONS.md whose definitions have edits; and section 18, of which STATEMENTS.md has the definitions
-SECTIONS = [*range(1, 7), *range(10, 16)]
-
-DATA = "it names data: a field or a case fewer cannot be read where they are made"
-TABLE = "it is a table of the protocol, by which the code writes and reads: tests have its values"
-OUTSIDES = "it says what a run's outside tells of its turns, and nothing of servers: crates/zk_client/wrong_bodies turns it"
-KEPT = "it is of what a client keeps true of itself, by which its own proofs go on: with one that says less they do not"
-STEPS = "it is of the client step by step, which `one_turn` proves to be what the look-backs give: with another one that is false"
-# definitions of these sections that have no such edit
-EXCEPTIONS = {
-    **dict.fromkeys("Notice Watches Message Request Stage ServerEnd ServerStep Sent Wire Entry LocalEntry".split(), DATA),
-    **dict.fromkeys("Text Name NodePath Node Change Tree Transaction History View Names Layout Value Response Call Question Result".split(), DATA),
-    **dict.fromkeys("Waiting Pending Talk Arrived Welcome Saved Moments SessionView Lists Watch Answer".split(), DATA),
-    **dict.fromkeys("Outcome Fault Input Item Output Signal Start Turn".split(), DATA),
-    **dict.fromkeys("stat int_bytes long_bytes int_at long_at boolean_at length_at counted_at ◌>>=◌ id acl open_acl".split(), TABLE),
-    **dict.fromkeys("connect_request connect_response_front create_request create_response delete_request read_request".split(), TABLE),
-    **dict.fromkeys("get_children2_response get_data_response reply_header set_data_request set_watches watcher_event".split(), TABLE),
-    **dict.fromkeys("operation_number body_layout request_layout".split(), TABLE),
-    **dict.fromkeys("Told HandsOut IsGiven tells_turn inputs_then TellsAll NoneIsLeft asked_count".split(), OUTSIDES),
-    "IsUnfinished": KEPT,
-    **dict.fromkeys("merged merged_known merged_full registered fired with_path next_xid IsAsked".split(), STEPS),
 }
 
 
@@ -91,28 +71,6 @@ def copy_repository(copy, libraries):
     for name in libraries:
         if (TOP / "crates" / name / "out").is_dir():
             subprocess.run(["cp", "-a", TOP / "crates" / name / "out", copy / "crates" / name], check=True)
-
-
-def listed_definitions():
-    """The definitions of these sections, each with its crate and file: of the files that the page lists, the names that scripts/definitions
-    has for the client, and all names of the crates of laws; and those of zk_conclusions that STATEMENTS.md has. Types and constants of the code
-    are left to tests."""
-    page = (TOP / "docs/DEFINITIONS.md").read_text(encoding="utf-8")
-    files = [file for section, row in re.findall(r"^\| (\d+) \| (.*?) \|", page, re.M) if int(section) in SECTIONS for file in re.findall(r"`(\S+?)`", row)]
-    run = subprocess.run([TOP / "scripts/definitions"], capture_output=True, text=True, check=True)
-    names = dict(re.findall(r"^(\S+) \(.*?\): (.*)$", run.stdout, re.M))
-    pinned = (TOP / "STATEMENTS.md").read_text(encoding="utf-8")
-    concluded = re.findall(r"^## (zk_conclusions/specs/\S+)\n\n```\n(.*?)^```", pinned, re.M | re.S)
-    found = {(file, name) for file, text in concluded for name in re.findall(r"^(?:abbrev|unfoldable)? ?pub (?:record )?(\S+)", text, re.M)}
-    of_laws = tuple(f"{crate}/" for crate in (TURNS, LAWS, LOCAL))
-    listed = [(file, name) for file in files if file.endswith(".antt") for name in names.get(file, "").split()]
-    return found | {(file, name.lstrip("+")) for file, name in listed if name[0] != "+" or file.startswith(of_laws)}
-
-
-def touched_files():
-    """The files below crates/ that the last commit or the work tree has changed; none where there is no commit before it."""
-    run = subprocess.run(["git", "diff", "--name-only", "HEAD^1"], cwd=TOP, capture_output=True, text=True, check=False)
-    return {name.removeprefix("crates/") for name in run.stdout.splitlines()}
 
 
 def definition_at(whole, place):
@@ -147,18 +105,26 @@ def all_edits():
     return [edit for kind in KINDS for edit in edits_of(kind)]
 
 
+def chosen_in_gate(edits):
+    """The edits that a proof refuses, of definitions that changed since the base, of each definition one before another; prints how many are left out."""
+    changed, seen = {one.key for one in changed_since_base()}, Counter()
+    ranked = []
+    for edit in edits:
+        key = f"{edit.crate}/{edit.file} {edit.definition}"
+        if key in changed:
+            ranked.append((seen[key], edit))
+            seen[key] += 1
+    meant = [edit for _, edit in sorted(ranked, key=lambda it: it[0])]
+    if meant[MOST:]:
+        print(f"skipped: {len(meant[MOST:])} of the {len(meant)} wrong definitions whose definitions changed", flush=True)
+    return meant[:MOST]
+
+
 def faults(edits):
     """What is wrong with the lists themselves."""
     for edit in edits:
         if edit.count != 1:
             yield f"{edit.name}: its old text stands {edit.count} times in {edit.crate}/{edit.file}"
-    listed = listed_definitions()
-    named = {(f"{edit.crate}/{edit.file}", edit.definition) for edit in edits if edit.kind != "wrong"}
-    for file, name in sorted(listed - named):
-        if name not in EXCEPTIONS:
-            yield f"{name} of {file} has no edit that narrows it or makes it weaker"
-    for name in sorted(EXCEPTIONS.keys() - {name for _, name in listed - named}):
-        yield f"{name} needs no exception"
 
 
 class Copy:
@@ -198,9 +164,6 @@ class Copy:
 
     def refusal(self, edit):
         """What refuses the edit that is here, or None; and the crates that were checked."""
-        if edit.kind == "weaker":
-            checks = [f"scripts/{name} --check" for name in ("statements", "definitions")]
-            return " and ".join(check for check in checks if subprocess.run(check.split(), cwd=self.folder, capture_output=True).returncode), []
         crates = [edit.crate, *ABOVE[edit.crate]]
         for at, crate in enumerate(crates):
             proved, laws, errors = self.check(crate)
@@ -227,7 +190,7 @@ class Copy:
 
 def make_copies(folder, jobs, edits):
     """A copy for each job. The first is checked as it stands, and the others are copies of it."""
-    lower = {edit.crate for edit in edits if edit.kind != "weaker"}
+    lower = {edit.crate for edit in edits}
     chains = [*dict.fromkeys(crate for first in ABOVE if first in lower for crate in (first, *ABOVE[first]))]
     below = crates_below()
     first = Copy(f"{folder}/0", chains)
@@ -264,7 +227,8 @@ def main():
     reader.add_argument("words", metavar="WORD", nargs="*", help=argparse.SUPPRESS)
     reader.add_argument("--jobs", metavar="N", type=int, default=2, help=argparse.SUPPRESS)
     reader.add_argument("--check", action="store_true", help=argparse.SUPPRESS)
-    reader.add_argument("--touched", action="store_true", help=argparse.SUPPRESS)
+    reader.add_argument("--gate", action="store_true", help=argparse.SUPPRESS)
+    reader.add_argument("--list", action="store_true", help=argparse.SUPPRESS)
     asked = reader.parse_args()
     edits = all_edits()
     wrong = [*faults(edits)]
@@ -273,8 +237,10 @@ def main():
         counts = Counter(edit.kind for edit in edits)
         print(f"{len(edits)} edits: {', '.join(f'{counts[kind]} {kind}' for kind in reversed(KINDS))}")
         sys.exit(1 if wrong else 0)
-    touched = touched_files() if asked.touched else set()
-    meant = [edit for edit in edits if edit.is_meant_by(asked.words) and (not asked.touched or f"{edit.crate}/{edit.file}" in touched)]
+    meant = chosen_in_gate(edits) if asked.gate else [edit for edit in edits if edit.is_meant_by(asked.words)]
+    if asked.list:
+        print(*(f"{edit.kind}: {edit.name} ({edit.definition})" for edit in meant), sep="\n")
+        return
     there = [edit for edit in meant if edit.count == 1]
     signal.signal(signal.SIGTERM, lambda *_: sys.exit(1))
     with tempfile.TemporaryDirectory(prefix="wrong-definitions-", ignore_cleanup_errors=True) as folder:
