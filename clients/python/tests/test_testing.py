@@ -4,7 +4,6 @@ from __future__ import annotations
 
 import asyncio
 import contextlib
-import multiprocessing
 import os
 import pathlib
 import re
@@ -16,7 +15,7 @@ import textwrap
 import threading
 import unittest
 from collections.abc import Iterator
-from typing import Any
+from typing import Callable
 
 from support import CLIENTS, TIMEOUT, WAIT, within
 
@@ -35,6 +34,11 @@ class ServerTest(unittest.TestCase):
     def client(self) -> Iterator[Client]:
         with Client(self.server.hosts, TIMEOUT, retry=dirwolleu.Retry(deadline=WAIT)) as client:
             yield client
+
+    def mark(self, client: Client, path: str) -> dirwolleu.Mark:
+        kept = client.kept(path)
+        assert kept is not None
+        return kept.mark
 
     def test_the_lines_of_its_page(self) -> None:
         assert testing.__doc__ is not None
@@ -60,14 +64,17 @@ class ServerTest(unittest.TestCase):
         server.create("/a")
         with self.client() as client:
             client.create("/e", ephemeral=True)
-            for change, kind, path in [
+            server.create("/full")
+            server.create("/full/one")
+            changes: list[tuple[Callable[[], object], type[dirwolleu.ZookeeperError], str]] = [
                 (lambda: server.create("/a"), dirwolleu.NodeExistsError, "/a"),
-                (lambda: server.create("/b/c"), dirwolleu.NoNodeError, "/b/c"),
-                (lambda: server.create("/e/c"), dirwolleu.NoChildrenForEphemeralsError, "/e/c"),
+                (lambda: server.create("/b/c"), dirwolleu.NoNodeError, "/b"),
+                (lambda: server.create("/e/c"), dirwolleu.NoChildrenForEphemeralsError, "/e"),
                 (lambda: server.set("/b", b""), dirwolleu.NoNodeError, "/b"),
                 (lambda: server.delete("/b"), dirwolleu.NoNodeError, "/b"),
-                (lambda: server.create("/a/b") and server.delete("/a"), dirwolleu.NotEmptyError, "/a"),
-            ]:
+                (lambda: server.delete("/full"), dirwolleu.NotEmptyError, "/full"),
+            ]
+            for change, kind, path in changes:
                 with self.assertRaises(kind) as caught:
                     change()
                 self.assertEqual(caught.exception.path, path)
@@ -110,10 +117,10 @@ class ServerTest(unittest.TestCase):
                 other.set("/a", b"two")
                 server.create("/b")
                 self.assertEqual(behind.get("/a")[0], b"one")
-                self.assertIs(behind.kept("/a").mark, dirwolleu.Mark.GOOD)
+                self.assertIs(self.mark(behind, "/a"), dirwolleu.Mark.GOOD)
                 self.assertIsNone(behind.exists("/b"))
                 behind.sync("/a")
-                self.assertIs(behind.kept("/a").mark, dirwolleu.Mark.STALE)
+                self.assertIs(self.mark(behind, "/a"), dirwolleu.Mark.STALE)
                 self.assertEqual(behind.get("/a")[0], b"two")
                 server.set("/a", b"three")
                 self.assertEqual(behind.get("/a")[0], b"two")
@@ -126,7 +133,7 @@ class ServerTest(unittest.TestCase):
                 behind.get("/b", watch=True)
                 server.set("/b", b"late")
                 self.assertEqual(behind.get("/b")[0], b"")
-            within(lambda: behind.kept("/b").mark is dirwolleu.Mark.STALE)
+            within(lambda: self.mark(behind, "/b") is dirwolleu.Mark.STALE)
 
     def test_all_lag_and_connect_again(self) -> None:
         server = self.server
@@ -192,7 +199,8 @@ class ServerTest(unittest.TestCase):
     def test_a_server_that_is_not_running_says_so(self) -> None:
         server = Server()
         server.close()
-        for call in (lambda: server.hosts, lambda: server.create("/a"), server.drop, server.restart):
+        calls: list[Callable[[], object]] = [lambda: server.hosts, lambda: server.create("/a"), server.drop, server.restart]
+        for call in calls:
             self.assertRaisesRegex(RuntimeError, "the server is not running: use it by `with`, or call start", call)
         self.assertRaisesRegex(RuntimeError, "running already", self.server.start)
         with self.assertRaises(OSError):

@@ -15,7 +15,7 @@ from dirwolleu._checks import checked_data, checked_path
 from dirwolleu._paths import no_path, parent
 from dirwolleu.exceptions import NodeExistsError, error_of
 from dirwolleu.testing._ensemble import Ensemble, Session, hold
-from dirwolleu.testing._library import DELETED, MADE, NOT_PATH, OK, WRITTEN
+from dirwolleu.testing._library import DELETED, MADE, NO_CHILDREN_FOR_EPHEMERALS, NO_NODE, NOT_PATH, OK, WRITTEN
 
 Result = TypeVar("Result")
 
@@ -76,15 +76,16 @@ class Server:
         running.held.close()
 
     def __enter__(self) -> Server:
-        self.start()
+        """Starts it, unless it is running."""
+        if self._running is None:
+            self.start()
         return self
 
     def __exit__(self, kind: Optional[type[BaseException]], error: Optional[BaseException], trace: Optional[TracebackType]) -> None:
         self.close()
 
     async def __aenter__(self) -> Server:
-        self.start()
-        return self
+        return self.__enter__()
 
     async def __aexit__(
         self, kind: Optional[type[BaseException]], error: Optional[BaseException], trace: Optional[TracebackType]
@@ -118,7 +119,7 @@ class Server:
     def create(self, path: str, value: bytes = b"", *, makepath: bool = False) -> int:
         """Makes a node, as another client does, and gives the zxid of that. With `makepath` it makes the nodes above it too.
 
-        Raises `NodeExistsError`, `NoNodeError` of the parent, `NoChildrenForEphemeralsError`, and `ValueError` if the path is none.
+        Raises `NodeExistsError`, of the parent `NoNodeError` and `NoChildrenForEphemeralsError`, and `ValueError` if the path is none.
         """
         if makepath and parent(checked_path(path)) != "/":
             with contextlib.suppress(NodeExistsError):
@@ -139,7 +140,12 @@ class Server:
 
     def expire(self, session: Optional[int] = None) -> None:
         """Ends a session, or all: its ephemeral nodes are deleted and its connection is closed, and its client learns of it when it connects."""
-        self._do(lambda ensemble: [ensemble.expire(one) for one in _named(ensemble, session)])
+
+        def end(ensemble: Ensemble) -> None:
+            for one in _named(ensemble, session):
+                ensemble.expire(one)
+
+        self._do(end)
 
     @contextlib.contextmanager
     def lag(self, session: Optional[int] = None) -> Iterator[None]:
@@ -193,7 +199,7 @@ class Server:
             raise no_path(path)
         if code != OK:
             error = error_of(code)
-            error.path = path
+            error.path = parent(path) if kind == MADE and code in (NO_NODE, NO_CHILDREN_FOR_EPHEMERALS) else path
             raise error
         return zxid
 
