@@ -178,7 +178,7 @@ def show_mark(stage: Stage, follower: Follower) -> None:
     stage.title("What it knows is good: it was so at this zxid, and nothing ended it since")
     kept = follower.known(", good: it asked nobody")
     with stage.server.lag(follower.client.session_id):
-        stage.others("the client's server lags behind the others")
+        stage.others("the client's server lags: it learns no more")
         zxid = stage.set(CONFIG, stage.value(kept.data))
         follower.known(f", good: others are at {zxid}, and this held at {kept.last_zxid}")
     stage.others("the client's server learns of it")
@@ -288,9 +288,9 @@ def show_lock(stage: Stage) -> None:
             if held.token <= token:
                 raise AssertionError(f"the token {held.token} is not greater than {token}")
             token = held.token
-            names = " and ".join(one.lock.contenders()[1:])
-            behind = f"; behind it: {names}" if names else ""
-            stage.client(one.client.last_zxid, f"{one.name} holds with token {token}{behind}")
+            others = one.lock.contenders()[1:]
+            waits = f"; {' and '.join(others)} wait{'s' if len(others) == 1 else ''}" if others else ""
+            stage.client(one.client.last_zxid, f"{one.name} holds with token {token}{waits}")
             if waiting:
                 hand_over(stage, one, held)
 

@@ -34,7 +34,7 @@ class Server:
     """A ZooKeeper server in memory, at a port of 127.0.0.1.
 
     Use it by `with` or `async with`, or call `start` and `close`. It runs in a thread of its own, and any thread may call it, an event loop
-    too: no function waits for a client. What a function has done is done when it returns, and what clients are told of it is on its way.
+    too: no function waits for a client. When a function returns, what it does is done, and clients have been sent what they are told of it.
 
     Each session has a server of its own, and all servers learn each change at once, unless they `lag`. A session ends when its client closes
     it and by `expire`, never by silence. The clock of its nodes is that of the system.
