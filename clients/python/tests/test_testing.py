@@ -181,15 +181,15 @@ class ServerTest(unittest.TestCase):
         def run(number: int) -> None:
             try:
                 with Server() as server, Client(server.hosts, TIMEOUT) as client:
-                    for value in range(50):
-                        data = bytes([number]) * 40_000
+                    for _ in range(100):
+                        data = bytes([number]) * 200_000
                         client.create("/a", data)
                         assert client.get("/a")[0] == data, number
                         client.delete("/a")
             except BaseException as error:
                 failures.append(error)
 
-        threads = [threading.Thread(target=run, args=(number,)) for number in range(4)]
+        threads = [threading.Thread(target=run, args=(number,)) for number in range(8)]
         for thread in threads:
             thread.start()
         for thread in threads:
