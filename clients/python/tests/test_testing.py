@@ -46,6 +46,12 @@ class ServerTest(unittest.TestCase):
         self.assertLess(len(shown), 15)
         exec(textwrap.dedent("".join(shown)), {})
 
+    def test_it_is_there_once_the_package_is_imported(self) -> None:
+        program = "import dirwolleu; print(dirwolleu.testing.Server.__name__)"
+        environment = {**os.environ, "PYTHONPATH": str(CLIENTS / "python")}
+        done = subprocess.run([sys.executable, "-c", program], env=environment, capture_output=True, text=True, timeout=3 * WAIT)
+        self.assertEqual((done.stdout, done.stderr), ("Server\n", ""))
+
     def test_what_another_client_does(self) -> None:
         server = self.server
         with self.client() as client:

@@ -14,9 +14,9 @@
 //! let server = Server::start()?;
 //! let session = SessionOptions::new(Duration::from_secs(10)).renews(true).open(&server.hosts())?;
 //! session.create("/config", b"one", Mode::Persistent)?;
-//! server.set("/config", b"two")?; // as another client does
-//! assert_eq!(session.get("/config")?.data.as_deref(), Some(&b"two"[..]));
 //! server.expire(session.id()?)?;
+//! server.set("/config", b"two")?; // as another client does
+//! assert!(session.follow("/config").any(|node| node.unwrap().unwrap().data.unwrap() == b"two"));
 //! # Ok(())
 //! # }
 //! ```
