@@ -13,6 +13,7 @@ LIBRARIES = "usr/lib/x86_64-linux-gnu"
 MODULES = "usr/lib/python3/dist-packages"
 # The session for C over the header, and what goes over it.
 SESSION = ("session.h", "lane.h", "lock.h", "tls.h")
+BENCH = TOP / "clients/bench/x86_64-linux/libdirwolleu_bench.so"
 SHELL = TOP / "crates" / PROGRAM / "out" / PROGRAM
 MAINTAINER = "Dirwolleu maintainers <maintainers@users.noreply.dirwolleu.example>"
 ABOUT = """\
@@ -206,7 +207,7 @@ def make_shell(build: Build) -> None:
 
 
 def make_python(build: Build, metadata: bytes) -> None:
-    """The Python client over the shared library of libdirwolleu0."""
+    """The Python client over the shared library of libdirwolleu0, with the server in memory of dirwolleu.testing."""
     sources = TOP / "clients/python/dirwolleu"
     modules = [*sources.rglob("*.py"), sources / "py.typed"]
     package = Package(
@@ -215,6 +216,7 @@ def make_python(build: Build, metadata: bytes) -> None:
         {"Section": "python", "Depends": f"python3 (>= 3.9), libdirwolleu0 (= {VERSION})"},
         {
             **{f"{MODULES}/dirwolleu/{path.relative_to(sources)}": path.read_bytes() for path in modules},
+            f"{MODULES}/dirwolleu/testing/libdirwolleu_bench.so": stripped(BENCH, build, "--strip-unneeded"),
             f"{MODULES}/dirwolleu-{VERSION}.dist-info/METADATA": metadata,
             f"{MODULES}/dirwolleu-{VERSION}.dist-info/INSTALLER": b"dpkg\n",
         },

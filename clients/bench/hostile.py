@@ -12,8 +12,9 @@ import random
 import struct
 from typing import Optional
 
-import server
 from server import serve
+
+from dirwolleu.testing import _ensemble
 
 
 class Cut:
@@ -30,8 +31,8 @@ class Cut:
         return passed, True
 
 
-class Server(server.Server):
-    """The socket loop, with its moves."""
+class Ensemble(_ensemble.Ensemble):
+    """The servers, with moves."""
 
     def __init__(self, piece: Optional[int], seed: Optional[int]) -> None:
         super().__init__()
@@ -74,12 +75,12 @@ class Server(server.Server):
         return "done"
 
 
-class Connection(server.Connection):
+class Connection(_ensemble.Connection):
     """A connection of a client. While the server is mute, what comes and what is to be sent is put by."""
 
-    server: Server
+    server: Ensemble
 
-    def __init__(self, server: Server) -> None:
+    def __init__(self, server: Ensemble) -> None:
         super().__init__(server)
         self._held, self._paced = bytearray(), bytearray()
         self._is_cut = self._is_pacing = self._is_closing = False
@@ -171,7 +172,7 @@ def main() -> None:
     chosen = parser.parse_args()
     if chosen.piece is not None and chosen.piece < 1:
         parser.error("--piece is not above 0")
-    asyncio.run(serve(chosen.port, Server(chosen.piece, chosen.hostile)))
+    asyncio.run(serve(chosen.port, Ensemble(chosen.piece, chosen.hostile)))
 
 
 if __name__ == "__main__":

@@ -12,8 +12,10 @@ import time
 import unittest
 from typing import Optional
 
-import lane
-from library import Bench
+import server  # noqa: F401  it finds the package
+
+from dirwolleu.testing import _lane as lane
+from dirwolleu.testing._library import Bench
 
 MAKER = pathlib.Path(__file__).resolve().with_name("maker.py")
 PASSWORD_OF_NONE = struct.pack(">i", 16) + bytes(16)

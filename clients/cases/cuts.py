@@ -2,7 +2,6 @@
 
 from __future__ import annotations
 
-import importlib
 import operator
 import pathlib
 import struct
@@ -10,13 +9,12 @@ import sys
 from typing import Any, Iterator, NamedTuple, Optional
 
 HERE = pathlib.Path(__file__).resolve().parent
-sys.path[:0] = [str(HERE.parent / "python"), str(HERE.parent / "bench")]
+sys.path.insert(0, str(HERE.parent / "python"))
 
 from dirwolleu import _library as library  # noqa: E402
 from dirwolleu._session import Dial, LetGo, Session, Shown, Sign, TakenOn, Whole  # noqa: E402
+from dirwolleu.testing import _library as bench  # noqa: E402
 from dirwolleu.types import DataStat  # noqa: E402
-
-bench: Any = importlib.import_module("library")
 
 TIMEOUT_MS, ADDRESSES, SEED, NUMBER = 9000, 2, 1, 77
 PIECES = (1, 2, 3, 7, 64, 1 << 16)

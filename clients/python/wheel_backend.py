@@ -1,9 +1,9 @@
 """Builds the wheel and the source distribution of this package: the build backend that pyproject.toml names.
 
 It needs Python's standard library alone, so `pip install` fetches nothing, and it writes the same bytes each time: names in
-order, one date (SOURCE_DATE_EPOCH, else 1 January 1980), one owner. The shared library goes into the wheel. It is the file that
-DIRWOLLEU_LIBRARY names, else `dirwolleu/libdirwolleu.so` here (so it is in a source distribution), else the prebuilt one of
-the repository.
+order, one date (SOURCE_DATE_EPOCH, else 1 January 1980), one owner. Two shared libraries go into the wheel: the client's, and the
+server in memory of `dirwolleu.testing`. Each is the file that DIRWOLLEU_LIBRARY or DIRWOLLEU_BENCH names, else the one here (so it
+is in a source distribution), else the prebuilt one of the repository.
 """
 
 from __future__ import annotations
@@ -21,13 +21,32 @@ import sys
 import tarfile
 import time
 import zipfile
-from typing import Any, Mapping, Optional
+from typing import Any, Mapping, NamedTuple, Optional
 
 HERE = pathlib.Path(__file__).resolve().parent
-PREBUILT = HERE.parent.parent / "prebuilt" / "x86_64-linux"
+TOP = HERE.parent.parent
 TAG = "py3-none-manylinux2014_x86_64"
-LIBRARY = "dirwolleu/libdirwolleu.so"
 FIRST_DATE = 315532800  # 1 January 1980, the first that a zip file can tell
+
+
+class Library(NamedTuple):
+    """A shared library: its name in the package, what names another file of it, and the folder of the prebuilt one."""
+
+    name: str
+    variable: str
+    prebuilt: pathlib.Path
+
+    def read(self) -> bytes:
+        named = os.environ.get(self.variable)
+        if named:
+            return _read(pathlib.Path(named))
+        return _read(HERE / self.name, self.prebuilt / pathlib.PurePosixPath(self.name).name)
+
+
+LIBRARIES = (
+    Library("dirwolleu/libdirwolleu.so", "DIRWOLLEU_LIBRARY", TOP / "prebuilt/x86_64-linux"),
+    Library("dirwolleu/testing/libdirwolleu_bench.so", "DIRWOLLEU_BENCH", TOP / "clients/bench/x86_64-linux"),
+)
 
 Settings = Optional[Mapping[str, Any]]
 
@@ -67,14 +86,7 @@ def _read(*places: pathlib.Path) -> bytes:
 
 
 def _license() -> bytes:
-    return _read(HERE / "LICENSE", HERE.parent.parent / "LICENSE")
-
-
-def _library() -> bytes:
-    named = os.environ.get("DIRWOLLEU_LIBRARY")
-    if named:
-        return _read(pathlib.Path(named))
-    return _read(HERE / LIBRARY, PREBUILT / "libdirwolleu.so")
+    return _read(HERE / "LICENSE", TOP / "LICENSE")
 
 
 def metadata() -> bytes:
@@ -129,7 +141,7 @@ def _write_zip(path: pathlib.Path, files: Mapping[str, bytes]) -> None:
 
 
 def _check_machine() -> None:
-    """Fails in words where the library in the wheel can't run."""
+    """Fails in words where the libraries in the wheel can't run."""
     machine, system = platform.machine(), platform.system()
     if (machine.lower(), system) not in (("x86_64", "Linux"), ("amd64", "Linux")):
         sys.exit(f"dirwolleu runs on Linux on x86-64 alone, and this is {system} on {machine}")
@@ -142,7 +154,7 @@ def build_wheel(wheel_directory: str, config_settings: Settings = None, metadata
     wheel = f"Wheel-Version: 1.0\nGenerator: wheel_backend of dirwolleu\nRoot-Is-Purelib: false\nTag: {TAG}\n"
     files = {
         **_modules(),
-        LIBRARY: _library(),
+        **{library.name: library.read() for library in LIBRARIES},
         f"{information}/METADATA": metadata(),
         f"{information}/WHEEL": wheel.encode(),
         f"{information}/licenses/LICENSE": _license(),
@@ -159,7 +171,7 @@ def build_sdist(sdist_directory: str, config_settings: Settings = None) -> str:
     top = f"dirwolleu-{_version()}"
     files = {
         **_modules(),
-        LIBRARY: _library(),
+        **{library.name: library.read() for library in LIBRARIES},
         "LICENSE": _license(),
         "PKG-INFO": metadata(),
         **{name: (HERE / name).read_bytes() for name in ("README.md", "pyproject.toml", "wheel_backend.py")},

@@ -29,7 +29,7 @@ from dirwolleu.types import *  # noqa: F403
 from dirwolleu.types import __all__ as _types
 
 if TYPE_CHECKING:
-    from dirwolleu import aio
+    from dirwolleu import aio, testing
 
 __all__ = [
     "AsyncTransaction",
@@ -44,6 +44,7 @@ __all__ = [
     "Tree",
     "aio",
     "security",
+    "testing",
     "tls_context",
     *_exceptions,
     *_recipes,
@@ -57,12 +58,12 @@ logging.getLogger("dirwolleu.connection").addHandler(logging.NullHandler())  # w
 
 
 def __getattr__(name: str) -> Any:
-    """Imports `dirwolleu.aio` at its first use, since asyncio takes longer to load than all else of the package."""
-    if name != "aio":
+    """Imports `dirwolleu.aio` and `dirwolleu.testing` at their first use, since asyncio takes longer to load than all else of the package."""
+    if name not in ("aio", "testing"):
         raise AttributeError(f"module {__name__!r} has no attribute {name!r}")
     import importlib
 
-    return importlib.import_module("dirwolleu.aio")
+    return importlib.import_module(f"dirwolleu.{name}")
 
 
 def __dir__() -> list[str]:

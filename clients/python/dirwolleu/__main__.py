@@ -26,7 +26,7 @@ from dirwolleu.tls import tls_context
 from dirwolleu.tree import TreeNode, TreeSnapshot
 from dirwolleu.types import DataStat, Kept, KeptChildren, Stat, State
 
-DESCRIPTION = "Shows and changes the nodes of ZooKeeper, and watches them."
+DESCRIPTION = "Shows and changes the nodes of ZooKeeper, and watches them. If you have no ZooKeeper: demo, and serve."
 EPILOG = """\
 a session:
   $ export DIRWOLLEU_HOSTS=127.0.0.1:2181
@@ -66,6 +66,22 @@ UNANSWERED = (CallTimeoutError, ConnectionClosedError, ConnectionLoss, SessionEx
 DONE, REFUSED, NO_COMMAND, NO_ANSWER, NOT_WRITTEN, INTERRUPTED, NO_READER = 0, 1, 2, 3, 4, 130, 141
 CHANGES = ("set", "create")
 """The commands that change something and then tell it."""
+SERVE_EPILOG = """\
+It prints its address on one line, and serves until it is interrupted, also in
+the background and without standard input. Whatever it holds ends with it.
+
+the lines of a script, of which those before the first `wait` are done before
+the address is printed:
+  create PATH [TEXT]   makes a node, as another client does; so do the next two
+  set PATH [TEXT]      writes a node
+  delete PATH          deletes a node
+  drop                 closes all connections; sessions and nodes stay
+  expire               ends all sessions, with their ephemeral nodes
+  stop                 closes all connections and listens no more
+  restart              listens again, with all nodes and sessions
+  wait SECONDS         does nothing for so long
+  # ...                is a comment
+"""
 
 
 class Shown(NamedTuple):
@@ -220,6 +236,29 @@ COMMANDS: dict[str, tuple[str, Optional[Callable[[Client, argparse.Namespace], S
 }
 
 
+def _port(text: str) -> int:
+    port = int(text)
+    if not 0 <= port <= 65535:
+        raise ValueError
+    return port
+
+
+_port.__name__ = "port"  # as the words of a refusal have it
+
+
+def _add_own_servers(commands: Any) -> None:
+    """Adds the commands that bring their own server."""
+    help = "a ZooKeeper server in memory, at a port of 127.0.0.1"
+    layout = argparse.RawDescriptionHelpFormatter
+    serve = commands.add_parser("serve", help=help, description=help, epilog=SERVE_EPILOG, formatter_class=layout)
+    serve.add_argument("--port", type=_port, default=2181, help="0 is any free one (default: 2181)")
+    serve.add_argument("--script", metavar="FILE", help="do the lines of this file; - is standard input")
+    help = "shows in some seconds what a client knows, and at which zxid"
+    demo = commands.add_parser("demo", help=help, description=help)
+    demo.add_argument("--seed", type=int, help="a number, of which the history follows (default: a new one each time)")
+    demo.add_argument("--slow", action="store_true", help="at a pace to read along")
+
+
 def parser() -> argparse.ArgumentParser:
     made = argparse.ArgumentParser(
         "python3 -m dirwolleu",
@@ -254,6 +293,7 @@ def parser() -> argparse.ArgumentParser:
     words["create"].add_argument("--sequence", action="store_true", help="add a number of ten digits to the path")
     words["create"].add_argument("--makepath", action="store_true", help="make the nodes above it too")
     words["delete"].add_argument("--recursive", action="store_true", help="delete all below it too")
+    _add_own_servers(commands)
     return made
 
 
@@ -283,7 +323,28 @@ def _client(chosen: argparse.Namespace) -> Client:
     )
 
 
+def _serve(chosen: argparse.Namespace, _: Write) -> None:
+    from dirwolleu import serve  # here, since other commands need no server
+
+    try:
+        serve.run(chosen.port, chosen.script)
+    except serve.ScriptError as error:
+        raise NoFile(str(error)) from error
+
+
+def _demo(chosen: argparse.Namespace, write: Write) -> None:
+    from dirwolleu import demo
+
+    demo.run(chosen.seed, chosen.slow, write)
+
+
+OWN_SERVERS = {"serve": _serve, "demo": _demo}
+"""The commands that bring their own server."""
+
+
 def _run(chosen: argparse.Namespace, write: Write) -> None:
+    if chosen.command in OWN_SERVERS:
+        return OWN_SERVERS[chosen.command](chosen, write)
     _read(chosen)
     client = _client(chosen)
     client.start(chosen.timeout)

@@ -5,18 +5,15 @@ Bytes come by single ones, and changes when the test says.
 
 from __future__ import annotations
 
-import importlib
 import queue
 import struct
-import sys
 from typing import Any
 
-from support import CLIENTS, WAIT, PartnerCase, Peer
+from support import WAIT, PartnerCase, Peer
 
 from dirwolleu import Client
+from dirwolleu.testing import _library as library
 
-sys.path.insert(0, str(CLIENTS / "bench"))
-library = importlib.import_module("library")
 
 
 class BenchTest(PartnerCase):

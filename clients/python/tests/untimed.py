@@ -7,21 +7,17 @@ from __future__ import annotations
 import asyncio
 import contextlib
 import errno
-import importlib
 import os
 import selectors
 import struct
-import sys
 from collections.abc import Coroutine
 from typing import Any, Callable, NamedTuple, Optional, cast
 from unittest import mock
 
-from support import CLIENTS, PASSWORD, Asked, Connected, PartnerCase
+from support import PASSWORD, Asked, Connected, PartnerCase
 
 from dirwolleu import aio
-
-sys.path.insert(0, str(CLIENTS / "bench"))
-server: Any = importlib.import_module("server")
+from dirwolleu.testing._ensemble import Ensemble
 
 Serve = Callable[[], asyncio.Protocol]
 
@@ -203,9 +199,9 @@ class UntimedCase(PartnerCase):
         finally:
             asyncio.set_event_loop(None)
 
-    async def a_partner(self) -> Any:
+    async def a_partner(self) -> Ensemble:
         """The server in memory, within the loop. Its `port` is where it listens."""
-        made = server.Server()
+        made = Ensemble()
         await made.listen(0)
         return made
 

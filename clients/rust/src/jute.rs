@@ -65,6 +65,12 @@ impl<'a> Reader<'a> {
         Some(taken)
     }
 
+    /// The bytes of the fields that were not read.
+    #[cfg(feature = "testing")]
+    pub(crate) fn rest(&self) -> &'a [u8] {
+        self.bytes
+    }
+
     pub(crate) fn is_empty(&self) -> bool {
         self.bytes.is_empty()
     }

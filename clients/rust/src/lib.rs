@@ -88,6 +88,9 @@ mod snapshot;
 mod standing;
 mod stream;
 mod subtree;
+#[cfg(feature = "testing")]
+#[allow(unsafe_code)]
+pub mod testing;
 mod ticket;
 mod told;
 mod transaction;

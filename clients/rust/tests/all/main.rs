@@ -1,7 +1,7 @@
 //! The tests of sessions and at servers in memory, as one program: it is built once, and most of its time are waits side by side, so give it many threads.
 
 #[cfg(dirwolleu_bench)]
-#[path = "../bench/mod.rs"]
+#[path = "../../src/testing/bench.rs"]
 mod bench;
 #[path = "../example/mod.rs"]
 mod example;

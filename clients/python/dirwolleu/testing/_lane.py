@@ -11,11 +11,11 @@ from __future__ import annotations
 import struct
 from typing import TYPE_CHECKING, Callable, NamedTuple
 
-import frames
-from frames import CHECK, CREATE, CREATE2, DELETE, ERROR, EXISTS, OK, SET_DATA, Malformed, Record, Reply, put_text
+from dirwolleu.testing import _frames as frames
+from dirwolleu.testing._frames import CHECK, CREATE, CREATE2, DELETE, ERROR, EXISTS, OK, SET_DATA, Malformed, Record, Reply, put_text
 
 if TYPE_CHECKING:
-    from server import Server, Session
+    from dirwolleu.testing._ensemble import Ensemble, Session
 
 RUNTIME_INCONSISTENCY, BAD_VERSION, AUTH_FAILED = -2, -103, -115
 ANY_VERSION = -1
@@ -60,11 +60,11 @@ def with_version(stat: bytes, acl: Acl) -> bytes:
     return stat[: ACL_VERSION.start] + struct.pack(">i", acl.version) + stat[ACL_VERSION.stop :]
 
 
-def sync(_server: Server, _session: Session, record: Record, _notices: list[bytes]) -> bytes:
+def sync(_server: Ensemble, _session: Session, record: Record, _notices: list[bytes]) -> bytes:
     return put_text(record.take_text())
 
 
-def create2(server: Server, session: Session, record: Record, notices: list[bytes]) -> bytes:
+def create2(server: Ensemble, session: Session, record: Record, notices: list[bytes]) -> bytes:
     body = record.rest()
     reply = ask(session, CREATE, body, notices)
     if reply.code != OK:
@@ -73,13 +73,13 @@ def create2(server: Server, session: Session, record: Record, notices: list[byte
     return reply.body + stat_of(session, Record(reply.body).take_text(), notices)
 
 
-def get_acl(server: Server, session: Session, record: Record, notices: list[bytes]) -> bytes:
+def get_acl(server: Ensemble, session: Session, record: Record, notices: list[bytes]) -> bytes:
     path = record.take_text()
     stat, acl = stat_of(session, path, notices), server.acls.get(path, Acl())
     return acl.spelled + with_version(stat, acl)
 
 
-def set_acl(server: Server, session: Session, record: Record, notices: list[bytes]) -> bytes:
+def set_acl(server: Ensemble, session: Session, record: Record, notices: list[bytes]) -> bytes:
     path, spelled, version = record.take_text(), record.take_acl(), record.take_int()
     stat, acl = stat_of(session, path, notices), server.acls.get(path, Acl())
     if version not in (ANY_VERSION, acl.version):
@@ -114,7 +114,7 @@ def take_parts(record: Record) -> list[tuple[int, bytes]]:
         parts.append((kind, take_part(record, kind)))
 
 
-def operate(server: Server, session: Session, kind: int, part: bytes, notices: list[bytes]) -> bytes:
+def operate(server: Ensemble, session: Session, kind: int, part: bytes, notices: list[bytes]) -> bytes:
     """Does an operation of a transaction, and gives its result."""
     if kind == CREATE2:
         return create2(server, session, Record(part), notices)
@@ -139,7 +139,7 @@ def put_header(kind: int, code: int, is_last: bool = False) -> bytes:
 END = put_header(ERROR, -1, True)
 
 
-def refused_part(server: Server, session: Session, parts: list[tuple[int, bytes]]) -> tuple[int, int]:
+def refused_part(server: Ensemble, session: Session, parts: list[tuple[int, bytes]]) -> tuple[int, int]:
     """The place of the first operation that is not admitted after those before it, with its code, or the number of all with 0."""
     trial = server.trial_of(session)
     for place, (kind, part) in enumerate(parts):
@@ -150,7 +150,7 @@ def refused_part(server: Server, session: Session, parts: list[tuple[int, bytes]
     return len(parts), OK
 
 
-def transact(server: Server, session: Session, record: Record, notices: list[bytes]) -> bytes:
+def transact(server: Ensemble, session: Session, record: Record, notices: list[bytes]) -> bytes:
     """Does all operations, or none."""
     parts = take_parts(record)
     place, code = refused_part(server, session, parts)
@@ -160,7 +160,7 @@ def transact(server: Server, session: Session, record: Record, notices: list[byt
     return b"".join(put_header(kind, OK) + operate(server, session, kind, part, notices) for kind, part in parts) + END
 
 
-def introduce(_server: Server, _session: Session, record: Record, _notices: list[bytes]) -> bytes:
+def introduce(_server: Ensemble, _session: Session, record: Record, _notices: list[bytes]) -> bytes:
     """Takes credentials."""
     record.take_int()
     if record.take_text() != "digest":
@@ -168,7 +168,7 @@ def introduce(_server: Server, _session: Session, record: Record, _notices: list
     return b""
 
 
-ANSWERS: dict[int, Callable[[Server, Session, Record, list[bytes]], bytes]] = {
+ANSWERS: dict[int, Callable[[Ensemble, Session, Record, list[bytes]], bytes]] = {
     CREATE2: create2,
     frames.SYNC: sync,
     frames.GET_ACL: get_acl,
@@ -179,7 +179,7 @@ ANSWERS: dict[int, Callable[[Server, Session, Record, list[bytes]], bytes]] = {
 """The body of the reply to each of these requests. All others are the proved server's."""
 
 
-def answer(server: Server, session: Session, xid: int, kind: int, record: Record) -> tuple[list[bytes], bool]:
+def answer(server: Ensemble, session: Session, xid: int, kind: int, record: Record) -> tuple[list[bytes], bool]:
     """The frames that are sent for a request, and whether the connection ends after them: so it does where credentials are refused."""
     notices = list[bytes]()
     try:

@@ -1,4 +1,4 @@
-"""The server in memory, as a library for tests: include/dirwolleu_bench.h by ctypes."""
+"""The proved server in memory, as a library: include/dirwolleu_bench.h by ctypes."""
 
 from __future__ import annotations
 
@@ -55,25 +55,37 @@ _FUNCTIONS: dict[str, tuple[Any, tuple[Any, ...]]] = {
 
 ROOM = 1 << 16
 _NAME = "libdirwolleu_bench.so"
-_CLIENTS = pathlib.Path(__file__).resolve().parents[1]
-_PLACES = (_CLIENTS / "out" / _NAME, _CLIENTS / "bench" / "x86_64-linux" / _NAME)
+_HERE = pathlib.Path(__file__).resolve().parent
 
 
 class BenchError(Exception):
     """The library answers what it is not to answer to this program."""
 
 
-def _load() -> CDLL:
-    found = [str(place) for place in _PLACES if place.is_file()]
-    library = CDLL(os.environ.get("DIRWOLLEU_BENCH") or (found or [_NAME])[0])
+def _find() -> str:
+    """The file of the library: what the environment names, else what lies in the package, else what a checkout has built or brings along."""
+    named = os.environ.get("DIRWOLLEU_BENCH")
+    if named:
+        return named
+    clients = _HERE.parents[2]
+    places = (_HERE / _NAME, clients / "out" / _NAME, clients / "bench" / "x86_64-linux" / _NAME)
+    found = next((str(place) for place in places if place.is_file()), None)
+    if found is None:
+        raise ImportError(f"{_NAME} is not found: install the package again, or name the file by DIRWOLLEU_BENCH")
+    return found
+
+
+def _load(file: str) -> CDLL:
+    library = CDLL(file)
     for name, (result, parameters) in _FUNCTIONS.items():
-        function = getattr(library, name)
+        function = getattr(library, name, None)
+        if function is None:
+            raise ImportError(f"{file} is of another version than this package: it has no {name}")
         function.restype, function.argtypes = result, parameters
     return library
 
 
-_LIBRARY = _load()
-_ROOM = create_string_buffer(ROOM)
+_LIBRARY = _load(_find())
 
 
 def _done(result: int, *allowed: int) -> int:
@@ -87,6 +99,7 @@ class Bench:
 
     def __init__(self, session: int) -> None:
         self._handle = _Handle()
+        self._room = create_string_buffer(ROOM)
         self.is_open = False
         """Whether a server had the connection when it was last asked what it says."""
         _done(_LIBRARY.dw_bench_open(byref(self._handle), session))
@@ -98,7 +111,7 @@ class Bench:
         """Another session changes a node. Answers 0, or why the tree does not admit it."""
         text = path.encode()
         result = _LIBRARY.dw_bench_change(byref(self._handle), now_ms, kind, owner, text, len(text), data, len(data))
-        return _done(result, NOT_PATH, BAD_ARGUMENTS, NO_NODE, NODE_EXISTS, NOT_EMPTY)
+        return _done(result, NOT_PATH, BAD_ARGUMENTS, NO_NODE, NO_CHILDREN_FOR_EPHEMERALS, NODE_EXISTS, NOT_EMPTY)
 
     def learn(self, other: Bench) -> bool:
         """Takes over the next transaction that the other one has and this one has not. Whether there is one."""
@@ -130,9 +143,9 @@ class Bench:
         """Takes out all that the server sent."""
         said, count = b"", c_size_t(ROOM)
         while count.value == ROOM:
-            result = _LIBRARY.dw_bench_say(byref(self._handle), _ROOM, ROOM, byref(count))
+            result = _LIBRARY.dw_bench_say(byref(self._handle), self._room, ROOM, byref(count))
             self.is_open = _done(result, NONE) == OK
-            said += string_at(_ROOM, count.value)
+            said += string_at(self._room, count.value)
         return said
 
     def expire(self, is_expired: bool) -> None:

@@ -9,6 +9,9 @@ from typing import NamedTuple, Optional
 CREATE, DELETE, EXISTS, GET_DATA, SET_DATA, GET_ACL, SET_ACL, GET_CHILDREN, SYNC = 1, 2, 3, 4, 5, 6, 7, 8, 9
 PING, GET_CHILDREN2, CHECK, MULTI, CREATE2, AUTH, SET_WATCHES, CLOSE_SESSION, ERROR = 11, 12, 13, 14, 15, 100, 101, -11, -1
 
+READS = (EXISTS, GET_DATA, GET_ACL, GET_CHILDREN, GET_CHILDREN2, PING, AUTH, SET_WATCHES)
+"""The requests that a server answers by what it knows, however far it is behind the others."""
+
 OK = 0
 EPHEMERAL = 1
 """The flag of a create."""

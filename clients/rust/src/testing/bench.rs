@@ -2,6 +2,7 @@
 
 mod ffi;
 
+#[allow(unused_imports)] // one list for all who take from it
 pub use ffi::{BAD_ARGUMENTS, NODE_EXISTS, NOT_EMPTY, NOT_PATH, NO_NODE, NO_SUCH_SERVER};
 
 use ffi::{Raw, DELETED, MADE, NONE, OK, WRITTEN};
@@ -139,6 +140,9 @@ impl Bench {
         }));
     }
 }
+
+// SAFETY: the handle is this one's own, and the library keeps nothing for a thread.
+unsafe impl Send for Bench {}
 
 impl Drop for Bench {
     fn drop(&mut self) {
