@@ -78,7 +78,8 @@ enum dw_result DW_AS_INT32 {
   DW_NOT_SAVED = -8, /* the bytes are no saved session */
   DW_NOT_WHOLE = -9, /* some of what is asked for is not kept, or not good */
   DW_TOO_MANY = -10, /* the subtree has more nodes than were asked for */
-  DW_NOT_TEXTS = -11 /* the bytes are no texts, each after its length */
+  DW_NOT_TEXTS = -11, /* the bytes are no texts, each after its length */
+  DW_NO_SUCH_OPERATION = -12
 };
 
 /* A handle: zeros before its first use, which are {0} in C and {} in C++. Its fields are the library's own. */
@@ -136,7 +137,8 @@ enum dw_reply DW_AS_INT32 {
   DW_REPLY_DATA = 3,
   DW_REPLY_NAMES = 4,
   DW_REPLY_CREATED = 5,
-  DW_REPLY_DONE = 6
+  DW_REPLY_DONE = 6,
+  DW_REPLY_RAW = 7
 };
 enum dw_event DW_AS_INT32 {
   DW_EVENT_CREATED = 1,
@@ -195,8 +197,8 @@ enum dw_code DW_AS_INT32 {
  *   DW_KIND_SEND    the text is one frame: write it to the server.
  *   DW_KIND_ANSWER  to the call with this ticket. outcome DW_OUTCOME_REPLIED: a reply, with its zxid, and reply says what it brings:
  *                   DW_REPLY_CODE (code, the error of the server), DW_REPLY_STAT (stat), DW_REPLY_DATA (stat; the text, or is_null),
- *                   DW_REPLY_NAMES (stat, names), DW_REPLY_CREATED (the text is the path), DW_REPLY_DONE. Another outcome: why there is
- *                   no reply.
+ *                   DW_REPLY_NAMES (stat, names), DW_REPLY_CREATED (the text is the path), DW_REPLY_DONE, DW_REPLY_RAW (the text is what stands
+ *                   after the header of the reply). Another outcome: why there is no reply.
  *   DW_KIND_REPORT  what was known of a side of a path has ended: event, side; the text is the path.
  *   DW_KIND_STATE   state is the new one. With DW_STATE_EXPIRED and DW_STATE_CLOSED the connection is over: close it.
  *   DW_KIND_DROP    the connection is given up: close it. cause says why; DW_CAUSE_BEHIND has the zxid that came,
@@ -540,6 +542,31 @@ enum dw_result dw_session_create(dw_session *handle, uint64_t now_ms, uint64_t t
 enum dw_result dw_session_delete(dw_session *handle, uint64_t now_ms, uint64_t ticket, uint64_t until_ms, const char *path,
                                  size_t path_length, int32_t version);
 
+/* What dw_session_raw asks for, by the type number of the request. None of these leaves or removes a watch, or begins or ends a session, and no
+ * other function of a session asks for it. Those that change nothing are asked again where they are lost: getACL, sync, multiRead,
+ * getEphemerals, getAllChildrenNumber and whoAmI. */
+enum dw_operation DW_AS_INT32 {
+  DW_OPERATION_GET_ACL = 6,
+  DW_OPERATION_SET_ACL = 7,
+  DW_OPERATION_SYNC = 9,
+  DW_OPERATION_MULTI = 14,
+  DW_OPERATION_CREATE2 = 15,
+  DW_OPERATION_CREATE_CONTAINER = 19,
+  DW_OPERATION_CREATE_TTL = 21,
+  DW_OPERATION_MULTI_READ = 22,
+  DW_OPERATION_GET_EPHEMERALS = 103,
+  DW_OPERATION_GET_ALL_CHILDREN_NUMBER = 104,
+  DW_OPERATION_WHO_AM_I = 107
+};
+
+/* Asks for another operation, one of enum dw_operation, with the bytes that stand after the header of its request, as zookeeper.jute spells its
+ * record: the library adds the header and reads none of them. The answer is DW_REPLY_RAW, whose text is all that stands after the header of the
+ * reply, or DW_REPLY_CODE; a multi that fails brings DW_REPLY_RAW, with its codes in the text. It waits and counts like each call. With its bytes a
+ * request has 8 more, and 1,048,575 at most: else it is answered DW_OUTCOME_TOO_LARGE. DW_OK, DW_NO_MEMORY, or DW_NO_SUCH_OPERATION: no step was
+ * made. */
+enum dw_result dw_session_raw(dw_session *handle, uint64_t now_ms, uint64_t ticket, uint64_t until_ms, int32_t operation,
+                              const uint8_t *bytes, size_t length);
+
 /* Ends the session of the servers. After DW_STATE_CLOSED it asks for nothing more, nothing is due, and each call is answered DW_OUTCOME_CLOSED at once. */
 enum dw_result dw_session_close(dw_session *handle, uint64_t now_ms, uint64_t ticket, uint64_t until_ms);
 
@@ -643,6 +670,7 @@ static inline const char *dw_result_words(enum dw_result result) {
   case DW_NOT_WHOLE: return "some of what is asked for is not kept, or not good";
   case DW_TOO_MANY: return "the subtree has more nodes than were asked for";
   case DW_NOT_TEXTS: return "the bytes are no texts, each after its length";
+  case DW_NO_SUCH_OPERATION: return "the number is none of enum dw_operation";
   }
   return "the library answers a number that its header does not have";
 }

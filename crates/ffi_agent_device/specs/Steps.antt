@@ -1,8 +1,10 @@
 -- What becomes of an agent's device, by the number that is told.
-use Rattle.std.specs.Prelude.{◌≡◌, ◌^◌, ℕ, zero, ℤ, pos, negsuc, false, true, [], None, Result}
+use Rattle.std.specs.Prelude.{◌≡◌, ◌^◌, ℕ, zero, ℤ, pos, negsuc, false, true, List, [], Option, Some, None, Result}
 use Rattle.std.specs.Prelude.{MatchResult}
 use Rattle.std.specs.List.Sorted.{IsPermutation}
 use Rattle.std.specs.declared.alloc.Global.{Global}
+use Rattle.zk_conversation.specs.Calls.{Raw}
+use Rattle.zk_conversation.specs.declared.raw.RawOperation.{RawOperation}
 use Rattle.zk_turns.specs.Turns.{Start}
 use Rattle.zk_turns.specs.Rule.{forgotten}
 use Rattle.zk_turns.specs.View.{View, view_at}
@@ -16,6 +18,7 @@ use Rattle.zk_agent.specs.Agents.{IsBroken, IsLed}
 use Rattle.zk_agent.specs.Telling.{told_by}
 use Rattle.zk_conclusions.specs.Revisions.{raised}
 use Rattle.ffi_device.specs.Codes.{refusal_code}
+use Rattle.ffi_device.specs.Refused.{RefusesMemory}
 use Rattle.ffi_device.specs.declared.refusal.DeviceRefusal.{DeviceRefusal}
 pub use Rattle.ffi_agent_device.specs.Happenings.{Happening, Opened, Failed, Cut, Moment, Bytes, Addressed, Calls, Follows, Unfollows}
 pub use Rattle.ffi_agent_device.specs.Happenings.{FollowsTree, UnfollowsTree}
@@ -55,6 +58,14 @@ abbrev pub Steps : (Refuses : ℤ → Type 0) → (now : ℕ) → Happening → 
 Steps Refuses now what before (pos zero) after = Stepped now what before after
 Steps Refuses now what before (negsuc zero) after = Stopped before after
 Steps Refuses now what before code after = Refuses code × (after ≡ before)
+
+-- A request of another operation, whose bytes after the header a caller spells: a call like all others, which is refused where memory ran
+-- out alone. Where the number that was asked for is that of none which a caller may spell, -12 is told, and nothing happened.
+abbrev pub StepsRaw : Option RawOperation → (bytes : List ℕ) (now ticket : ℕ) (until : Option ℕ) (before : AgentDevice) → (code : ℤ)
+    → (after : AgentDevice) → Type 0
+StepsRaw (Some operation) bytes now ticket until before code after =
+    Steps RefusesMemory now (Calls ticket (Raw operation bytes) until) before code after
+StepsRaw None bytes now ticket until before code after = (code ≡ negsuc 11) × (after ≡ before)
 
 -- ---- beginnings
 

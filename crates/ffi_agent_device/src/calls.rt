@@ -2,18 +2,18 @@
 
 ghost use Rattle.std.specs.Prelude.{◌≡◌, IfErr, OnOk};
 ghost use Rattle.std.specs.Option.{option_map};
-ghost use Rattle.zk_conversation.specs.Calls.{Exists, GetData, GetChildren, SetData, Create, Delete, Close};
+ghost use Rattle.zk_conversation.specs.Calls.{Exists, GetData, GetChildren, SetData, Create, Delete, Close, raw_numbered};
 ghost use Rattle.zk_conversation.specs.Views.{call_view};
 ghost use Rattle.ffi_device.specs.Codes.{code_of};
 ghost use Rattle.ffi_device.specs.Refused.{RefusesCreate, RefusesNothing, RefusesPath};
 ghost use Rattle.ffi_device.specs.declared.refusal.DeviceRefusal.TheVariants as refusals;
-ghost use Rattle.ffi_agent_device.specs.Steps.{Calls, Stepped, Steps, Stopped, limit_of};
+ghost use Rattle.ffi_agent_device.specs.Steps.{Calls, Stepped, Steps, StepsRaw, Stopped, limit_of};
 
 use crate::device::AgentDevice;
 use ffi_device::{DeviceRefusal, create, path_of, set_data};
 use std::alloc::Global;
 use zk_agent::AgentInput;
-use zk_client::Call;
+use zk_client::{Call, RawOperation};
 
 // The limit of a call at this moment. At the last one of all there is none.
 fn limit_of(until: u64) -> Option<u64>
@@ -155,6 +155,26 @@ impl AgentDevice {
     {
         let path = path_of(alloc, path)?;
         self.ask_at(now, ticket, until, Call::Delete { path, version })
+    }
+
+    /// Asks for another operation, by its number, with the bytes that stand after the header of its request. Where a caller may spell none
+    /// of this number, nothing happens.
+    pub fn raw_at(
+        &mut self,
+        alloc: Global,
+        now: u64,
+        ticket: u64,
+        until: u64,
+        operation: i32,
+        body: &[u8],
+    ) -> Result<(), DeviceRefusal>
+        ensures { StepsRaw (raw_numbered operation) body.now now ticket (limit_of until) self.old (code_of result) self.new }
+    {
+        let Some(operation) = RawOperation::new(operation) else {
+            return Err(DeviceRefusal::NoSuchOperation);
+        };
+        let body = Vec::from_slice(alloc, body)?;
+        self.ask_at(now, ticket, until, Call::Raw { operation, body })
     }
 
     /// Asks to end the session.

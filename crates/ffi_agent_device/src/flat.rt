@@ -132,7 +132,7 @@ pub(crate) fn action_flat(action: &Action<Global>) -> Flat
     }
 }
 
-/// The text of an action: a frame, data, a path or the code of a fault, and else nothing.
+/// The text of an action: a frame, the text of an answer, a path or the code of a fault, and else nothing.
 pub(crate) fn action_text(action: &Action<Global>) -> &[u8]
     ensures { result.now ≡ action_text action.now }
 {

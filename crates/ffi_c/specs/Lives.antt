@@ -35,7 +35,8 @@ pub data Use : Type 0 where
   Forgets : (code : ℤ) → Use
   Looks Closes : Use
 
--- what is refused before a step: of a call its path or its mode, and of bytes that there is no memory for them
+-- what is refused before a step: of a call its path or its mode, and of bytes, also those that a caller spells, that there is no memory
+-- for them
 abbrev pub RefusesCall : call.Call → ℤ → Type 0
 RefusesCall (call.Exists path watch) = RefusesPath path
 RefusesCall (call.GetData path watch) = RefusesPath path
@@ -44,6 +45,7 @@ RefusesCall (call.SetData path bytes version) = RefusesPath path
 RefusesCall (call.Create path bytes mode) = RefusesCreate path mode
 RefusesCall (call.Delete path version) = RefusesPath path
 RefusesCall call.Close = RefusesNothing
+RefusesCall (call.Raw operation bytes) = RefusesMemory
 
 abbrev pub RefusesInput : Input → ℤ → Type 0
 RefusesInput (Bytes bytes) = RefusesMemory

@@ -21,7 +21,7 @@ use Rattle.ffi_c.specs.Sessions.{Makes, Tells, TellsAll, ForgetsStale}
 
 -- A function that was called on a handle, with what was handed in, and the number that it answered. `Steps` is that of each input, call,
 -- subject and tree, `Reads` that of dw_session_next, `ReadsAll` that of dw_session_outputs, `Forgets` that of dw_session_forget; `Looks` is
--- that of those that leave the handle as it is.
+-- that of those that leave the handle as it is, and of dw_session_raw with a number that no operation has which a caller may spell.
 pub data Use : Type 0 where
   Opens : (timeout code : ℤ) → Use
   Resumes : (timeout : ℤ) → (saved : List ℕ) → (code : ℤ) → Use

@@ -78,6 +78,7 @@ with_result flat (result.Names names stat) =
     record flat { result = pos 4; has_stat = true; stat = stat_of stat; names = length names }
 with_result flat (result.Created path) = record flat { result = pos 5; length = length (string_bytes path) }
 with_result flat result.Done = record flat { result = pos 6 }
+with_result flat (result.Raw bytes) = record flat { result = pos 7; length = length bytes.items }
 
 -- a reply, or why there is none: 1 to 7
 abbrev pub outcome_flat : {A : Type 0} → Outcome A → Flat
@@ -116,6 +117,7 @@ flat_of (output.Drop why) = record (fault_flat why) { length = length (fault_cod
 abbrev pub result_text : {A : Type 0} → CallResult A → List ℕ
 result_text (result.Data (Some bytes) stat) = bytes.items
 result_text (result.Created path) = string_bytes path
+result_text (result.Raw bytes) = bytes.items
 result_text _ = []
 
 -- the text of an answer
@@ -123,7 +125,7 @@ abbrev pub outcome_text : {A : Type 0} → Outcome A → List ℕ
 outcome_text (outcome.Replied zxid brought) = result_text brought
 outcome_text _ = []
 
--- the text of an output: a frame, data, a path or the code of a drop, and else nothing
+-- the text of an output: a frame, data, a path, what stands after the header of a reply or the code of a drop, and else nothing
 abbrev pub text_of : {A : Type 0} → Output A → List ℕ
 text_of (output.Send bytes) = bytes.items
 text_of (output.Answer ticket why) = outcome_text why

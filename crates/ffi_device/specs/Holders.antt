@@ -6,14 +6,15 @@ use Rattle.zk_nodes.specs.PathFault.{IsPath, fault_of}
 use Rattle.zk_nodes.specs.History.{History}
 use Rattle.zk_turns.specs.View.{View}
 use Rattle.zk_conclusions.specs.Holders.{IsHolder, ShowsHolder}
-use Rattle.zk_conclusions.specs.Seen.{IsServedFrom, tree_seen}
+use Rattle.zk_conclusions.specs.Seen.{IsEither, IsServedAt, tree_seen}
 
 -- The session holds by the node of the path, which has the token: as the client shows it, and under servers of a history so there at the
 -- last seen zxid.
 pub record HoldsFirst (view : View) (directory prefix path : Text) (token : ℤ) : Type 0 where
   pub shows : ShowsHolder view directory prefix path token
   pub holds : (h : History)
-      → IsServedFrom h view → IsHolder (tree_seen h view) (path_of directory) prefix (path_of path) view.saved.session.session token
+      → IsServedAt (IsEither directory path) h view
+      → IsHolder (tree_seen h view) (path_of directory) prefix (path_of path) view.saved.session.session token
 
 -- It holds by this token, or none is shown.
 abbrev pub TellsHolder : View → (directory prefix path : Text) → Option ℤ → Type 0

@@ -5,6 +5,7 @@ pub mod Holders
 pub mod Kept
 pub mod Outputs
 pub mod Refused
+pub mod Replies
 pub mod Sessions
 pub mod Snapshots
 pub mod Standings

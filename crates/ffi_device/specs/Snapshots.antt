@@ -6,8 +6,8 @@ use Rattle.zk_nodes.specs.Path.{Text}
 use Rattle.zk_nodes.specs.History.{History}
 use Rattle.zk_nodes.specs.declared.data_stat.DataStat.{DataStat}
 use Rattle.zk_turns.specs.View.{View, Cache}
-use Rattle.zk_conclusions.specs.Seen.{IsServedFrom, tree_seen}
-use Rattle.zk_conclusions.specs.Snapshots.{IsOfOneTree, is_whole}
+use Rattle.zk_conclusions.specs.Seen.{IsServedAt, tree_seen}
+use Rattle.zk_conclusions.specs.Snapshots.{IsOfOneTree, IsOneOf, is_whole}
 use Rattle.ffi_device.specs.Kept.{AreKeptNames, data_flat}
 use Rattle.ffi_device.specs.Subtrees.{AreRecords, bytes_in, pzxid_in, stat_in}
 use Rattle.ffi_device.specs.Texts.{AreNoTexts, ArePaths, SpellsNoPath, SpellsPaths}
@@ -58,7 +58,7 @@ pub record IsSnapshotOf (view : View) (paths above : List Text) (text : List ℕ
   pub is : text ≡ front ++ back
   pub nodes : AreRecords shown_layout (shown_kept view.cache) paths front
   pub parents : AreParents view.cache above back
-  pub holds : (h : History) → IsServedFrom h view → IsOfOneTree (tree_seen h view) view.cache paths above
+  pub holds : (h : History) → IsServedAt (IsOneOf paths above) h view → IsOfOneTree (tree_seen h view) view.cache paths above
 
 -- the same of the paths that these bytes spell
 pub record IsSnapshotText (view : View) (nodes parents : List ℕ) (text : List ℕ) : Type 0 where

@@ -8,7 +8,7 @@ use Rattle.zk_turns.specs.View.{View}
 use Rattle.zk_laws.specs.Messages.{from_zero}
 use Rattle.zk_conclusions.specs.Numbers.{Kind}
 use Rattle.zk_conclusions.specs.Predecessors.{IsPredecessor}
-use Rattle.zk_conclusions.specs.Seen.{IsServedFrom, tree_seen}
+use Rattle.zk_conclusions.specs.Seen.{Is, IsServedAt, tree_seen}
 use Rattle.zk_conclusions.specs.Standings.{IsFirstOf, IsStanding, ListsAll, NumbersRise, ShowsStanding}
 use Rattle.ffi_device.specs.declared.standings.Stands.{Stands}
 use Rattle.ffi_device.specs.declared.standings.Stands.TheVariants.{First, After, Unsure}
@@ -29,7 +29,8 @@ AreNoMarkers markers = (own : List ℕ) (against : List (List ℕ)) → ¬ (AreT
 pub record StandsFirst (view : View) (directory name : Text) (listing : List Name) (listed : ℤ) (kind : Kind) (token : ℤ) : Type 0 where
   pub shows : ShowsStanding view directory kind listing listed (child_text directory name) token
   pub holds : (h : History)
-      → IsServedFrom h view → NumbersRise h (path_of directory) kind → ListsAll (tree_at h (from_zero listed)) (path_of directory) listing
+      → IsServedAt (Is (child_text directory name)) h view → NumbersRise h (path_of directory) kind
+      → ListsAll (tree_at h (from_zero listed)) (path_of directory) listing
       → IsStanding (tree_seen h view) (path_of directory) kind (path_of (child_text directory name)) view.saved.session.session token
 
 -- No such token is shown, and no listed rival is before the name.

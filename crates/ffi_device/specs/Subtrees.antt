@@ -11,8 +11,8 @@ use Rattle.zk_nodes.specs.declared.data_stat.DataStat.{DataStat}
 use Rattle.zk_cache.specs.Kept.{Answer, Absent, Known, Full, Names}
 use Rattle.zk_cache.specs.declared.held.Kept.{Kept}
 use Rattle.zk_turns.specs.View.{View, Cache}
-use Rattle.zk_conclusions.specs.Seen.{IsServedFrom, tree_seen}
-use Rattle.zk_conclusions.specs.Subtrees.{AreAllBelow, IsSubtreeOf}
+use Rattle.zk_conclusions.specs.Seen.{IsServedAt, tree_seen}
+use Rattle.zk_conclusions.specs.Subtrees.{AreAllBelow, IsOneReached, IsSubtreeOf}
 use Rattle.zk_conclusions.specs.Walks.{IsWalk}
 use Rattle.ffi_device.specs.Flats.{side_number}
 use Rattle.zk_conclusions.specs.Lacks.{AreLacking, HasWalk, lacks_data, lacks_names}
@@ -68,8 +68,8 @@ pub record IsSubtreeText (view : View) (root : Text) (most : ℕ) (text : List �
   pub walk : IsWalk view.cache root paths
   pub few : length paths ≤ most
   pub nodes : AreNodes view.cache paths text
-  pub holds : (h : History) → IsServedFrom h view → IsSubtreeOf (tree_seen h view) view.cache root
-  pub all : (h : History) → IsServedFrom h view → AreAllBelow (tree_seen h view) root paths
+  pub holds : (h : History) → IsServedAt (IsOneReached view.cache root) h view → IsSubtreeOf (tree_seen h view) view.cache root
+  pub all : (h : History) → IsServedAt (IsOneReached view.cache root) h view → AreAllBelow (tree_seen h view) root paths
 
 -- a read: its path, and the number of the side that it is about
 abbrev pub read_layout : Layout

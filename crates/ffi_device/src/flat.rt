@@ -28,7 +28,7 @@ pub struct FlatStat {
     pub num_children: i32,
 }
 
-/// An output, as numbers. Its text, which is a frame, data, a path or a code, is read separately.
+/// An output, as numbers. Its text, which is a frame, data, a path, what stands after the header of a reply, or a code, is read separately.
 #[repr(C)]
 #[derive(Clone, Copy, Debug, PartialEq, Eq)]
 pub struct Flat {
@@ -37,7 +37,8 @@ pub struct Flat {
     /// Of an answer 0 for a reply, and 1 to 7 for K1 to K7; of a report the event, 1 to 4; of a state 0 to 4; of a drop 1 frame,
     /// 2 payload, 3 silence, 4 after, 5 setWatches; of a refused read 1 code, 2 too many watches, 3 too large, 4 closed.
     pub detail: i32,
-    /// Of a reply 1 code, 2 stat, 3 data, 4 names, 5 created, 6 done; of a report 1 for the data and 2 for the children.
+    /// Of a reply 1 code, 2 stat, 3 data, 4 names, 5 created, 6 done, 7 what the caller has spelled; of a report 1 for the data and 2 for
+    /// the children.
     pub result: i32,
     /// The code of a reply, of a refused setWatches, and of a refused read.
     pub code: i32,
@@ -142,6 +143,10 @@ fn with_result(flat: Flat, brought: &CallResult<Global>) -> Flat
             flat.length = path.as_bytes().len();
         }
         CallResult::Done => flat.result = 6,
+        CallResult::Raw(bytes) => {
+            flat.result = 7;
+            flat.length = bytes.as_slice().len();
+        }
     }
     flat
 }
@@ -251,7 +256,7 @@ pub fn flat_of(output: &Output<Global>) -> Flat
     }
 }
 
-/// The text of an answer: data or a path, and else nothing.
+/// The text of an answer: data, a path or what stands after the header of a reply, and else nothing.
 pub fn outcome_text(outcome: &Outcome<Global>) -> &[u8]
     ensures { result.now ≡ outcome_text outcome.now }
 {
@@ -262,13 +267,14 @@ pub fn outcome_text(outcome: &Outcome<Global>) -> &[u8]
                 ..
             } => bytes.as_slice(),
             CallResult::Created(path) => path.as_bytes(),
+            CallResult::Raw(bytes) => bytes.as_slice(),
             _ => b"",
         },
         _ => b"",
     }
 }
 
-/// The text of an output: a frame, data, a path or the code of a drop, and else nothing.
+/// The text of an output: a frame, the text of an answer, a path or the code of a drop, and else nothing.
 pub fn text_of(output: &Output<Global>) -> &[u8]
     ensures { result.now ≡ text_of output.now }
 {

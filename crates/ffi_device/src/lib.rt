@@ -8,6 +8,7 @@ mod device;
 mod flat;
 mod holders;
 mod kept;
+mod laws;
 mod outputs;
 mod paths;
 mod refusal;
@@ -29,6 +30,7 @@ pub use kept::{
     FlatDataStat, KeptData, KeptNames, forget_stale, peek_children, peek_data, peek_name,
     peek_names,
 };
+pub use laws::brings_all;
 pub use outputs::{outcome_name, outcome_names};
 pub use paths::path_of;
 pub use refusal::{DeviceRefusal, code_of};

@@ -30,6 +30,8 @@ pub enum DeviceRefusal {
     TooMany,
     /// The bytes are no texts that follow one another, each after its length.
     NotTexts,
+    /// No operation that a caller may spell has this number.
+    NoSuchOperation,
 }
 
 impl DeviceRefusal {
@@ -48,6 +50,7 @@ impl DeviceRefusal {
             DeviceRefusal::NotWhole => -9,
             DeviceRefusal::TooMany => -10,
             DeviceRefusal::NotTexts => -11,
+            DeviceRefusal::NoSuchOperation => -12,
         }
     }
 }

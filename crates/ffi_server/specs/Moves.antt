@@ -3,13 +3,15 @@ use Rattle.std.specs.Prelude.{⊤, ◌≡◌, ◌≤◌, ◌<◌, ◌+◌, ◌++
 use Rattle.std.specs.Prelude.{List, [], ◌∷◌, drop, take, length, slice_get, Option, Some}
 use Rattle.zk_nodes.specs.History.{Change, Transaction, newest}
 use Rattle.zk_history.specs.HistoryView.{HistoryView, empty_kept}
-use Rattle.zk_laws.specs.Messages.{Request as Wanted}
+use Rattle.zk_conversation.specs.declared.raw.RawOperation.{RawOperation}
+use Rattle.zk_conversation.specs.Calls.{Raw}
+use Rattle.zk_laws.specs.Messages.{Ask, Request as Wanted}
 use Rattle.theory_serving.specs.Wires.{IsFor, StandsFirst}
-use Rattle.zk_bench.specs.declared.phase.Phase.TheVariants.{Apart}
+use Rattle.zk_bench.specs.declared.phase.Phase.TheVariants.{Accepted, Apart}
 use Rattle.zk_bench.specs.Answerable.{IsAnswerable}
 use Rattle.zk_bench.specs.Front.{IsShort, IsWhole}
-use Rattle.zk_bench.specs.Served.{Served, Continues, started, linked, connected, disconnected, is_open, advanced, with_requests}
-use Rattle.zk_bench.specs.Served.{without_output}
+use Rattle.zk_bench.specs.Served.{Served, Continues, started, linked, connected, disconnected, ended, is_open, advanced, with_requests}
+use Rattle.zk_bench.specs.Served.{left_with, without_output}
 use Rattle.zk_bench.specs.Stepping.{IsReady, AnswersFirst, ProcessesFirst, TakesSome, shown_of}
 use Rattle.zk_bench.specs.Writing.{appended}
 use Rattle.ffi_server.specs.Changes.{change_told}
@@ -117,6 +119,7 @@ Says room written count before (Err why) after = (why ≡ Memory) × (written �
 -- ---- moves of a server
 
 -- The connected server has processed the request that stood first, as a server of the laws does, and answered it where it has an answer.
+-- At a call that its caller has spelled it has ended the connection, and sent nothing.
 pub record Processed (before after : Served) : Type 0 where
   pub ready : StaysReady before after
   pub serves : (request : Wanted) (xid : ℤ) (payload rest : List ℕ) → IsReady before → is_open before.connection.phase ≡ true
@@ -125,6 +128,8 @@ pub record Processed (before after : Served) : Type 0 where
   pub answers : (request : Wanted) (xid : ℤ) (payload rest : List ℕ) → IsReady before → is_open before.connection.phase ≡ true
       → StandsFirst request xid payload rest before.connection.requests → IsFor request (shown_of before).server.stage
       → IsAnswerable request before → AnswersFirst request xid (shown_of before) (shown_of after)
+  pub ends_first : (operation : RawOperation) (given : List ℕ) (xid : ℤ) (payload rest : List ℕ) → before.connection.phase ≡ Accepted
+      → StandsFirst (Ask (Raw operation given)) xid payload rest before.connection.requests → after ≡ ended (left_with before rest)
   pub takes : (count : ℕ) → is_open before.connection.phase ≡ true → IsWhole before.connection.requests count
       → after.connection.requests ≡ drop (4 + count) before.connection.requests
   pub idle : is_open before.connection.phase ≡ false → after ≡ before

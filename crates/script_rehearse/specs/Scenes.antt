@@ -92,6 +92,7 @@ named_path (call.SetData path bytes version) = Some path
 named_path (call.Create path bytes mode) = Some path
 named_path (call.Delete path version) = Some path
 named_path call.Close = None
+named_path (call.Raw operation given) = None
 
 abbrev pub with_path : Option Text → Texts → Texts
 with_path None called = called

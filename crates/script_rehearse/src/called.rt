@@ -21,7 +21,7 @@ fn named_path<A: Allocator>(call: &Call<A>) -> Option<&str>
         Call::SetData { path, .. } => Some(path.as_str()),
         Call::Create { path, .. } => Some(path.as_str()),
         Call::Delete { path, .. } => Some(path.as_str()),
-        Call::Close => None,
+        Call::Close | Call::Raw { .. } => None,
     }
 }
 

@@ -10,7 +10,7 @@ use Rattle.zk_nodes.specs.declared.side.Side.TheVariants.{Data, Child}
 use Rattle.zk_nodes.specs.declared.stat.Stat.{Stat}
 use Rattle.zk_records.specs.declared.event.Event.{Event}
 use Rattle.zk_records.specs.declared.event.Event.TheVariants.{Created, Deleted, DataChanged, ChildrenChanged}
-use Rattle.zk_conversation.specs.Results.{Result, NoNode, Refused, Found, Read, Listing, Made, Done}
+use Rattle.zk_conversation.specs.Results.{Result, NoNode, Refused, Found, Read, Listing, Made, Done, Brought}
 use Rattle.zk_session.specs.declared.states.State.{State}
 use Rattle.zk_session.specs.declared.states.State.TheVariants.{Idle, Connecting, Connected, Expired, Closed}
 use Rattle.zk_cache.specs.Kept.{Answer, Absent, Known, Full, Names}
@@ -56,6 +56,7 @@ plain_text (Read bytes stat) = codes "data " ++ (bytes_word bytes ++ full_words 
 plain_text (Listing names stat) = []
 plain_text (Made path) = codes "created" ++ spaced (text_word (Some path))
 plain_text Done = codes "done"
+plain_text (Brought bytes) = codes "raw " ++ bytes_word (Some bytes)
 
 -- What is printed of a result.
 abbrev pub TellsResult : Result → List ℕ → Type 0

@@ -13,6 +13,7 @@ use crate::words::push_spaced;
 use script_words::values::{
     push_data_word, push_front, push_name, push_numbers, push_value, push_word,
 };
+use script_words::words::bytes_to_word;
 use std::alloc::{AllocError, Allocator};
 use zk_cache::JoinedTexts;
 use zk_client::{CallResult, Outcome};
@@ -95,6 +96,11 @@ pub fn push_result<A: Allocator + Copy>(
             push_name(text, alloc, path.as_bytes())
         }
         CallResult::Done => text.push_str("done"),
+        CallResult::Raw(bytes) => {
+            text.push_str("raw ")?;
+            let word = bytes_to_word(alloc, bytes.as_slice())?;
+            text.push_str(word.as_str())
+        }
     }
 }
 

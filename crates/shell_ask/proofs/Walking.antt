@@ -9,7 +9,7 @@ use Rattle.zk_driver.specs.Flowing.{Flow, Runs}
 use Rattle.zk_driver.proofs.Running.{runs_join, runs_same}
 use Rattle.zk_turns.specs.Turns.{Replied, ConnectionLoss, SessionExpired, SessionClosed, NotConnected, TooManyWatches, TooLarge}
 use Rattle.zk_turns.specs.Turns.{TooManyPending}
-use Rattle.zk_conversation.specs.Results.{NoNode, Refused, Found, Read, Listing, Made, Done}
+use Rattle.zk_conversation.specs.Results.{NoNode, Refused, Found, Read, Listing, Made, Done, Brought}
 use Rattle.shell_ask.specs.declared.end.CallEnd.{CallEnd}
 use Rattle.shell_ask.specs.declared.end.CallEnd.TheVariants as ends
 use Rattle.shell_ask.specs.declared.spots.Spot.{Spot as Place}
@@ -64,6 +64,7 @@ call_told (Answered (Replied zxid (Found stat))) = inl refl
 call_told (Answered (Replied zxid (Read bytes stat))) = inl refl
 call_told (Answered (Replied zxid (Listing names stat))) = inl refl
 call_told (Answered (Replied zxid (Made path))) = inl refl
+call_told (Answered (Replied zxid (Brought bytes))) = inl refl
 call_told (Answered ConnectionLoss) = inr ((λ e. cc), tt)
 call_told (Answered SessionExpired) = inr ((λ e. cc), tt)
 call_told (Answered SessionClosed) = inr ((λ e. cc), tt)

@@ -1,9 +1,9 @@
 -- What is printed and told of what came of a call.
-use Rattle.std.specs.Prelude.{◌≡◌, ◌≢◌, ◌⊎◌, ⊤, ◌||◌, ◌&&◌, not, nat_le, ℕ, ℤ, Bool, true, false, if◌then◌else◌, List, [], ◌∷◌, ◌++◌, chars}
-use Rattle.std.specs.Prelude.{codes, Option, Some, None}
+use Rattle.std.specs.Prelude.{◌≡◌, ◌≢◌, ◌⊎◌, ⊤, ◌||◌, ◌&&◌, not, nat_eq, nat_le, ℕ, ℤ, Bool, true, false, if◌then◌else◌, List, [], ◌∷◌}
+use Rattle.std.specs.Prelude.{◌++◌, chars, codes, Option, Some, None}
 use Rattle.std.specs.Fmt.{signed_decimal}
 use Rattle.std.specs.FinSet as set
-use Rattle.std.specs.List.{flat_map, list_any}
+use Rattle.std.specs.List.{flat_map, list_any, starts_with}
 use Rattle.std.specs.Str.{is_utf8}
 use Rattle.json.specs.Print.{print}
 use Rattle.json.specs.Token as json
@@ -13,14 +13,14 @@ use Rattle.zk_nodes.specs.declared.stat.Stat.{Stat}
 use Rattle.zk_records.specs.Codes.{code_of}
 use Rattle.zk_records.specs.declared.code.Code.{Code}
 use Rattle.zk_records.specs.declared.code.Code.TheVariants as code
-use Rattle.zk_conversation.specs.Results.{Result, NoNode, Refused, Found, Read, Listing, Made}
+use Rattle.zk_conversation.specs.Results.{Result, NoNode, Refused, Found, Read, Listing, Made, Brought}
 use Rattle.zk_turns.specs.Turns.{Outcome, Replied, TooManyWatches, TooLarge, TooManyPending}
 use Rattle.zk_client.specs.FaultText.{outcome_words}
 use Rattle.script_words.specs.Values.{AreNames}
 use Rattle.script_words.specs.Lines.{line}
 use Rattle.script_words.specs.Words.{bytes_word, text_word}
 use Rattle.shell_ask.specs.declared.plan.Form.{Form}
-use Rattle.shell_ask.specs.declared.plan.Form.TheVariants.{Plain, Hex, Quiet, Json}
+use Rattle.shell_ask.specs.declared.plan.Form.TheVariants.{Plain, Hex, Raw, Quiet, Json}
 use Rattle.shell_ask.specs.declared.end.CallEnd.{CallEnd}
 use Rattle.shell_ask.specs.declared.end.CallEnd.TheVariants as ends
 use Rattle.shell_ask.specs.Asking.{Coming, Answered, Late}
@@ -35,20 +35,28 @@ is_control c = nat_le c 31 || (nat_le 127 c && nat_le c 159)
 abbrev pub is_hidden : ℕ → Bool
 is_hidden c = nat_le c 8 || (nat_le 11 c && nat_le c 31) || (nat_le 127 c && nat_le c 159)
 
--- UTF-8 with no such character
-abbrev pub is_text : List ℕ → Bool
-is_text bytes = is_utf8 bytes && not (list_any is_hidden (chars bytes))
+-- what stands before hex where a text could
+abbrev pub hex_mark : List ℕ
+hex_mark = codes "hex:"
 
--- data as text where they are text, and else in hex; null data have no line
+-- UTF-8 with no such character that does not begin as hex does
+abbrev pub is_text : List ℕ → Bool
+is_text bytes = is_utf8 bytes && not (list_any is_hidden (chars bytes) || starts_with nat_eq bytes hex_mark)
+
+-- data as text where they are text, and else in hex with its mark; null data have no line
 abbrev pub plain_data : Option (List ℕ) → List ℕ
 plain_data None = []
-plain_data (Some bytes) = (if is_text bytes then bytes else bytes_word (Some bytes)) ++ 10 ∷ []
+plain_data (Some bytes) = (if is_text bytes then bytes else hex_mark ++ bytes_word (Some bytes)) ++ 10 ∷ []
 
 abbrev pub data_text : Form → Option (List ℕ) → List ℕ
 data_text Plain bytes = plain_data bytes
 data_text Json bytes = plain_data bytes
+data_text Raw bytes = plain_data bytes
 data_text Hex bytes = bytes_word bytes ++ 10 ∷ []
 data_text Quiet bytes = []
+
+abbrev pub hex_line : List ℕ → List ℕ
+hex_line bytes = bytes_word (Some bytes) ++ 10 ∷ []
 
 -- a name or a path as it is, and where it has a control character, as a word of a script
 abbrev pub name_text : Text → List ℕ
@@ -92,6 +100,7 @@ PrintsWords form chroot (Read bytes stat) text = text ≡ data_text form bytes
 PrintsWords form chroot (Found stat) text = text ≡ stat_lines form stat
 PrintsWords form chroot (Listing names stat) text = PrintsNames (set.from_list names) text
 PrintsWords form chroot (Made path) text = (below : Text) × IsBelow chroot path below × (text ≡ name_line below)
+PrintsWords form chroot (Brought bytes) text = text ≡ hex_line bytes
 PrintsWords form chroot _ text = text ≡ []
 
 -- the line of an object of JSON with these members
@@ -126,11 +135,19 @@ PrintsObjects chroot (Read bytes stat) text = text ≡ read_line bytes stat
 PrintsObjects chroot (Found stat) text = text ≡ fields_line stat
 PrintsObjects chroot (Listing names stat) text = PrintsEach (text_line (codes "name")) (set.from_list names) text
 PrintsObjects chroot (Made path) text = (below : Text) × IsBelow chroot path below × (text ≡ text_line (codes "path") below)
+PrintsObjects chroot (Brought bytes) text = text ≡ text_line (codes "hex") (bytes_word (Some bytes))
 PrintsObjects chroot _ text = text ≡ []
+
+-- the bytes that a result brings as data: none, where these are null
+abbrev pub raw_bytes : Result → List ℕ
+raw_bytes (Read (Some bytes) stat) = bytes
+raw_bytes (Brought bytes) = bytes
+raw_bytes _ = []
 
 -- what is printed of a result
 abbrev pub PrintsResult : Form → (chroot : Text) → Result → List ℕ → Type 0
 PrintsResult Json chroot result text = PrintsObjects chroot result text
+PrintsResult Raw chroot result text = text ≡ raw_bytes result
 PrintsResult form chroot result text = PrintsWords form chroot result text
 
 abbrev pub Prints : Form → (chroot : Text) → Coming → List ℕ → Type 0

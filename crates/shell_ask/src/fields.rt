@@ -53,6 +53,8 @@ pub(crate) fn push_fields<A: Allocator + Copy>(
 {
     match form {
         Form::Quiet => Ok(()),
-        Form::Plain | Form::Hex | Form::Json => push_lines(text, alloc, &fields_of(stat)),
+        Form::Plain | Form::Hex | Form::Raw | Form::Json => {
+            push_lines(text, alloc, &fields_of(stat))
+        }
     }
 }

@@ -164,5 +164,9 @@ pub(crate) fn objects<A: Allocator + Copy>(
         CallResult::Created(path) => {
             with_text(Vec::new(alloc), "path", below(chroot, path.as_str()))
         }
+        CallResult::Raw(bytes) => {
+            let hex = bytes_to_word(alloc, bytes.as_slice())?;
+            with_text(Vec::new(alloc), "hex", hex.as_str())
+        }
     }
 }

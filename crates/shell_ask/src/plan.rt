@@ -6,10 +6,12 @@ use zk_client::{Call, Path};
 /// How an answer is printed.
 #[derive(Clone, Copy, Debug, PartialEq, Eq)]
 pub enum Form {
-    /// Data as text where they are text, and else in hex.
+    /// Data as text where they are text, and else in hex after `hex:`.
     Plain,
     /// Data in hex.
     Hex,
+    /// The bytes of data as they are, and nothing else.
+    Raw,
     /// Neither data nor a Stat.
     Quiet,
     /// An object of JSON in a line.

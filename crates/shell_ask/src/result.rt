@@ -3,10 +3,10 @@
 ghost use Rattle.std.specs.Prelude.{◌≡◌, ◌++◌, ℕ, List, IfOk, OnOk, string_bytes};
 ghost use Rattle.zk_client.specs.Views.{call_result_view};
 ghost use Rattle.shell_ask.specs.inner.Asking.{came_view};
-ghost use Rattle.shell_ask.specs.Printing.{Prints, PrintsResult, PrintsWords};
+ghost use Rattle.shell_ask.specs.Printing.{raw_bytes, Prints, PrintsResult, PrintsWords};
 
 use crate::came::Came;
-use crate::data::push_data;
+use crate::data::{push_data, push_hex};
 use crate::fields::push_fields;
 use crate::json_lines::objects;
 use crate::names::{push_names, push_path};
@@ -30,8 +30,23 @@ fn words<A: Allocator + Copy>(
         CallResult::Data { bytes, stat: _ } => push_data(&mut text, alloc, form, bytes)?,
         CallResult::Names { names, stat: _ } => push_names(&mut text, alloc, names)?,
         CallResult::Created(path) => push_path(&mut text, alloc, chroot, path.as_str())?,
+        CallResult::Raw(bytes) => push_hex(&mut text, alloc, bytes.as_slice())?,
     }
     Ok(text)
+}
+
+/// The bytes that a result brings as data.
+fn raw_bytes<A: Allocator + Copy>(alloc: A, found: &CallResult<A>) -> Result<Vec<u8, A>, AllocError>
+    ensures { IfOk result (λ bytes. bytes.items ≡ raw_bytes (call_result_view found.now)) }
+{
+    match found {
+        CallResult::Data {
+            bytes: Some(bytes),
+            stat: _,
+        } => Vec::from_slice(alloc, bytes.as_slice()),
+        CallResult::Raw(bytes) => Vec::from_slice(alloc, bytes.as_slice()),
+        _ => Ok(Vec::new(alloc)),
+    }
 }
 
 /// What is printed of a result, below a chroot.
@@ -45,6 +60,7 @@ fn result_text<A: Allocator + Copy>(
 {
     match form {
         Form::Json => objects(alloc, chroot, found),
+        Form::Raw => raw_bytes(alloc, found),
         Form::Plain | Form::Hex | Form::Quiet => {
             Ok(words(alloc, form, chroot, found)?.into_bytes())
         }

@@ -48,7 +48,9 @@ pub(crate) fn tree_text<A: Allocator + Copy>(
 {
     match form {
         Form::Json => object_lines(alloc, paths),
-        Form::Plain | Form::Hex | Form::Quiet => Ok(plain_lines(alloc, paths)?.into_bytes()),
+        Form::Plain | Form::Hex | Form::Raw | Form::Quiet => {
+            Ok(plain_lines(alloc, paths)?.into_bytes())
+        }
     }
 }
 

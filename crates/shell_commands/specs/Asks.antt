@@ -6,7 +6,7 @@ use Rattle.zk_link.specs.FarEnds.{FarEnd}
 use Rattle.clap.specs.Words.{App, Row, Rule, Text, first_of, new_app, new_rule, with_rule, with_subcommand}
 use Rattle.clap.specs.declared.builder.action.ArgAction.TheVariants as action
 use Rattle.shell_ask.specs.declared.plan.Form.{Form}
-use Rattle.shell_ask.specs.declared.plan.Form.TheVariants.{Plain, Hex, Quiet, Json}
+use Rattle.shell_ask.specs.declared.plan.Form.TheVariants.{Plain, Hex, Raw, Quiet, Json}
 use Rattle.zk_conversation.specs.Calls.{Call, Exists, GetData, GetChildren, SetData, Create, Delete}
 use Rattle.shell_ask.specs.declared.end.CallEnd.{CallEnd}
 use Rattle.shell_ask.specs.declared.end.CallEnd.TheVariants as ends
@@ -54,7 +54,7 @@ abbrev pub json_app : Text → App
 json_app name = with_rule (read_app name) (flag_rule (codes "json"))
 
 abbrev pub get_app : App
-get_app = with_rule (json_app (codes "get")) (flag_rule (codes "hex"))
+get_app = with_rule (with_rule (json_app (codes "get")) (flag_rule (codes "hex"))) (flag_rule (codes "raw"))
 
 -- any text
 abbrev pub data_rule : Rule
@@ -200,7 +200,7 @@ form_or_json form rows = if flag (codes "json") rows then Json else form
 
 -- how data are printed
 abbrev pub data_form : List Row → Form
-data_form rows = if flag (codes "hex") rows then Hex else Plain
+data_form rows = if flag (codes "raw") rows then Raw else (if flag (codes "hex") rows then Hex else Plain)
 
 -- how the answer is printed
 abbrev pub form_for : Verb → List Row → Form

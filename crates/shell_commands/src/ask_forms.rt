@@ -92,11 +92,16 @@ pub(crate) fn json_form<'a>(
 fn get_form<'a>(alloc: Global) -> Result<clap::Command<'a>, AllocError>
     ensures { IfOk result (λ r. app_of r ≡ get_app) }
 {
-    let get = json_form(alloc, "get", "Prints the data of a node")?;
-    get.arg(flag_arg(
+    let form = json_form(alloc, "get", "Prints the data of a node")?;
+    let form = form.arg(flag_arg(
         alloc,
         "hex",
         "Prints hex, \\e for no bytes, and \\0 for null",
+    ))?;
+    form.arg(flag_arg(
+        alloc,
+        "raw",
+        "Prints the bytes as they are, and nothing else",
     ))
 }
 

@@ -165,7 +165,9 @@ pub(crate) fn form_or_json(form: Form, matches: &ArgMatches<'_>) -> Form
 fn data_form(matches: &ArgMatches<'_>) -> Form
     ensures { result ≡ data_form (rows_of (found_of matches.now)) }
 {
-    if flag(matches, "hex") {
+    if flag(matches, "raw") {
+        Form::Raw
+    } else if flag(matches, "hex") {
         Form::Hex
     } else {
         Form::Plain

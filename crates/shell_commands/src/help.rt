@@ -9,8 +9,9 @@ history, replay, rehearse and live take a script on standard input, a line for e
 help of each names its lines, and `zk_shell live --help` those that drive a client. The others take none.
 
 Exit status: 0 done, and for help; 1 a fault in the input, told on standard error; 2 a fault of the
-command line, told there too; 3 out of memory; 4 standard input or output failed. Commands that ask for
-one node or a tree end with 5 to 8, 10 and 11 too: `zk_shell get --help`. A watch ends with 9 too: `zk_shell watch --help`.";
+command line, told there too; 3 out of memory; 4 standard input or output failed, told there unless who
+reads the output has closed it. Commands that ask for one node or a tree end with 5 to 8, 10 and 11 too:
+`zk_shell get --help`. A watch ends with 9 too: `zk_shell watch --help`.";
 
 /// At the end of the help of `live`.
 pub const LIVE: &str =
@@ -159,8 +160,10 @@ are printed.
 
 Printed:
   get           the data: a text in UTF-8 as it is, with a newline after it, and data with other control
-                characters than tab and newline, or that are no UTF-8, in hex. Null data print nothing
+                characters than tab and newline, or that are no UTF-8, or begin with hex:, as hex: and
+                their bytes in hex. Null data print nothing
   get --hex     the data in hex, \e for no bytes, \0 for null, as set and create take them with --hex
+  get --raw     the bytes of the data as they are, and nothing else: for a file, or for another program
   ls            the names below the node, a line each, in the order of their bytes
   stat          a line for each field, by ZooKeeper's name: czxid, mzxid, ctime, mtime, version,
                 cversion, aversion, ephemeralOwner, dataLength, numChildren, pzxid
@@ -185,6 +188,7 @@ What is not done is told on standard error, with PATH:
   no node: /a                         For create, the node above it is not there
   refused: /a: the node has another version (-103)
   not connected: /a: no server has answered in time
+  127.0.0.1:2181: connection refused  And so for each address that was dialled: what came of it last
   no answer: /a: its time is over, and it may or may not have happened
   cut off: /a: 10000 nodes are printed, and there are more
                                       Of tree, where there are more than --most says
@@ -196,7 +200,7 @@ FILE is not read; 11 there are more nodes than --most. After 5, 6, 7 and 10 noth
 
 Examples:
   zk_shell create 127.0.0.1:2181 /config 'level = 1'
-  zk_shell get 127.0.0.1:2181 /config >config
+  zk_shell get 127.0.0.1:2181 /config --raw >config
   zk_shell set 127.0.0.1:2181 /config --from config
   zk_shell set 127.0.0.1:2181 /config 'level = 2' --version 0 || echo changed meanwhile
   zk_shell stat 127.0.0.1:2181 /config --json | jq .version";

@@ -139,7 +139,7 @@ fn is_slow(event: Event) -> bool {
 }
 
 /// An action that is no frame, with the length of its text.
-fn tell_action(flat: Flat, length: usize, told: &mut String) -> Result<()> {
+pub fn tell_action(flat: Flat, length: usize, told: &mut String) -> Result<()> {
     let numbers = [
         ("", i64::from(flat.kind)),
         (" ", i64::from(flat.detail)),

@@ -4,6 +4,7 @@
 
 mod agents;
 mod devices;
+mod raws;
 mod rounds;
 mod sizes;
 mod values;
@@ -11,6 +12,7 @@ mod values;
 use agents::play_agents;
 use anyhow::Result;
 use devices::play_devices;
+use raws::play_raws;
 use rounds::play_rounds;
 use sizes::try_sizes;
 use std::alloc::Global;
@@ -29,6 +31,7 @@ fn main(rt: HostRuntime) -> Result<()> {
     let mut out = io::writer(&rt);
     play_devices(rt.alloc(), &mut out)?;
     play_agents(rt.alloc(), &mut out)?;
+    play_raws(rt.alloc(), &mut out)?;
     play_table(rt.alloc(), &mut rt.stdin(), &mut out)?;
     tell_values(rt.alloc(), &mut out)?;
     try_sizes(rt.alloc(), &mut out)

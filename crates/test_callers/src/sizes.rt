@@ -1,7 +1,7 @@
 //! Much of everything, which clients are handed whole and in pieces, and what they make of it: no step halts where there is memory.
 
-mod frames;
-mod peer;
+pub(crate) mod frames;
+pub(crate) mod peer;
 
 use anyhow::Result;
 use frames::{HEADER, LENGTH, STAT, data, done, names, no_node};

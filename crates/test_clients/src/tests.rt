@@ -6,6 +6,7 @@ mod faults;
 mod happens;
 mod limits;
 mod moments;
+mod raw_calls;
 mod runs;
 mod said;
 mod saved_sessions;

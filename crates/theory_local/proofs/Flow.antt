@@ -29,6 +29,7 @@ use Rattle.zk_turns.specs.Taken.{reading, taken_of}
 use Rattle.zk_laws.specs.Server.{zxid_held, IsOther}
 use Rattle.zk_laws.specs.Messages.{Message, Replies, Watches_set, Request, from_zero}
 use Rattle.zk_laws.specs.ServerSteps.{Stage, Ended, ServerEnd}
+use Rattle.zk_laws.proofs.Log.{last}
 use Rattle.zk_laws.proofs.Seen.{seen}
 use Rattle.zk_laws.specs.Served.{requests, unread, Wire, is_going, IsPayload}
 use Rattle.zk_laws.proofs.Matching.{Letter, frames, messages, answers, AreLater, Owes}
@@ -71,6 +72,10 @@ abbrev pub IsDue : (List ℕ → Type 0) → Fault → Type 0
 IsDue Was fault =
     (fault ≡ Silent) ⊎ ((fault ≡ Framed TooLong) × ((payload : List ℕ) × Was payload × (LONGEST_INCOMING < length payload)))
     ⊎ ((code : ℤ) × (fault ≡ WatchesRefused code) × (code ≢ pos 0))
+
+-- the reply is not below what was seen last, unless it refuses with the zxid 0 or one below
+abbrev pub IsAfter : Start → Past → ℤ → Result → Type 0
+IsAfter start past zxid result = (last (seen start past) ≤ from_zero zxid) ⊎ IsDenial zxid result
 
 module _ (P : Text → Type 0) (h : History) where
   -- a server gave this result, with the zxid of where it stood
@@ -127,9 +132,10 @@ module _ (P : Text → Type 0) (h : History) where
       pub ended : IsTail tail wire.server.stage owed
       pub kept : IsKeptFor past wire.server (map (λ s. s.request) (unread start past wire)) (messages letters)
 
-    -- the reply was the first awaited
+    -- the reply was the first awaited, and no earlier one was above it
     abbrev pub IsAnswered : ℕ → Question → ℤ → Result → Past → Type 0
-    IsAnswered ticket question zxid result past = AnswersFirstAt ticket question zxid result (awaited past)
+    IsAnswered ticket question zxid result past =
+        AnswersFirstAt ticket question zxid result (awaited past) × IsAfter start past zxid result
 
     -- what was dropped and answered so far had its reason
     abbrev pub IsCalmAt : Past → Type 0

@@ -1,6 +1,6 @@
 -- Servers that keep to the model keep to it at each set of paths, entry by entry; and what is free elsewhere: more may be told, and nothing
 -- need be.
-use Rattle.std.proofs.Common.{true, inl, inr, ◌≡◌, ℕ, List, [], ◌∷◌, ◌++◌, map, refl, sym, ap, subst, ◌∙◌}
+use Rattle.std.proofs.Common.{Bool, true, inl, inr, ◌≡◌, ℕ, List, [], ◌∷◌, ◌++◌, map, refl, sym, ap, subst, ◌∙◌}
 use Rattle.zk_nodes.specs.Path.{Text}
 use Rattle.zk_nodes.specs.declared.side.Side.TheVariants.{Data, Child}
 use Rattle.zk_records.specs.declared.event.Event.{Event}
@@ -9,6 +9,7 @@ use Rattle.zk_records.specs.Events.{concerns}
 use Rattle.zk_nodes.specs.History.{Tree, History}
 use Rattle.zk_conversation.specs.Calls as call
 use Rattle.zk_conversation.specs.Calls.{Call}
+use Rattle.zk_conversation.specs.Questions.{GetChildren, question_of}
 use Rattle.zk_conversation.specs.Results.{Result, Refused}
 use Rattle.zk_turns.specs.Turns.{Start, Item}
 use Rattle.zk_turns.specs.Past.{Past}
@@ -82,6 +83,20 @@ module _ (h : History) where
     local_served start items s =
         record { entries = map local_of s.entries; whole = local_items s.entries ∙ s.whole; may = local_serving start s.entries s.may }
 
+-- ---- a question
+
+-- a call that asks for the names below a directory is about it
+pub about_listing : (P : Text → Type 0) (dir : Text) (watch : Bool) (q : Call) → question_of q ≡ GetChildren dir watch → P dir
+    → IsAbout P q
+about_listing P dir watch (call.GetChildren path other) e p = let same : dir ≡ path = cc in subst P same p
+about_listing P dir watch (call.Exists path other) e p = absurd cc
+about_listing P dir watch (call.GetData path other) e p = absurd cc
+about_listing P dir watch (call.SetData path content version) e p = absurd cc
+about_listing P dir watch (call.Create path content mode) e p = absurd cc
+about_listing P dir watch (call.Delete path version) e p = absurd cc
+about_listing P dir watch call.Close e p = absurd cc
+about_listing P dir watch (call.Raw operation bytes) e p = absurd cc
+
 -- ---- fewer paths
 
 module _ (P Q : Text → Type 0) (fewer : (path : Text) → Q path → P path) (h : History) where
@@ -93,6 +108,7 @@ module _ (P Q : Text → Type 0) (fewer : (path : Text) → Q path → P path) (
   about_fewer (call.Create path content mode) a = fewer path a
   about_fewer (call.Delete path version) a = fewer path a
   about_fewer call.Close a = a
+  about_fewer (call.Raw operation bytes) a = a
 
   step_fewer : (step : ServerStep) (server : ServerEnd) (requests : List Request)
       → MayDoAt P h step server requests → MayDoAt Q h step server requests
@@ -119,6 +135,9 @@ module _ (P Q : Text → Type 0) (fewer : (path : Text) → Q path → P path) (
   serving_fewer start [] may = tt
   serving_fewer start (entry ∷ earlier) may =
       (entry_fewer start entry (past_of start (items_at earlier)) (wire_at h earlier) may.0, serving_fewer start earlier may.1)
+
+  pub served_fewer : (start : Start) (items : List Item) → ServedAt P h start items → ServedAt Q h start items
+  served_fewer start items s = record { entries = s.entries; whole = s.whole; may = serving_fewer start s.entries s.may }
 
 -- ---- what is free
 

@@ -33,9 +33,9 @@ use Rattle.zk_frames.specs.Frame.{frame}
 use Rattle.zk_laws.specs.Server.{Fits, FitsNames, Reads, tree_held, zxid_held, Gives}
 use Rattle.zk_laws.specs.Laws.{IsTrueWrite, AreRestored}
 use Rattle.zk_laws.specs.Messages.{Request, Connect, Restore, Ask, Ping, from_zero}
-use Rattle.zk_laws.proofs.Log.{last, good, Answer, Absent, Known, Full, Suits}
+use Rattle.zk_laws.proofs.Log.{Item as Log_item, last, good, Answer, Absent, Known, Full, Suits}
 use Rattle.zk_laws.proofs.Invariant.{IsAwaited, IsSure, IsSettled, Ahead}
-use Rattle.zk_laws.proofs.Seen.{seen, node_answer, names_answer, if_good}
+use Rattle.zk_laws.proofs.Seen.{seen, item_of, node_answer, names_answer, if_good}
 use Rattle.zk_laws.specs.Served.{Wire, unread}
 use Rattle.zk_laws.proofs.Matching.{Letter, frames, messages}
 use Rattle.zk_laws.proofs.Outputs.{among_split, given_answers, given_drops}
@@ -44,8 +44,9 @@ use Rattle.zk_laws.proofs.Seeing.{last_is, good_node, good_names}
 use Rattle.zk_laws.proofs.Stamps.{tree_at_held}
 use Rattle.theory_local.specs.LocalSteps.{IsAbout}
 use Rattle.theory_local.specs.LocalServed.{LocalEntry, items_at, wire_at, WasSentAt, IsServingAt, ServedAt}
-use Rattle.theory_local.specs.LocalHeadline.{IsDenial, IsTrueAt, IsCoherentAt, IsQuietAfter, tree_after, HeadlineAt}
-use Rattle.theory_local.proofs.Flow.{Tail, tail_bytes, IsDue, IsAnsweredFor, AnswersFirstAt, IsCalmAt, IsFlow, Stands_at}
+use Rattle.theory_local.specs.LocalHeadline.{IsDenial, IsTrueAt, IsCoherentAt, IsQuietAfter, tree_after, HeadlineAt, ReadsFollow}
+use Rattle.theory_local.specs.LocalHeadline.{RepliesRise}
+use Rattle.theory_local.proofs.Flow.{Tail, tail_bytes, IsDue, IsAfter, IsAnsweredFor, AnswersFirstAt, IsCalmAt, IsFlow, Stands_at}
 use Rattle.theory_local.proofs.Taking_at.{talking_of}
 use Rattle.theory_local.proofs.Moving_at.{schedule_at}
 
@@ -164,7 +165,7 @@ nothing_in_flight (l ∷ ls) tail e =
 -- ---- the laws
 
 module _ (P : Text → Type 0) (h : History) (is : IsHistory h) (start : Start) where
-  stands_here : (items : List Item) → AllAsked items → (served : ServedAt P h start items)
+  pub stands_here : (items : List Item) → AllAsked items → (served : ServedAt P h start items)
       → Stands_at P h start (WasSentAt served.entries) (past_of start items) (wire_at h served.entries)
   stands_here items asked served =
       subst (λ t. Stands_at P h start (WasSentAt served.entries) (past_of start t) (wire_at h served.entries)) served.whole
@@ -238,7 +239,7 @@ module _ (P : Text → Type 0) (h : History) (is : IsHistory h) (start : Start) 
     a.2,
   )
 
-  calm_rest : (Was : List ℕ → Type 0) (x : Happening) (past : Past) → IsCalmAt P h start Was (x ∷ past) → IsCalmAt P h start Was past
+  pub calm_rest : (Was : List ℕ → Type 0) (x : Happening) (past : Past) → IsCalmAt P h start Was (x ∷ past) → IsCalmAt P h start Was past
   calm_rest Was (Dropped fault) past c = c.1
   calm_rest Was (Takes_in (Answers_call t q z r)) past c = c.1
   calm_rest Was (Takes_in (Accepts w)) past c = c
@@ -249,11 +250,11 @@ module _ (P : Text → Type 0) (h : History) (is : IsHistory h) (start : Start) 
   calm_rest Was (Takes_in Skipped) past c = c
   calm_rest Was _ past c = c
 
-  call_at : (Was : List ℕ → Type 0) (past : Past) → IsCalmAt P h start Was past → (ticket : ℕ) (q : Question) (z : ℤ) (r : Result)
+  pub call_at : (Was : List ℕ → Type 0) (past : Past) → IsCalmAt P h start Was past → (ticket : ℕ) (q : Question) (z : ℤ) (r : Result)
       → Among (Takes_in (Answers_call ticket q z r)) past → CallAt past ticket q z r
   call_at Was [] c ticket q z r a = absurd a
   call_at Was (x ∷ past) c ticket q z r (inl e) =
-      more (first_asked Was past ticket q z r (awaited past) refl (subst (λ y. IsCalmAt P h start Was (y ∷ past)) (sym e) c).0)
+      more (first_asked Was past ticket q z r (awaited past) refl (subst (λ y. IsCalmAt P h start Was (y ∷ past)) (sym e) c).0.0)
     where
       more : CallAt past ticket q z r → CallAt (x ∷ past) ticket q z r
       more c = (c.0, inr c.1, c.2, c.3)
@@ -285,6 +286,65 @@ module _ (P : Text → Type 0) (h : History) (is : IsHistory h) (start : Start) 
       → IsAnsweredFor P h start (λ payload. ⊥) call z r → ((from_zero start.last ≤ from_zero z) × (z ≡ pos (from_zero z))) ⊎ IsDenial z r
   above_at call z r (inl a) = inl (a.1, a.0)
   above_at call z r (inr d) = inr d
+
+  -- what a reply says, that was taken
+  pub reads_at : (items : List Item) → AllAsked items → ServedAt P h start items → (ticket : ℕ) (q : Question) (z : ℤ) (r : Result)
+      → Among (Takes_in (Answers_call ticket q z r)) (past_of start items)
+      → (call : Call) × Among (Asked ticket call) (past_of start items) × (question_of call ≡ q)
+      × (IsAbout P call → Reads (tree_at h (from_zero z)) q r)
+  reads_at items asked served ticket q z r a =
+      let stands = stands_here items asked served in
+      let c = call_at (WasSentAt served.entries) (past_of start items) stands.calm ticket q z r a in
+      (c.0, c.1, c.2, λ about. subst (λ p. Reads (tree_at h (from_zero z)) p r) c.2 (true_at c.0 z r c.3 about).0)
+
+  -- ---- the order of replies
+
+  after_at : (Was : List ℕ → Type 0) (since : Past) (ticket : ℕ) (q : Question) (z : ℤ) (r : Result) (before : Past)
+      → IsCalmAt P h start Was (since ++ Takes_in (Answers_call ticket q z r) ∷ before) → IsAfter start before z r
+  after_at Was [] ticket q z r before c = c.0.1
+  after_at Was (x ∷ since) ticket q z r before c =
+      after_at Was since ticket q z r before (calm_rest Was x (since ++ Takes_in (Answers_call ticket q z r) ∷ before) c)
+
+  item_last : (items log : List Log_item) (n : ℕ) → n ≤ last log → n ≤ last (items ++ log)
+  item_last [] log n le = le
+  item_last (item ∷ items) log n le = let k = item_last items log n le in omega arith
+
+  -- what was taken is not above what was seen last
+  taken_last : (ticket : ℕ) (q : Question) (z : ℤ) (r : Result) (past : Past)
+      → Among (Takes_in (Answers_call ticket q z r)) past → from_zero z ≤ last (seen start past)
+  taken_last ticket q z r [] a = absurd a
+  taken_last ticket q z r (x ∷ past) (inl e) =
+      subst (λ y. from_zero z ≤ last (item_of y ++ seen start past)) e (omega arith)
+  taken_last ticket q z r (x ∷ past) (inr a) =
+      item_last (item_of x) (seen start past) (from_zero z) (taken_last ticket q z r past a)
+
+  pub replies_rise_at : (items : List Item) → AllAsked items → ServedAt P h start items → RepliesRise (past_of start items)
+  replies_rise_at items asked served since before ticket other question its zxid earlier result given e a =
+      let stands = stands_here items asked served in
+      let low = taken_last other its earlier given before a in
+      by (after_at (WasSentAt served.entries) since ticket question zxid result before
+      (subst (λ past. IsCalmAt P h start (WasSentAt served.entries) past) e stands.calm)) low
+    where
+      by : IsAfter start before zxid result → from_zero earlier ≤ last (seen start before)
+          → (from_zero earlier ≤ from_zero zxid) ⊎ IsDenial zxid result
+      by (inl le) low = inl (omega arith)
+      by (inr denial) low = inr denial
+
+  among_middle : (x : Happening) (since before : Past) → Among x (since ++ x ∷ before)
+  among_middle x [] before = inl refl
+  among_middle x (y ∷ since) before = inr (among_middle x since before)
+
+  pub reads_follow_at : (items : List Item) → AllAsked items → ServedAt P h start items → ReadsFollow P h (past_of start items)
+  reads_follow_at items asked served since before ticket other question its zxid earlier result given e a plain = (
+    by (replies_rise_at items asked served since before ticket other question its zxid earlier result given e a),
+    reads_at items asked served ticket question zxid result
+        (subst (λ past. Among (Takes_in (Answers_call ticket question zxid result)) past) (sym e)
+        (among_middle (Takes_in (Answers_call ticket question zxid result)) since before)),
+  )
+    where
+      by : (from_zero earlier ≤ from_zero zxid) ⊎ IsDenial zxid result → from_zero earlier ≤ from_zero zxid
+      by (inl le) = le
+      by (inr denial) = absurd (plain denial)
 
   pub headline_at : (items : List Item) (view : View) → Stands start items view → (served : ServedAt P h start items)
       → HeadlineAt P h start items view served.entries

@@ -7,5 +7,6 @@ pub mod Taking_at
 pub mod Meeting_at
 pub mod Moving_at
 pub mod Headlines_at
+pub mod Asking_later
 pub mod Following
 pub mod Everywhere

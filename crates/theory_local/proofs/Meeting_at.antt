@@ -44,12 +44,12 @@ use Rattle.zk_laws.proofs.Framed.{reads_expired}
 use Rattle.zk_laws.proofs.Flight.{owes_parts, requests_parts, unread_more}
 use Rattle.theory_local.proofs.Kept_at.{IsOpeningAt, IsStartingAt, IsTalkingAt, IsKeptAt, IsLow, not_behind, start_joins, talking_right}
 use Rattle.theory_local.proofs.Flow.{Tail, Nothing_more, Failure, tail_bytes, IsForAt, IsLetterAt, IsFlow, IsTail, IsSpelt, IsGivenAt}
-use Rattle.theory_local.proofs.Flow.{IsAnsweredFor, AnswersFirstAt, IsAnswered, IsCalmAt, Stands_at, reads_refusal, reads_denial}
+use Rattle.theory_local.proofs.Flow.{IsAfter, IsAnsweredFor, AnswersFirstAt, IsAnswered, IsCalmAt, Stands_at, reads_refusal, reads_denial}
 use Rattle.theory_local.specs.LocalHeadline.{IsDenial}
 use Rattle.zk_laws.specs.Server.{HasCode}
 use Rattle.zk_turns.specs.Spelled.{IsHeaded}
 use Rattle.zk_conversation.specs.Questions.{Question}
-use Rattle.zk_conversation.specs.Results.{Result, NoNode, Refused, Found, Read, Listing, Made, Done}
+use Rattle.zk_conversation.specs.Results.{Result, NoNode, Refused, Found, Read, Listing, Made, Done, Brought}
 use Rattle.theory_local.proofs.Taking_at.{ticked, denied, came, lost, dropped, began, asked, pinged, still, talking_of, took_notice}
 use Rattle.theory_local.proofs.Taking_at.{took_pong, took_part, took_reply, and_false}
 
@@ -213,16 +213,20 @@ module _ (P : Text → Type 0) (h : History) (start : Start) (Was : List ℕ →
   told_of past call z r (inr low) given = inr (denial_of z r low)
   told_of past call z r (inl le) (inr low) = inr (denial_of z r low)
 
+  after_of : (past : Past) (z : ℕ) (r : Result) → (last (seen start past) ≤ z) ⊎ IsLow z r → IsAfter start past (pos z) r
+  after_of past z r (inl le) = inl le
+  after_of past z r (inr low) = inr (denial_of z r low)
+
   module _ (past : Past) (wire : Wire) (q : Question) (z : ℕ) (res : Result) (xid : ℤ) (p : List ℕ) (ps : List Asking) (ls : List Letter)
       (tail : Tail) (talks : is_talking (state_of past) ≡ true)
       (g : IsFlow P h start Was past wire (record { message = Replies q z res; payload = p; xid = xid; asked = ps } ∷ ls) tail)
       (calm : IsCalmAt P h start Was past) (counted : Counted past) (coming : wire.coming ≡ frames ls ++ tail_bytes tail) where
     -- the reply is read with this zxid
-    reply_taken : (zxid : ℤ) → from_zero zxid ≡ z → IsAnsweredFor P h start Was g.are.0.is_for.2 zxid res
+    reply_taken : (zxid : ℤ) → from_zero zxid ≡ z → IsAnsweredFor P h start Was g.are.0.is_for.2 zxid res → IsAfter start past zxid res
         → reading Connected (record { xid = pos g.are.0.is_for.1; waiting = Call_waits g.are.0.is_for.0 q }
         ∷ map pending_for (answers ls ++ g.owed)) (last_of start past) p ≡ Takes_in (Answers_call g.are.0.is_for.0 q zxid res)
         → Stands_at P h start Was (reading Connected (pending_of past) (last_of start past) p ∷ past) wire
-    reply_taken zxid same told read =
+    reply_taken zxid same told after read =
         let f = g.are.0.is_for in
         let x : Asking = For_call f.1 f.0 f.2 in
         let first : awaited past ≡ x ∷ (answers ls ++ g.owed) = g.pending ∙ ap (λ l. l ++ answers ls ++ g.owed) f.5 in
@@ -230,7 +234,7 @@ module _ (P : Text → Type 0) (h : History) (start : Start) (Was : List ℕ →
         ap (map pending_for) first
         ∙ ap (λ t. record { xid = pos f.1; waiting = Call_waits f.0 t } ∷ map pending_for (answers ls ++ g.owed)) f.4 in
         let holds : IsAnswered P h start Was f.0 q zxid res past =
-        subst (λ l. AnswersFirstAt P h start Was f.0 q zxid res l) (sym first) (refl, f.4, told) in
+        (subst (λ l. AnswersFirstAt P h start Was f.0 q zxid res l) (sym first) (refl, f.4, told), after) in
         subst (λ t. Stands_at P h start Was (t ∷ past) wire) (sym (ap (λ l. reading Connected l (last_of start past) p) mine ∙ read))
         (took_reply P h start Was past wire q z zxid same res xid p ps ls tail talks g calm counted coming f.0 x first holds)
 
@@ -244,7 +248,7 @@ module _ (P : Text → Type 0) (h : History) (start : Start) (Was : List ℕ →
         (record { message = Replies q z res; payload = p; xid = xid; asked = ps } ∷ ls) tail talks g in
         let behind : is_behind (seen start past) (Replies q z res) ≡ false =
         not_behind (seen start past) (Replies q z res) (messages ls) _ t.rises in
-        reply_taken (pos z) refl (told_of past f.2 z res t.rises.0 f.6)
+        reply_taken (pos z) refl (told_of past f.2 z res t.rises.0 f.6) (after_of past z res t.rises.0)
         (reads_reply (map pending_for (answers ls ++ g.owed)) (last_of start past) f.1 f.0 q z res p (coded_of f.2 z res f.6) spelt
         (ap (λ t. is_some (left_by q res) && nat_lt z t) (sym (last_is start past)) ∙ behind))
 
@@ -257,7 +261,7 @@ module _ (P : Text → Type 0) (h : History) (start : Start) (Was : List ℕ →
       reply_plain past wire q z (Refused code) xid p ps ls tail talks g calm counted coming s
   reply_read past wire q z (Refused code) xid p ps ls tail talks g calm counted coming (inr d) =
       let f = g.are.0.is_for in
-      reply_taken past wire q z (Refused code) xid p ps ls tail talks g calm counted coming d.1 (d.3 ∙ sym d.0) (inr d.3)
+      reply_taken past wire q z (Refused code) xid p ps ls tail talks g calm counted coming d.1 (d.3 ∙ sym d.0) (inr d.3) (inr d.3)
       (reads_denial (map pending_for (answers ls ++ g.owed)) (last_of start past) f.1 f.0 q d.1 code p d.2 d.4
       (subst (λ t. IsHeaded t d.1 code p d.2) f.3 d.5))
   reply_read past wire q z NoNode xid p ps ls tail talks g calm counted coming s =
@@ -272,6 +276,8 @@ module _ (P : Text → Type 0) (h : History) (start : Start) (Was : List ℕ →
       reply_plain past wire q z (Made at) xid p ps ls tail talks g calm counted coming s
   reply_read past wire q z Done xid p ps ls tail talks g calm counted coming s =
       reply_plain past wire q z Done xid p ps ls tail talks g calm counted coming s
+  reply_read past wire q z (Brought bytes) xid p ps ls tail talks g calm counted coming s =
+      reply_plain past wire q z (Brought bytes) xid p ps ls tail talks g calm counted coming s
 
   -- a later payload
   talking_read : (past : Past) (wire : Wire) (m : Message) (xid : ℤ) (p : List ℕ) (ps : List Asking) (ls : List Letter) (tail : Tail)

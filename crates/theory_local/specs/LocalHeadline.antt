@@ -1,9 +1,9 @@
 -- What holds of a client whose servers keep to the model at some paths.
-use Rattle.std.specs.Prelude.{ℕ, ℤ, pos, ◌≡◌, ◌≢◌, ◌<◌, ◌≤◌, true, List, [], map, length, ◌⊎◌, Some}
+use Rattle.std.specs.Prelude.{ℕ, ℤ, pos, ◌≡◌, ◌≢◌, ◌<◌, ◌≤◌, true, List, [], ◌∷◌, ◌++◌, map, length, ◌⊎◌, Some}
 use Rattle.zk_nodes.specs.Path.{Text, path_of}
 use Rattle.zk_nodes.specs.History.{Tree, History, tree_at, view as to_see}
 use Rattle.zk_conversation.specs.Calls.{Call}
-use Rattle.zk_conversation.specs.Questions.{question_of}
+use Rattle.zk_conversation.specs.Questions.{Question, question_of}
 use Rattle.zk_conversation.specs.Results.{Result, Refused}
 use Rattle.zk_nodes.specs.declared.side.Side.TheVariants.{Data, Child}
 use Rattle.zk_frames.specs.declared.fault.FrameFault.TheVariants.{TooLong}
@@ -11,7 +11,7 @@ use Rattle.zk_cache.specs.declared.held.Kept.{Kept}
 use Rattle.zk_cache.specs.Kept.{Answer, Names}
 use Rattle.zk_cache.specs.declared.held.Mark.TheVariants.{Good}
 use Rattle.zk_limits.specs.declared.limits.TheConstants.{LONGEST_INCOMING}
-use Rattle.zk_turns.specs.Past.{Asked, is_talking, state_of, held_of, Took as Takes_in, Replies as Answers_call}
+use Rattle.zk_turns.specs.Past.{Past, Asked, is_talking, state_of, held_of, Took as Takes_in, Replies as Answers_call}
 use Rattle.zk_turns.specs.Turns.{Framed, WatchesRefused, Start, Fault, Silent, Item, Replied, Drop, Answer as Answers}
 use Rattle.zk_turns.specs.Sent.{outputs_of}
 use Rattle.zk_turns.specs.View.{View, Cache}
@@ -57,6 +57,34 @@ IsDueAt entries fault =
 abbrev pub IsDenial : ℤ → Result → Type 0
 IsDenial zxid (Refused code) = from_zero zxid ≡ 0
 IsDenial zxid _ = ⊥
+
+-- Of two replies that were taken the later has no lower zxid, unless it refuses so.
+abbrev pub RepliesRise : Past → Type 0
+RepliesRise past = (since before : Past) (ticket other : ℕ) (question its : Question) (zxid earlier : ℤ) (result given : Result)
+    → past ≡ since ++ Takes_in (Answers_call ticket question zxid result) ∷ before
+    → Among (Takes_in (Answers_call other its earlier given)) before
+    → (from_zero earlier ≤ from_zero zxid) ⊎ IsDenial zxid result
+
+-- A reply that was taken after another one, and that refuses nothing so, is to a call with its question; where that is about one of these
+-- paths, it is true of a tree that is not before the other's zxid.
+abbrev pub ReadsFollow : (Text → Type 0) → History → Past → Type 0
+ReadsFollow P h past = (since before : Past) (ticket other : ℕ) (question its : Question) (zxid earlier : ℤ) (result given : Result)
+    → past ≡ since ++ Takes_in (Answers_call ticket question zxid result) ∷ before
+    → Among (Takes_in (Answers_call other its earlier given)) before → (IsDenial zxid result → ⊥)
+    → (from_zero earlier ≤ from_zero zxid)
+    × ((call : Call) × Among (Asked ticket call) past × (question_of call ≡ question)
+    × (IsAbout P call → Reads (tree_at h (from_zero zxid)) question result))
+
+-- Of a client that has come through earlier items, in which it was told a reply with this zxid, and then through more: an answer to a call
+-- that was not asked before, and that refuses nothing so, is of a tree that is not before it.
+abbrev pub AnswersFollow : (Text → Type 0) → History → Start → (more earlier : List Item) → Type 0
+AnswersFollow P h start more earlier = (first ticket : ℕ) (told zxid : ℤ) (given result : Result)
+    → Among (Answers first (Replied told given)) (outputs_of earlier)
+    → Among (Answers ticket (Replied zxid result)) (outputs_of (more ++ earlier))
+    → ((call : Call) → Among (Asked ticket call) (past_of start earlier) → ⊥) → (IsDenial zxid result → ⊥)
+    → (from_zero told ≤ from_zero zxid)
+    × ((call : Call) × Among (Asked ticket call) (past_of start (more ++ earlier))
+    × (IsAbout P call → Reads (tree_at h (from_zero zxid)) (question_of call) result))
 
 -- All of it at once: what is good at these paths is the history's at the last seen zxid; each Answer with a reply's zxid is of a reply
 -- that was taken, to a call that was asked with its ticket, true where that is about one of these paths, and not below the zxid that the

@@ -28,6 +28,7 @@ IsAbout P (call.SetData path content version) = P path
 IsAbout P (call.Create path content mode) = P path
 IsAbout P (call.Delete path version) = P path
 IsAbout P call.Close = ⊥
+IsAbout P (call.Raw operation bytes) = ⊥
 
 -- A call about one of these paths is answered as by the model. Any other may have any result: where that is a code, it is neither 0
 -- nor -101, since with these another result is read.

@@ -13,6 +13,7 @@ ghost use Rattle.zk_conversation.specs.Results.{Result};
 ghost use Rattle.zk_turns.specs.Turns.{Start, Item as Client_item};
 ghost use Rattle.zk_turns.specs.View.{View, Cache};
 ghost use Rattle.zk_turns.specs.Past.{Past};
+ghost use Rattle.zk_turns.specs.Taken.{past_of};
 ghost use Rattle.zk_turns.specs.Spelled.{IsHeaded};
 ghost use Rattle.zk_turns.specs.Rule.{Stands};
 ghost use Rattle.zk_laws.specs.Server.{HasCode, IsOther, Notice};
@@ -24,6 +25,7 @@ ghost use Rattle.theory_local.specs.LocalSteps.{IsOf, IsAbout, AreToldAt, MayDoA
 ghost use Rattle.theory_local.specs.LocalServed.{LocalEntry, Tells, Denies, Fails, MayEnterAt, items_at, wire_at, local_of, IsServingAt};
 ghost use Rattle.theory_local.specs.LocalServed.{ServedAt};
 ghost use Rattle.theory_local.specs.LocalHeadline.{IsTrueAt, IsCoherentAt, IsQuietAfter, tree_after, HeadlineAt};
+ghost use Rattle.theory_local.specs.LocalHeadline.{AnswersFollow, RepliesRise, ReadsFollow};
 
 /// The headline at some paths: what servers answer and tell elsewhere does not touch what is good there, nor which answers are true there.
 pub fn local_headline()
@@ -44,6 +46,20 @@ pub fn local_quiet()
     ensures { (paths : Text → Bool) (h : History) → IsHistory h → (start : Start) (entries : List LocalEntry) (view : View)
         → IsServingAt (IsOf paths) h start entries → Stands start (items_at entries) view
         → IsQuietAfter h start entries → IsTrueAt (IsOf paths) (tree_after h entries) view.cache }
+{}
+
+/// Of two replies that were taken, on one connection or on two, the later has no lower zxid (`rise`), unless it refuses a call with the
+/// zxid 0 or one below: whatever the calls were about, and whichever servers answered. So a read whose reply was taken after that to a
+/// write, and that is about one of these paths, is true of a tree that has this write (`reads`). A program sees that by the order in which
+/// it asks: what it asks after it was told of its write is answered so (`answers`).
+pub fn replies_rise()
+    ensures rise { (paths : Text → Bool) (h : History) → IsHistory h → (start : Start) (items : List Client_item) (view : View)
+        → Stands start items view → ServedAt (IsOf paths) h start items → RepliesRise (past_of start items) }
+    ensures reads { (paths : Text → Bool) (h : History) → IsHistory h → (start : Start) (items : List Client_item) (view : View)
+        → Stands start items view → ServedAt (IsOf paths) h start items → ReadsFollow (IsOf paths) h (past_of start items) }
+    ensures answers { (paths : Text → Bool) (h : History) → IsHistory h → (start : Start) (more earlier : List Client_item) (view : View)
+        → Stands start (more ++ earlier) view → ServedAt (IsOf paths) h start (more ++ earlier)
+        → AnswersFollow (IsOf paths) h start more earlier }
 {}
 
 /// Servers that keep to the model keep to it at any paths (`serving`, `served`), with the same items and the same server; fewer paths

@@ -8,7 +8,7 @@ use Rattle.std.specs.List.{AllByRecursion}
 use Rattle.zk_frames.specs.Frame.{frame, joined, length_field}
 use Rattle.zk_nodes.specs.History.{Change, History}
 use Rattle.zk_watches.specs.Lists.{Lists}
-use Rattle.zk_conversation.specs.Calls.{Call, Exists, GetData, GetChildren, SetData, Create, Delete, Close}
+use Rattle.zk_conversation.specs.Calls.{Call, Exists, GetData, GetChildren, SetData, Create, Delete, Close, Raw}
 use Rattle.zk_conversation.specs.Questions.{question_of}
 use Rattle.zk_conversation.specs.Results.{Result}
 use Rattle.zk_turns.specs.Turns.{Start, Output, Forgets, Bytes, Cut, Now, Call as Calling}
@@ -51,6 +51,7 @@ answered h entries (SetData path content version) result payloads other = record
 answered h entries (Create path content mode) result payloads other = record { place = refl; watches = λ side path. refl; stage = refl }
 answered h entries (Delete path version) result payloads other = record { place = refl; watches = λ side path. refl; stage = refl }
 answered h entries Close result payloads other = absurd (other refl)
+answered h entries (Raw operation bytes) result payloads other = record { place = refl; watches = λ side path. refl; stage = refl }
 
 pub closed : (h : History) (entries : List Entry) (result : Result) (payloads : List (List ℕ))
     → (end_of h (Serves (Answers Close result) payloads ∷ entries)).stage ≡ Ended

@@ -8,7 +8,7 @@ use Rattle.zk_cache.specs.Kept.{Answer, Names, good, is_marked_good}
 use Rattle.zk_cache.specs.declared.held.Kept.{Kept}
 use Rattle.zk_cache.specs.declared.held.Mark.{Mark}
 use Rattle.zk_cache.specs.declared.held.Mark.TheVariants.{Good, Stale}
-use Rattle.zk_conversation.specs.Questions.{Question, Exists, GetData, GetChildren, SetData, Create, Delete, Close}
+use Rattle.zk_conversation.specs.Questions.{Question, Exists, GetData, GetChildren, SetData, Create, Delete, Close, Raw}
 use Rattle.zk_conversation.specs.Results.{Result}
 use Rattle.zk_laws.proofs.Outputs.{among_split}
 use Rattle.zk_laws.specs.Headline.{IsQuietAt, tree_of, IsTrueOf}
@@ -154,6 +154,7 @@ module _ {A : Type 0} where
   not_replied (SetData at) left path is = not_left left path is
   not_replied (Create at) left path is = not_left left path is
   not_replied (Delete at) left path is = not_left left path is
+  not_replied Raw left path is = not_left left path is
 
   noticed : (side : Side) (path at : Text) (event : Event) (is_about same : Bool) → is_about ≡ concerns event side → same ≡ bytes_eq at path
       → (let w : Word A = cond (is_about && same) Ends Nothing in w ≡ Ends) → IsNoticeOf side path (Took (Notifies event at))

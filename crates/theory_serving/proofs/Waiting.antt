@@ -46,6 +46,7 @@ path_of_call (call.SetData path content version) p = tt
 path_of_call (call.Create path content mode) p = tt
 path_of_call (call.Delete path version) p = tt
 path_of_call call.Close p = tt
+path_of_call (call.Raw operation bytes) p = tt
 
 short_paths : (texts : List Text) → AllByRecursion (IsShort IsPath) texts → AllByRecursion IsPath texts
 short_paths [] a = tt

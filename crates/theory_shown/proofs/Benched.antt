@@ -6,7 +6,11 @@ use Rattle.zk_link.specs.FarEnds.{FarEnd}
 use Rattle.theory_serving.specs.Shown.{connected, more_requests}
 use Rattle.zk_history.specs.HistoryView.{history_of, HistoryView}
 use Rattle.zk_client.specs.Clients.{view_of}
-use Rattle.zk_conclusions.proofs.Truths.{coherent}
+use Rattle.zk_client.proofs.Holding.{holds_here}
+use Rattle.zk_conclusions.specs.Seen.{IsServedFrom}
+use Rattle.zk_laws.specs.Headline.{IsCoherentWith}
+use Rattle.zk_nodes.specs.History.{History}
+use Rattle.zk_turns.specs.View.{View}
 use Rattle.zk_bench.specs.declared.phase.Phase.{Phase}
 use Rattle.zk_bench.specs.declared.phase.Phase.TheVariants.{Accepted, Apart, Ended, Opening}
 use Rattle.zk_bench.specs.Served.{is_open, with_requests, Served}
@@ -127,6 +131,10 @@ benches_serve_bytes A far old new after drives = bytes_serve old new (shown_of a
 
 pub benches_cohere : (A : Type 0) (far : FarEnd) → BenchesCohere A far ByStream
 benches_cohere A far old new after drives = streams_cohere old new (shown_of after) (as_servers ByStream old new after drives)
+
+-- the good answers of a client that was served from a history are the history's
+coherent : (h : History) (view : View) → IsServedFrom h view → IsCoherentWith h view
+coherent h view seen = ((holds_here seen.start seen.items view seen.stands).served.coherent h seen.history seen.served).coherent
 
 pub benches_cohere_bytes : (A : Type 0) (far : FarEnd) → BenchesCohere A far ByDriver
 benches_cohere_bytes A far old new after drives =

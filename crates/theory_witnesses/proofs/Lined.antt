@@ -8,7 +8,11 @@ use Rattle.zk_nodes.specs.History.{Node, Tree, made, apply_all, after, tree_at, 
 use Rattle.theory_messages.specs.Example.{root_alone}
 use Rattle.theory_messages.proofs.Shown.{is_history}
 use Rattle.zk_conclusions.specs.Holders.{is_before, IsHolder, NamesRise}
-use Rattle.theory_witnesses.specs.Rising.{line, in_line, first_name, second_name, first_comes, second_comes, first_goes, two_in_line}
+use Rattle.zk_conclusions.specs.Numbers as by_number
+use Rattle.zk_conclusions.specs.Standings.{IsStanding, ListsAll, NumbersRise}
+use Rattle.zk_conclusions.specs.Tags.{AreMadeBy}
+use Rattle.theory_witnesses.specs.Rising.{line, in_line, numbered, first_name, second_name, first_comes, second_comes, first_goes}
+use Rattle.theory_witnesses.specs.Rising.{two_in_line}
 
 -- what is there in the line, and since when
 abbrev IsMade : Name → Node → Type 0
@@ -99,7 +103,7 @@ pub first_holds : IsHolder (tree_at two_in_line 6) line in_line (first_name ∷ 
 first_holds = record {
   own = first_name;
   below = refl;
-  begins = (49 ∷ [], refl);
+  begins = (48 ∷ 48 ∷ 48 ∷ 48 ∷ 48 ∷ 48 ∷ 48 ∷ 48 ∷ 48 ∷ 49 ∷ [], refl);
   node = made 5 (pos 1000) None (pos 7);
   there = refl;
   owner = refl;
@@ -116,7 +120,7 @@ pub second_holds : IsHolder (tree_at two_in_line 9) line in_line (second_name �
 second_holds = record {
   own = second_name;
   below = refl;
-  begins = (50 ∷ [], refl);
+  begins = (48 ∷ 48 ∷ 48 ∷ 48 ∷ 48 ∷ 48 ∷ 48 ∷ 48 ∷ 48 ∷ 50 ∷ [], refl);
   node = made 6 (pos 2000) None (pos 8);
   there = refl;
   owner = refl;
@@ -130,6 +134,70 @@ second_holds = record {
     go name there (inl e) = let gone : is_some (tree_at two_in_line 9 (first_name ∷ line)) ≡ true =
         subst (λ (n : Name). is_some (tree_at two_in_line 9 (n ∷ line)) ≡ true) e there in absurd cc
     go name there (inr e) = ap (λ (n : Name). is_before n second_name) e
+
+-- ---- by numbers
+
+pub numbers_rise : NumbersRise two_in_line line numbered
+numbers_rise zxid one other node its e f p q before = go (made_at zxid one node e) (made_at zxid other its f)
+  where
+    go : IsMade one node → IsMade other its → node.czxid ≤ its.czxid
+    go (inl a) (inl b) = let x = a.1 in let y = b.1 in omega (arith, x, y)
+    go (inl a) (inr b) = let x = a.1 in let y = b.1 in omega (arith, x, y)
+    go (inr a) (inl b) =
+        let wrong : by_number.is_before second_name first_name ≡ true =
+        subst (λ (n : Name). by_number.is_before second_name n ≡ true) b.0
+        (subst (λ (n : Name). by_number.is_before n other ≡ true) a.0 before) in
+        absurd cc
+    go (inr a) (inr b) = let x = a.1 in let y = b.1 in omega (arith, x, y)
+
+pub first_stands : IsStanding (tree_at two_in_line 6) line numbered (first_name ∷ line) (pos 7) (pos 5)
+first_stands = record {
+  own = first_name;
+  below = refl;
+  numbered = refl;
+  node = made 5 (pos 1000) None (pos 7);
+  there = refl;
+  owner = refl;
+  owned = λ e. absurd cc;
+  made = refl;
+  first = λ name there rival. go name (names_at 6 name there);
+}
+  where
+    go : (name : Name) → (name ≡ first_name) ⊎ (name ≡ second_name) → by_number.is_before name first_name ≡ false
+    go name (inl e) = ap (λ (n : Name). by_number.is_before n first_name) e
+    go name (inr e) = ap (λ (n : Name). by_number.is_before n first_name) e
+
+-- at 9 the second is there alone
+second_alone : (name : Name) → is_some (tree_at two_in_line 9 (name ∷ line)) ≡ true → name ≡ second_name
+second_alone name there = go (names_at 9 name there)
+  where
+    go : (name ≡ first_name) ⊎ (name ≡ second_name) → name ≡ second_name
+    go (inl e) = let gone : is_some (tree_at two_in_line 9 (first_name ∷ line)) ≡ true =
+        subst (λ (n : Name). is_some (tree_at two_in_line 9 (n ∷ line)) ≡ true) e there in absurd cc
+    go (inr e) = e
+
+pub second_stands : IsStanding (tree_at two_in_line 9) line numbered (second_name ∷ line) (pos 8) (pos 6)
+second_stands = record {
+  own = second_name;
+  below = refl;
+  numbered = refl;
+  node = made 6 (pos 2000) None (pos 8);
+  there = refl;
+  owner = refl;
+  owned = λ e. absurd cc;
+  made = refl;
+  first = λ name there rival. ap (λ (n : Name). by_number.is_before n second_name) (second_alone name there);
+}
+
+pub second_listed : ListsAll (tree_at two_in_line 9) line (second_name ∷ [])
+second_listed name there = inl (second_alone name there)
+
+pub all_made_by : AreMadeBy two_in_line line in_line (pos 8) 6
+all_made_by zxid name node e tagged owner = go (made_at zxid name node e)
+  where
+    go : IsMade name node → node.czxid ≤ 6
+    go (inl a) = let x = a.1 in omega (arith, x)
+    go (inr a) = let x = a.1 in omega (arith, x)
 
 childless : (child : Name) → after (first_comes ∷ second_comes ∷ []) root_alone (child ∷ first_name ∷ line) ≡ None
 childless child = go (bytes_eq child second_name) (bytes_eq child first_name) _ _

@@ -9,6 +9,7 @@ use Rattle.zk_frames.specs.Frame.{frame}
 use Rattle.zk_turns.specs.Turns.{Input, Bytes, Cut, Call, Item, Turned, signals_of, Opened as Opening}
 use Rattle.zk_turns.specs.Taken.{past_of}
 use Rattle.zk_turns.specs.Rule.{due_signals}
+use Rattle.zk_turns.specs.View.{View, view_at}
 use Rattle.zk_laws.specs.ServerSteps.{Admits, Answers}
 use Rattle.theory_messages.specs.Example.{at_a, read_a, what_a_held}
 use Rattle.theory_messages.specs.Meeting_example.{new_client, welcome_payload, reply_begins, reply_ends, until_accepted}
@@ -90,3 +91,7 @@ abbrev pub until_refused : List LocalEntry
 until_refused =
     let refused : List LocalEntry = Fails refusal_payload (9 ∷ 9 ∷ []) ∷ until_back in
     Goes 0 (local_turn refused (Bytes (frame refusal_payload))) ∷ refused
+
+-- what the client shows then
+abbrev pub shown_apart : View
+shown_apart = view_at new_client (past_of new_client (items_at until_refused))

@@ -1,7 +1,9 @@
--- A history in which two sessions wait in line: session 7 makes /n-1 at 5 and session 8 makes /n-2 at 6; at 9 session 7 is over.
+-- A history in which two sessions wait in line: session 7 makes /n-0000000001 at 5 and session 8 makes /n-0000000002 at 6; at 9 session 7
+-- is over.
 use Rattle.std.specs.Prelude.{pos, [], ◌∷◌, None}
 use Rattle.zk_nodes.specs.Path.{Name, NodePath}
 use Rattle.zk_nodes.specs.History.{Creates, Deletes, Transaction, History}
+use Rattle.zk_conclusions.specs.Numbers.{Kind}
 use Rattle.theory_messages.specs.Example.{root_alone}
 
 abbrev pub line : NodePath
@@ -11,10 +13,14 @@ abbrev pub in_line : Name
 in_line = 110 ∷ 45 ∷ []
 
 abbrev pub first_name : Name
-first_name = 110 ∷ 45 ∷ 49 ∷ []
+first_name = 110 ∷ 45 ∷ 48 ∷ 48 ∷ 48 ∷ 48 ∷ 48 ∷ 48 ∷ 48 ∷ 48 ∷ 48 ∷ 49 ∷ []
 
 abbrev pub second_name : Name
-second_name = 110 ∷ 45 ∷ 50 ∷ []
+second_name = 110 ∷ 45 ∷ 48 ∷ 48 ∷ 48 ∷ 48 ∷ 48 ∷ 48 ∷ 48 ∷ 48 ∷ 48 ∷ 50 ∷ []
+
+-- each is a rival of each
+abbrev pub numbered : Kind
+numbered = record { own = in_line; against = in_line ∷ [] }
 
 abbrev pub first_comes : Transaction
 first_comes = record { zxid = 5; time = pos 1000; changes = Creates (first_name ∷ line) None (pos 7) ∷ [] }

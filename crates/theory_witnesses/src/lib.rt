@@ -10,9 +10,12 @@ ghost use Rattle.zk_nodes.specs.History.{IsHistory, tree_at};
 ghost use Rattle.theory_messages.specs.Example.{at_a, fields_at_five};
 ghost use Rattle.theory_serving.specs.Whole_example.{three_changes, until_expired, until_lost, until_written};
 ghost use Rattle.zk_conclusions.specs.Holders.{IsHolder, NamesRise};
-ghost use Rattle.zk_conclusions.specs.Seen.{IsServedFrom};
+ghost use Rattle.zk_conclusions.specs.Seen.{IsServedAt, IsServedFrom, tree_seen};
+ghost use Rattle.zk_conclusions.specs.Snapshots.{IsOfOneTree};
+ghost use Rattle.zk_conclusions.specs.Standings.{IsStanding, ListsAll, NumbersRise};
+ghost use Rattle.zk_conclusions.specs.Tags.{AreMadeBy};
 ghost use Rattle.theory_witnesses.specs.Met.{shown_after};
-ghost use Rattle.theory_witnesses.specs.Rising.{first_name, in_line, line, second_name, two_in_line};
+ghost use Rattle.theory_witnesses.specs.Rising.{first_name, in_line, line, numbered, second_name, two_in_line};
 ghost use Rattle.std.specs.Prelude.{negsuc};
 ghost use Rattle.zk_nodes.specs.History.{History};
 ghost use Rattle.zk_turns.specs.Turns.{WatchesRefused};
@@ -27,7 +30,7 @@ ghost use Rattle.theory_messages.specs.Example.{two_changes};
 ghost use Rattle.theory_messages.specs.Meeting_example.{new_client};
 ghost use Rattle.theory_local.specs.LocalSteps.{IsOf};
 ghost use Rattle.theory_local.specs.LocalServed.{items_at, IsServingAt};
-ghost use Rattle.theory_witnesses.specs.Departure_example.{only_a, until_config, until_refused};
+ghost use Rattle.theory_witnesses.specs.Departure_example.{only_a, shown_apart, until_config, until_refused};
 
 /// The client of `whole_schedule` is served from the history (`IsServedFrom`): where its connection is lost and its answer is good
 /// (`lost`, `kept`), after a second connection and a write that was answered (`written`, `last`), and where its session has expired.
@@ -45,6 +48,24 @@ pub fn names_rise_in_line()
     ensures rise { NamesRise two_in_line line in_line }
     ensures first { IsHolder (tree_at two_in_line 6) line in_line (first_name ∷ line) (pos 7) (pos 5) }
     ensures second { IsHolder (tree_at two_in_line 9) line in_line (second_name ∷ line) (pos 8) (pos 6) }
+{}
+
+/// Numbers rise with creation there too (`NumbersRise`), by the ten digits at the end of both names: one session stands first by the token
+/// 5, and after it the other by 6, which a listing at 9 shows (`listed`). Each node that the other made with its tag was made by the zxid
+/// of the answer to its last create (`AreMadeBy`).
+pub fn numbers_rise_in_line()
+    ensures rise { NumbersRise two_in_line line numbered }
+    ensures first { IsStanding (tree_at two_in_line 6) line numbered (first_name ∷ line) (pos 7) (pos 5) }
+    ensures second { IsStanding (tree_at two_in_line 9) line numbered (second_name ∷ line) (pos 8) (pos 6) }
+    ensures listed { ListsAll (tree_at two_in_line 9) line (second_name ∷ []) }
+    ensures made { AreMadeBy two_in_line line in_line (pos 8) 6 }
+{}
+
+/// The client of `departing_schedule` is served from the history at /a (`served`), though no history explains each of its reads by servers
+/// of the model (`departs` there). So what it shows of /a is of one tree (`tree`).
+pub fn departing_client_is_served()
+    ensures served { IsServedAt (IsOf only_a) two_changes shown_apart }
+    ensures tree { IsOfOneTree (tree_seen two_changes shown_apart) shown_apart.cache (at_a ∷ []) [] }
 {}
 
 /// A schedule whose server departs from the model at another path meets the premise at /a, and so its client has what `local_headline`

@@ -8,7 +8,7 @@ use Rattle.std.proofs.lemmas.Bool.Decides.{Decides-eqb}
 use Rattle.std.proofs.lemmas.List.Folds.{list_any-append}
 use Rattle.std.proofs.lemmas.Slice.Eq.{bytes_eq-Decides}
 use Rattle.zk_conversation.specs.Pending.{Pending, Waiting, Part_waits, Call_waits}
-use Rattle.zk_conversation.specs.Questions.{question_of, Question, Exists, GetData, GetChildren, SetData, Create, Delete, Close}
+use Rattle.zk_conversation.specs.Questions.{question_of, Question, Exists, GetData, GetChildren, SetData, Create, Delete, Close, Raw}
 use Rattle.zk_conversation.specs.Views.{call_view}
 use Rattle.zk_turns.specs.Turns.{Outcome, Output, Answer, Enters, Send, Report, Drop, Turn}
 use Rattle.zk_turns.specs.View.{View}
@@ -54,6 +54,7 @@ same_question (SetData path) = same_text path
 same_question (Create path) = same_text path
 same_question (Delete path) = same_text path
 same_question Close = refl
+same_question Raw = refl
 
 is_path : (path other : List ℕ) → bytes_eq path other ≡ true → path ≡ other
 is_path path other e = (bytes_eq-Decides path other).0 e
@@ -72,6 +73,7 @@ is_that (SetData path) (SetData other) e = ap SetData (is_path path other e)
 is_that (Create path) (Create other) e = ap Create (is_path path other e)
 is_that (Delete path) (Delete other) e = ap Delete (is_path path other e)
 is_that Close Close e = refl
+is_that Raw Raw e = refl
 is_that question other e = absurd cc
 
 either : (a b : Bool) → b ≡ true → (a || b) ≡ true

@@ -4,7 +4,7 @@ use Rattle.std.specs.Prelude.{if◌then◌else◌}
 use Rattle.std.specs.List.{count_by, list_any}
 use Rattle.zk_session.specs.declared.states.State.TheVariants.{Connected}
 use Rattle.zk_conversation.specs.Pending.{Pending, Part_waits, Call_waits, calls_pending}
-use Rattle.zk_conversation.specs.Questions.{question_of, Question, Exists, GetData, GetChildren, SetData, Create, Delete, Close}
+use Rattle.zk_conversation.specs.Questions.{question_of, Question, Exists, GetData, GetChildren, SetData, Create, Delete, Close, Raw}
 use Rattle.zk_conversation.specs.Views.{call_view}
 use Rattle.zk_turns.specs.Turns.{Outcome, Output, Answer, Enters, Input}
 use Rattle.zk_turns.specs.Turns as turns
@@ -72,6 +72,7 @@ is_question (SetData path) (SetData other) = bytes_eq path other
 is_question (Create path) (Create other) = bytes_eq path other
 is_question (Delete path) (Delete other) = bytes_eq path other
 is_question Close Close = true
+is_question Raw Raw = true
 is_question question other = false
 
 -- whether what waits for its reply is this call, by its ticket and its question

@@ -1,6 +1,6 @@
 -- Which request stands in a payload: a record is read in one way, so the request that was read is the one that was asked, kind by kind.
-use Rattle.std.proofs.Common.{ℕ, ℤ, pos, ◌≡◌, refl, sym, ap, subst, ◌∙◌, Bool, List, None, Some, Option, take, drop}
-use Rattle.std.specs.Prelude.{◌≤◌, option_map, unwrap_or}
+use Rattle.std.proofs.Common.{ℕ, ℤ, pos, ◌≡◌, refl, sym, ap, subst, ◌∙◌, Bool, List, [], length, None, Some, Option, take, drop}
+use Rattle.std.specs.Prelude.{◌≤◌, ⊤, option_map, unwrap_or}
 use Rattle.zk_jute.specs.Layout.{Value}
 use Rattle.zk_nodes.specs.Path.{Text}
 use Rattle.zk_nodes.specs.PathFault.{IsPath}
@@ -15,9 +15,11 @@ use Rattle.zk_records.specs.Operations.{operation_number, body_layout, request_l
 use Rattle.zk_records.specs.Asked.{Asked, asked_of, asked_value}
 use Rattle.zk_records.specs.Request.{operation_of, body_of}
 use Rattle.zk_conversation.specs.Calls as call
-use Rattle.zk_conversation.specs.Calls.{Call, call_operation, call_body, texts_value}
+use Rattle.zk_conversation.specs.declared.raw.RawOperation.{RawOperation}
+use Rattle.zk_conversation.specs.Calls.{Call, Wording, Spelled, Given, wording, texts_value}
 use Rattle.zk_watches.specs.Lists.{Lists}
 use Rattle.zk_turns.specs.Ranges.{IsTyped, IsPathCall}
+use Rattle.zk_turns.specs.Spelled.{ReadsAs}
 use Rattle.zk_laws.specs.Messages as wanted
 use Rattle.zk_laws.specs.Parsed.{IsRecord, IsReadAs}
 use Rattle.zk_laws.specs.ServerSteps.{Serving}
@@ -26,6 +28,7 @@ use Rattle.zk_bench.specs.inner.Answering.{IsRead, IsReadOf, IsRestoring}
 use Rattle.zk_bench.specs.inner.Asking.{Wants, IsBodyOf, IsPartOf, Asks, IsLook}
 use Rattle.zk_laws.specs.Server.{is_sequential}
 use Rattle.zk_bench.specs.Served.{Served}
+use Rattle.zk_bench.specs.Answerable.{IsAnswerable}
 use Rattle.zk_bench.specs.inner.Writing.{mode_of}
 use Rattle.zk_bench.proofs.Written.{mode_of-low}
 use Rattle.zk_bench.proofs.Answered.{no_copy}
@@ -37,28 +40,44 @@ pub record Told (asked : wanted.Request) (xid : ℤ) (payload : List ℕ) : Type
   pub read : IsRecord (request_layout named) (xid, (operation_number named, body)) payload
   pub wants : Wants named body asked
 
-calls : (asked : Call) → IsTyped asked → IsPathCall asked → IsBodyOf (call_operation asked) (call_body asked) asked
-calls (call.Exists text watch) typed is = (is, refl, refl)
-calls (call.GetData text watch) typed is = (is, refl, refl)
-calls (call.GetChildren text watch) typed is = (is, refl, refl)
-calls (call.SetData text content version) typed is = (is, refl, refl, refl)
-calls (call.Create text content mode) typed is = (is, refl, refl, refl, typed.1)
-calls (call.Delete text version) typed is = (is, refl, refl)
-calls call.Close typed is = tt
+-- a request that the server knows: no call that its caller has spelled
+abbrev IsKnown : wanted.Request → Type 0
+IsKnown (wanted.Ask (call.Raw operation given)) = ⊥
+IsKnown asked = ⊤
+
+-- the record that is spelled is that of the call
+abbrev IsWorded : Wording → Call → Type 0
+IsWorded (Spelled operation body) asked = IsBodyOf operation body asked
+IsWorded (Given operation given) asked = ⊥
+
+worded : (asked : Call) → IsKnown (wanted.Ask asked) → IsTyped asked → IsPathCall asked → IsWorded (wording asked) asked
+worded (call.Exists text watch) known typed is = (is, refl, refl)
+worded (call.GetData text watch) known typed is = (is, refl, refl)
+worded (call.GetChildren text watch) known typed is = (is, refl, refl)
+worded (call.SetData text content version) known typed is = (is, refl, refl, refl)
+worded (call.Create text content mode) known typed is = (is, refl, refl, refl, typed.1)
+worded (call.Delete text version) known typed is = (is, refl, refl)
+worded call.Close known typed is = tt
+worded (call.Raw operation given) known typed is = absurd known
+
+told_call : (asked : Call) (xid : ℤ) (payload : List ℕ) (w : Wording)
+    → ReadsAs xid w (length payload) payload [] → IsWorded w asked → Told (wanted.Ask asked) xid payload
+told_call asked xid payload (Spelled operation body) read is = record { named = operation; body = body; read = read; wants = is }
+told_call asked xid payload (Given operation given) read is = absurd is
 
 -- a request but the first of a connection is told so
 pub told_so : (asked : wanted.Request) (xid : ℤ) (payload : List ℕ) → ((seen : ℕ) → asked ≡ wanted.Connect seen → ⊥)
-    → IsReadAs asked xid payload → IsFit asked payload → Told asked xid payload
-told_so (wanted.Connect seen) xid payload later read fit = absurd (later seen refl)
-told_so (wanted.Restore is_last relative part) xid payload later read fit = record {
+    → IsKnown asked → IsReadAs asked xid payload → IsFit asked payload → Told asked xid payload
+told_so (wanted.Connect seen) xid payload later known read fit = absurd (later seen refl)
+told_so (wanted.Restore is_last relative part) xid payload later known read fit = record {
   named = operation.SetWatches;
   body = (pos relative, (texts_value part.data_watches, (texts_value part.exist_watches, texts_value part.child_watches)));
   read = read;
   wants = (refl, refl, refl, refl, record { data_watches = fit.0; exist_watches = fit.1; child_watches = fit.2 });
 }
-told_so (wanted.Ask asked) xid payload later read fit =
-    record { named = call_operation asked; body = call_body asked; read = read; wants = calls asked fit.0 fit.1 }
-told_so wanted.Ping xid payload later read fit = record { named = operation.Ping; body = tt; read = read; wants = tt }
+told_so (wanted.Ask asked) xid payload later known read fit =
+    told_call asked xid payload (wording asked) read (worded asked known fit.0 fit.1)
+told_so wanted.Ping xid payload later known read fit = record { named = operation.Ping; body = tt; read = read; wants = tt }
 
 -- the request that is read asks for it
 pub asks_so : {A : Type 0} (asked : wanted.Request) (xid found : ℤ) (payload : List ℕ) (t : Told asked xid payload) (request : Request A)
@@ -77,6 +96,7 @@ read_asked request (call.SetData text content version) look is = absurd look
 read_asked request (call.Create text content mode) look is = absurd look
 read_asked request (call.Delete text version) look is = absurd look
 read_asked request call.Close look is = absurd look
+read_asked request (call.Raw operation given) look is = absurd look
 read_asked request asked look is = absurd is
 
 -- a part of setWatches is that of a request
@@ -142,6 +162,20 @@ mode_there flags number low is none =
     ap (option_map (λ (mode : Bool × Bool). mode.1)) (none ∙ ap mode_of is) ∙ mode_of-low number low in
     absurd cc
 
+-- No record is that of a call that its caller has spelled.
+no_body : (named : Operation) (body : Value (body_layout named)) (given : RawOperation) (bytes : List ℕ)
+    → IsBodyOf named body (call.Raw given bytes) → ⊥
+no_body operation.Create body given bytes is = is
+no_body operation.Delete body given bytes is = is
+no_body operation.Exists body given bytes is = is
+no_body operation.GetData body given bytes is = is
+no_body operation.SetData body given bytes is = is
+no_body operation.GetChildren body given bytes is = is
+no_body operation.Ping body given bytes is = is
+no_body operation.GetChildren2 body given bytes is = is
+no_body operation.SetWatches body given bytes is = is
+no_body operation.CloseSession body given bytes is = is
+
 -- What is no write, no ping and no end of a session is a look.
 pub look_if : {A : Type 0} (request : Request A) (asked : wanted.Request) → Asks request asked
     → ((r : CreateRequest A) → request ≡ requests.Create r → ⊥) → ((r : SetDataRequest A) → request ≡ requests.SetData r → ⊥)
@@ -156,6 +190,8 @@ look_if (requests.SetData r) (wanted.Ask (call.SetData text content version)) as
 look_if (requests.Create r) (wanted.Ask (call.Create text content mode)) asks a b d p q = absurd (a r refl)
 look_if (requests.Delete r) (wanted.Ask (call.Delete text version)) asks a b d p q = absurd (d r refl)
 look_if requests.CloseSession (wanted.Ask call.Close) asks a b d p q = absurd (q refl)
+look_if request (wanted.Ask (call.Raw given bytes)) asks a b d p q =
+    absurd (no_body (operation_of request) (body_of request) given bytes asks)
 look_if request asked asks a b d p q = absurd asks
 
 -- A request for a ping asks for nothing else.
@@ -165,23 +201,35 @@ pings_asked P asked asks p = absurd asks
 
 -- The request that is read asks for what was asked, under its xid.
 found_so : {A : Type 0} (asked : wanted.Request) (xid found : ℤ) (payload : List ℕ) (request : Request A)
-    → IsFor asked Serving → IsReadAs asked xid payload → IsFit asked payload
+    → IsFor asked Serving → IsKnown asked → IsReadAs asked xid payload → IsFit asked payload
     → ((a : Asked) → IsRecord (request_layout a.operation) (asked_value a) payload → asked_of found request ≡ a)
     → Asks request asked × (found ≡ xid)
-found_so asked xid found payload request later read fit is =
-    let t = told_so asked xid payload (λ seen e. subst (λ (a : wanted.Request). IsFor a Serving) e later refl) read fit in
+found_so asked xid found payload request later known read fit is =
+    let t = told_so asked xid payload (λ seen e. subst (λ (a : wanted.Request). IsFor a Serving) e later refl) known read fit in
     let same = is (record { xid = xid; operation = t.named; body = t.body }) t.read in
     (asks_so asked xid found payload t request same, ap (λ (a : Asked). a.xid) same)
 
--- What is read has no other fault than want of memory.
+-- One that is answerable is known,
+pub known_answerable : (asked : wanted.Request) (served : Served) → IsAnswerable asked served → IsKnown asked
+known_answerable (wanted.Ask (call.Raw operation given)) served is = is
+known_answerable asked served is = tt
+
+-- and so is one that is read, where no call is read that its caller has spelled.
+known_read : (asked : wanted.Request) (xid : ℤ) (payload : List ℕ) → IsReadAs asked xid payload
+    → ((operation : RawOperation) (given : List ℕ) (x : ℤ) → IsReadAs (wanted.Ask (call.Raw operation given)) x payload → ⊥)
+    → IsKnown asked
+known_read (wanted.Ask (call.Raw operation given)) xid payload read never = never operation given xid read
+known_read asked xid payload read never = tt
+
+-- What is read of a request that is known has no other fault than want of memory.
 pub read_front : (b old : Served) (count : ℕ) (bytes : List ℕ) (asked : wanted.Request) (xid : ℤ) (P : Type 0)
-    → b ≡ old → bytes ≡ b.connection.requests → IsFor asked Serving
+    → b ≡ old → bytes ≡ b.connection.requests → IsFor asked Serving → IsKnown asked
     → IsReadAs asked xid (take count (drop 4 old.connection.requests)) → IsFit asked (take count (drop 4 old.connection.requests))
     → ((a : Asked) → IsRecord (request_layout a.operation) (asked_value a) (take count (drop 4 bytes)) → P) → P
-read_front b old count bytes asked xid P same field later is fit gives =
+read_front b old count bytes asked xid P same field later known is fit gives =
     let at : old.connection.requests ≡ bytes = ap (λ (s : Served). s.connection.requests) (sym same) ∙ sym field in
     let t = told_so asked xid (take count (drop 4 old.connection.requests))
-    (λ seen e. subst (λ (a : wanted.Request). IsFor a Serving) e later refl) is fit in
+    (λ seen e. subst (λ (a : wanted.Request). IsFor a Serving) e later refl) known is fit in
     gives (record { xid = xid; operation = t.named; body = t.body })
     (subst
     (λ (bs : List ℕ). IsRecord (request_layout t.named) (xid, (operation_number t.named, t.body)) (take count (drop 4 bs))) at t.read)
@@ -191,10 +239,24 @@ pub found_front : {A : Type 0} (b old : Served) (count : ℕ) (bytes : List ℕ)
     (request : Request A) → b ≡ old → bytes ≡ b.connection.requests → read ≡ found → IsFor asked Serving
     → IsReadAs asked xid (take count (drop 4 old.connection.requests)) → IsFit asked (take count (drop 4 old.connection.requests))
     → ((a : Asked) → IsRecord (request_layout a.operation) (asked_value a) (take count (drop 4 bytes)) → asked_of found request ≡ a)
+    → ((operation : RawOperation) (given : List ℕ) (x : ℤ)
+    → IsReadAs (wanted.Ask (call.Raw operation given)) x (take count (drop 4 bytes)) → ⊥)
     → Asks request asked × (read ≡ xid)
-found_front b old count bytes asked xid read found request same field ranged later is fit gives =
+found_front b old count bytes asked xid read found request same field ranged later is fit gives never =
     let at : old.connection.requests ≡ bytes = ap (λ (s : Served). s.connection.requests) (sym same) ∙ sym field in
-    let told = found_so asked xid found (take count (drop 4 old.connection.requests)) request later is fit
+    let known = known_read asked xid (take count (drop 4 old.connection.requests)) is
+    (λ operation given x raw. never operation given x
+    (subst (λ (bs : List ℕ). IsReadAs (wanted.Ask (call.Raw operation given)) x (take count (drop 4 bs))) at raw)) in
+    let told = found_so asked xid found (take count (drop 4 old.connection.requests)) request later known is fit
     (λ a whole.
     gives a (subst (λ (bs : List ℕ). IsRecord (request_layout a.operation) (asked_value a) (take count (drop 4 bs))) at whole)) in
     (told.0, ranged ∙ told.1)
+
+-- What is said of a call that its caller has spelled, in the bytes of the payload that stands at the front of a bench.
+pub raw_front : (b old : Served) (count : ℕ) (bytes : List ℕ) (operation : RawOperation) (given : List ℕ) (xid : ℤ)
+    → b ≡ old → bytes ≡ b.connection.requests
+    → IsReadAs (wanted.Ask (call.Raw operation given)) xid (take count (drop 4 old.connection.requests))
+    → IsReadAs (wanted.Ask (call.Raw operation given)) xid (take count (drop 4 bytes))
+raw_front b old count bytes operation given xid same field raw =
+    subst (λ (bs : List ℕ). IsReadAs (wanted.Ask (call.Raw operation given)) xid (take count (drop 4 bs)))
+    (ap (λ (s : Served). s.connection.requests) (sym same) ∙ sym field) raw

@@ -12,7 +12,7 @@ use Rattle.zk_history.specs.HistoryView.{history_of}
 use Rattle.std.specs.Prelude.{slice_index}
 use Rattle.zk_conversation.specs.Pending.{closes}
 use Rattle.zk_conversation.specs.Questions.{Question, question_of}
-use Rattle.zk_conversation.specs.Results.{Result, NoNode, Refused, Done, Found, Read, Listing, Made}
+use Rattle.zk_conversation.specs.Results.{Result, NoNode, Refused, Done, Found, Read, Listing, Brought, Made}
 use Rattle.zk_laws.specs.Server.{Watches, both, sets, zxid_held}
 use Rattle.zk_laws.specs.Messages.{Request, Connect, Ask, Replies}
 use Rattle.zk_laws.specs.Messages as message
@@ -203,6 +203,7 @@ payload_refused xid question zxid (Found told) code old new is same s = absurd i
 payload_refused xid question zxid (Read bytes told) code old new is same s = absurd is
 payload_refused xid question zxid (Listing names told) code old new is same s = absurd is
 payload_refused xid question zxid (Made at) code old new is same s = absurd is
+payload_refused xid question zxid (Brought bytes) code old new is same s = absurd is
 
 -- A code that is owed is sent.
 pub owed_sent : (call : Call) (code xid : ℤ) (old mid new : Shown)

@@ -36,7 +36,7 @@ use Rattle.zk_bench.specs.inner.Serving.{watched, Tells}
 use Rattle.theory_serving.specs.Shown as shows
 use Rattle.theory_serving.specs.Shown.{Shown, GoesBy}
 use Rattle.theory_serving.proofs.Later.{taken_set}
-use Rattle.zk_bench.specs.Served.{Served, Linked, is_open, advanced, advanced_by, ended, disconnected, Continues}
+use Rattle.zk_bench.specs.Served.{Served, Linked, is_open, advanced, advanced_by, ended, disconnected, left_with, Continues}
 use Rattle.zk_bench.specs.declared.stop.Stop.{Stop}
 use Rattle.zk_bench.specs.declared.stop.Stop.TheVariants as stops
 use Rattle.zk_bench.specs.declared.bench.Bench.TheInside.{Inside}
@@ -382,6 +382,12 @@ front_gone {P} b old requests request xid new same p = subst (λ (s : Served). P
   goes = record { history = p.goes.history; moves = p.goes.moves; sent = p.goes.sent; there = p.goes.there; ended = p.goes.ended };
   done = p.done;
 })
+
+-- they alone are gone
+pub left_front : (b old : Served) (requests : List ℕ) (count : ℕ) → b ≡ old → requests ≡ drop count b.connection.requests
+    → left_with b requests ≡ left_with old (drop count old.connection.requests)
+left_front b old requests count same gone =
+    ap (left_with b) gone ∙ ap (λ (s : Served). left_with s (drop count s.connection.requests)) same
 
 pub ready_front : (b : Served) (requests : List ℕ)
     → IsReady b → IsReady (record b { connection = record b.connection { requests = requests } })

@@ -5,7 +5,7 @@ use Rattle.zk_nodes.specs.Path.{NodePath, path_of}
 use Rattle.zk_nodes.specs.History.{Node, Tree, size_of}
 use Rattle.zk_nodes.specs.Names.{Names}
 use Rattle.zk_history.specs.HistoryView.{HasChildren, history_of}
-use Rattle.zk_conversation.specs.Calls.{Call, GetData, GetChildren}
+use Rattle.zk_conversation.specs.Calls.{Call, GetData, GetChildren, Raw}
 use Rattle.zk_laws.specs.Server.{tree_held}
 use Rattle.zk_laws.specs.Messages.{Request, Connect, Ask}
 use Rattle.zk_bench.specs.Served.{Served}
@@ -26,10 +26,11 @@ abbrev pub NamesFit : Tree → NodePath → Option Node → Type 0
 NamesFit tree path None = ⊤
 NamesFit tree path (Some node) = (names : Names) × HasChildren tree path names × FitsReply (4 + size_of_names names + 68)
 
--- A call has an answer from this tree: only one to getData or getChildren can be too long.
+-- A call has an answer from this tree: only one to getData or getChildren can be too long. One that its caller has spelled has none.
 abbrev pub AnswerFits : Tree → Call → Type 0
 AnswerFits tree (GetData text watch) = DataFit (tree (path_of text))
 AnswerFits tree (GetChildren text watch) = NamesFit tree (path_of text) (tree (path_of text))
+AnswerFits tree (Raw operation given) = ⊥
 AnswerFits tree asked = ⊤
 
 -- A request has an answer from a server with this zxid and this tree.

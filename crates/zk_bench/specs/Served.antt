@@ -62,6 +62,10 @@ is_open Ended = false
 abbrev pub with_requests : Served → List ℕ → Served
 with_requests served bytes = record served { connection = record served.connection { requests = served.connection.requests ++ bytes } }
 
+-- these bytes alone are left for the server
+abbrev pub left_with : Served → List ℕ → Served
+left_with served requests = record served { connection = record served.connection { requests = requests } }
+
 -- the first bytes are taken out
 abbrev pub without_output : Served → ℕ → Served
 without_output served count = record served { connection = record served.connection { output = drop count served.connection.output } }

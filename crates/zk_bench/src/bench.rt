@@ -12,7 +12,8 @@ ghost use Rattle.zk_history.specs.declared.history_fault.HistoryFault.TheVariant
 ghost use Rattle.zk_laws.specs.Server.{zxid_held, tree_held, is_sequential};
 ghost use Rattle.zk_laws.specs.ServerSteps.{Serving};
 ghost use Rattle.zk_laws.specs.Messages.{Request as Wanted, Connect, Ask, Ping};
-ghost use Rattle.zk_conversation.specs.Calls.{SetData, Create, Close};
+ghost use Rattle.zk_conversation.specs.declared.raw.RawOperation.{RawOperation};
+ghost use Rattle.zk_conversation.specs.Calls.{SetData, Create, Close, Raw};
 ghost use Rattle.zk_laws.specs.Parsed.{IsReadAs, IsRecord};
 ghost use Rattle.zk_records.specs.Layouts.{connect_request, create_response};
 ghost use Rattle.zk_bench.specs.Stepping.{shown_of, stage_of, zxid_of, IsReady, TakesSome, ProcessesFirst, AnswersFirst};
@@ -32,7 +33,7 @@ ghost use Rattle.zk_bench.specs.inner.Asking.{Asks, IsLook};
 ghost use Rattle.zk_bench.specs.inner.Serving.{Sends, SendsHeader};
 ghost use Rattle.theory_serving.specs.Wires.{IsFit, IsFor, StandsFirst};
 ghost use Rattle.zk_bench.specs.Served.{started, linked, connected, disconnected, ended, is_open, advanced, with_requests, without_output};
-ghost use Rattle.zk_bench.specs.Served.{Continues};
+ghost use Rattle.zk_bench.specs.Served.{Continues, left_with};
 
 use crate::connection::Connection;
 use crate::connects::{send_accepted, send_expired};
@@ -265,17 +266,18 @@ impl<A: Allocator + Copy> Bench<A> {
         ensures ends { is_open self.old.connection.phase ≡ true → IsNegative self.old.connection.requests → self.new ≡ ended self.old }
         ensures processed { (count : ℕ) → is_open self.old.connection.phase ≡ true → IsWhole self.old.connection.requests count
             → OnOk result (self.new.connection.requests ≡ drop (4 + count) self.old.connection.requests) }
-        // The request that stands first, if it is one for the stage of the connection, is processed as a server of the laws does.
+        // The request that stands first, if it is one for the stage, is processed as a server of the laws does, and answered if it has one.
         ensures ready { IsReady self.old → IsReady self.new }
         ensures serves { (request : Wanted) (xid : ℤ) (payload rest : List ℕ) → IsReady self.old → is_open self.old.connection.phase ≡ true
-            → StandsFirst request xid payload rest self.old.connection.requests
-            → IsFor request (shown_of self.old).server.stage
+            → StandsFirst request xid payload rest self.old.connection.requests → IsFor request (shown_of self.old).server.stage
             → OnOk result (ProcessesFirst request xid payload (shown_of self.old) (shown_of self.new)) }
-        // And it is answered, where it has an answer.
         ensures answers { (request : Wanted) (xid : ℤ) (payload rest : List ℕ) → IsReady self.old → is_open self.old.connection.phase ≡ true
-            → StandsFirst request xid payload rest self.old.connection.requests
-            → IsFor request (shown_of self.old).server.stage → IsAnswerable request self.old
-            → OnOk result (AnswersFirst request xid (shown_of self.old) (shown_of self.new)) }
+            → StandsFirst request xid payload rest self.old.connection.requests → IsFor request (shown_of self.old).server.stage
+            → IsAnswerable request self.old → OnOk result (AnswersFirst request xid (shown_of self.old) (shown_of self.new)) }
+        // A call that its caller has spelled is none that it knows: the server ends the connection there, and sends nothing.
+        ensures ends_first { (operation : RawOperation) (given : List ℕ) (xid : ℤ) (payload rest : List ℕ)
+            → self.old.connection.phase ≡ Accepted → StandsFirst (Ask (Raw operation given)) xid payload rest self.old.connection.requests
+            → OnOk result (self.new ≡ ended (left_with self.old rest)) }
         ensures lost { OnErr result (self.new.connection ≡ linked Apart) }
         ensures history { Continues self.old.history self.new.history }
         ensures rest { self.new ≡ record self.old { history = self.new.history; taken = self.new.taken; connection = self.new.connection } }
@@ -296,16 +298,17 @@ impl<A: Allocator + Copy> Bench<A> {
             → self.new.connection.requests ≡ drop (4 + count) self.old.connection.requests }
         ensures ready { is_open self.old.connection.phase ≡ true → IsReady self.old → IsReady self.new }
         ensures serves { (asked : Wanted) (xid : ℤ) (payload rest : List ℕ) → IsReady self.old → is_open self.old.connection.phase ≡ true
-            → StandsFirst asked xid payload rest self.old.connection.requests
-            → IsFor asked (stage_of self.old.connection.phase)
+            → StandsFirst asked xid payload rest self.old.connection.requests → IsFor asked (stage_of self.old.connection.phase)
             → OnOk result (AnswersOne asked xid (shown_of self.old) (shown_of self.new)) }
         ensures breaks { (asked : Wanted) (xid : ℤ) (payload rest : List ℕ) → IsReady self.old → is_open self.old.connection.phase ≡ true
-            → StandsFirst asked xid payload rest self.old.connection.requests
-            → IsFor asked (stage_of self.old.connection.phase) → IsErrOf result stops.End
-            → ProcessesOne asked xid (shown_of self.old) (shown_of (ended self.new)) }
+            → StandsFirst asked xid payload rest self.old.connection.requests → IsFor asked (stage_of self.old.connection.phase)
+            → IsErrOf result stops.End → ProcessesOne asked xid (shown_of self.old) (shown_of (ended self.new)) }
         ensures stays { (asked : Wanted) (xid : ℤ) (payload rest : List ℕ) → IsReady self.old → is_open self.old.connection.phase ≡ true
             → StandsFirst asked xid payload rest self.old.connection.requests
             → IsFor asked (stage_of self.old.connection.phase) → IsAnswerable asked self.old → ¬ IsErrOf result stops.End }
+        ensures unknown { (operation : RawOperation) (given : List ℕ) (xid : ℤ) (payload rest : List ℕ)
+            → self.old.connection.phase ≡ Accepted → StandsFirst (Ask (Raw operation given)) xid payload rest self.old.connection.requests
+            → (self.new ≡ left_with self.old rest) × OnOk result ⊥ }
         ensures history { Continues self.old.history self.new.history }
         ensures rest { self.new ≡ record self.old { history = self.new.history; taken = self.new.taken; connection = self.new.connection } }
     {
@@ -362,7 +365,6 @@ impl<A: Allocator + Copy> Bench<A> {
         Ok(())
     }
 
-    // The zxid of the connected server.
     fn zxid(&self) -> i64
         ensures { IsReady self.now → result ≡ pos (zxid_held (history_of self.now.history) (slice_index self.now.taken self.now.server)) }
     {
@@ -378,19 +380,19 @@ impl<A: Allocator + Copy> Bench<A> {
         ensures rest { self.new ≡ record self.old { history = self.new.history; taken = self.new.taken; connection = self.new.connection } }
         ensures ready { is_open self.old.connection.phase ≡ true → IsReady self.old → IsReady self.new }
         ensures serves { (asked : Wanted) (xid : ℤ) → IsReady self.old → is_open self.old.connection.phase ≡ true
-            → IsFor asked (stage_of self.old.connection.phase)
-            → IsReadAs asked xid (first length (drop 4 self.old.connection.requests))
+            → IsFor asked (stage_of self.old.connection.phase) → IsReadAs asked xid (first length (drop 4 self.old.connection.requests))
             → IsFit asked (first length (drop 4 self.old.connection.requests))
             → OnOk result (AnswersOne asked xid (shown_of self.old) (shown_of self.new)) }
         ensures ends { (asked : Wanted) (xid : ℤ) → IsReady self.old → is_open self.old.connection.phase ≡ true
-            → IsFor asked (stage_of self.old.connection.phase)
-            → IsReadAs asked xid (first length (drop 4 self.old.connection.requests))
-            → IsFit asked (first length (drop 4 self.old.connection.requests))
-            → IsErrOf result stops.End → ProcessesOne asked xid (shown_of self.old) (shown_of (ended self.new)) }
+            → IsFor asked (stage_of self.old.connection.phase) → IsReadAs asked xid (first length (drop 4 self.old.connection.requests))
+            → IsFit asked (first length (drop 4 self.old.connection.requests)) → IsErrOf result stops.End
+            → ProcessesOne asked xid (shown_of self.old) (shown_of (ended self.new)) }
         ensures stays { (asked : Wanted) (xid : ℤ) → IsReady self.old → is_open self.old.connection.phase ≡ true
-            → IsFor asked (stage_of self.old.connection.phase)
-            → IsReadAs asked xid (first length (drop 4 self.old.connection.requests)) → IsFit asked
-            (first length (drop 4 self.old.connection.requests)) → IsAnswerable asked self.old → ¬ IsErrOf result stops.End }
+            → IsFor asked (stage_of self.old.connection.phase) → IsReadAs asked xid (first length (drop 4 self.old.connection.requests))
+            → IsFit asked (first length (drop 4 self.old.connection.requests)) → IsAnswerable asked self.old → ¬ IsErrOf result stops.End }
+        ensures unknown { (operation : RawOperation) (given : List ℕ) (xid : ℤ) → self.old.connection.phase ≡ Accepted
+            → IsReadAs (Ask (Raw operation given)) xid (first length (drop 4 self.old.connection.requests))
+            → (self.new ≡ left_with self.old (drop (4 + length) self.old.connection.requests)) × OnOk result ⊥ }
     {
         match self.connection.phase {
             Phase::Opening => self.process_first(length),
@@ -398,7 +400,6 @@ impl<A: Allocator + Copy> Bench<A> {
         }
     }
 
-    // The same for a later frame.
     #[tactic(auto, using(crate::proofs::Continuing::same_goes_on))]
     fn process_later(&mut self, length: usize) -> Result<(), Stop>
         requires { 4 + length ≤ bytes_of self.old.connection.requests }
@@ -411,6 +412,9 @@ impl<A: Allocator + Copy> Bench<A> {
         ensures stays { (asked : Wanted) (xid : ℤ) → HasClient self.old → IsFor asked Serving → IsReadAs asked xid
             (first length (drop 4 self.old.connection.requests)) → IsFit asked (first length (drop 4 self.old.connection.requests))
             → IsAnswerable asked self.old → ¬ IsErrOf result stops.End }
+        ensures unknown { (operation : RawOperation) (given : List ℕ) (xid : ℤ)
+            → IsReadAs (Ask (Raw operation given)) xid (first length (drop 4 self.old.connection.requests))
+            → (self.new ≡ left_with self.old (drop (4 + length) self.old.connection.requests)) × OnOk result ⊥ }
         ensures ready { HasClient self.old → IsReady self.new }
         ensures processed { self.new.connection.requests ≡ drop (4 + length) self.old.connection.requests }
         ensures history { Continues self.old.history self.new.history }
@@ -447,7 +451,6 @@ impl<A: Allocator + Copy> Bench<A> {
         self.admit(&first?)
     }
 
-    // Answers with a header alone.
     fn send_err(&mut self, xid: i32, err: i32) -> Result<(), Stop>
         ensures sends { IsReady self.old
             → OnOk result (SendsHeader (xid, (pos (zxid_of self.old), err)) self.old.connection.output self.new.connection.output) }
@@ -540,7 +543,6 @@ impl<A: Allocator + Copy> Bench<A> {
         read(&tree, xid, request, &mut self.connection)
     }
 
-    // Answers a ping.
     fn pong(&mut self) -> Result<(), Stop>
         ensures answers { (xid : ℤ) → HasClient self.old → OnOk result (AnswersOne Ping xid (shown_of self.old) (shown_of self.new)) }
         ensures ends { (xid : ℤ) → HasClient self.old → IsErrOf result stops.End
@@ -585,7 +587,6 @@ impl<A: Allocator + Copy> Bench<A> {
         )
     }
 
-    // The tree at the end of the history.
     fn newest(&self) -> Tree<'_, A>
         ensures history { result.history.now ≡ self.now.history }
         ensures seen { tree_of result.history.now result.zxid ≡ newest_tree self.now.history }

@@ -1,7 +1,7 @@
 -- Calls whose tickets or limits rise: so a search by halves finds a ticket, and the first limit is the least.
-use Rattle.std.proofs.Common.{◌≡◌, ◌<◌, ◌≤◌, ◌&&◌, ◌==◌, nat_le, nat_lt, min, ℕ, Bool, true, false, cond, not, List, [], ◌∷◌, Option, Some}
+use Rattle.std.proofs.Common.{◌≡◌, ◌<◌, ◌≤◌, ◌&&◌, ◌==◌, nat_le, nat_lt, ℕ, Bool, true, false, cond, not, List, [], ◌∷◌, Option, Some}
 use Rattle.std.proofs.Common.{None, length, get_or, is_some, refl, sym, ap, ◌∙◌, fold, arith}
-use Rattle.std.specs.List.{filter, list_all, position}
+use Rattle.std.specs.List.{filter, position}
 use Rattle.std.specs.List.Sorted.{IsPartitionedBy, IsPartitionPoint}
 use Rattle.std.proofs.lemmas.Bool.Decides.{nat_tests}
 use Rattle.zk_turns.specs.Turns.{Outcome}
@@ -10,9 +10,9 @@ use Rattle.zk_calls.specs.declared.entry.Entry.{Entry}
 use Rattle.zk_calls.specs.declared.entry.Ending.{Ending}
 use Rattle.zk_calls.specs.declared.entry.Ending.TheVariants.{LostOf, Late}
 use Rattle.zk_calls.specs.Lines.{answered, ended, first_handed, first_limit, first_of, goes_back, has_come, is_ended, waits_turn}
-use Rattle.zk_calls.specs.Orders.{ends_first, in_order, is_below, limit_le}
+use Rattle.zk_calls.specs.Orders.{in_order, is_below}
 use Rattle.zk_calls.proofs.Places.{none_passes}
-use Rattle.zk_calls.proofs.Orders.{both, before_at, in_order-with_first, none_taken, position_is, position_none}
+use Rattle.zk_calls.proofs.Orders.{before_at, in_order-with_first, none_taken, position_is, position_none}
 
 -- ---- tickets
 
@@ -95,41 +95,6 @@ module _ {A : Type 0} (ticket : ℕ) (entries : List (Entry A)) (ordered : in_or
         sym (position_none (is_ended (LostOf ticket)) entries (λ k d below. fails k d (nat_lt k place) (k == place) refl refl below))
 
 -- ---- limits
-
-joined : (a b c : Option ℕ) → limit_le a b ≡ true → limit_le b c ≡ true → limit_le a c ≡ true
-joined a b None one other = refl
-joined None None (Some c) one other = other
-joined None (Some b) (Some c) one other = one
-joined (Some a) None (Some c) one other = absurd (cc)
-joined (Some a) (Some b) (Some c) one other = grind (arith, nat_tests)
-
-pub limits_join : {A : Type 0} (a b c : Entry A) → ends_first a b ≡ true → ends_first b c ≡ true → ends_first a c ≡ true
-limits_join a b c one other = joined a.until b.until c.until one other
-
-stays_first : (limit other : Option ℕ) → limit_le limit other ≡ true → first_of limit other ≡ limit
-stays_first None None is = refl
-stays_first None (Some other) is = cc
-stays_first (Some limit) None is = refl
-stays_first (Some limit) (Some other) is =
-    let least : min limit other ≡ limit = grind (arith, nat_tests) in ap Some least
-
-first_stays : {A : Type 0} (limit : Option ℕ) (entries : List (Entry A)) → list_all (λ entry. limit_le limit entry.until) entries ≡ true
-    → fold (λ first entry. first_of first entry.until) limit entries ≡ limit
-first_stays limit [] all = refl
-first_stays limit (entry ∷ entries) all =
-    let parts = both (limit_le limit entry.until) (list_all (λ entry. limit_le limit entry.until) entries) all in
-    ap (λ first. fold (λ first entry. first_of first entry.until) first entries) (stays_first limit entry.until parts.0)
-    ∙ first_stays limit entries parts.1
-
-first_is : {A : Type 0} (entry : Entry A) (entries : List (Entry A))
-    → in_order ends_first (entry ∷ entries) ≡ true → first_limit (entry ∷ entries) ≡ entry.until
-first_is entry entries ordered =
-    let parts = both (list_all (ends_first entry) entries) (in_order ends_first entries) ordered in first_stays entry.until entries parts.0
-
-pub limit_of_first : {A : Type 0} (entries : List (Entry A)) (entry : Entry A)
-    → in_order ends_first entries ≡ true → 0 < length entries → entry ≡ get_or entries 0 entry → entry.until ≡ first_limit entries
-limit_of_first [] entry ordered some is = absurd (let none : 0 < 0 = some in omega arith)
-limit_of_first (first ∷ entries) entry ordered some is = ap (λ (e : Entry _). e.until) is ∙ sym (first_is first entries ordered)
 
 -- where the first limit has not come, no other one has
 neither : (now : ℕ) (a b : Option ℕ) → has_come now (first_of a b) ≡ false → (has_come now a ≡ false) × (has_come now b ≡ false)

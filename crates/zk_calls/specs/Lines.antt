@@ -3,7 +3,9 @@ use Rattle.std.specs.Prelude.{◌&&◌, ◌==◌, not, min, nat_le, ℕ, Bool, t
 use Rattle.std.specs.Prelude.{if◌then◌else◌}
 use Rattle.std.specs.List.{filter}
 use Rattle.std.specs.Option.{option_map}
-use Rattle.zk_conversation.specs.Calls.{Call, Exists, GetData, GetChildren}
+use Rattle.zk_conversation.specs.Calls.{Call, Exists, GetData, GetChildren, Raw}
+use Rattle.zk_conversation.specs.declared.raw.RawOperation.{RawOperation}
+use Rattle.zk_conversation.specs.declared.raw.RawOperation.TheVariants as raw
 use Rattle.zk_conversation.specs.Views.{call_view}
 use Rattle.zk_turns.specs.Turns.{Outcome, ConnectionLoss, NotConnected, TooManyPending}
 use Rattle.zk_calls.specs.declared.entry.Entry.{Entry}
@@ -13,11 +15,22 @@ use Rattle.zk_calls.specs.declared.entry.Ending.TheVariants.{Lost, LostOf, Late,
 
 -- ---- calls
 
+-- whether a request whose bytes a caller spells changes nothing
+abbrev pub is_raw_read : RawOperation → Bool
+is_raw_read raw.GetAcl = true
+is_raw_read raw.Sync = true
+is_raw_read raw.MultiRead = true
+is_raw_read raw.GetEphemerals = true
+is_raw_read raw.GetAllChildrenNumber = true
+is_raw_read raw.WhoAmI = true
+is_raw_read _ = false
+
 -- a read changes nothing, so that it may be asked twice
 abbrev pub is_read : Call → Bool
 is_read (Exists path watch) = true
 is_read (GetData path watch) = true
 is_read (GetChildren path watch) = true
+is_read (Raw operation bytes) = is_raw_read operation
 is_read _ = false
 
 -- Whether an answer leaves a call waiting for its turn again: it was not sent, or it is a read whose reply was lost. A write that was sent

@@ -2,8 +2,10 @@
 
 ghost use Rattle.std.specs.Prelude.{◌≡◌, ◌++◌, ◌∷◌, [], map, not, IfOk, OnOk};
 ghost use Rattle.zk_calls.specs.Lines.{ended, ended_of, is_ended, left};
+ghost use Rattle.zk_calls.specs.Orders.{AreLimits};
 
 use crate::entry::{Ended, Ending, Entry};
+use crate::limits::Limits;
 use std::alloc::{AllocError, Allocator};
 use std::collections::VecDeque;
 
@@ -45,4 +47,20 @@ pub(crate) fn remove<A: Allocator>(entries: &mut VecDeque<Entry<A>, A>, ending: 
             ensures { result ≡ not (is_ended ending entry.now) }
         { !entry.is_ended(ending) },
     );
+}
+
+/// Takes out the limits of those that wait no more.
+pub(crate) fn release<A: Allocator + Copy>(
+    limits: &mut Limits<A>,
+    entries: &VecDeque<Entry<A>, A>,
+    ending: Ending,
+)
+    requires { AreLimits limits.old entries.now.items }
+    ensures { AreLimits limits.new (left ending entries.now.items) }
+{
+    for place in 0..entries.len() {
+        if entries[place].is_ended(ending) {
+            limits.take(entries[place].until);
+        }
+    }
 }

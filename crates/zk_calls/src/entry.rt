@@ -3,10 +3,10 @@
 ghost use Rattle.std.specs.Prelude.{◌≡◌, not};
 ghost use Rattle.zk_conversation.specs.Views.{call_view};
 ghost use Rattle.zk_client.specs.Views.{outcome_view};
-ghost use Rattle.zk_calls.specs.Lines.{ended_of, goes_back, has_come, is_ended, is_read};
+ghost use Rattle.zk_calls.specs.Lines.{ended_of, goes_back, has_come, is_ended, is_raw_read, is_read};
 
 use std::alloc::{Allocator, Global};
-use zk_client::{Call, Outcome};
+use zk_client::{Call, Outcome, RawOperation};
 
 /// A call that waits: for its turn, or for its reply.
 #[derive(Drop)]
@@ -40,14 +40,30 @@ pub struct Ended {
     pub was_sent: bool,
 }
 
+/// Whether a request whose bytes a caller spells changes nothing. A `sync` has a server catch up, which harms nobody twice.
+fn is_raw_read(operation: RawOperation) -> bool
+    ensures { result ≡ is_raw_read operation }
+{
+    matches!(
+        operation,
+        RawOperation::GetAcl
+            | RawOperation::Sync
+            | RawOperation::MultiRead
+            | RawOperation::GetEphemerals
+            | RawOperation::GetAllChildrenNumber
+            | RawOperation::WhoAmI
+    )
+}
+
 /// Whether a call changes nothing, so that it may be asked twice.
 fn is_read<A: Allocator>(call: &Call<A>) -> bool
     ensures { result ≡ is_read (call_view call.now) }
 {
-    matches!(
-        call,
-        Call::Exists { .. } | Call::GetData { .. } | Call::GetChildren { .. }
-    )
+    match call {
+        Call::Exists { .. } | Call::GetData { .. } | Call::GetChildren { .. } => true,
+        Call::Raw { operation, .. } => is_raw_read(*operation),
+        _ => false,
+    }
 }
 
 /// Whether a call that is answered so waits for its turn again: it was not sent, or it is a read whose reply was lost.

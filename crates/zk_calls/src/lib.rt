@@ -5,9 +5,9 @@
 //! same place; a write is never asked twice. The line knows no client and no connection: it is told what the client answers.
 #![tactic(auto)]
 
-mod copies;
 mod ending;
 mod entry;
+mod limits;
 mod line;
 mod order;
 mod turn;

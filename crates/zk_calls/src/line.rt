@@ -8,19 +8,20 @@ ghost use Rattle.zk_conversation.specs.Views.{call_view};
 ghost use Rattle.zk_client.specs.Views.{outcome_view};
 ghost use Rattle.zk_calls.specs.Lines.{answered, ended, ended_of, first_handed, first_limit, is_ended, left, next_call, settles};
 ghost use Rattle.zk_calls.specs.Lines.{waits_turn};
-ghost use Rattle.zk_calls.specs.Orders.{ends_first, in_order, is_below, AreHanded};
+ghost use Rattle.zk_calls.specs.Orders.{in_order, is_below, AreHanded, AreLimits};
 
-use crate::ending::{remove, told_of};
+use crate::ending::{release, remove, told_of};
 use crate::entry::{Ended, Ending, Entry, has_come};
-use crate::order::{first_limit, limits_rise, place_of, tickets_rise};
+use crate::limits::Limits;
+use crate::order::{place_of, tickets_rise};
 use crate::turn::{copied_at, hand, place_of_next, settle};
 use std::alloc::{AllocError, Allocator, Global};
 use std::collections::VecDeque;
 use zk_client::{Call, Outcome};
 
 /// The calls of a program that wait, in the order of asking. No two of them are to have one ticket: where two have, an answer goes to the
-/// first that was handed over, and the others are lost. An answer is found by a search where the tickets rise in the order of asking, and
-/// the first limit is that of the first call where the limits rise; where they don't, each call is looked at.
+/// first that was handed over, and the others are lost. An answer is found by a search where the tickets rise in the order of asking; where
+/// they don't, each call is looked at. The first limit is looked up, in whatever order limits come.
 #[derive(Drop)]
 pub struct Line<A: Allocator + Copy = Global> {
     alloc: A,
@@ -29,11 +30,11 @@ pub struct Line<A: Allocator + Copy = Global> {
     handed: usize,
     /// Whether it is known that each ticket is above those before it.
     tickets_rise: bool,
-    /// Whether it is known that no limit comes before that of a call that was asked earlier. None never comes.
-    limits_rise: bool,
+    /// The limits of the calls.
+    limits: Limits<A>,
     ghost first_ones: { AreHanded handed entries.items } by { Prim.hlevel props },
     ghost by_ticket: { tickets_rise ≡ true → in_order is_below entries.items ≡ true } by { Prim.hlevel props },
-    ghost by_limit: { limits_rise ≡ true → in_order ends_first entries.items ≡ true } by { Prim.hlevel props },
+    ghost by_limit: { AreLimits limits entries.items } by { Prim.hlevel props },
 }
 
 impl<A: Allocator + Copy> Line<A> {
@@ -46,7 +47,7 @@ impl<A: Allocator + Copy> Line<A> {
             entries: VecDeque::new(alloc),
             handed: 0,
             tickets_rise: true,
-            limits_rise: true,
+            limits: Limits::new(alloc),
         }
     }
 
@@ -65,14 +66,16 @@ impl<A: Allocator + Copy> Line<A> {
             is_sent,
         };
         let tickets = tickets_rise(&self.entries, self.tickets_rise, &entry);
-        let limits = limits_rise(&self.entries, self.limits_rise, &entry);
+        self.limits.add(until)?;
         match self.entries.push_back(entry) {
             Ok(()) => {
                 self.tickets_rise = tickets;
-                self.limits_rise = limits;
                 Ok(())
             }
-            Err(_) => Err(AllocError),
+            Err(_) => {
+                self.limits.take(until);
+                Err(AllocError)
+            }
         }
     }
 
@@ -133,7 +136,14 @@ impl<A: Allocator + Copy> Line<A> {
     {
         let place = place_of(&self.entries, self.tickets_rise, ticket);
         match place {
-            Some(place) => settle(&mut self.entries, &mut self.handed, place, ticket, outcome),
+            Some(place) => settle(
+                &mut self.entries,
+                &mut self.handed,
+                &mut self.limits,
+                place,
+                ticket,
+                outcome,
+            ),
             None => {
                 drop(outcome);
                 None
@@ -164,6 +174,7 @@ impl<A: Allocator + Copy> Line<A> {
             return Ok(Vec::new(self.alloc));
         }
         let told = told_of(self.alloc, &self.entries, ending)?;
+        release(&mut self.limits, &self.entries, ending);
         remove(&mut self.entries, ending);
         self.handed = 0;
         Ok(told)
@@ -174,6 +185,7 @@ impl<A: Allocator + Copy> Line<A> {
         ensures { self.new.entries.items ≡ [] }
     {
         self.entries.clear();
+        self.limits.clear();
         self.handed = 0;
     }
 
@@ -181,6 +193,6 @@ impl<A: Allocator + Copy> Line<A> {
     pub fn deadline(&self) -> Option<u64>
         ensures { result ≡ first_limit self.now.entries.items }
     {
-        first_limit(&self.entries, self.limits_rise)
+        self.limits.first()
     }
 }

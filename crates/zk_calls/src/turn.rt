@@ -6,10 +6,11 @@ ghost use Rattle.std.specs.List.{position, remove};
 ghost use Rattle.zk_conversation.specs.Views.{call_view};
 ghost use Rattle.zk_client.specs.Views.{outcome_view};
 ghost use Rattle.zk_calls.specs.Lines.{answered, first_handed, is_ended, next_call, settles, waits_turn};
-ghost use Rattle.zk_calls.specs.Orders.{AreHanded};
+ghost use Rattle.zk_calls.specs.declared.limits.Limits.{Limits as Counts};
+ghost use Rattle.zk_calls.specs.Orders.{AreHanded, AreLimits};
 
-use crate::copies::copied_call;
 use crate::entry::{Ending, Entry, goes_back};
+use crate::limits::Limits;
 use std::alloc::{AllocError, Allocator};
 use std::collections::VecDeque;
 use zk_client::{Call, Outcome};
@@ -30,13 +31,21 @@ pub(crate) fn place_of_next<A: Allocator>(
     None
 }
 
-/// Takes a call out.
-fn take_out<A: Allocator>(entries: &mut VecDeque<Entry<A>, A>, handed: &mut usize, place: usize)
+/// Takes a call out, and its limit.
+fn take_out<A: Allocator + Copy>(
+    entries: &mut VecDeque<Entry<A>, A>,
+    handed: &mut usize,
+    limits: &mut Limits<A>,
+    place: usize,
+)
     requires within { place < length entries.old.items }
     requires handed { AreHanded handed.old entries.old.items }
+    requires limits { AreLimits limits.old entries.old.items }
     ensures items { entries.new.items ≡ remove entries.old.items place }
     ensures handed { AreHanded handed.new entries.new.items }
+    ensures limits { AreLimits limits.new entries.new.items }
 {
+    limits.take(entries[place].until);
     let _entry = entries.remove(place);
     if place < *handed {
         *handed -= 1;
@@ -44,26 +53,29 @@ fn take_out<A: Allocator>(entries: &mut VecDeque<Entry<A>, A>, handed: &mut usiz
 }
 
 /// Settles the call at this place, or lets it wait for its turn again. What it is answered, where that ends its wait.
-pub(crate) fn settle<A: Allocator>(
+pub(crate) fn settle<A: Allocator + Copy>(
     entries: &mut VecDeque<Entry<A>, A>,
     handed: &mut usize,
+    limits: &mut Limits<A>,
     place: usize,
     ticket: u64,
     outcome: Outcome<A>,
 ) -> Option<Outcome<A>>
     requires place { position (is_ended (Ending.LostOf ticket)) entries.old.items ≡ Some place }
     requires handed { AreHanded handed.old entries.old.items }
+    requires limits { AreLimits limits.old entries.old.items }
     ensures entries { entries.new.items ≡ answered ticket (outcome_view outcome) entries.old.items }
     ensures told { option_map outcome_view result
         ≡ (if settles ticket (outcome_view outcome) entries.old.items then Some (outcome_view outcome) else None) }
     ensures handed { AreHanded handed.new entries.new.items }
+    ensures limits { AreLimits limits.new entries.new.items }
 {
     if goes_back(&entries[place].call, &outcome) {
         entries[place].is_sent = false;
         *handed = place.min(*handed);
         return None;
     }
-    take_out(entries, handed, place);
+    take_out(entries, handed, limits, place);
     Some(outcome)
 }
 
@@ -77,7 +89,7 @@ pub(crate) fn copied_at<A: Allocator + Copy>(
     ensures { IfOk result (λ it. next_call entries.now.items ≡ Some (it.0, call_view it.1)) }
 {
     let ticket = entries[place].ticket;
-    let call = copied_call(alloc, &entries[place].call)?;
+    let call = entries[place].call.copied(alloc)?;
     Ok((ticket, call))
 }
 
@@ -86,6 +98,7 @@ pub(crate) fn hand<A: Allocator>(entries: &mut VecDeque<Entry<A>, A>, place: usi
     requires { position waits_turn entries.old.items ≡ Some place }
     ensures entries { entries.new.items ≡ first_handed entries.old.items }
     ensures handed { AreHanded (place + 1) entries.new.items }
+    ensures limits { (limits : Counts A) → AreLimits limits entries.old.items → AreLimits limits entries.new.items }
 {
     entries[place].is_sent = true;
 }

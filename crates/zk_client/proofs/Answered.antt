@@ -7,7 +7,7 @@ use Rattle.zk_session.specs.declared.states.State.TheVariants.{Idle, Connecting,
 use Rattle.zk_session.specs.SessionView.{SessionView, Saved, Moments}
 use Rattle.zk_session.specs.Table as session
 use Rattle.zk_conversation.specs.Pending.{Talk, Pending, Call_waits, closes}
-use Rattle.zk_conversation.specs.Questions.{Question, Exists, GetData, GetChildren, SetData, Create, Delete, Close}
+use Rattle.zk_conversation.specs.Questions.{Question, Exists, GetData, GetChildren, SetData, Create, Delete, Close, Raw}
 use Rattle.zk_conversation.specs.Results.{Result}
 use Rattle.zk_watches.specs.Lists.{Lists, no_lists}
 use Rattle.zk_cache.specs.Cache.{Answers, data_kept, names_kept, no_answers}
@@ -29,6 +29,7 @@ is-close (GetChildren path watch) e = absurd cc
 is-close (SetData path) e = absurd cc
 is-close (Create path) e = absurd cc
 is-close (Delete path) e = absurd cc
+is-close Raw e = absurd cc
 
 pub not-closing : (question : Question) → closes question ≡ false → closing question ≡ []
 not-closing Close e = absurd cc
@@ -38,6 +39,7 @@ not-closing (GetChildren path watch) e = refl
 not-closing (SetData path) e = refl
 not-closing (Create path) e = refl
 not-closing (Delete path) e = refl
+not-closing Raw e = refl
 
 -- the view after a reply to another question: that after a write, but for what the reply leaves
 abbrev other_reply : View → Question → ℤ → Result → View
@@ -53,6 +55,7 @@ reply-next view (GetChildren path watch) zxid result e = refl
 reply-next view (SetData path) zxid result e = refl
 reply-next view (Create path) zxid result e = refl
 reply-next view (Delete path) zxid result e = refl
+reply-next view Raw zxid result e = refl
 
 -- the lists, by what the reply leaves
 pub left-lists : (known : Option (Left Answer)) (children : Option (Left Names)) (question : Question) (result : Result) (lists : Lists)

@@ -12,7 +12,7 @@ use Rattle.zk_session.specs.declared.states.State.{State}
 use Rattle.zk_session.specs.declared.states.State.TheVariants.{Idle, Connecting, Connected, Expired, Closed}
 use Rattle.zk_session.specs.SessionView.{SessionView, Saved, Moments}
 use Rattle.zk_session.specs.Table as session
-use Rattle.zk_conversation.specs.Questions.{Question, Exists, GetData, GetChildren, SetData, Create, Delete, Close}
+use Rattle.zk_conversation.specs.Questions.{Question, Exists, GetData, GetChildren, SetData, Create, Delete, Close, Raw}
 use Rattle.zk_conversation.specs.Results.{Result}
 use Rattle.zk_conversation.specs.Pending.{Talk}
 use Rattle.zk_cache.specs.Cache.{Answers}
@@ -67,6 +67,7 @@ stays-reply view (GetChildren path watch) zxid result = record { heard = refl; n
 stays-reply view (SetData path) zxid result = record { heard = refl; now = refl; halted = refl }
 stays-reply view (Create path) zxid result = record { heard = refl; now = refl; halted = refl }
 stays-reply view (Delete path) zxid result = record { heard = refl; now = refl; halted = refl }
+stays-reply view Raw zxid result = record { heard = refl; now = refl; halted = refl }
 
 stays-message : (view : View) (message : Message) → Stays view (next_message view message)
 stays-message view (Accepted welcome) =

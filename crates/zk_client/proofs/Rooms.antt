@@ -10,7 +10,7 @@ use Rattle.zk_session.specs.declared.states.State.TheVariants.{Connected}
 use Rattle.zk_session.specs.SessionView.{SessionView}
 use Rattle.zk_conversation.specs.declared.phase.Phase.TheVariants.{Talking}
 use Rattle.zk_conversation.specs.Pending.{Talk, Pending, Call_waits, watches_pending}
-use Rattle.zk_conversation.specs.Questions.{Question, Exists, GetData, GetChildren, SetData, Create, Delete, Close, watched_side}
+use Rattle.zk_conversation.specs.Questions.{Question, Exists, GetData, GetChildren, SetData, Create, Delete, Close, Raw, watched_side}
 use Rattle.zk_conversation.specs.Results.{Result}
 use Rattle.zk_watches.specs.Lists.{Lists, has, with_path, without, count_of, registered, fired}
 use Rattle.zk_cache.specs.Kept.{Names, Answer}
@@ -104,6 +104,7 @@ reply-room xid ticket (SetData path) result lists rest room = record { on_data =
 reply-room xid ticket (Create path) result lists rest room = record { on_data = room.on_data; on_child = room.on_child }
 reply-room xid ticket (Delete path) result lists rest room = record { on_data = room.on_data; on_child = room.on_child }
 reply-room xid ticket Close result lists rest room = record { on_data = room.on_data; on_child = room.on_child }
+reply-room xid ticket Raw result lists rest room = record { on_data = room.on_data; on_child = room.on_child }
 
 counted : (b : Bool) (x : Pending) (xs : List Pending) → length xs ≤ length (cond b (x ∷ xs) xs)
 counted true x xs = omega arith
@@ -132,6 +133,7 @@ room-for xid ticket (SetData path) lists rest room side e = absurd cc
 room-for xid ticket (Create path) lists rest room side e = absurd cc
 room-for xid ticket (Delete path) lists rest room side e = absurd cc
 room-for xid ticket Close lists rest room side e = absurd cc
+room-for xid ticket Raw lists rest room side e = absurd cc
 
 -- ---- where a client talks
 

@@ -2,7 +2,7 @@
 use Rattle.std.specs.Prelude.{List, map, string_bytes}
 use Rattle.std.specs.Option.{option_map}
 use Rattle.zk_records.specs.Codes.{code_number}
-use Rattle.zk_conversation.specs.Results.{Result, Found, Read, Listing, Made, Done}
+use Rattle.zk_conversation.specs.Results.{Result, Found, Read, Listing, Made, Done, Brought}
 use Rattle.zk_conversation.specs.Views.{call_view, code_result}
 use Rattle.zk_turns.specs.Turns as turns
 use Rattle.zk_client.specs.declared.call_result.CallResult.{CallResult}
@@ -23,6 +23,7 @@ call_result_view (result.Data bytes stat) = Read (option_map (λ v. v.items) byt
 call_result_view (result.Names names stat) = Listing names stat
 call_result_view (result.Created path) = Made (string_bytes path)
 call_result_view result.Done = Done
+call_result_view (result.Raw bytes) = Brought bytes.items
 
 abbrev pub fault_view : Fault → turns.Fault
 fault_view (fault.Framed why) = turns.Framed why

@@ -26,4 +26,6 @@ pub enum CallResult<A: Allocator = Global> {
     Created(String<A>),
     /// The node was deleted, or the session is closed.
     Done,
+    /// All that stands after the header of a reply to what the caller has spelled.
+    Raw(Vec<u8, A>),
 }

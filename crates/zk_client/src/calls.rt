@@ -66,6 +66,7 @@ pub(crate) fn known_of_call<A: Allocator + Copy>(call: &Call<A>) -> usize
             path.as_str().len()
         }
         Call::Close => 0,
+        Call::Raw { .. } => 0,
     }
 }
 

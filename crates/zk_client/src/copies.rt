@@ -30,5 +30,6 @@ pub(crate) fn copied<A: Allocator + Copy>(
         }
         ReplyResult::Created(path) => Ok(CallResult::Created(String::from_str(alloc, path)?)),
         ReplyResult::Done => Ok(CallResult::Done),
+        ReplyResult::Raw(bytes) => Ok(CallResult::Raw(Vec::from_slice(alloc, bytes)?)),
     }
 }

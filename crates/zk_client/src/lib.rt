@@ -46,7 +46,7 @@ pub use running::run;
 pub use saved_fault::SavedFault;
 pub use saved_session::SavedSession;
 pub use zk_cache::{Children, DataAnswer, JoinedTexts, Mark, SortedNames};
-pub use zk_conversation::{Call, CreateMode, TalkFault};
+pub use zk_conversation::{Call, CreateMode, RawOperation, TalkFault};
 pub use zk_frames::FrameFault;
 pub use zk_jute::TakeError;
 pub use zk_limits::{

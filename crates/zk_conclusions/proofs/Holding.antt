@@ -13,7 +13,7 @@ use Rattle.zk_nodes.specs.declared.data_stat.DataStat.{DataStat}
 use Rattle.zk_cache.specs.Kept.{Answer, Absent, Known, Full, as_good}
 use Rattle.zk_laws.specs.Server.{Fits}
 use Rattle.zk_laws.specs.Messages.{from_zero}
-use Rattle.zk_conclusions.specs.Seen.{tree_seen}
+use Rattle.zk_conclusions.specs.Seen.{IsEither, tree_seen}
 use Rattle.zk_conclusions.specs.Holders.{HasPrefix, is_before, IsHolder, token_of, token_in, HeldIsTrue, OneHolds, OneShows, NamesRise}
 use Rattle.zk_conclusions.specs.Holders.{TokensRise, LaterTokens}
 use Rattle.zk_conclusions.proofs.Truths.{coherent, names_there}
@@ -61,11 +61,12 @@ node_of session token (Full bytes fields) (Some node) e fits =
 pub held_here : HeldIsTrue
 held_here h view dir prefix path token seen shows =
     let tree : Tree = tree_seen h view in
-    let true_of = coherent h view seen in
+    let true_of = coherent (IsEither dir path) h view seen in
     let found = node_of view.saved.session.session token shows.answer (tree (path_of path)) shows.made
-    (true_of.nodes path (as_good shows.answer) shows.nodes refl) in
+    (true_of.nodes path (inr refl) (as_good shows.answer) shows.nodes refl) in
     let listed =
-    names_there shows.names tree (path_of dir) (tree (path_of dir)) (true_of.children dir (as_good shows.names) shows.children refl) in
+    names_there shows.names tree (path_of dir) (tree (path_of dir))
+    (true_of.children dir (inl refl) (as_good shows.names) shows.children refl) in
     record {
       own = shows.own;
       below = shows.below;

@@ -26,3 +26,4 @@ pub mod Tags
 pub mod Quiet
 pub mod Revised
 pub mod Same
+pub mod Everywhere

@@ -17,10 +17,10 @@ use Rattle.zk_cache.specs.Kept.{Full, Names, good, as_good}
 use Rattle.zk_turns.specs.View.{View, Cache}
 use Rattle.zk_laws.specs.Server.{Fits}
 use Rattle.zk_laws.specs.Messages.{from_zero}
-use Rattle.zk_conclusions.specs.Seen.{IsServedFrom, tree_seen}
+use Rattle.zk_conclusions.specs.Seen.{IsServedAt, tree_seen}
 use Rattle.zk_conclusions.proofs.Truths.{data_fits, names_fit, names_there}
 use Rattle.zk_conclusions.specs.Subtrees.{IsKeptWhole, HasName, text_below, IsReached, IsWholeBelow, IsTrueAt, IsSubtreeOf, WholeIsSubtree}
-use Rattle.zk_conclusions.specs.Subtrees.{PathsAreAll}
+use Rattle.zk_conclusions.specs.Subtrees.{IsOneReached, PathsAreAll}
 use Rattle.zk_conclusions.proofs.Rooted.{rooted_at}
 
 -- the answer of what is kept is the one that is good
@@ -61,18 +61,24 @@ place_below cache root is whole (name ∷ below) reached =
     )
 
 -- what is kept whole is true
-pub true_at : (h : History) (view : View) (path : Text)
-    → IsServedFrom h view → IsKeptWhole view.cache path → IsTrueAt (tree_seen h view) view.cache path
-true_at h view path seen whole = record {
+pub true_at : (P : Text → Type 0) (h : History) (view : View) (path : Text)
+    → IsServedAt P h view → P path → IsKeptWhole view.cache path → IsTrueAt (tree_seen h view) view.cache path
+true_at P h view path seen p whole = record {
   names = whole.names;
   full = whole.full;
-  node = data_fits h view path (Full whole.full.bytes whole.full.stat) seen whole.full.node;
-  children = names_fit h view path whole.names seen whole.full.children;
+  node = data_fits P h view path (Full whole.full.bytes whole.full.stat) seen p whole.full.node;
+  children = names_fit P h view path whole.names seen p whole.full.children;
 }
 
+-- the path of these names is one that is reached
+one_below : (view : View) (root : Text) (below : List Name) → IsReached view.cache root below
+    → IsOneReached view.cache root (text_below root below)
+one_below view root below reached = record { below = below; reached = reached; is = refl }
+
 -- what is there is reached
-all_reached : (h : History) (view : View) (root : Text) → IsServedFrom h view → IsPath root → IsWholeBelow view.cache root
-    → (below : List Name) → is_some (tree_seen h view (below ++ path_of root)) ≡ true → IsReached view.cache root below
+all_reached : (h : History) (view : View) (root : Text) → IsServedAt (IsOneReached view.cache root) h view → IsPath root
+    → IsWholeBelow view.cache root → (below : List Name) → is_some (tree_seen h view (below ++ path_of root)) ≡ true
+    → IsReached view.cache root below
 all_reached h view root seen is whole [] there = tt
 all_reached h view root seen is whole (name ∷ below) there =
     let above = all_reached h view root seen is whole below
@@ -81,7 +87,8 @@ all_reached h view root seen is whole (name ∷ below) there =
     let place = (place_below view.cache root is whole below above).1 in
     let here : is_some (tree_seen h view (name ∷ path_of (text_below root below))) ≡ true =
     subst (λ (p : NodePath). is_some (tree_seen h view (name ∷ p)) ≡ true) (sym place) there in
-    let fits = names_fit h view (text_below root below) kept.names seen kept.full.children in (
+    let fits = names_fit (IsOneReached view.cache root) h view (text_below root below) kept.names seen
+    (one_below view root below above) kept.full.children in (
       above,
       record {
         kept = as_good kept.names;
@@ -93,8 +100,11 @@ all_reached h view root seen is whole (name ∷ below) there =
 
 pub one_subtree_here : WholeIsSubtree
 one_subtree_here h view root seen is whole = record {
-  sound = λ below reached.
-      ((place_below view.cache root is whole below reached).1, true_at h view (text_below root below) seen (whole below reached));
+  sound = λ below reached. (
+    (place_below view.cache root is whole below reached).1,
+    true_at (IsOneReached view.cache root) h view (text_below root below) seen
+        (one_below view root below reached) (whole below reached),
+  );
   complete = all_reached h view root seen is whole;
 }
 

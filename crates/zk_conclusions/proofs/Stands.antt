@@ -1,12 +1,12 @@
 -- Who is shown to stand first does so in the history: what is shown is true of the tree at the last seen zxid, and so is what follows of
 -- it.
-use Rattle.std.proofs.Common.{ℕ, ℤ, pos, negsuc, ◌≡◌, ◌≤◌, ◌≤ℤ◌, ◌∷◌, Some, sym, subst, true, arith}
+use Rattle.std.proofs.Common.{ℕ, ℤ, pos, negsuc, ◌≡◌, ◌≤◌, ◌≤ℤ◌, ◌∷◌, Some, refl, sym, subst, true, arith}
 use Rattle.std.proofs.lemmas.Int.{ints}
 use Rattle.zk_nodes.specs.Path.{Text, Name, NodePath, path_of}
 use Rattle.zk_nodes.specs.History.{Tree, History, tree_at}
 use Rattle.zk_turns.specs.View.{View}
 use Rattle.zk_laws.specs.Messages.{from_zero}
-use Rattle.zk_conclusions.specs.Seen.{tree_seen}
+use Rattle.zk_conclusions.specs.Seen.{Is, tree_seen}
 use Rattle.zk_conclusions.proofs.Truths.{data_fits}
 use Rattle.zk_conclusions.proofs.Holding.{node_of}
 use Rattle.zk_conclusions.proofs.Shown.{first_name}
@@ -27,7 +27,7 @@ pub standing_here : StandingIsTrue
 standing_here h view dir kind names listed path token seen rises all shows =
     let tree : Tree = tree_seen h view in
     let found = node_of view.saved.session.session token shows.answer (tree (path_of path)) shows.made
-    (data_fits h view path shows.answer seen shows.nodes) in
+    (data_fits (Is path) h view path shows.answer seen refl shows.nodes) in
     let there : tree (shows.own ∷ path_of dir) ≡ Some found.0 = subst (λ (p : NodePath). tree p ≡ Some found.0) shows.below found.1 in
     let early : pos found.0.czxid ≤ℤ listed = subst (λ (z : ℤ). z ≤ℤ listed) (sym found.2.made) shows.after in
     record {

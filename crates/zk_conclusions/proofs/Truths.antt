@@ -1,4 +1,5 @@
--- What is good is the history's, where the client was served from it: by the law of coherence, path by path of what is shown.
+-- What is good is the history's, where the client was served from it: by the law of coherence at some paths, path by path of what is
+-- shown.
 use Rattle.std.proofs.Common.{◌≡◌, ℕ, zero, suc, true, false, List, [], ◌∷◌, Option, Some, None, refl, ap, sym, ◌∙◌, subst, inl, inr}
 use Rattle.std.proofs.lemmas.Bool.{and_parts}
 use Rattle.std.specs.Prelude.{slice_get, is_some}
@@ -14,15 +15,15 @@ use Rattle.zk_cache.specs.declared.held.Mark.{Mark}
 use Rattle.zk_cache.specs.declared.held.Mark.TheVariants.{Good, Stale}
 use Rattle.zk_cache.specs.Kept.{Answer, Names, good, as_good, is_good, is_marked_good}
 use Rattle.zk_turns.specs.View.{View}
-use Rattle.zk_laws.specs.Headline.{IsCoherentWith}
 use Rattle.zk_laws.specs.Server.{Fits, FitsNames}
-use Rattle.zk_client.proofs.Holding.{holds_here}
-use Rattle.zk_conclusions.specs.Seen.{IsServedFrom, tree_seen}
-use Rattle.zk_conclusions.specs.Snapshots.{all_good, is_whole, WholeIsOfOneTree}
+use Rattle.theory_local.specs.LocalHeadline.{IsCoherentAt}
+use Rattle.theory_local.proofs.Headlines_at.{coherent_at}
+use Rattle.zk_conclusions.specs.Seen.{IsServedAt, tree_seen}
+use Rattle.zk_conclusions.specs.Snapshots.{all_good, is_whole, IsOneOf, WholeIsOfOneTree}
 
--- its good answers are the history's at the last seen zxid
-pub coherent : (h : History) (view : View) → IsServedFrom h view → IsCoherentWith h view
-coherent h view seen = ((holds_here seen.start seen.items view seen.stands).served.coherent h seen.history seen.served).coherent
+-- its good answers at these paths are the history's at the last seen zxid
+pub coherent : (P : Text → Type 0) (h : History) (view : View) → IsServedAt P h view → IsCoherentAt P h view
+coherent P h view seen = coherent_at P h seen.history seen.start seen.items view seen.stands seen.served
 
 the_one : {X : Type 0} (x y : X) → Some x ≡ Some y → x ≡ y
 the_one {X} x y e = ap (λ (o : Option X). elim o [ None ↦ x | Some z ↦ z ]) e
@@ -77,13 +78,14 @@ names_at view nodes parents place other path found e is at =
     (and_parts (all_good view.cache.nodes nodes) (all_good view.cache.children parents) e).1 is at
 
 -- a good answer is what there is to see at the last seen zxid
-pub data_fits : (h : History) (view : View) (path : Text) (answer : Answer)
-    → IsServedFrom h view → view.cache.nodes path ≡ good answer → Fits answer (to_see Data (tree_seen h view) (path_of path))
-data_fits h view path answer seen kept = (coherent h view seen).nodes path (as_good answer) kept refl
+pub data_fits : (P : Text → Type 0) (h : History) (view : View) (path : Text) (answer : Answer)
+    → IsServedAt P h view → P path → view.cache.nodes path ≡ good answer → Fits answer (to_see Data (tree_seen h view) (path_of path))
+data_fits P h view path answer seen p kept = (coherent P h view seen).nodes path p (as_good answer) kept refl
 
-pub names_fit : (h : History) (view : View) (path : Text) (names : Names)
-    → IsServedFrom h view → view.cache.children path ≡ good names → FitsNames names (to_see Child (tree_seen h view) (path_of path))
-names_fit h view path names seen kept = (coherent h view seen).children path (as_good names) kept refl
+pub names_fit : (P : Text → Type 0) (h : History) (view : View) (path : Text) (names : Names)
+    → IsServedAt P h view → P path → view.cache.children path ≡ good names
+    → FitsNames names (to_see Child (tree_seen h view) (path_of path))
+names_fit P h view path names seen p kept = (coherent P h view seen).children path p (as_good names) kept refl
 
 -- a name that is there is one of those that fit
 pub names_there : (names : Names) (tree : Tree) (dir : NodePath) (found : Option Node)
@@ -93,11 +95,11 @@ names_there names tree dir None fits name there = absurd fits
 names_there names tree dir (Some node) fits name there = fits.1 name ∙ there
 
 pub one_tree_here : WholeIsOfOneTree
-one_tree_here h view seen nodes parents whole =
+one_tree_here h view nodes parents seen whole =
     let parts = and_parts (all_good view.cache.nodes nodes) (all_good view.cache.children parents) whole in
     record {
       seen = λ path there. let k = good_there (view.cache.nodes path) (each_good view.cache.nodes nodes parts.0 path there) in
-          (k.0, k.1, data_fits h view path k.0 seen k.1);
+          (k.0, k.1, data_fits (IsOneOf nodes parents) h view path k.0 seen (inl there) k.1);
       listed = λ path there. let k = good_there (view.cache.children path) (each_good view.cache.children parents parts.1 path there) in
-          (k.0, k.1, names_fit h view path k.0 seen k.1);
+          (k.0, k.1, names_fit (IsOneOf nodes parents) h view path k.0 seen (inr there) k.1);
     }

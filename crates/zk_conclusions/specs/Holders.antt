@@ -10,7 +10,7 @@ use Rattle.zk_nodes.specs.declared.data_stat.DataStat.{DataStat}
 use Rattle.zk_cache.specs.Kept.{Answer, Absent, Known, Full, Names, good}
 use Rattle.zk_turns.specs.View.{View}
 use Rattle.zk_laws.specs.Messages.{from_zero}
-use Rattle.zk_conclusions.specs.Seen.{IsServedFrom, tree_seen}
+use Rattle.zk_conclusions.specs.Seen.{IsServedAt, IsEither, tree_seen}
 
 -- the name begins with the prefix
 abbrev pub HasPrefix : Name → Name → Type 0
@@ -59,10 +59,11 @@ pub record ShowsHolder (view : View) (dir : Text) (prefix : Name) (path : Text) 
   pub nodes : view.cache.nodes path ≡ good answer
   pub made : token_in view.saved.session.session answer ≡ Some token
 
--- A session that is shown to hold does so in the history at the last seen zxid.
+-- A session that is shown to hold does so in the history at the last seen zxid, if servers keep to the model at the directory and the
+-- node.
 abbrev pub HeldIsTrue : Type 0
 HeldIsTrue = (h : History) (view : View) (dir : Text) (prefix : Name) (path : Text) (token : ℤ)
-    → IsServedFrom h view → ShowsHolder view dir prefix path token
+    → IsServedAt (IsEither dir path) h view → ShowsHolder view dir prefix path token
     → IsHolder (tree_seen h view) (path_of dir) prefix (path_of path) view.saved.session.session token
 
 -- In one tree no two hold.
@@ -74,7 +75,7 @@ OneHolds = (tree : Tree) (dir : NodePath) (prefix : Name) (path other : NodePath
 -- Two clients that show it at the same zxid are of the same session.
 abbrev pub OneShows : Type 0
 OneShows = (h : History) (one other : View) (dir : Text) (prefix : Name) (path its : Text) (token later : ℤ)
-    → IsServedFrom h one → IsServedFrom h other → one.saved.last ≡ other.saved.last
+    → IsServedAt (IsEither dir path) h one → IsServedAt (IsEither dir its) h other → one.saved.last ≡ other.saved.last
     → ShowsHolder one dir prefix path token → ShowsHolder other dir prefix its later
     → (path_of path ≡ path_of its) × (one.saved.session.session ≡ other.saved.session.session) × (token ≡ later)
 
@@ -94,5 +95,6 @@ TokensRise = (h : History) (dir : NodePath) (prefix : Name) (path other : NodePa
 -- The same of two clients.
 abbrev pub LaterTokens : Type 0
 LaterTokens = (h : History) (one other : View) (dir : Text) (prefix : Name) (path its : Text) (token later : ℤ)
-    → IsServedFrom h one → IsServedFrom h other → NamesRise h (path_of dir) prefix → from_zero one.saved.last ≤ from_zero other.saved.last
+    → IsServedAt (IsEither dir path) h one → IsServedAt (IsEither dir its) h other → NamesRise h (path_of dir) prefix
+    → from_zero one.saved.last ≤ from_zero other.saved.last
     → ShowsHolder one dir prefix path token → ShowsHolder other dir prefix its later → token ≤ℤ later

@@ -12,4 +12,5 @@ pub mod Standings
 pub mod Predecessors
 pub mod Tags
 pub mod Revisions
+pub mod Everywhere
 pub mod inner

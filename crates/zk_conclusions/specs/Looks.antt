@@ -7,7 +7,7 @@ use Rattle.zk_nodes.specs.declared.side.Side.TheVariants.{Data, Child}
 use Rattle.zk_cache.specs.Kept.{Answer, Names, good}
 use Rattle.zk_laws.specs.Server.{Fits, FitsNames}
 use Rattle.zk_laws.specs.Messages.{from_zero}
-use Rattle.zk_conclusions.specs.Seen.{IsServedFrom}
+use Rattle.zk_conclusions.specs.Seen.{IsServedAt, Is}
 
 -- a good answer that was looked up: about the node of a path, or the names below it
 pub data Look : Type 0 where
@@ -19,10 +19,15 @@ abbrev pub IsKept : Cache → Look → Type 0
 IsKept cache (Node_seen path answer) = cache.nodes path ≡ good answer
 IsKept cache (Names_seen path names) = cache.children path ≡ good names
 
--- A client that was served from the history showed it, when its last seen zxid was this.
+-- the path that it is about
+abbrev pub path_in : Look → Text
+path_in (Node_seen path answer) = path
+path_in (Names_seen path names) = path
+
+-- A client that was served from the history at its path showed it, when its last seen zxid was this.
 pub record WasShown (h : History) (zxid : ℤ) (look : Look) : Type 0 where
   pub view : View
-  pub seen : IsServedFrom h view
+  pub seen : IsServedAt (Is (path_in look)) h view
   pub at : view.saved.last ≡ zxid
   pub kept : IsKept view.cache look
 

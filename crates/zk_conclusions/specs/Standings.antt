@@ -11,7 +11,7 @@ use Rattle.zk_nodes.specs.Path.{Text, Name, NodePath, path_of}
 use Rattle.zk_nodes.specs.History.{Node, Tree, History, IsHistory, tree_at}
 use Rattle.zk_cache.specs.Kept.{Answer, good}
 use Rattle.zk_laws.specs.Messages.{from_zero}
-use Rattle.zk_conclusions.specs.Seen.{IsServedFrom, tree_seen}
+use Rattle.zk_conclusions.specs.Seen.{IsServedAt, Is, tree_seen}
 use Rattle.zk_conclusions.specs.Holders.{token_in}
 use Rattle.zk_conclusions.specs.Numbers.{Kind, is_numbered, is_before, is_rival, is_one}
 
@@ -57,9 +57,10 @@ pub record ShowsStanding (view : View) (dir : Text) (kind : Kind) (names : List 
 abbrev pub ListsAll : Tree → NodePath → List Name → Type 0
 ListsAll tree dir names = (name : Name) → is_some (tree (name ∷ dir)) ≡ true → Among name names
 
--- A getChildren that the client was answered lists each name that was there at the zxid of the answer.
+-- A getChildren that the client was answered lists each name that was there at the zxid of the answer, if servers keep to the model at
+-- the directory.
 abbrev pub ListingIsTrue : Type 0
-ListingIsTrue = (h : History) (view : View) (seen : IsServedFrom h view) (ticket : ℕ) (dir : Text) (watch : Bool) (zxid : ℤ)
+ListingIsTrue = (h : History) (view : View) (dir : Text) (seen : IsServedAt (Is dir) h view) (ticket : ℕ) (watch : Bool) (zxid : ℤ)
     (names : List Text) (stat : Stat)
     → Among (Took (Replies ticket (GetChildren dir watch) zxid (Listing names stat))) (past_of seen.start seen.items)
     → ListsAll (tree_at h (from_zero zxid)) (path_of dir) names
@@ -77,10 +78,11 @@ FirstStays = (h : History) (dir : NodePath) (kind : Kind) (own : Name) (node : N
     → IsHistory h → NumbersRise h dir kind → listed ≤ seen → is_numbered kind.own own ≡ true → IsFirstIn (tree_at h listed) dir kind own
     → tree_at h seen (own ∷ dir) ≡ Some node → node.czxid ≤ listed → IsFirstIn (tree_at h seen) dir kind own
 
--- Whoever is shown to stand first does so in the history at the last seen zxid, where the listing was true at its zxid.
+-- Whoever is shown to stand first does so in the history at the last seen zxid, where the listing was true at its zxid, if
+-- servers keep to the model at its node.
 abbrev pub StandingIsTrue : Type 0
 StandingIsTrue = (h : History) (view : View) (dir : Text) (kind : Kind) (names : List Name) (listed : ℤ) (path : Text) (token : ℤ)
-    → IsServedFrom h view → NumbersRise h (path_of dir) kind → ListsAll (tree_at h (from_zero listed)) (path_of dir) names
+    → IsServedAt (Is path) h view → NumbersRise h (path_of dir) kind → ListsAll (tree_at h (from_zero listed)) (path_of dir) names
     → ShowsStanding view dir kind names listed path token
     → IsStanding (tree_seen h view) (path_of dir) kind (path_of path) view.saved.session.session token
 
@@ -98,9 +100,9 @@ StandingTokensRise =
     → (m : IsStanding (tree_at h zxid) dir kind path session token) → (y : IsStanding (tree_at h beyond) dir its other yours later)
     → is_rival kind y.own ≡ true → token ≤ℤ later
 
--- A client that was served from the history shows, by a listing that was true, that its session stands first; and numbers rise.
+-- A client that was served from the history at its node shows, by a listing that was true, that its session stands first; and numbers rise.
 pub record IsShownStanding (h : History) (view : View) (dir : Text) (kind : Kind) (path : Text) (token : ℤ) : Type 0 where
-  pub seen : IsServedFrom h view
+  pub seen : IsServedAt (Is path) h view
   pub rises : NumbersRise h (path_of dir) kind
   pub names : List Name
   pub listed : ℤ

@@ -13,7 +13,7 @@ use Rattle.zk_cache.specs.Kept.{Answer, Absent, Known, Full, Names, good, is_goo
 use Rattle.zk_laws.specs.Server.{Fits, FitsNames}
 use Rattle.zk_conclusions.specs.declared.no_subtree.NoSubtree.{NoSubtree}
 use Rattle.zk_conclusions.specs.declared.no_subtree.NoSubtree.TheVariants.{NotWhole, TooMany, Memory}
-use Rattle.zk_conclusions.specs.Seen.{IsServedFrom, tree_seen}
+use Rattle.zk_conclusions.specs.Seen.{IsServedAt, tree_seen}
 
 -- The node of the path is kept with its data, and these are the names that are kept below it. Both are good.
 pub record IsFull (cache : Cache) (path : Text) (names : Names) : Type 0 where
@@ -96,10 +96,11 @@ pub record IsSubtreeOf (tree : Tree) (cache : Cache) (root : Text) : Type 0 wher
       → IsReached cache root below → (path_of (text_below root below) ≡ below ++ path_of root) × IsTrueAt tree cache (text_below root below)
   pub complete : (below : List Name) → is_some (tree (below ++ path_of root)) ≡ true → IsReached cache root below
 
--- Where each node that is reached is kept whole, these are the nodes of the history's tree at the last seen zxid.
+-- Where each node that is reached is kept whole, these are the nodes of the history's tree at the last seen zxid, if servers keep to the
+-- model at the paths that are reached.
 abbrev pub WholeIsSubtree : Type 0
-WholeIsSubtree = (h : History) (view : View) (root : Text) → IsServedFrom h view → IsPath root → IsWholeBelow view.cache root
-    → IsSubtreeOf (tree_seen h view) view.cache root
+WholeIsSubtree = (h : History) (view : View) (root : Text) → IsServedAt (IsOneReached view.cache root) h view → IsPath root
+    → IsWholeBelow view.cache root → IsSubtreeOf (tree_seen h view) view.cache root
 
 -- A path at or below the root is one of these exactly where a node is there.
 abbrev pub AreAllBelow : Tree → Text → List Text → Type 0
@@ -108,6 +109,7 @@ AreAllBelow tree root paths = (path : Text) (below : List Name) → IsPath path 
 
 -- Where all that is reached is kept whole, its paths are those of the tree's nodes at and below the root.
 abbrev pub PathsAreAll : Type 0
-PathsAreAll = (h : History) (view : View) (root : Text) (paths : List Text) → IsServedFrom h view → IsPath root
+PathsAreAll = (h : History) (view : View) (root : Text) (paths : List Text) → IsServedAt (IsOneReached view.cache root) h view
+    → IsPath root
     → IsWholeBelow view.cache root → AreReached view.cache root paths
     → AreAllBelow (tree_seen h view) root paths

@@ -23,7 +23,7 @@ impl<'a, A: Allocator + Copy> Holder<'a, A> {
     ghost use Rattle.zk_client.specs.Clients.{view_of};
     ghost use Rattle.zk_nodes.specs.Path.{path_of};
     ghost use Rattle.zk_nodes.specs.History.{History};
-    ghost use Rattle.zk_conclusions.specs.Seen.{IsServedFrom, tree_seen};
+    ghost use Rattle.zk_conclusions.specs.Seen.{IsEither, IsServedAt, tree_seen};
     ghost use Rattle.zk_conclusions.specs.Holders.{IsHolder, ShowsHolder};
 
     /// The client with the node of this path, as the first of those below the directory whose names begin with the prefix: `Some`
@@ -38,7 +38,7 @@ impl<'a, A: Allocator + Copy> Holder<'a, A> {
         path: &Path<A>,
     ) -> Option<Holder<'a, A>>
         ensures shows { IfSome result (λ holder. ShowsHolder (view_of client.now) directory.now prefix.now path.now holder.token) }
-        ensures holds { IfSome result (λ holder. (h : History) → IsServedFrom h (view_of client.now)
+        ensures holds { IfSome result (λ holder. (h : History) → IsServedAt (IsEither directory.now path.now) h (view_of client.now)
             → IsHolder (tree_seen h (view_of client.now)) (path_of directory.now) prefix.now (path_of path.now)
             (view_of client.now).saved.session.session holder.token) }
         ensures client { IfSome result (λ holder. holder.client.now ≡ client.now) }

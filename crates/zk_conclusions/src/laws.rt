@@ -1,16 +1,58 @@
 //! What follows from what a client shows, over definitions alone. The functions do nothing: their contracts are the laws. Each is
-//! about a client that was served from a history (`IsServedFrom`): it has come to its view by turns of the rule, under servers that
-//! hold beginnings of this history.
+//! about a client that was served from a history at the paths concerned (`IsServedAt`): it has come to its view by turns of the rule,
+//! under servers that hold beginnings of this history, and keep to the model at these paths. Elsewhere they may answer and tell anything.
 
+ghost use Rattle.zk_nodes.specs.Path.{Text};
+ghost use Rattle.zk_nodes.specs.History.{History};
+ghost use Rattle.zk_turns.specs.View.{View};
+ghost use Rattle.zk_conclusions.specs.Everywhere.{HeldEverywhere, LaterTokensEverywhere, ListingEverywhere, LooksEverywhere};
+ghost use Rattle.zk_conclusions.specs.Everywhere.{OneShowsEverywhere, OneTreeEverywhere, PathsEverywhere, ShownEverywhere};
+ghost use Rattle.zk_conclusions.specs.Everywhere.{StandingEverywhere, SubtreeEverywhere};
 ghost use Rattle.zk_conclusions.specs.Holders.{HeldIsTrue, LaterTokens, OneHolds, OneShows, TokensRise};
 ghost use Rattle.zk_conclusions.specs.Lacks.{WalkIsTheOnlyAnswer};
 ghost use Rattle.zk_conclusions.specs.Looks.{OneZxidIsOneTree};
 ghost use Rattle.zk_conclusions.specs.Revisions.{QuietIsUnchanged, SameGoodShowsTheSame, SameNumberIsUnchanged};
-ghost use Rattle.zk_conclusions.specs.Snapshots.{WholeIsOfOneTree};
+ghost use Rattle.zk_conclusions.specs.Seen.{Is, IsEither, IsServedAt, IsServedFrom};
+ghost use Rattle.std.specs.Prelude.{Bool, List};
+ghost use Rattle.theory_local.specs.LocalSteps.{IsOf};
+ghost use Rattle.zk_conclusions.specs.Snapshots.{IsOneOf, WholeIsOfOneTree};
 ghost use Rattle.zk_conclusions.specs.Standings.{FirstStays, LaterStandings, ListingIsTrue, OneShowsStanding, OneStands, StandingIsTrue};
 ghost use Rattle.zk_conclusions.specs.Standings.{StandingTokensRise};
-ghost use Rattle.zk_conclusions.specs.Subtrees.{PathsAreAll, WholeIsSubtree};
+ghost use Rattle.zk_conclusions.specs.Subtrees.{IsOneReached, PathsAreAll, WholeIsSubtree};
 ghost use Rattle.zk_conclusions.specs.Tags.{LostAreListed};
+
+/// A client whose servers keep to the model at some paths is one whose servers keep to it at fewer (`fewer`): at one of them, at two, at
+/// those of a snapshot and at those of a subtree (`one`, `two`, `some`, `reached`), as the laws below ask for. One whose servers keep to it
+/// at all paths (`IsServedFrom`) is one whose servers keep to it at any (`model`).
+pub fn served_at()
+    ensures fewer { (paths some : Text → Bool) (h : History) (view : View) → ((path : Text) → IsOf some path → IsOf paths path)
+        → IsServedAt (IsOf paths) h view → IsServedAt (IsOf some) h view }
+    ensures one { (paths : Text → Bool) (h : History) (view : View) (path : Text) → IsOf paths path
+        → IsServedAt (IsOf paths) h view → IsServedAt (Is path) h view }
+    ensures two { (paths : Text → Bool) (h : History) (view : View) (this that : Text) → IsOf paths this → IsOf paths that
+        → IsServedAt (IsOf paths) h view → IsServedAt (IsEither this that) h view }
+    ensures some { (paths : Text → Bool) (h : History) (view : View) (nodes parents : List Text)
+        → ((path : Text) → IsOneOf nodes parents path → IsOf paths path)
+        → IsServedAt (IsOf paths) h view → IsServedAt (IsOneOf nodes parents) h view }
+    ensures reached { (paths : Text → Bool) (h : History) (view : View) (root : Text)
+        → ((path : Text) → IsOneReached view.cache root path → IsOf paths path)
+        → IsServedAt (IsOf paths) h view → IsServedAt (IsOneReached view.cache root) h view }
+    ensures model { (paths : Text → Bool) (h : History) (view : View) → IsServedFrom h view → IsServedAt (IsOf paths) h view }
+{}
+
+/// The laws below of a client whose servers keep to the model at all paths (`IsServedFrom`).
+pub fn everywhere()
+    ensures tree { OneTreeEverywhere }
+    ensures looks { LooksEverywhere }
+    ensures subtree { SubtreeEverywhere }
+    ensures paths { PathsEverywhere }
+    ensures held { HeldEverywhere }
+    ensures one { OneShowsEverywhere }
+    ensures later { LaterTokensEverywhere }
+    ensures listing { ListingEverywhere }
+    ensures standing { StandingEverywhere }
+    ensures shown { ShownEverywhere }
+{}
 
 /// Where each of some paths has a good answer, all of these are those of one tree: the history's at the client's last seen zxid.
 /// So reads that were answered one by one, with writes of others between them, are as if they had been made at once. Nothing is

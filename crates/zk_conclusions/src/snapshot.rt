@@ -30,7 +30,7 @@ impl<'a, A: Allocator + Copy> Snapshot<'a, A> {
     ghost use Rattle.zk_cache.specs.Contents.{answer_of, names_in};
     ghost use Rattle.zk_cache.specs.Kept.{good};
     ghost use Rattle.zk_laws.specs.Server.{Fits, FitsNames};
-    ghost use Rattle.zk_conclusions.specs.Seen.{IsServedFrom, tree_seen};
+    ghost use Rattle.zk_conclusions.specs.Seen.{Is, IsServedAt, tree_seen};
 
     /// What the client shows of the nodes of the first paths, and of the names below the second ones: `Some` exactly where each of
     /// these answers is kept and good. So to have one, read them all with a watch, and ask again after each step.
@@ -69,7 +69,7 @@ impl<'a, A: Allocator + Copy> Snapshot<'a, A> {
         requires { place < length self.now.nodes.now }
         ensures kept { (path : Text) → slice_get self.now.nodes.now place ≡ Some path
             → (view_of self.now.client.now).cache.nodes path ≡ good (answer_of result.now) }
-        ensures holds { (h : History) (path : Text) → IsServedFrom h (view_of self.now.client.now)
+        ensures holds { (h : History) (path : Text) → IsServedAt (Is path) h (view_of self.now.client.now)
             → slice_get self.now.nodes.now place ≡ Some path
             → Fits (answer_of result.now) (view sides.Data (tree_seen h (view_of self.now.client.now)) (path_of path)) }
     {
@@ -84,7 +84,7 @@ impl<'a, A: Allocator + Copy> Snapshot<'a, A> {
         requires { place < length self.now.parents.now }
         ensures kept { (path : Text) → slice_get self.now.parents.now place ≡ Some path
             → (view_of self.now.client.now).cache.children path ≡ good (names_in result.now) }
-        ensures holds { (h : History) (path : Text) → IsServedFrom h (view_of self.now.client.now)
+        ensures holds { (h : History) (path : Text) → IsServedAt (Is path) h (view_of self.now.client.now)
             → slice_get self.now.parents.now place ≡ Some path
             → FitsNames (names_in result.now) (view sides.Child (tree_seen h (view_of self.now.client.now)) (path_of path)) }
     {

@@ -36,7 +36,7 @@ impl<'a, A: Allocator + Copy> Standing<'a, A> {
     ghost use Rattle.zk_nodes.specs.Path.{path_of};
     ghost use Rattle.zk_nodes.specs.History.{History, tree_at};
     ghost use Rattle.zk_laws.specs.Messages.{from_zero};
-    ghost use Rattle.zk_conclusions.specs.Seen.{IsServedFrom, tree_seen};
+    ghost use Rattle.zk_conclusions.specs.Seen.{Is, IsServedAt, tree_seen};
     ghost use Rattle.zk_conclusions.specs.Kinds.{kind_of};
     ghost use Rattle.zk_conclusions.specs.Standings.{IsStanding, ListsAll, NumbersRise, ShowsStanding};
 
@@ -57,7 +57,7 @@ impl<'a, A: Allocator + Copy> Standing<'a, A> {
     ) -> Option<Standing<'a, A>>
         ensures shows { IfSome result (λ standing. ShowsStanding (view_of client.now) listing.now.directory.now (kind_of kind.now)
             listing.now.names.now listing.now.zxid path.now standing.token) }
-        ensures holds { IfSome result (λ standing. (h : History) → IsServedFrom h (view_of client.now)
+        ensures holds { IfSome result (λ standing. (h : History) → IsServedAt (Is path.now) h (view_of client.now)
             → NumbersRise h (path_of listing.now.directory.now) (kind_of kind.now)
             → ListsAll (tree_at h (from_zero listing.now.zxid)) (path_of listing.now.directory.now) listing.now.names.now
             → IsStanding (tree_seen h (view_of client.now)) (path_of listing.now.directory.now) (kind_of kind.now) (path_of path.now)

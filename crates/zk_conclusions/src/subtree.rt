@@ -32,8 +32,8 @@ impl<'a, A: Allocator + Copy> Subtree<'a, A> {
     ghost use Rattle.zk_cache.specs.Kept.{good};
     ghost use Rattle.zk_turns.specs.Meaning.{Among};
     ghost use Rattle.zk_laws.specs.Server.{Fits, FitsNames};
-    ghost use Rattle.zk_conclusions.specs.Seen.{IsServedFrom, tree_seen};
-    ghost use Rattle.zk_conclusions.specs.Subtrees.{AreAllBelow, HasMoreNodes, IsSubtreeOf, IsWholeBelow, Says};
+    ghost use Rattle.zk_conclusions.specs.Seen.{Is, IsServedAt, tree_seen};
+    ghost use Rattle.zk_conclusions.specs.Subtrees.{AreAllBelow, HasMoreNodes, IsOneReached, IsSubtreeOf, IsWholeBelow, Says};
     ghost use Rattle.zk_conclusions.specs.Walks.{IsWalk};
 
     /// All nodes at and below the root, if there are at most `most`: under servers of a history, a path at or below the root is one of
@@ -54,9 +54,11 @@ impl<'a, A: Allocator + Copy> Subtree<'a, A> {
         ensures walk { IfOk result (λ subtree. IsWalk (view_of client.now).cache root.now subtree.paths.items) }
         ensures most { IfOk result (λ subtree. length subtree.paths.items ≤ most) }
         ensures client { IfOk result (λ subtree. subtree.client.now ≡ client.now) }
-        ensures holds { IfOk result (λ subtree. (h : History) → IsServedFrom h (view_of client.now)
+        ensures holds { IfOk result (λ subtree. (h : History)
+            → IsServedAt (IsOneReached (view_of client.now).cache root.now) h (view_of client.now)
             → IsSubtreeOf (tree_seen h (view_of client.now)) (view_of client.now).cache root.now) }
-        ensures all { IfOk result (λ subtree. (h : History) → IsServedFrom h (view_of client.now)
+        ensures all { IfOk result (λ subtree. (h : History)
+            → IsServedAt (IsOneReached (view_of client.now).cache root.now) h (view_of client.now)
             → AreAllBelow (tree_seen h (view_of client.now)) root.now subtree.paths.items) }
         ensures none { IfErr result (λ why.
             Says why (¬ (IsWholeBelow (view_of client.now).cache root.now)) (HasMoreNodes (view_of client.now).cache root.now most)) }
@@ -78,7 +80,7 @@ impl<'a, A: Allocator + Copy> Subtree<'a, A> {
         requires { place < length self.now.paths.items }
         ensures kept { (path : Text) → slice_get self.now.paths.items place ≡ Some path
             → (view_of self.now.client.now).cache.nodes path ≡ good (answer_of result.now) }
-        ensures holds { (h : History) (path : Text) → IsServedFrom h (view_of self.now.client.now)
+        ensures holds { (h : History) (path : Text) → IsServedAt (Is path) h (view_of self.now.client.now)
             → slice_get self.now.paths.items place ≡ Some path
             → Fits (answer_of result.now) (view sides.Data (tree_seen h (view_of self.now.client.now)) (path_of path)) }
     {
@@ -93,7 +95,7 @@ impl<'a, A: Allocator + Copy> Subtree<'a, A> {
         requires { place < length self.now.paths.items }
         ensures kept { (path : Text) → slice_get self.now.paths.items place ≡ Some path
             → (view_of self.now.client.now).cache.children path ≡ good (names_in result.now) }
-        ensures holds { (h : History) (path : Text) → IsServedFrom h (view_of self.now.client.now)
+        ensures holds { (h : History) (path : Text) → IsServedAt (Is path) h (view_of self.now.client.now)
             → slice_get self.now.paths.items place ≡ Some path
             → FitsNames (names_in result.now) (view sides.Child (tree_seen h (view_of self.now.client.now)) (path_of path)) }
     {
@@ -108,7 +110,7 @@ impl<'a, A: Allocator + Copy> Subtree<'a, A> {
     /// no node is there, if it is a path at or below the root (`all` of [`of`](Subtree::of)). It goes over no list.
     pub fn get(&self, path: &Path<A>) -> Option<&'a DataAnswer<A>>
         ensures kept { IfSome result (λ answer. (view_of self.now.client.now).cache.nodes path.now ≡ good (answer_of answer.now)) }
-        ensures holds { (h : History) → IsServedFrom h (view_of self.now.client.now) → IfSome result
+        ensures holds { (h : History) → IsServedAt (Is path.now) h (view_of self.now.client.now) → IfSome result
             (λ answer. Fits (answer_of answer.now) (view sides.Data (tree_seen h (view_of self.now.client.now)) (path_of path.now))) }
         ensures none { result ≡ None → ¬ (Among path.now self.now.paths.items) }
     {

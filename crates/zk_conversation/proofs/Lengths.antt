@@ -7,8 +7,9 @@ use Rattle.zk_jute.specs.Layout.{ustring, vector}
 use Rattle.zk_jute.specs.Spelling.{int_bytes, long_bytes, boolean_bytes, counted_bytes, spelling}
 use Rattle.zk_records.specs.Layouts.{acl}
 use Rattle.zk_records.specs.OpenAcl.{open_acl}
-use Rattle.zk_conversation.specs.Calls.{Exists, GetData, GetChildren, SetData, Create, Delete, Close, call_payload, connect_payload}
+use Rattle.zk_conversation.specs.Calls.{Exists, GetData, GetChildren, SetData, Create, Delete, Close, Raw, call_payload, connect_payload}
 use Rattle.zk_conversation.specs.Calls.{part_payload, ping_payload}
+use Rattle.zk_conversation.specs.declared.raw.RawOperation.{RawOperation}
 use Rattle.zk_nodes.specs.Path.{Text}
 
 pub length-int : (z : ℤ) → length (int_bytes z) ≡ 4
@@ -61,6 +62,10 @@ length-delete xid path version = simp (length-append, length-int, length-counted
 pub length-close : (xid : ℤ) → length (call_payload xid Close) ≡ 8
 unfolding call_payload
 length-close xid = simp (length-append, length-int) (omega arith)
+
+pub length-raw : (xid : ℤ) (operation : RawOperation) (bytes : List ℕ) → length (call_payload xid (Raw operation bytes)) ≡ 8 + length bytes
+unfolding call_payload
+length-raw xid operation bytes = simp (length-append, length-int) (omega arith)
 
 pub length-connect : (last timeout session : ℤ) (password : List ℕ)
     → length (connect_payload last timeout session password) ≡ 29 + length password

@@ -11,6 +11,7 @@ pub data Question : Type 0 where
   Exists GetData GetChildren : (path : Text) → (watch : Bool) → Question
   SetData Create Delete : (path : Text) → Question
   Close : Question
+  Raw : Question
 
 abbrev pub question_of : Call → Question
 question_of (call.Exists path watch) = Exists path watch
@@ -20,6 +21,7 @@ question_of (call.SetData path bytes version) = SetData path
 question_of (call.Create path bytes mode) = Create path
 question_of (call.Delete path version) = Delete path
 question_of call.Close = Close
+question_of (call.Raw operation bytes) = Raw
 
 -- the side on which a question is to leave a watch
 abbrev pub watched_side : Question → Option Side

@@ -12,9 +12,10 @@ use Rattle.zk_nodes.specs.Path.{Text}
 use Rattle.zk_jute.specs.Lenient.{or_empty}
 use Rattle.zk_records.specs.Layouts.{get_data_response, get_children2_response, create_response}
 use Rattle.zk_records.specs.Response.{Response}
-use Rattle.zk_conversation.specs.Questions.{Question, Exists, GetData, GetChildren, SetData, Create, Delete, Close}
+use Rattle.zk_conversation.specs.Questions.{Question, Exists, GetData, GetChildren, SetData, Create, Delete, Close, Raw}
 
--- what a reply holds: error code -101, another code that is not 0, or the record of its question
+-- what a reply holds: error code -101, another code that is not 0, or the record of its question; all that stands after the header,
+-- where the caller has spelled what was asked
 pub data Result : Type 0 where
   NoNode Done : Result
   Refused : (code : ℤ) → Result
@@ -22,6 +23,7 @@ pub data Result : Type 0 where
   Read : (bytes : Option (List ℕ)) → Stat → Result
   Listing : (names : List Text) → Stat → Result
   Made : (path : Text) → Result
+  Brought : (bytes : List ℕ) → Result
 
 abbrev pub texts_of : Option (List (Option (List ℕ))) → List Text
 texts_of texts = map or_empty (or_empty texts)
@@ -51,19 +53,22 @@ result_layout (SetData path) = stat
 result_layout (Create path) = create_response
 result_layout (Delete path) = nothing
 result_layout Close = nothing
+result_layout Raw = nothing
 
-abbrev pub result_from : (question : Question) → Value (result_layout question) → Result
-result_from (Exists path watch) value = Found (stat_of value)
-result_from (GetData path watch) value = Read value.0 (stat_of value.1)
-result_from (GetChildren path watch) value = Listing (texts_of value.0) (stat_of value.1)
-result_from (SetData path) value = Found (stat_of value)
-result_from (Create path) value = Made (or_empty value)
-result_from (Delete path) value = Done
-result_from Close value = Done
+-- the result of this record, which these bytes follow
+abbrev pub result_from : (question : Question) → Value (result_layout question) → (behind : List ℕ) → Result
+result_from (Exists path watch) value behind = Found (stat_of value)
+result_from (GetData path watch) value behind = Read value.0 (stat_of value.1)
+result_from (GetChildren path watch) value behind = Listing (texts_of value.0) (stat_of value.1)
+result_from (SetData path) value behind = Found (stat_of value)
+result_from (Create path) value behind = Made (or_empty value)
+result_from (Delete path) value behind = Done
+result_from Close value behind = Done
+result_from Raw value behind = Brought behind
 
--- the record of a question, at the beginning of these bytes; what follows it is ignored
+-- The record of a question, at the beginning of these bytes; what follows it is ignored, unless a caller has spelled the request.
 unfoldable pub record_of : Question → (end : ℕ) → List ℕ → Reading Result TakeError
-record_of question end bytes = reading (result_layout question) end bytes >>= λ found. Ok (result_from question found.0)
+record_of question end bytes = reading (result_layout question) end bytes >>= λ found. Ok (result_from question found.0 found.1)
 
 -- a reply with err other than 0 has no record, and what follows its header is ignored
 abbrev pub result_of : Question → (err : ℤ) → (end : ℕ) → List ℕ → Reading Result TakeError

@@ -20,9 +20,9 @@ use Rattle.zk_conversation.specs.declared.result.ReplyResult.{ReplyResult}
 use Rattle.zk_conversation.specs.declared.result.ReplyResult.TheVariants as reply
 use Rattle.zk_jute.specs.Lenient.{or_empty}
 use Rattle.zk_records.specs.Codes.{code_number}
-use Rattle.zk_conversation.specs.Results.{Result, NoNode, Refused, Found, Read, Listing, Made, Done}
+use Rattle.zk_conversation.specs.Results.{Result, NoNode, Refused, Found, Read, Listing, Made, Done, Brought}
 use Rattle.zk_records.specs.declared.set_watches.SetWatchesRef.{SetWatchesRef}
-use Rattle.zk_conversation.specs.Calls.{part_payload, Call, Exists, GetData, GetChildren, SetData, Create, Delete, Close}
+use Rattle.zk_conversation.specs.Calls.{part_payload, Call, Exists, GetData, GetChildren, SetData, Create, Delete, Close, Raw}
 use Rattle.zk_conversation.specs.Questions.{Question}
 use Rattle.zk_conversation.specs.Questions as question
 
@@ -41,6 +41,7 @@ call_view (made.SetData path bytes version) = SetData path (option_map (λ v. v.
 call_view (made.Create path bytes mode) = Create path (option_map (λ v. v.items) bytes) (mode_number mode)
 call_view (made.Delete path version) = Delete path version
 call_view made.Close = Close
+call_view (made.Raw operation body) = Raw operation body.items
 
 abbrev pub question_view : {A : Type 0} → RustQuestion A → Question
 question_view (kept.Exists path watch) = question.Exists path watch
@@ -50,6 +51,7 @@ question_view (kept.SetData path) = question.SetData path
 question_view (kept.Create path) = question.Create path
 question_view (kept.Delete path) = question.Delete path
 question_view kept.Close = question.Close
+question_view kept.Raw = question.Raw
 
 -- an error code that is not 0
 abbrev pub code_result : ℤ → Result
@@ -62,6 +64,7 @@ result_view (reply.Data bytes stat) = Read (option_map (λ b. b.now) bytes) stat
 result_view (reply.Names names stat) = Listing (map (λ name. or_empty (option_map (λ text. text.now) name.text)) names.items) stat
 result_view (reply.Created path) = Made path.now
 result_view reply.Done = Done
+result_view (reply.Raw bytes) = Brought bytes.now
 
 abbrev pub waiting_view : {A : Type 0} → RustWaiting A → Waiting
 waiting_view (waits.Part last) = Part_waits last

@@ -8,8 +8,9 @@ ghost use Rattle.zk_conversation.specs.Calls.{call_payload};
 ghost use Rattle.zk_conversation.specs.Questions.{question_of};
 ghost use Rattle.zk_conversation.specs.Views.{call_view, question_view, mode_number};
 
-use crate::frame::request_frame;
+use crate::frame::{raw_frame, request_frame};
 use crate::question::Question;
+use crate::raw::RawOperation;
 use std::alloc::{AllocError, Allocator, Global};
 use zk_jute::{BytesRef, Nothing};
 use zk_limits::LONGEST_OUTGOING;
@@ -54,6 +55,11 @@ pub enum Call<A: Allocator = Global> {
     },
     /// Ends the session.
     Close,
+    /// Asks what the caller spells: the bytes that stand after the header go out as they are.
+    Raw {
+        operation: RawOperation,
+        body: Vec<u8, A>,
+    },
 }
 
 /// What kind of node is made: `CreateMode` of the Programmer's Guide, "Nodes and ephemeral nodes".
@@ -104,6 +110,10 @@ impl<A: Allocator + Copy> Call<A> {
             } => Question::Create { path },
             Call::Delete { path, version: _ } => Question::Delete { path },
             Call::Close => Question::Close,
+            Call::Raw {
+                operation: _,
+                body: _body,
+            } => Question::Raw,
         }
     }
 
@@ -127,6 +137,7 @@ impl<A: Allocator + Copy> Call<A> {
             } => 47 + path.as_str().len() + data_length(bytes),
             Call::Delete { path, version: _ } => 16 + path.as_str().len(),
             Call::Close => 8,
+            Call::Raw { operation: _, body } => 8 + body.as_slice().len(),
         }
     }
 
@@ -178,6 +189,12 @@ impl<A: Allocator + Copy> Call<A> {
                 request_frame(alloc, room, xid, Operation::Delete, record)
             }
             Call::Close => request_frame(alloc, room, xid, Operation::CloseSession, Nothing),
+            Call::Raw { operation, body } => raw_frame(
+                alloc,
+                xid,
+                operation.number(),
+                body.as_slice(),
+            ),
         }
     }
 }

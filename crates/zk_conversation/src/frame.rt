@@ -1,9 +1,10 @@
 //! Frames of requests.
 
-ghost use Rattle.std.specs.Prelude.{◌≡◌, ◌<◌, ◌^◌, length, IfOk};
+ghost use Rattle.std.specs.Prelude.{◌≡◌, ◌<◌, ◌^◌, ◌++◌, length, IfOk};
 ghost use Rattle.zk_jute.specs.Layout.{int, ◌⨾◌};
 ghost use Rattle.zk_jute.specs.Spelling.{spelling};
 ghost use Rattle.zk_frames.specs.Frame.{frame};
+ghost use Rattle.zk_records.specs.Layouts.{request_header};
 ghost use Rattle.zk_records.specs.Operations.{operation_number};
 
 use std::alloc::{AllocError, Allocator};
@@ -52,4 +53,25 @@ pub(crate) fn request_frame<A: Allocator + Copy, R: Record<A> + Copy>(
             record: body,
         },
     )
+}
+
+/// The frame of a request of which the caller has spelled what stands after the header.
+pub(crate) fn raw_frame<A: Allocator + Copy>(
+    alloc: A,
+    xid: i32,
+    operation: i32,
+    body: &[u8],
+) -> Result<Vec<u8, A>, AllocError>
+    requires { length (spelling request_header (xid, operation) ++ body.now) < 2 ^ 30 }
+    ensures { IfOk result (λ out. out.items ≡ frame (spelling request_header (xid, operation) ++ body.now)) }
+{
+    let header = RequestHeader { xid, operation };
+    let mut out = Vec::with_capacity(alloc, 12 + body.len())?;
+    out.extend_from_slice(&[0; 4])?;
+    if header.put(&mut out).is_err() {
+        return Err(AllocError);
+    }
+    out.extend_from_slice(body)?;
+    seal_frame(&mut out);
+    Ok(out)
 }

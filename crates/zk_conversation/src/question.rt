@@ -19,6 +19,8 @@ pub enum Question<A: Allocator> {
     Create { path: Path<A> },
     Delete { path: Path<A> },
     Close,
+    /// Of a request that the caller has spelled.
+    Raw,
 }
 
 impl<A: Allocator> Question<A> {

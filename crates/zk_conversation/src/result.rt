@@ -34,6 +34,8 @@ pub enum ReplyResult<'a, A: Allocator> {
     Created(&'a str),
     /// The node was deleted, or the session is closed.
     Done,
+    /// All that stands after the header of a reply to what the caller has spelled.
+    Raw(&'a [u8]),
 }
 
 /// Reads the result of a reply with this err, after its header.
@@ -69,6 +71,7 @@ fn read_record<'a, A: Allocator + Copy>(
         Question::Create { .. } => read_created(alloc, at),
         Question::Delete { .. } => Ok(ReplyResult::Done),
         Question::Close => Ok(ReplyResult::Done),
+        Question::Raw => Ok(ReplyResult::Raw(at.rest())),
     }
 }
 

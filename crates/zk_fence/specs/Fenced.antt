@@ -4,7 +4,7 @@ use Rattle.zk_nodes.specs.Path.{Text, Name, path_of}
 use Rattle.zk_nodes.specs.History.{History}
 use Rattle.zk_laws.specs.Messages.{from_zero}
 use Rattle.zk_turns.specs.View.{View}
-use Rattle.zk_conclusions.specs.Seen.{IsServedFrom}
+use Rattle.zk_conclusions.specs.Seen.{IsServedAt, IsEither}
 use Rattle.zk_conclusions.specs.Holders.{NamesRise, ShowsHolder}
 use Rattle.zk_conclusions.specs.Numbers.{Kind, is_rival}
 use Rattle.zk_conclusions.specs.Standings.{IsShownStanding}
@@ -20,13 +20,14 @@ abbrev pub IsFencedFrom : (token later : ℤ) → Type 0
 IsFencedFrom token later = (greatest : Option ℤ) (between : List ℤ)
     → is_taken greatest later ≡ true → is_taken (after_all between (greatest_after greatest later)) token ≡ true → token ≡ later
 
--- So it is of two clients that show at two zxids that they hold.
+-- So it is of two clients that show at two zxids that they hold, under servers that keep to the model at the directory and their nodes.
 abbrev pub FencedHolders : Type 0
 FencedHolders = (h : History) (one other : View) (dir : Text) (prefix : Name) (path its : Text) (token later : ℤ)
-    → IsServedFrom h one → IsServedFrom h other → NamesRise h (path_of dir) prefix → from_zero one.saved.last ≤ from_zero other.saved.last
+    → IsServedAt (IsEither dir path) h one → IsServedAt (IsEither dir its) h other → NamesRise h (path_of dir) prefix
+    → from_zero one.saved.last ≤ from_zero other.saved.last
     → ShowsHolder one dir prefix path token → ShowsHolder other dir prefix its later → IsFencedFrom token later
 
--- The same of two rivals that show that they stand first.
+-- The same of two rivals that show that they stand first, under servers that keep to it at their nodes.
 abbrev pub FencedStandings : Type 0
 FencedStandings = (h : History) (one other : View) (dir : Text) (kind its : Kind) (path its_path : Text) (token later : ℤ)
     → (m : IsShownStanding h one dir kind path token) → (y : IsShownStanding h other dir its its_path later)

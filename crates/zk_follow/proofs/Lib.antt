@@ -11,3 +11,5 @@ pub mod Telling
 pub mod Unfollowing
 pub mod Forgetting
 pub mod Resting
+pub mod Among
+pub mod Paths

@@ -26,7 +26,7 @@ use Rattle.zk_follow.specs.Following.{says_none, taken}
 use Rattle.zk_follow.specs.Following.{told_after, told_of, was_shown, woken, woken_progress, IsCounted, IsFollowed}
 use Rattle.zk_follow.specs.inner.Following.{Asks, VisitsAnd}
 use Rattle.zk_follow.specs.Following.{holds, is_due, is_resting}
-use Rattle.zk_follow.specs.inner.Resting.{covers, is_about, is_marked, is_report, tells_fields, AreCovered}
+use Rattle.zk_follow.specs.inner.Resting.{covers, is_about, is_marked, is_report, tells_fields, AreNoted}
 use Rattle.zk_follow.specs.Following.{AreResting}
 use Rattle.zk_follow.specs.inner.Resting.{AreRestingBut}
 use Rattle.zk_follow.proofs.Asking.{nothing_more}
@@ -289,7 +289,7 @@ covered_more {A} old new outputs index item kept more fits is covered k d below 
         kept (output_view (get_or outputs k d)) (covered k d (omega arith))
 
 pub all_covered : {A : Type 0} (about : About A) (outputs : List (Made A))
-    → ((k : ℕ) (d : Made A) → k < length outputs → covers about (output_view (get_or outputs k d)) ≡ true) → AreCovered about (said outputs)
+    → ((k : ℕ) (d : Made A) → k < length outputs → covers about (output_view (get_or outputs k d)) ≡ true) → AreNoted about (said outputs)
 all_covered about [] covered = tt
 all_covered about (output ∷ outputs) covered =
     (covered 0 output (omega arith), all_covered about outputs (λ k d within. covered (suc k) d (omega (arith, within))))
@@ -316,7 +316,7 @@ none_about_one about ticket path (Enters state) covered each unmarked unreported
 none_about_one about ticket path _ covered each unmarked unreported = refl
 
 pub none_about : {A : Type 0} (about : About A) (ticket : ℕ) (path : Text) (outputs : List Output)
-    → AreCovered about outputs → about.is_each ≡ false → is_marked about.answered.items ticket ≡ false
+    → AreNoted about outputs → about.is_each ≡ false → is_marked about.answered.items ticket ≡ false
     → (about.has_report && is_reported path outputs) ≡ false → list_any (is_about ticket path) outputs ≡ false
 none_about about ticket path [] covered each unmarked unreported = refl
 none_about about ticket path (output ∷ outputs) covered each unmarked unreported =

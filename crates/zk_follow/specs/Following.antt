@@ -281,6 +281,10 @@ fresh ticket side path = record {
 abbrev pub unfollowed : {A : Type 0} → (ticket : ℕ) → List (Subject A) → List (Subject A)
 unfollowed ticket subjects = filter (λ subject. not (subject.ticket == ticket)) subjects
 
+-- and once none of these tickets is, one after the other
+abbrev pub unfollowed_all : {A : Type 0} → (tickets : List ℕ) → List (Subject A) → List (Subject A)
+unfollowed_all tickets subjects = fold (λ all ticket. unfollowed ticket all) subjects tickets
+
 -- when a subject is read again whose read was refused
 abbrev pub again_at : Progress → Option ℕ
 again_at (Refused why until) = Some until

@@ -1,3 +1,4 @@
 -- What contracts of private functions say: nobody has to believe it.
 pub mod Following
+pub mod Reported
 pub mod Resting

@@ -6,16 +6,17 @@ ghost use Rattle.zk_turns.specs.Turns.{Output as Said};
 ghost use Rattle.zk_client.specs.Views.{outcome_view, output_view, said};
 ghost use Rattle.zk_follow.specs.inner.Resting.{covers, is_about, is_marked, slots, tells_fields, AreCovered};
 
-use crate::news::is_reported;
+use crate::reported::Reported;
 use std::alloc::{AllocError, Allocator};
 use zk_client::{CallResult, Outcome, Output, Path};
 
 /// What outputs are about, at least: whether one of them may be about each subject, whether one is a report, and which tickets have an
 /// answer, by their remainders, so that a ticket may count as one that has none.
 #[derive(Drop)]
-pub(crate) struct About<A: Allocator> {
+pub(crate) struct About<A: Allocator + Copy> {
     is_each: bool,
     has_report: bool,
+    reported: Reported<A>,
     answered: Vec<bool, A>,
 }
 
@@ -48,7 +49,7 @@ fn slot(ticket: u64, size: usize) -> usize
     (ticket % size as u64) as usize
 }
 
-impl<A: Allocator> About<A> {
+impl<A: Allocator + Copy> About<A> {
     /// What these outputs are about. An error means that memory ran out.
     pub(crate) fn of(alloc: A, outputs: &[Output<A>]) -> Result<About<A>, AllocError>
         ensures { IfOk result (λ about. AreCovered about (said outputs.now)) }
@@ -58,11 +59,13 @@ impl<A: Allocator> About<A> {
         let mut about = About {
             is_each: false,
             has_report: false,
+            reported: Reported::new(alloc),
             answered,
         };
         for output in outputs {
             about.note(output);
         }
+        about.reported = Reported::of(alloc, outputs)?;
         Ok(about)
     }
 
@@ -105,8 +108,9 @@ impl<A: Allocator> About<A> {
     }
 
     /// Whether these outputs, which it is about, say nothing of a subject.
-    pub(crate) fn leaves(&self, ticket: u64, path: &Path<A>, outputs: &[Output<A>]) -> bool
-        ensures { AreCovered self.now (said outputs.now) → result ≡ true → list_any (is_about ticket path.now) (said outputs.now) ≡ false }
+    pub(crate) fn leaves(&self, ticket: u64, path: &Path<A>, _outputs: &[Output<A>]) -> bool
+        ensures { AreCovered self.now (said _outputs.now) → result ≡ true
+            → list_any (is_about ticket path.now) (said _outputs.now) ≡ false }
     {
         if self.is_each || self.answered.is_empty() {
             return false;
@@ -117,6 +121,6 @@ impl<A: Allocator> About<A> {
         if !self.has_report {
             return true;
         }
-        !is_reported(path, outputs)
+        !self.reported.has(path)
     }
 }

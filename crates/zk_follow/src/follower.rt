@@ -10,6 +10,7 @@ ghost use Rattle.zk_turns.specs.Rule.{forgotten, Stands};
 ghost use Rattle.zk_client.specs.Clients.{renewed_start, view_of};
 ghost use Rattle.zk_client.specs.Views.{input_view, said};
 ghost use Rattle.zk_follow.specs.Following.{due_again, first_again, first_of, again_at, fresh, heard_all, news_in, told_of, unfollowed};
+ghost use Rattle.zk_follow.specs.Following.{unfollowed_all};
 ghost use Rattle.zk_follow.specs.Following.{AreVisited, BreaksOff, IsAhead, IsCounted, IsFollowed, Steps};
 ghost use Rattle.zk_follow.specs.inner.Following.{Reads};
 ghost use Rattle.zk_follow.specs.Following.{AreResting};
@@ -20,6 +21,7 @@ use crate::news::{News, tell_all};
 use crate::progress::Progress;
 use crate::stop::FollowerStop;
 use crate::subject::Subject;
+use crate::tickets::remove_all;
 use std::alloc::{AllocError, Allocator, Global};
 use std::mem;
 use zk_client::{Client, Input, Output, Path, Side};
@@ -290,6 +292,17 @@ impl<A: Allocator + Copy> Follower<A> {
         remove(&mut self.subjects, &mut self.resting, ticket);
     }
 
+    /// Follows the subjects of these tickets no more, in the time of one pass over all subjects. Reads of them that are under way are
+    /// answered to nobody. An error means that memory ran out, and nothing has happened then.
+    pub fn unfollow_all(&mut self, tickets: &[u64]) -> Result<(), AllocError>
+        ensures client { self.new.client ≡ self.old.client }
+        ensures subjects { OnOk result (self.new.subjects.items ≡ unfollowed_all tickets.now self.old.subjects.items) }
+        ensures same { OnErr result (self.new.subjects.items ≡ self.old.subjects.items) }
+    {
+        self.resting.clear();
+        remove_all(self.alloc, &mut self.subjects, tickets)
+    }
+
     /// Takes the stale answers out of what the client keeps. What is good stays, so each subject stays followed. It takes no memory.
     pub fn forget_stale(&mut self)
         ensures view { view_of self.new.client ≡ record (view_of self.old.client) { cache = forgotten (view_of self.old.client).cache } }
@@ -324,6 +337,7 @@ impl<A: Allocator + Copy> Follower<A> {
     {
         let subjects = self.subjects.as_mut_slice();
         match tell_all(
+            self.alloc,
             subjects,
             self.resting.as_slice(),
             &self.client,

@@ -11,8 +11,10 @@ mod kept;
 mod news;
 mod progress;
 mod reads;
+mod reported;
 mod stop;
 mod subject;
+mod tickets;
 
 pub use follower::Follower;
 pub use news::News;

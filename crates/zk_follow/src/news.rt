@@ -2,16 +2,17 @@
 
 ghost use Rattle.std.specs.Prelude.{◌≡◌, ◌++◌, map, false, true, OnOk, slice_index_or};
 ghost use Rattle.std.specs.List.{flat_map, list_any};
-ghost use Rattle.zk_nodes.specs.Path.{Text};
 ghost use Rattle.zk_client.specs.Clients.{view_of};
 ghost use Rattle.zk_client.specs.Views.{output_view, said};
-ghost use Rattle.zk_follow.specs.Following.{is_report_of, is_reported, is_same, news_about, news_in, news_list, told_after, told_of};
+ghost use Rattle.zk_follow.specs.Following.{is_reported, is_same, news_about, news_in, news_list, told_after, told_of};
 ghost use Rattle.zk_follow.specs.Following.{was_refused, was_shown};
 ghost use Rattle.zk_follow.specs.Following.{is_resting, AreResting};
+ghost use Rattle.zk_follow.specs.inner.Reported.{AreReported};
 ghost use Rattle.zk_follow.specs.inner.Resting.{is_report};
 
 use crate::kept::is_shown;
 use crate::progress::{Progress, Refusal};
+use crate::reported::Reported;
 use crate::subject::Subject;
 use std::alloc::{AllocError, Allocator};
 use zk_client::{Client, Output, Path};
@@ -99,23 +100,6 @@ fn told_after(is_good: bool, progress: Progress, told: Option<News>) -> Option<N
     }
 }
 
-/// Whether an output is a report about a path.
-fn is_report_of<A: Allocator>(path: &Path<A>, output: &Output<A>) -> bool
-    ensures { result ≡ is_report_of path.now (output_view output.now) }
-{
-    match output {
-        Output::Report { path: at, .. } => at.as_str() == path.as_str(),
-        _ => false,
-    }
-}
-
-/// Whether the client has reported a path.
-pub(crate) fn is_reported<A: Allocator>(path: &Path<A>, outputs: &[Output<A>]) -> bool
-    ensures { result ≡ is_reported path.now (said outputs.now) }
-{
-    outputs.iter().any(|output| is_report_of(path, output))
-}
-
 /// Whether an output is a report.
 fn is_report<A: Allocator>(output: &Output<A>) -> bool
     ensures { result ≡ is_report (output_view output.now) }
@@ -130,12 +114,18 @@ fn has_report<A: Allocator>(outputs: &[Output<A>]) -> bool
     outputs.iter().any(|output| is_report(output))
 }
 
-/// Whether the client has reported a path, where it is known whether it has reported any.
-fn is_reported_where<A: Allocator>(has_report: bool, path: &Path<A>, outputs: &[Output<A>]) -> bool
-    requires { has_report ≡ list_any is_report (said outputs.now) }
-    ensures { result ≡ is_reported path.now (said outputs.now) }
+/// Whether the client has reported a path, where it is known whether it has reported any, and which.
+fn is_reported_where<A: Allocator + Copy>(
+    has_report: bool,
+    reported: &Reported<A>,
+    path: &Path<A>,
+    _outputs: &[Output<A>],
+) -> bool
+    requires has_report { has_report ≡ list_any is_report (said _outputs.now) }
+    requires reported { AreReported reported.now (said _outputs.now) }
+    ensures { result ≡ is_reported path.now (said _outputs.now) }
 {
-    has_report && is_reported(path, outputs)
+    has_report && reported.has(path)
 }
 
 /// Whether the mark at a place is true.
@@ -168,33 +158,33 @@ impl<A: Allocator + Copy> Subject<A> {
         &mut self,
         client: &Client<A>,
         has_report: bool,
+        reported: &Reported<A>,
         outputs: &[Output<A>],
         all: &mut Vec<(u64, News), A>,
     ) -> Result<(), AllocError>
-        requires { has_report ≡ list_any is_report (said outputs.now) }
+        requires has_report { has_report ≡ list_any is_report (said outputs.now) }
+        requires reported { AreReported reported.now (said outputs.now) }
         ensures news { OnOk result (all.new.items ≡ all.old.items ++ news_in (view_of client.now) (said outputs.now) self.old) }
         ensures told { self.new ≡ told_of (view_of client.now) self.old }
     {
         let is_good = is_shown(client, self.side, &self.path);
-        let is_reported = is_reported_where(has_report, &self.path, outputs);
+        let is_reported = is_reported_where(has_report, reported, &self.path, outputs);
         let news = news_about(is_good, is_reported, self.progress, self.told);
         self.told = told_after(is_good, self.progress, self.told);
         add_news(all, self.ticket, news)
     }
 
     /// Whether it was told last that what is kept is good, and no output reports the path.
-    fn is_told(&self, has_report: bool, outputs: &[Output<A>]) -> bool
-        requires { has_report ≡ list_any is_report (said outputs.now) }
+    fn is_told(&self, has_report: bool, reported: &Reported<A>, outputs: &[Output<A>]) -> bool
+        requires has_report { has_report ≡ list_any is_report (said outputs.now) }
+        requires reported { AreReported reported.now (said outputs.now) }
         ensures shown { result ≡ true → was_shown self.now.told ≡ true }
         ensures unreported { result ≡ true → is_reported self.now.path (said outputs.now) ≡ false }
     {
         if !was_shown(self.told) {
             return false;
         }
-        if !has_report {
-            return true;
-        }
-        !is_reported(&self.path, outputs)
+        !is_reported_where(has_report, reported, &self.path, outputs)
     }
 
     /// Reports the subject; but of one that rests, and of which that was told, there is nothing to tell.
@@ -203,24 +193,27 @@ impl<A: Allocator + Copy> Subject<A> {
         rests: bool,
         client: &Client<A>,
         has_report: bool,
+        reported: &Reported<A>,
         outputs: &[Output<A>],
         all: &mut Vec<(u64, News), A>,
     ) -> Result<(), AllocError>
         requires rests { rests ≡ true → is_resting (view_of client.now) self.old ≡ true }
         requires has_report { has_report ≡ list_any is_report (said outputs.now) }
+        requires reported { AreReported reported.now (said outputs.now) }
         ensures news { OnOk result (all.new.items ≡ all.old.items ++ news_in (view_of client.now) (said outputs.now) self.old) }
         ensures told { self.new ≡ told_of (view_of client.now) self.old }
     {
-        if rests && self.is_told(has_report, outputs) {
+        if rests && self.is_told(has_report, reported, outputs) {
             return Ok(());
         }
-        self.report(client, has_report, outputs, all)
+        self.report(client, has_report, reported, outputs, all)
     }
 }
 
 /// Adds what there is to tell of each, with its ticket, in order. These outputs were made since the call before this one. Where it is
 /// marked so, a subject rests.
 pub(crate) fn tell_all<A: Allocator + Copy>(
+    alloc: A,
     subjects: &mut [Subject<A>],
     resting: &[bool],
     client: &Client<A>,
@@ -232,9 +225,10 @@ pub(crate) fn tell_all<A: Allocator + Copy>(
     ensures told { OnOk result (subjects.new ≡ map (told_of (view_of client.now)) subjects.old) }
 {
     let has_report = has_report(outputs);
+    let reported = Reported::of(alloc, outputs)?;
     for index in 0..subjects.len() {
         let rests = is_marked(resting, index);
-        subjects[index].report_where(rests, client, has_report, outputs, all)?;
+        subjects[index].report_where(rests, client, has_report, &reported, outputs, all)?;
     }
     Ok(())
 }

@@ -131,6 +131,16 @@ impl<A: Allocator> Subject<A> {
         }
     }
 
+    /// The subject is to be read: another session begins.
+    pub(crate) fn begin(&mut self)
+        ensures { self.new ≡ due_again self.old }
+    {
+        self.progress = Progress::Due;
+        self.is_there = false;
+    }
+}
+
+impl<A: Allocator + Copy> Subject<A> {
     /// Hears what the client has said at this moment, where it may be about the subject.
     fn hear(&mut self, now: u64, about: &About<A>, outputs: &[Output<A>])
         requires { AreCovered about.now (said outputs.now) }
@@ -151,16 +161,6 @@ impl<A: Allocator> Subject<A> {
         self.wake(now);
     }
 
-    /// The subject is to be read: another session begins.
-    pub(crate) fn begin(&mut self)
-        ensures { self.new ≡ due_again self.old }
-    {
-        self.progress = Progress::Due;
-        self.is_there = false;
-    }
-}
-
-impl<A: Allocator + Copy> Subject<A> {
     /// Asks by this call, which reads the subject. The answer is whether there is no room for another read.
     fn ask(
         &mut self,

@@ -11,7 +11,7 @@ use Rattle.zk_records.specs.Layouts.{connect_request}
 use Rattle.zk_records.specs.Operations.{operation_number, request_layout}
 use Rattle.zk_records.specs.declared.operation.Operation.TheVariants.{SetWatches, Ping as Pings}
 use Rattle.zk_frames.specs.Frame.{joined}
-use Rattle.zk_conversation.specs.Calls.{Call, call_operation, call_body, call_payload, connect_payload, part_xid, part_payload, ping_xid}
+use Rattle.zk_conversation.specs.Calls.{Call, wording, call_payload, connect_payload, part_xid, part_payload, ping_xid}
 use Rattle.zk_conversation.specs.Calls.{ping_payload, texts_value}
 use Rattle.zk_conversation.proofs.Lengths.{length-ping}
 use Rattle.zk_watches.specs.Lists.{Lists}
@@ -24,6 +24,7 @@ use Rattle.zk_turns.specs.Past.{Replies as Answers_call, Watches_set as Sets_wat
 use Rattle.zk_turns.specs.Past.{session_of, lists_of, xid_of}
 use Rattle.zk_turns.specs.Taken.{past_of}
 use Rattle.zk_turns.specs.Ranges.{IsResumable, IsTyped, AllAskOf}
+use Rattle.zk_turns.specs.Spelled.{WordingFits, ReadsAs}
 use Rattle.zk_turns.proofs.Spelt.{call_read, part_read, connect_read, ping_read}
 use Rattle.zk_turns.proofs.Fitting.{ping_fits}
 use Rattle.zk_turns.proofs.Ranged.{all_append, AreRanged, items_ranged}
@@ -95,11 +96,11 @@ last_counted start past s =
     counted (last_of start past) (omega (arith, ints))
 
 call_is_read : (past : Past) (call : Call)
-    → Fits (request_layout (call_operation call)) (pos (xid_of past), (operation_number (call_operation call), call_body call))
+    → WordingFits (pos (xid_of past)) (wording call)
     → IsReadAs (Ask call) (pos (xid_of past)) (call_payload (pos (xid_of past)) call)
 call_is_read past call f =
-    alone (request_layout (call_operation call)) (pos (xid_of past), (operation_number (call_operation call), call_body call))
-    (call_payload (pos (xid_of past)) call)
+    subst (λ bytes. ReadsAs (pos (xid_of past)) (wording call) (length (call_payload (pos (xid_of past)) call)) bytes [])
+    (append-nil (call_payload (pos (xid_of past)) call))
     (call_read (pos (xid_of past)) call (length (call_payload (pos (xid_of past)) call)) [] f)
 
 abbrev payload_of_part : ℤ → Lists → List ℕ

@@ -10,7 +10,7 @@ use Rattle.zk_nodes.specs.Path.{Text}
 use Rattle.zk_conversation.specs.Pending.{part_waits, Pending, Call_waits}
 use Rattle.zk_jute.specs.Lenient.{or_empty}
 use Rattle.zk_conversation.specs.Results.{record_of, result_of, result_layout, result_from, response_timeout, response_session}
-use Rattle.zk_conversation.specs.Results.{response_password, Result, NoNode, Refused, Found, Read, Listing, Made, Done}
+use Rattle.zk_conversation.specs.Results.{response_password, Result, NoNode, Refused, Found, Read, Listing, Made, Done, Brought}
 use Rattle.zk_conversation.specs.Arriving.{arriving, later_arriving, header_arriving, notice_arriving, call_arriving, first_arriving}
 use Rattle.zk_conversation.specs.Arriving.{noticed, Notice}
 use Rattle.zk_records.specs.inner.ResponseLaws.{response_again}
@@ -183,9 +183,10 @@ other_code a b n = by (int_eq a b) refl
     by false e = refl
 
 found_is : (q : Question) (r : Result) (end : ℕ) (behind : List ℕ) → (value : Value (result_layout q))
-    × HasRecord (result_layout q) value behind × (result_from q value ≡ r) → record_of q end behind ≡ Ok r
+    × (found : HasRecord (result_layout q) value behind) × (result_from q value found.ignored ≡ r) → record_of q end behind ≡ Ok r
 unfolding record_of
-found_is q r end behind f = ap (λ x. x >>= λ found. Ok (result_from q found.0)) (recorded (result_layout q) f.0 behind f.1 end) ∙ ap Ok f.2
+found_is q r end behind f =
+    ap (λ x. x >>= λ found. Ok (result_from q found.0 found.1)) (recorded (result_layout q) f.0 behind f.1 end) ∙ ap Ok f.2
 
 result_is : (q : Question) (r : Result) (end : ℕ) (behind : List ℕ)
     → HasCode r → HasResult q r behind → result_of q (code_of r) end behind ≡ Ok r
@@ -199,6 +200,7 @@ result_is q (Read bytes stat) end behind c f = found_is q (Read bytes stat) end 
 result_is q (Listing names stat) end behind c f = found_is q (Listing names stat) end behind f
 result_is q (Made at) end behind c f = found_is q (Made at) end behind f
 result_is q Done end behind c f = found_is q Done end behind f
+result_is q (Brought bytes) end behind c f = found_is q (Brought bytes) end behind f
 
 pub leaves_is : (q : Question) (r : Result) → leaves_watch q r ≡ is_some (left_by q r)
 leaves_is (Exists at true) NoNode = refl

@@ -9,7 +9,7 @@ use Rattle.std.proofs.Common.{append_assoc, inl, inr}
 use Rattle.std.specs.List.{flat_map, AllByRecursion}
 use Rattle.std.proofs.lemmas.List.{append-nil, map-append}
 use Rattle.zk_conversation.specs.Questions.{question_of}
-use Rattle.zk_conversation.specs.Calls.{Call, Exists, GetData, GetChildren, SetData, Create, Delete, Close}
+use Rattle.zk_conversation.specs.Calls.{Call, Exists, GetData, GetChildren, SetData, Create, Delete, Close, Raw}
 use Rattle.zk_conversation.specs.Results.{Result, Refused}
 use Rattle.zk_frames.specs.Frame.{frame}
 use Rattle.zk_turns.specs.Taken.{past_of}
@@ -120,6 +120,7 @@ refusal h place (SetData a b c) code = (λ g. g, λ g. g)
 refusal h place (Create a b c) code = (λ g. g, λ g. g)
 refusal h place (Delete a b) code = (λ g. g, λ g. g)
 refusal h place Close code = (λ g. g, λ g. g)
+refusal h place (Raw a b) code = (λ g. g, λ g. g)
 
 coded : (h : History) (place : ℕ) (q : Call) (r : Result) → Gives h place q r → HasCode r
 coded h place q (Refused code) g = (refusal h place q code).0 g

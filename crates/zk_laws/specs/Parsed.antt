@@ -7,10 +7,11 @@ use Rattle.zk_records.specs.Layouts.{connect_request}
 use Rattle.zk_records.specs.Operations.{operation_number, body_layout, request_layout}
 use Rattle.zk_records.specs.declared.operation.Operation.{Operation}
 use Rattle.zk_records.specs.declared.operation.Operation.TheVariants as operation
-use Rattle.zk_conversation.specs.Calls.{call_operation, call_body, texts_value}
+use Rattle.zk_conversation.specs.Calls.{wording, texts_value}
 use Rattle.zk_frames.specs.Frame.{joined, length_field}
 use Rattle.zk_turns.specs.Turns.{Start, Item}
 use Rattle.zk_turns.specs.Sent.{sends, outputs_of}
+use Rattle.zk_turns.specs.Spelled.{ReadsAs}
 use Rattle.zk_turns.specs.Taken.{past_of}
 use Rattle.zk_laws.specs.Messages.{Request, Connect, Restore, Ask, Ping}
 use Rattle.zk_laws.specs.Served.{Sent, requests}
@@ -49,7 +50,7 @@ IsReadAs (Connect seen) xid payload =
 IsReadAs (Restore is_last relative part) xid payload =
     IsRequest xid operation.SetWatches
     (pos relative, (texts_value part.data_watches, (texts_value part.exist_watches, texts_value part.child_watches))) payload
-IsReadAs (Ask call) xid payload = IsRequest xid (call_operation call) (call_body call) payload
+IsReadAs (Ask call) xid payload = ReadsAs xid (wording call) (length payload) payload []
 IsReadAs Ping xid payload = IsRequest xid operation.Ping tt payload
 
 -- each payload is read as the request in its place

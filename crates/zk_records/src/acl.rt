@@ -9,7 +9,6 @@ use zk_jute::{Cursor, PutError, Readable, Record, TakeError, Text, Then};
 
 /// Who may do something: an Id of the ZooKeeper Programmer's Guide.
 #[derive(Drop)]
-#[derive_where(Debug)]
 pub struct Id<A: Allocator> {
     pub scheme: Text<A>,
     pub id: Text<A>,
@@ -36,7 +35,6 @@ impl<'a, A: Allocator + Copy> Readable<'a, A> for Id<A> {
 
 /// What someone may do: an entry of an access list.
 #[derive(Drop)]
-#[derive_where(Debug)]
 pub struct Acl<A: Allocator> {
     /// The sum of 1 (read), 2 (write), 4 (create), 8 (delete) and 16 (admin).
     pub perms: i32,

@@ -9,7 +9,6 @@ use zk_jute::{Buffer, Cursor, PutError, Readable, Record, TakeError, Then};
 
 /// What a client asks for as a connection begins. It is the first message, and has no header.
 #[derive(Drop)]
-#[derive_where(Debug)]
 pub struct ConnectRequest<A: Allocator> {
     /// This client sends 0.
     pub protocol_version: i32,

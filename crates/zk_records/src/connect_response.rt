@@ -15,7 +15,6 @@ use zk_jute::{Buffer, BytesRef, Cursor, PutError, Readable, Record, TakeError, T
 /// Whether `read_only` is there is decided by the end of the payload, so this is no `Record`: `put` and `take` speak of
 /// a whole payload.
 #[derive(Drop)]
-#[derive_where(Debug)]
 pub struct ConnectResponse<A: Allocator> {
     /// The version that the server speaks, which nothing depends on.
     pub protocol_version: i32,
@@ -122,7 +121,7 @@ pub(crate) fn read_flag<A: Allocator + Copy>(
 }
 
 /// What a server answers as a connection begins, with its password lent by the payload.
-#[derive(Clone, Copy, Debug, PartialEq, Eq)]
+#[derive(Clone, Copy)]
 pub struct ConnectResponseRef<'a> {
     /// The version that the server speaks, which nothing depends on.
     pub protocol_version: i32,

@@ -12,7 +12,6 @@ use zk_jute::{Buffer, BytesRef, Cursor, List, PutError, Readable, Record, TakeEr
 
 /// The request that makes a node.
 #[derive(Drop)]
-#[derive_where(Debug)]
 pub struct CreateRequest<A: Allocator> {
     pub path: Text<A>,
     pub bytes: Buffer<A>,
@@ -47,7 +46,7 @@ impl<'a, A: Allocator + Copy> Readable<'a, A> for CreateRequest<A> {
 }
 
 /// The request that makes a node, with the open access list.
-#[derive(Clone, Copy, Debug, PartialEq, Eq)]
+#[derive(Clone, Copy)]
 pub struct CreateRequestRef<'a> {
     pub path: &'a str,
     pub bytes: BytesRef<'a>,

@@ -8,7 +8,6 @@ use zk_jute::{Cursor, PutError, Readable, Record, TakeError, Text, TextRef};
 
 /// The path of a node that was made. That of a sequential one ends in the number that the server gave it.
 #[derive(Drop)]
-#[derive_where(Debug)]
 pub struct CreateResponse<A: Allocator> {
     pub path: Text<A>,
 }
@@ -33,7 +32,7 @@ impl<'a, A: Allocator + Copy> Readable<'a, A> for CreateResponse<A> {
 }
 
 /// The path of a node that was made. That of a sequential one ends in the number that the server gave it.
-#[derive(Clone, Copy, Debug, PartialEq, Eq)]
+#[derive(Clone, Copy)]
 pub struct CreateRef<'a> {
     pub path: TextRef<'a>,
 }

@@ -8,7 +8,6 @@ use zk_jute::{Cursor, PutError, Readable, Record, TakeError, Text, Then};
 
 /// The request that deletes a node.
 #[derive(Drop)]
-#[derive_where(Debug)]
 pub struct DeleteRequest<A: Allocator> {
     pub path: Text<A>,
     /// The version that the node is to have, or -1 for any.
@@ -35,7 +34,7 @@ impl<'a, A: Allocator + Copy> Readable<'a, A> for DeleteRequest<A> {
 }
 
 /// The request that deletes a node.
-#[derive(Clone, Copy, Debug, PartialEq, Eq)]
+#[derive(Clone, Copy)]
 pub struct DeleteRef<'a> {
     pub path: &'a str,
     /// The version that the node is to have, or -1 for any.

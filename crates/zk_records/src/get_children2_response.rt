@@ -9,7 +9,6 @@ use zk_nodes::Stat;
 
 /// The names below a node, in no order, and what is known of it.
 #[derive(Drop)]
-#[derive_where(Debug)]
 pub struct GetChildren2Response<A: Allocator> {
     pub children: List<Text<A>, A>,
     pub stat: Stat,
@@ -36,7 +35,6 @@ impl<'a, A: Allocator + Copy> Readable<'a, A> for GetChildren2Response<A> {
 
 /// The names below a node, and what is known of it. The list of names takes memory.
 #[derive(Drop)]
-#[derive_where(Debug)]
 pub struct GetChildren2Ref<'a, A: Allocator> {
     pub children: List<TextRef<'a>, A>,
     pub stat: Stat,

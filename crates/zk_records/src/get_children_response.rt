@@ -8,7 +8,6 @@ use zk_jute::{Cursor, List, PutError, Readable, Record, TakeError, Text};
 
 /// The names below a node, in no order.
 #[derive(Drop)]
-#[derive_where(Debug)]
 pub struct GetChildrenResponse<A: Allocator> {
     pub children: List<Text<A>, A>,
 }

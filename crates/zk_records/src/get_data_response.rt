@@ -9,7 +9,6 @@ use zk_nodes::Stat;
 
 /// The data of a node, which may be null, and what is known of it.
 #[derive(Drop)]
-#[derive_where(Debug)]
 pub struct GetDataResponse<A: Allocator> {
     pub bytes: Buffer<A>,
     pub stat: Stat,
@@ -35,7 +34,7 @@ impl<'a, A: Allocator + Copy> Readable<'a, A> for GetDataResponse<A> {
 }
 
 /// The data of a node, which may be null, and what is known of it.
-#[derive(Clone, Copy, Debug, PartialEq, Eq)]
+#[derive(Clone, Copy)]
 pub struct GetDataRef<'a> {
     pub bytes: BytesRef<'a>,
     pub stat: Stat,

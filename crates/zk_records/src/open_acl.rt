@@ -10,7 +10,7 @@ use zk_jute::{PutError, Record, Then};
 
 /// The access list that leaves a node open: the one entry with perms 31 (read, write, create, delete and admin), scheme
 /// `world` and id `anyone`. It is `OPEN_ACL_UNSAFE` of the ZooKeeper Programmer's Guide.
-#[derive(Clone, Copy, Debug, PartialEq, Eq)]
+#[derive(Clone, Copy)]
 pub struct OpenAcl;
 
 impl<A: Allocator + Copy> Record<A> for OpenAcl {

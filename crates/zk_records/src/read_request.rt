@@ -9,7 +9,6 @@ use zk_jute::{Cursor, PutError, Readable, Record, TakeError, Text, Then};
 /// What is asked of a node, its data, or the names below it: ExistsRequest, GetDataRequest, GetChildrenRequest and
 /// GetChildren2Request, which have the same fields.
 #[derive(Drop)]
-#[derive_where(Debug)]
 pub struct ReadRequest<A: Allocator> {
     pub path: Text<A>,
     /// Whether the server is to leave a watch.
@@ -36,7 +35,7 @@ impl<'a, A: Allocator + Copy> Readable<'a, A> for ReadRequest<A> {
 }
 
 /// What is asked of a node, its data, or the names below it, and whether to watch it.
-#[derive(Clone, Copy, Debug, PartialEq, Eq)]
+#[derive(Clone, Copy)]
 pub struct ReadRequestRef<'a> {
     pub path: &'a str,
     pub watch: bool,

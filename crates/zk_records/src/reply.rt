@@ -15,7 +15,7 @@ use zk_jute::{Cursor, PutError, Readable, Record, TakeError};
 ///
 /// The replies to exists and setData are `Reply<Stat>`, those to delete, setWatches, ping and closeSession
 /// `Reply<Nothing>`.
-#[derive(Debug, Drop)]
+#[derive(Drop)]
 pub struct Reply<R> {
     pub header: ReplyHeader,
     /// `None` where the header's err is not 0.

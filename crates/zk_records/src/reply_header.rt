@@ -7,7 +7,7 @@ use std::alloc::Allocator;
 use zk_jute::{Cursor, PutError, Readable, Record, TakeError, Then};
 
 /// What every reply and every notice begins with: ReplyHeader, 16 bytes.
-#[derive(Clone, Copy, Debug, PartialEq, Eq)]
+#[derive(Clone, Copy)]
 pub struct ReplyHeader {
     /// That of the request; -1 of a notice, -2 of the answer to a ping.
     pub xid: i32,

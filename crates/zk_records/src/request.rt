@@ -19,7 +19,6 @@ use zk_jute::{PutError, Record};
 
 /// What a client asks of a server, as a server reads it: with memory of its own.
 #[derive(Drop)]
-#[derive_where(Debug)]
 pub enum Request<A: Allocator> {
     /// Whether a node is there, and its `Stat`.
     Exists(ReadRequest<A>),

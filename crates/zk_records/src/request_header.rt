@@ -7,7 +7,7 @@ use std::alloc::Allocator;
 use zk_jute::{Cursor, PutError, Readable, Record, TakeError, Then};
 
 /// What every request begins with: RequestHeader, 8 bytes.
-#[derive(Clone, Copy, Debug, PartialEq, Eq)]
+#[derive(Clone, Copy)]
 pub struct RequestHeader {
     /// The number by which the client knows the reply again; -2 of a ping, -8 of setWatches.
     pub xid: i32,

@@ -9,7 +9,7 @@ use zk_jute::{PutError, Record, Then};
 
 /// The payload of a request's frame: the header, and the record of its operation. `Nothing` is that of ping and
 /// closeSession.
-#[derive(Clone, Copy, Debug)]
+#[derive(Clone, Copy)]
 pub struct RequestPayload<R> {
     pub header: RequestHeader,
     pub record: R,

@@ -9,7 +9,6 @@ use zk_jute::{Buffer, BytesRef, Cursor, PutError, Readable, Record, TakeError, T
 
 /// The request that sets the data of a node.
 #[derive(Drop)]
-#[derive_where(Debug)]
 pub struct SetDataRequest<A: Allocator> {
     pub path: Text<A>,
     pub bytes: Buffer<A>,
@@ -41,7 +40,7 @@ impl<'a, A: Allocator + Copy> Readable<'a, A> for SetDataRequest<A> {
 }
 
 /// The request that sets the data of a node.
-#[derive(Clone, Copy, Debug, PartialEq, Eq)]
+#[derive(Clone, Copy)]
 pub struct SetDataRef<'a> {
     pub path: &'a str,
     pub bytes: BytesRef<'a>,

@@ -9,7 +9,6 @@ use zk_jute::{Cursor, List, ListRef, PutError, Readable, Record, TakeError, Text
 /// The request that sets watches again. The server compares each path with the relative zxid, and tells of what has
 /// happened since instead of setting the watch.
 #[derive(Drop)]
-#[derive_where(Debug)]
 pub struct SetWatches<A: Allocator> {
     /// The last zxid that the client has seen.
     pub relative_zxid: i64,
@@ -54,7 +53,7 @@ impl<'a, A: Allocator + Copy> Readable<'a, A> for SetWatches<A> {
 }
 
 /// The request that sets watches again, over lists of paths. An empty list is written as count 0, never as null.
-#[derive(Clone, Copy, Debug)]
+#[derive(Clone, Copy)]
 pub struct SetWatchesRef<'a> {
     /// The last zxid that the client has seen.
     pub relative_zxid: i64,

@@ -7,7 +7,7 @@ use std::alloc::Allocator;
 use zk_jute::{Cursor, PutError, Readable, Record, TakeError, Text, TextRef, Then};
 
 /// What a server tells by itself of a node that is watched.
-#[derive(Clone, Copy, Debug, PartialEq, Eq)]
+#[derive(Clone, Copy)]
 pub struct WatcherEventRef<'a> {
     /// The wire's `type`: the number of an [`Event`](crate::Event), or another.
     pub kind: i32,
@@ -37,7 +37,6 @@ impl<'a, A: Allocator + Copy> Readable<'a, A> for WatcherEventRef<'a> {
 
 /// What a server tells by itself of a node that is watched.
 #[derive(Drop)]
-#[derive_where(Debug)]
 pub struct WatcherEvent<A: Allocator> {
     /// The wire's `type`: the number of an [`Event`](crate::Event), or another.
     pub kind: i32,

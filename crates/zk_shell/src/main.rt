@@ -2,41 +2,71 @@
 #![tactic(auto)]
 
 mod disk;
+mod noted;
+mod output;
+mod told;
 
 use disk::Disk;
+use noted::Noted;
+use output::NotedOutput;
 use shell_commands::run::run;
 use shell_commands::status::Status;
-use std::io;
+use std::alloc::AllocError;
+use std::cell::RefCell;
+use std::env::Args;
+use std::io::{self, ErrorKind};
 use std::process::ExitCode;
+use told::{tell_notes, tell_stream, tell_word};
 use zk_link::{SystemClock, Tcp};
 
-/// Runs the command that the process's arguments ask for.
-fn run_arguments(rt: &HostRuntime) -> io::Result<Status> {
+/// Runs the command that words ask for, and tells what it does not see: why no server was reached, and which stream failed.
+fn run_words(rt: &HostRuntime, words: &[&str]) -> Status {
     let alloc = rt.alloc();
-    let words: Vec<String> = std::env::args(rt)?.collect(alloc)?;
-    let mut texts = Vec::new(alloc);
-    for word in &words {
-        texts.push(word.as_str())?;
-    }
-    let mut out = io::writer(rt);
+    let notes = RefCell::new(Vec::new(alloc));
+    let mut out = NotedOutput::new(io::writer(rt));
     let mut errors = rt.stderr();
     let mut input = rt.stdin();
     let status = run(
         alloc,
         &Disk::new(rt),
-        Tcp::new(rt),
+        Noted::new(alloc, Tcp::new(rt), &notes),
         SystemClock::new(rt),
         &mut input,
         &mut out,
         &mut errors,
-        texts.as_slice(),
+        words,
     );
-    Ok(status)
+    match status {
+        Status::Unconnected => tell_notes(&mut errors, &notes),
+        Status::Stream => tell_stream(&mut errors, out.fault()),
+        _ => {}
+    }
+    status
+}
+
+/// Runs the command that the process's arguments ask for.
+fn run_arguments(rt: &HostRuntime, arguments: Args) -> Result<Status, AllocError> {
+    let alloc = rt.alloc();
+    let words: Vec<String> = arguments.collect(alloc)?;
+    let mut texts = Vec::new(alloc);
+    for word in &words {
+        texts.push(word.as_str())?;
+    }
+    Ok(run_words(rt, texts.as_slice()))
+}
+
+/// Runs the command, where the process's arguments are texts.
+fn run_process(rt: &HostRuntime) -> Status {
+    match std::env::args(rt) {
+        Ok(arguments) => run_arguments(rt, arguments).unwrap_or(Status::Memory),
+        Err(fault) if fault.kind() == ErrorKind::InvalidData => {
+            tell_word(rt.alloc(), rt, &mut rt.stderr());
+            Status::Usage
+        }
+        Err(_) => Status::Memory,
+    }
 }
 
 fn main(rt: HostRuntime) -> ExitCode {
-    match run_arguments(&rt) {
-        Ok(status) => ExitCode::from(status as u8),
-        Err(_) => ExitCode::from(Status::Memory as u8),
-    }
+    ExitCode::from(run_process(&rt) as u8)
 }

@@ -1,6 +1,8 @@
 -- What is done to a tree is put together from what its parts have done, by the case of each test. A part that failed promises nothing.
-use Rattle.std.proofs.Common.{◌≡◌, ◌+◌, ◌++◌, ◌∷◌, ℕ, Bool, true, false, List, [], refl, ap, subst, ◌∙◌}
+use Rattle.std.proofs.Common.{◌≡◌, ◌+◌, ◌++◌, ◌∷◌, ℕ, Bool, true, false, List, [], length, map, refl, sym, ap, subst, ◌∙◌}
+use Rattle.std.proofs.Common.{append_assoc, append-nil, arith}
 use Rattle.std.specs.Prelude.{⊤, Result, Ok, Err, OnOk}
+use Rattle.std.specs.List.{filter, FoldsTo}
 use Rattle.zk_nodes.specs.Path.{Text}
 use Rattle.zk_nodes.specs.declared.side.Side.{Side}
 use Rattle.zk_nodes.specs.declared.side.Side.TheVariants.{Data, Child}
@@ -10,10 +12,10 @@ use Rattle.zk_trees.specs.Tending.{is_none, lacks_nothing, tells, Bed, Footing, 
 use Rattle.zk_trees.specs.Tending.{NotesBoundWhere, PlantsBed, TakesAllOn, TakesOn, TakesOnWhere, TellsWhole, TendsOneWhere, TendsTree}
 use Rattle.zk_trees.specs.declared.tree.Trees.{Trees}
 use Rattle.zk_trees.specs.Tending.{due_after, TendsEach, TendsWhere}
-use Rattle.zk_trees.specs.Tending.{bed_of, footing_in, seed_of, trees_told, LetsGo, TreeTold}
+use Rattle.zk_trees.specs.Tending.{bed_of, footing_in, seed_of, trees_told, LeavesAll, LeavesIt, LetsGo, TreeTold}
 use Rattle.zk_trees.specs.inner.Tending.{footing_of}
 use Rattle.zk_client.specs.Clients.{view_of}
-use Rattle.zk_follow.specs.Following.{fresh, unfollowed}
+use Rattle.zk_follow.specs.Following.{fresh, unfollowed_all}
 use Rattle.zk_follow.specs.declared.follower.Follower.{Follower}
 use Rattle.zk_trees.specs.inner.Tending.{footing_at}
 use Rattle.zk_trees.specs.declared.ledger.Ledger.{Ledger}
@@ -159,16 +161,54 @@ ok_follows {A} (Ok x) tree ticket side at path copy old new was is its its_copy 
     ∙ ap (λ n. record (tells (TakesOn tree ticket side at) (footing_of old was)) { next = n }) next
 ok_follows (Err e) tree ticket side at path copy old new was is its its_copy client subjects told next = tt
 
-pub ok_leaves : {A X E : Type 0} (result : Result X E) (tree ticket : ℕ) (old new : Follower A) (was is : Ledger A)
-    → new.client ≡ old.client → new.subjects.items ≡ unfollowed ticket old.subjects.items
-    → OnOk result (trees_told is.news.items ≡ trees_told was.news.items ++ LetsGo tree ticket ∷ []) → is.next ≡ was.next
-    → OnOk result (footing_of new is ≡ tells (LetsGo tree ticket) (footing_of old was))
-ok_leaves (Ok x) tree ticket old new was is client subjects told next =
-    ap (λ v. record (footing_of new is) { view = view_of v }) client
-    ∙ ap (λ ss. record (footing_of old is) { subjects = ss }) subjects
-    ∙ ap (λ l. record (footing_of old is) { subjects = unfollowed ticket old.subjects.items; told = l }) told
-    ∙ ap (λ n. record (tells (LetsGo tree ticket) (footing_of old was)) { next = n }) next
-ok_leaves (Err e) tree ticket old new was is client subjects told next = tt
+-- where no ticket is
+pub none_leaves : {A : Type 0} (tree : ℕ) (tickets : List ℕ) (here : Footing A) → length tickets ≡ 0 → LeavesAll tree tickets here here
+none_leaves tree [] here none = refl
+none_leaves tree (ticket ∷ tickets) here none = absurd (omega (arith, none))
+
+all_leave : {A : Type 0} (tree : ℕ) (tickets : List ℕ) (old new : Footing A) → new.view ≡ old.view → new.next ≡ old.next
+    → new.told ≡ old.told ++ map (LetsGo tree) tickets → new.subjects ≡ unfollowed_all tickets old.subjects
+    → LeavesAll tree tickets old new
+all_leave tree [] old new view next told subjects =
+    ap (λ v. record old { view = v }) (sym view)
+    ∙ ap (λ l. record old { view = new.view; told = l }) (sym (told ∙ append-nil old.told))
+    ∙ ap (λ ss. record old { view = new.view; told = new.told; subjects = ss }) (sym subjects)
+    ∙ ap (λ n. record old { view = new.view; told = new.told; subjects = new.subjects; next = n }) (sym next)
+all_leave tree (ticket ∷ tickets) old new view next told subjects =
+    let after = tells (LetsGo tree ticket) old in (
+      after,
+      refl,
+      all_leave tree tickets after new view next
+          (told ∙ sym (append_assoc old.told (LetsGo tree ticket ∷ []) (map (LetsGo tree) tickets))) subjects,
+    )
+
+pub ok_leaves : {A X E : Type 0} (result : Result X E) (tree : ℕ) (tickets : List ℕ) (old new : Follower A) (was is : Ledger A)
+    → new.client ≡ old.client → new.subjects.items ≡ unfollowed_all tickets old.subjects.items
+    → OnOk result (trees_told is.news.items ≡ trees_told was.news.items ++ map (LetsGo tree) tickets) → OnOk result (is.next ≡ was.next)
+    → OnOk result (LeavesAll tree tickets (footing_of old was) (footing_of new is))
+ok_leaves (Ok x) tree tickets old new was is client subjects told next =
+    all_leave tree tickets (footing_of old was) (footing_of new is) (ap view_of client) next told subjects
+ok_leaves (Err e) tree tickets old new was is client subjects told next = tt
+
+-- the same of a tree that is left
+pub bed_leaves : {A : Type 0} (tickets : List ℕ) (bed : Bed A) (new : Footing A) → LeavesAll bed.ticket tickets bed.footing new
+    → FoldsTo (λ at ticket after. LeavesIt ticket at after) bed tickets (record bed { footing = new })
+bed_leaves [] bed new is = ap (λ g. record bed { footing = g }) is
+bed_leaves (ticket ∷ tickets) bed new does =
+    let after = record bed { footing = does.0 } in
+    (after, ap (λ g. record bed { footing = g }) does.1, bed_leaves tickets after new does.2)
+
+pub ok_lets : {A X E : Type 0} (result : Result X E) (bed : Bed A) (new : Footing A) (members : List (Member A ⊤)) (tickets : List ℕ)
+    → members ≡ filter (trees.stays bed.footing.view) bed.members → tickets ≡ trees.tickets_gone bed.footing.view bed.members
+    → OnOk result (LeavesAll bed.ticket tickets bed.footing new)
+    → OnOk result (LetsAllGo bed (record bed { footing = new; members = members }))
+ok_lets {A} (Ok x) bed new members tickets are all leaves =
+    let last : Bed A = record bed { footing = new; members = members } in
+    subst (λ ts. FoldsTo (λ at ticket after. LeavesIt ticket at after)
+    (record bed { members = filter (trees.stays bed.footing.view) bed.members }) ts last) all
+    (subst (λ ms. FoldsTo (λ at ticket after. LeavesIt ticket at after) (record bed { members = ms }) tickets last) are
+    (bed_leaves tickets (record bed { members = members }) new leaves))
+ok_lets (Err e) bed new members tickets are all leaves = tt
 
 -- A ledger begins with what the trees have.
 pub begun_footing : {A : Type 0} (trees : Trees A) (follower : Follower A) (ledger : Ledger A)

@@ -240,10 +240,13 @@ abbrev pub left : {A : Type 0} → (ticket : ℕ) → List (Tree A) → List (Tr
 left ticket [] = []
 left ticket (tree ∷ trees) = if tree.ticket == ticket then trees else tree ∷ left ticket trees
 
+-- What these tickets follow is followed no more, one after the other.
+abbrev pub LeavesAll : {A : Type 0} → (tree : ℕ) → (tickets : List ℕ) → (old new : Footing A) → Type 0
+LeavesAll tree tickets old new = FoldsTo (λ at ticket after. after ≡ tells (LetsGo tree ticket) at) old tickets new
+
 -- Each of its members is followed no more.
 abbrev pub UprootsTree : {A : Type 0} → Tree A → (old new : Footing A) → Type 0
-UprootsTree tree old new =
-    FoldsTo (λ at ticket after. after ≡ tells (LetsGo tree.ticket ticket) at) old (map (λ one. one.ticket) tree.members.items) new
+UprootsTree tree old new = LeavesAll tree.ticket (map (λ one. one.ticket) tree.members.items) old new
 
 abbrev pub UprootsSo : {A : Type 0} → Option (Tree A) → (old new : Footing A) → Type 0
 UprootsSo None old new = new ≡ old

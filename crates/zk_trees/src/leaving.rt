@@ -1,6 +1,6 @@
 //! Which members are let go.
 
-ghost use Rattle.std.specs.Prelude.{◌≡◌, IfOk};
+ghost use Rattle.std.specs.Prelude.{◌≡◌, map, IfOk};
 ghost use Rattle.std.specs.List.{filter};
 ghost use Rattle.zk_client.specs.Clients.{view_of};
 ghost use Rattle.zk_trees.specs.Trees.{is_gone, stays, tickets_gone};
@@ -30,6 +30,20 @@ pub(crate) fn tickets_gone<A: Allocator + Copy, N: Drop>(
         if is_gone(client, one) {
             tickets.push(one.ticket)?;
         }
+    }
+    Ok(tickets)
+}
+
+/// The tickets of members. An error means that memory ran out.
+pub(crate) fn tickets_of<A: Allocator + Copy, N: Drop>(
+    alloc: A,
+    members: &[Member<A, N>],
+) -> Result<Vec<u64, A>, AllocError>
+    ensures { IfOk result (λ tickets. tickets.items ≡ map (λ one. one.ticket) members.now) }
+{
+    let mut tickets = Vec::new(alloc);
+    for one in members {
+        tickets.push(one.ticket)?;
     }
     Ok(tickets)
 }

@@ -5,7 +5,7 @@ ghost use Rattle.zk_trees.specs.Trees.{wants_of};
 ghost use Rattle.zk_trees.specs.Tending.{is_none, is_same, lacks_nothing};
 
 use crate::index::{Index, index_of};
-use crate::leaving::{drop_gone, tickets_gone};
+use crate::leaving::{drop_gone, tickets_gone, tickets_of};
 use crate::subject::{NodeSide, copy_of};
 use crate::tree::{Tree, TreeNews, member_of};
 use crate::wanting::{Wanted, wanted_at};
@@ -42,7 +42,7 @@ fn lacks_nothing<A: Allocator>(wanted: &Wanted<A>) -> bool
 }
 
 impl<A: Allocator + Copy> Ledger<A> {
-    ghost use Rattle.std.specs.Prelude.{◌≡◌, ◌+◌, ◌++◌, ◌∷◌, [], ⊤, false, true, IfOk, List, OnOk};
+    ghost use Rattle.std.specs.Prelude.{◌≡◌, ◌+◌, ◌++◌, ◌∷◌, [], ⊤, false, true, map, IfOk, List, OnOk};
     ghost use Rattle.zk_nodes.specs.declared.side.Side.TheVariants.{Child, Data};
     ghost use Rattle.zk_turns.specs.View.{View};
     ghost use Rattle.zk_follow.specs.declared.subject.Subject.{Subject};
@@ -53,6 +53,7 @@ impl<A: Allocator + Copy> Ledger<A> {
     ghost use Rattle.zk_trees.specs.inner.Tending.{footing_of};
     ghost use Rattle.zk_trees.specs.Tending.{Grows, Joins, LetsAllGo, NotesBound, PlantsBed, TakesAllOn, TakesItOn, TellsWhole};
     ghost use Rattle.zk_trees.specs.Tending.{TendsEach, TendsOne, TendsTree, UprootsTree};
+    ghost use Rattle.zk_trees.specs.Tending.{LeavesAll};
     ghost use Rattle.zk_trees.specs.inner.Tending.{footing_at};
 
     /// Of a step in which nothing was told yet.
@@ -113,19 +114,35 @@ impl<A: Allocator + Copy> Ledger<A> {
         })
     }
 
-    /// Follows the member of this ticket no more, and tells so.
-    fn leave(
+    /// Tells of each of these tickets that it is let go.
+    fn tell_left(&mut self, tree: u64, tickets: &[u64]) -> Result<(), AllocError>
+        ensures told { OnOk result
+            (trees_told self.new.news.items ≡ trees_told self.old.news.items ++ map (LetsGo tree) tickets.now) }
+        ensures next { OnOk result (self.new.next ≡ self.old.next) }
+    {
+        for ticket in tickets {
+            let ticket = *ticket;
+            self.tell(TreeNews::LetGo { tree, ticket })?;
+        }
+        Ok(())
+    }
+
+    /// Follows the members of these tickets no more, in one pass, and tells so, in order.
+    fn leave_all(
         &mut self,
         follower: &mut Follower<A>,
         tree: u64,
-        ticket: u64,
+        tickets: &[u64],
     ) -> Result<(), AllocError>
-        ensures told { OnOk result
-            (footing_of follower.new self.new ≡ tells (LetsGo tree ticket) (footing_of follower.old self.old)) }
+        ensures leaves { OnOk result
+            (LeavesAll tree tickets.now (footing_of follower.old self.old) (footing_of follower.new self.new)) }
         ensures client { follower.new.client ≡ follower.old.client }
     {
-        follower.unfollow(ticket);
-        self.tell(TreeNews::LetGo { tree, ticket })
+        if tickets.is_empty() {
+            return Ok(());
+        }
+        follower.unfollow_all(tickets)?;
+        self.tell_left(tree, tickets)
     }
 
     /// Follows this side of a node by this ticket, as a member of a tree.
@@ -254,10 +271,7 @@ impl<A: Allocator + Copy> Ledger<A> {
     {
         let tickets = tickets_gone(self.alloc, follower.client(), tree.members.as_slice())?;
         drop_gone(follower.client(), &mut tree.members);
-        for ticket in tickets.as_slice() {
-            self.leave(follower, tree.ticket, *ticket)?;
-        }
-        Ok(())
+        self.leave_all(follower, tree.ticket, tickets.as_slice())
     }
 
     /// Lets go what is gone of a tree, and takes it on.
@@ -336,9 +350,7 @@ impl<A: Allocator + Copy> Ledger<A> {
         ensures goes { OnOk result (UprootsTree tree.now (footing_of follower.old self.old) (footing_of follower.new self.new)) }
         ensures client { follower.new.client ≡ follower.old.client }
     {
-        for one in tree.members.as_slice() {
-            self.leave(follower, tree.ticket, one.ticket)?;
-        }
-        Ok(())
+        let tickets = tickets_of(self.alloc, tree.members.as_slice())?;
+        self.leave_all(follower, tree.ticket, tickets.as_slice())
     }
 }

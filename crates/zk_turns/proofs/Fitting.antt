@@ -4,7 +4,7 @@ use Rattle.std.proofs.Common.{◌≡◌, ℕ, ℤ, pos, ◌+◌, ◌<◌, ◌≤
 use Rattle.std.proofs.Common.{refl, sym, subst, arith, append-nil, leb-true}
 use Rattle.std.specs.Prelude.{FitsSigned, nat_le, codes, ⊤}
 use Rattle.std.specs.List.{AllByRecursion}
-use Rattle.std.specs.Int.{w64}
+use Rattle.std.specs.Int.{w32, w64}
 use Rattle.std.specs.Str.{is_utf8}
 use Rattle.std.proofs.lemmas.Str.{is_utf8-from_IsUtf8}
 use Rattle.zk_jute.specs.Layout.{ustring, vector}
@@ -14,7 +14,9 @@ use Rattle.zk_records.specs.Layouts.{connect_request, acl}
 use Rattle.zk_records.specs.OpenAcl.{open_acl}
 use Rattle.zk_records.specs.Operations.{operation_number, request_layout}
 use Rattle.zk_records.specs.declared.operation.Operation.TheVariants.{Ping, SetWatches}
-use Rattle.zk_conversation.specs.Calls.{Call, Exists, GetData, GetChildren, SetData, Create, Delete, Close, call_operation, call_body}
+use Rattle.zk_conversation.specs.Calls.{Call, Exists, GetData, GetChildren, SetData, Create, Delete, Close, Raw, wording, raw_number}
+use Rattle.zk_conversation.specs.declared.raw.RawOperation.{RawOperation}
+use Rattle.zk_conversation.specs.declared.raw.RawOperation.TheVariants as raw
 use Rattle.zk_conversation.specs.Calls.{call_payload, ping_xid, part_xid, texts_value}
 use Rattle.zk_conversation.proofs.Lengths.{weights, length-exists, length-get_data, length-get_children, length-set_data, length-create}
 use Rattle.zk_conversation.proofs.Lengths.{length-delete}
@@ -24,6 +26,7 @@ use Rattle.zk_watches.specs.Parts.{Watch, OnData, OnExist, OnChild, path_of, wat
 use Rattle.zk_watches.specs.Parts.{parts_of_watches, parts}
 use Rattle.zk_turns.specs.Past.{path_of_read}
 use Rattle.zk_turns.specs.Ranges.{IsTyped}
+use Rattle.zk_turns.specs.Spelled.{WordingFits}
 use Rattle.zk_limits.specs.declared.limits.TheConstants.{LONGEST_OUTGOING, MOST_WEIGHT}
 
 -- ---- calls
@@ -35,9 +38,22 @@ world_fits =
     let anyone = is_utf8-from_IsUtf8 (codes "anyone") (codes "anyone", (refl, refl)) in
     (omega arith, ((record { sfits = omega arith }, ((omega arith, world), (omega arith, anyone))), tt))
 
+raw_fits : (operation : RawOperation) → FitsSigned w32 (raw_number operation)
+raw_fits raw.GetAcl = record { sfits = omega arith }
+raw_fits raw.SetAcl = record { sfits = omega arith }
+raw_fits raw.Sync = record { sfits = omega arith }
+raw_fits raw.Multi = record { sfits = omega arith }
+raw_fits raw.Create2 = record { sfits = omega arith }
+raw_fits raw.CreateContainer = record { sfits = omega arith }
+raw_fits raw.CreateTtl = record { sfits = omega arith }
+raw_fits raw.MultiRead = record { sfits = omega arith }
+raw_fits raw.GetEphemerals = record { sfits = omega arith }
+raw_fits raw.GetAllChildrenNumber = record { sfits = omega arith }
+raw_fits raw.WhoAmI = record { sfits = omega arith }
+
 -- A call that is not too long, of values of their types, fits.
 pub call_fits : (xid : ℕ) (call : Call) → xid < 2 ^ 31 → IsTyped call → length (call_payload (pos xid) call) ≤ LONGEST_OUTGOING
-    → Fits (request_layout (call_operation call)) (pos xid, (operation_number (call_operation call), call_body call))
+    → WordingFits (pos xid) (wording call)
 call_fits xid (Exists path watch) x t l = let n = length-exists (pos xid) path watch in
     (record { sfits = x }, (record { sfits = omega arith }, ((omega arith, t), tt)))
 call_fits xid (GetData path watch) x t l = let n = length-get_data (pos xid) path watch in
@@ -61,6 +77,7 @@ call_fits xid (Create path (Some bytes) mode) x t l =
 call_fits xid (Delete path version) x t l = let n = length-delete (pos xid) path version in
     (record { sfits = x }, (record { sfits = omega arith }, ((omega arith, t.0), t.1)))
 call_fits xid Close x t l = (record { sfits = x }, (record { sfits = omega arith }, tt))
+call_fits xid (Raw operation bytes) x t l = (record { sfits = x }, raw_fits operation)
 
 pub ping_fits : Fits (request_layout Ping) (ping_xid, (operation_number Ping, tt))
 ping_fits = (record { sfits = omega arith }, (record { sfits = omega arith }, tt))
@@ -86,6 +103,7 @@ read_short Q xid (SetData path bytes version) l q = tt
 read_short Q xid (Create path bytes mode) l q = tt
 read_short Q xid (Delete path version) l q = tt
 read_short Q xid Close l q = tt
+read_short Q xid (Raw operation bytes) l q = tt
 
 pub typed_paths : (call : Call) → IsTyped call → AllByRecursion (λ path. is_utf8 path ≡ true) (path_of_read (question_of call))
 typed_paths (Exists path watch) t = (t, tt)
@@ -95,6 +113,7 @@ typed_paths (SetData path bytes version) t = tt
 typed_paths (Create path bytes mode) t = tt
 typed_paths (Delete path version) t = tt
 typed_paths Close t = tt
+typed_paths (Raw operation bytes) t = tt
 
 all_any : (paths : List Text) → AllByRecursion (λ path. ⊤) paths
 all_any [] = tt

@@ -12,7 +12,7 @@ use Rattle.zk_records.specs.declared.event.Event.{Event}
 use Rattle.zk_nodes.specs.declared.stat.Stat.{Stat}
 use Rattle.zk_nodes.specs.declared.data_stat.DataStat.{DataStat}
 use Rattle.zk_nodes.specs.DataStats.{data_stat_of}
-use Rattle.zk_conversation.specs.Questions.{Question, Exists, GetData, GetChildren, SetData, Create, Delete, Close}
+use Rattle.zk_conversation.specs.Questions.{Question, Exists, GetData, GetChildren, SetData, Create, Delete, Close, Raw}
 use Rattle.zk_conversation.specs.Results.{Result, NoNode, Found, Read, Listing}
 use Rattle.zk_turns.specs.Turns.{Start}
 use Rattle.zk_turns.specs.Past.{Left, word_on, reply_word, Past, Happening, Took, Forgot, Halted, Message, Accepted, Expiry, Replies}
@@ -428,6 +428,7 @@ module _ (path : Text) where
       by (Create at) e = absurd e
       by (Delete at) e = absurd e
       by Close e = absurd e
+      by Raw e = absurd e
   found_word fields _ l s = absurd l
 
   good_stays : (x : Happening) (bytes : Option (List ℕ)) (fields : DataStat)

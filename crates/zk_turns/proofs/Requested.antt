@@ -9,7 +9,7 @@ use Rattle.zk_nodes.specs.Path.{Text}
 use Rattle.zk_records.specs.Layouts.{connect_request}
 use Rattle.zk_records.specs.Operations.{operation_number, request_layout}
 use Rattle.zk_records.specs.declared.operation.Operation.TheVariants.{SetWatches}
-use Rattle.zk_conversation.specs.Calls.{Call, call_operation, call_body, call_payload, connect_payload, part_xid, part_payload, texts_value}
+use Rattle.zk_conversation.specs.Calls.{Call, wording, call_payload, connect_payload, part_xid, part_payload, texts_value}
 use Rattle.zk_conversation.specs.Questions.{question_of}
 use Rattle.zk_conversation.proofs.Lengths.{length-connect}
 use Rattle.zk_session.specs.SessionView.{Welcome}
@@ -20,6 +20,7 @@ use Rattle.zk_turns.specs.Past.{Past, Happening, Began, Took, Asked, Accepted, l
 use Rattle.zk_turns.specs.Past.{in_parents, path_of_read}
 use Rattle.zk_turns.specs.Taken.{past_of}
 use Rattle.zk_turns.specs.Ranges.{IsResumable, IsTyped, AsksOf, AllAskOf}
+use Rattle.zk_turns.specs.Spelled.{WordingFits}
 use Rattle.zk_turns.proofs.Fitting.{IsSmall, parts_small, call_fits, connect_fits, part_fits, typed_paths, any_paths}
 use Rattle.zk_conversation.proofs.Lengths.{length-part}
 use Rattle.zk_turns.proofs.Ranged.{IsRanged, AreRanged, items_ranged, last_fits, session_ranged, listed_short}
@@ -63,7 +64,7 @@ xid_small : (past : Past) → xid_of past < 2 ^ 31
 xid_small past = omega arith
 
 pub fits_call : (past : Past) (call : Call) → IsTyped call → length (call_payload (pos (xid_of past)) call) ≤ LONGEST_OUTGOING
-    → Fits (request_layout (call_operation call)) (pos (xid_of past), (operation_number (call_operation call), call_body call))
+    → WordingFits (pos (xid_of past)) (wording call)
 fits_call past call t l = call_fits (xid_of past) call (xid_small past) t l
 
 weaker : {A : Type 0} (P Q : A → Type 0) → ((x : A) → P x → Q x) → (xs : List A) → AllByRecursion P xs → AllByRecursion Q xs
@@ -136,7 +137,7 @@ module _ (start : Start) (items : List Item) (since : List Happening) (before : 
   call_told ticket call e = told_call before call (at Any (Asked ticket call) (any_items items) e).0.1
 
   pub call_of : (ticket : ℕ) (call : Call) → AllAskOf IsTyped items → past_of start items ≡ since ++ Asked ticket call ∷ before
-      → Fits (request_layout (call_operation call)) (pos (xid_of before), (operation_number (call_operation call), call_body call))
+      → WordingFits (pos (xid_of before)) (wording call)
   call_of ticket call a e = let r = (at IsTyped (Asked ticket call) a e).0 in fits_call before call r.0 r.1
 
   pub parts_told : (welcome : Welcome) → past_of start items ≡ since ++ Took (Accepted welcome) ∷ before

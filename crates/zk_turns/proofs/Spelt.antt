@@ -1,6 +1,6 @@
 -- A reading is there exactly where a spelling begins the bytes; and what is sent is read again. Both are laws of every layout, used at each
 -- record.
-use Rattle.std.proofs.Common.{◌≡◌, ℕ, ℤ, pos, false, Some, List, ◌++◌, length, Ok, Err, refl, ap, ◌∙◌}
+use Rattle.std.proofs.Common.{◌≡◌, ℕ, ℤ, pos, false, Some, List, ◌++◌, length, Ok, Err, refl, ap, ◌∙◌, append_assoc}
 use Rattle.std.specs.Prelude.{Result as Reading}
 use Rattle.zk_jute.specs.declared.fault.TakeError.{TakeError}
 use Rattle.zk_jute.specs.Layout.{Layout, Value}
@@ -9,18 +9,19 @@ use Rattle.zk_jute.specs.Reading.{◌>>=◌, reading}
 use Rattle.zk_jute.specs.inner.Laws.{reads, bind_ok, ok_is}
 use Rattle.zk_records.specs.Response.{Response, IsPayload, response_at}
 use Rattle.zk_records.specs.inner.ResponseLaws.{response_takes, response_again}
-use Rattle.zk_records.specs.Layouts.{connect_request}
+use Rattle.zk_records.specs.Layouts.{connect_request, request_header}
 use Rattle.zk_records.specs.Operations.{operation_number, request_layout}
 use Rattle.zk_records.specs.declared.operation.Operation.TheVariants.{Ping, SetWatches}
 use Rattle.zk_conversation.specs.declared.phase.Phase.TheVariants.{Opening}
-use Rattle.zk_conversation.specs.Calls.{Call, call_operation, call_body, call_payload, connect_payload, part_xid, part_payload}
+use Rattle.zk_conversation.specs.Calls.{Call, Wording, Spelled, Given, wording, worded_payload, call_payload, connect_payload, part_xid}
+use Rattle.zk_conversation.specs.Calls.{part_payload}
 use Rattle.zk_conversation.specs.Calls.{ping_payload, ping_xid, texts_value}
 use Rattle.zk_conversation.specs.Questions.{Question}
 use Rattle.zk_conversation.specs.Results.{Result, result_layout, result_from, record_of}
 use Rattle.zk_conversation.specs.Pending.{Pending}
 use Rattle.zk_conversation.specs.Arriving.{Connected, first_arriving, arriving}
 use Rattle.zk_nodes.specs.Path.{Text}
-use Rattle.zk_turns.specs.Spelled.{BeginsWith}
+use Rattle.zk_turns.specs.Spelled.{BeginsWith, WordingFits, ReadsAs}
 
 pub spelt : (layout : Layout) (end : ℕ) (bytes : List ℕ) (value : Value layout) (rest : List ℕ)
     → IsBytes bytes → reading layout end bytes ≡ Ok (value, rest) → Fits layout value × (bytes ≡ spelling layout value ++ rest)
@@ -34,15 +35,15 @@ pub record_spelt : (question : Question) (end : ℕ) (bytes : List ℕ) (result 
     → IsBytes bytes → record_of question end bytes ≡ Ok result → BeginsWith question result bytes
 unfolding record_of
 record_spelt question end bytes result are e =
-    let b = bind_ok (reading (result_layout question) end bytes) (λ found. Ok (result_from question found.0)) result e in
+    let b = bind_ok (reading (result_layout question) end bytes) (λ found. Ok (result_from question found.0 found.1)) result e in
     let s = spelt (result_layout question) end bytes b.0.0 b.0.1 are b.1 in
-    (b.0.0, record { ignored = b.0.1; fits = s.0; whole = s.1 }, ok_is (result_from question b.0.0) result b.2)
+    (b.0.0, record { ignored = b.0.1; fits = s.0; whole = s.1 }, ok_is (result_from question b.0.0 b.0.1) result b.2)
 
 pub record_read : (question : Question) (end : ℕ) (bytes : List ℕ) (result : Result)
     → BeginsWith question result bytes → record_of question end bytes ≡ Ok result
 unfolding record_of
 record_read question end bytes result s =
-    ap (λ r. r >>= λ found. Ok (result_from question found.0))
+    ap (λ r. r >>= λ found. Ok (result_from question found.0 found.1))
     (read_again (result_layout question) end bytes s.0 s.1.ignored (s.1.fits, s.1.whole)) ∙ ap Ok s.2
 
 first_found : (bytes : List ℕ) (r : Reading (Response × List ℕ) TakeError) (response : Response)
@@ -65,13 +66,18 @@ first_read ps bytes response s = ap first_arriving (response_again (length bytes
 
 -- ---- requests
 
+wording_read : (xid : ℤ) (said : Wording) (end : ℕ) (rest : List ℕ)
+    → WordingFits xid said → ReadsAs xid said end (worded_payload xid said ++ rest) rest
+wording_read xid (Spelled operation body) end rest fits =
+    (reads (request_layout operation) end).again (xid, (operation_number operation, body)) rest fits
+wording_read xid (Given operation bytes) end rest fits =
+    ap (reading request_header end) (append_assoc (spelling request_header (xid, operation)) bytes rest)
+    ∙ (reads request_header end).again (xid, operation) (bytes ++ rest) fits
+
 pub call_read : (xid : ℤ) (call : Call) (end : ℕ) (rest : List ℕ)
-    → Fits (request_layout (call_operation call)) (xid, (operation_number (call_operation call), call_body call))
-    → reading (request_layout (call_operation call)) end (call_payload xid call ++ rest)
-    ≡ Ok ((xid, (operation_number (call_operation call), call_body call)), rest)
+    → WordingFits xid (wording call) → ReadsAs xid (wording call) end (call_payload xid call ++ rest) rest
 unfolding call_payload
-call_read xid call end rest fits =
-    (reads (request_layout (call_operation call)) end).again (xid, (operation_number (call_operation call), call_body call)) rest fits
+call_read xid call end rest fits = wording_read xid (wording call) end rest fits
 
 pub part_read : (relative : ℤ) (known missing parents : List Text) (end : ℕ) (rest : List ℕ) → Fits (request_layout SetWatches)
     (part_xid, (operation_number SetWatches, (relative, (texts_value known, (texts_value missing, texts_value parents)))))

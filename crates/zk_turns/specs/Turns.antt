@@ -42,8 +42,9 @@ IsTyped (call.SetData path bytes version) = (is_utf8 path ≡ true) × FitsSigne
 IsTyped (call.Create path bytes mode) = (is_utf8 path ≡ true) × (mode ≤ 3)
 IsTyped (call.Delete path version) = (is_utf8 path ≡ true) × FitsSigned w32 version
 IsTyped call.Close = ⊤
+IsTyped (call.Raw operation bytes) = ⊤
 
--- it is about a path
+-- it is about a path, if what it is about is known
 abbrev pub IsPathCall : call.Call → Type 0
 IsPathCall (call.Exists path watch) = IsPath path
 IsPathCall (call.GetData path watch) = IsPath path
@@ -52,6 +53,7 @@ IsPathCall (call.SetData path bytes version) = IsPath path
 IsPathCall (call.Create path bytes mode) = IsPath path
 IsPathCall (call.Delete path version) = IsPath path
 IsPathCall call.Close = ⊤
+IsPathCall (call.Raw operation bytes) = ⊤
 
 -- what a caller may ask: about a path, with values of their types
 abbrev pub IsAskable : call.Call → Type 0

@@ -10,7 +10,7 @@ ghost use Rattle.zk_records.specs.declared.operation.Operation.TheVariants.{Ping
 ghost use Rattle.zk_records.specs.Layouts.{connect_request};
 ghost use Rattle.zk_records.specs.Response.{Response, IsPayload};
 ghost use Rattle.zk_conversation.specs.declared.phase.Phase.TheVariants.{Opening};
-ghost use Rattle.zk_conversation.specs.Calls.{Call, call_operation, call_body, call_payload, connect_payload, part_xid, part_payload};
+ghost use Rattle.zk_conversation.specs.Calls.{Call, wording, call_payload, connect_payload, part_xid, part_payload};
 ghost use Rattle.zk_conversation.specs.Calls.{ping_payload, ping_xid, texts_value};
 ghost use Rattle.zk_conversation.specs.Questions.{Question};
 ghost use Rattle.zk_conversation.specs.Results.{Result, record_of};
@@ -22,7 +22,7 @@ ghost use Rattle.zk_session.specs.SessionView.{Welcome};
 ghost use Rattle.zk_watches.specs.Parts.{parts};
 ghost use Rattle.std.specs.List.{AllByRecursion};
 ghost use Rattle.zk_turns.specs.Taken.{refusal};
-ghost use Rattle.zk_turns.specs.Spelled.{BeginsWith};
+ghost use Rattle.zk_turns.specs.Spelled.{BeginsWith, ReadsAs, WordingFits};
 ghost use Rattle.zk_turns.specs.Causes.{in_turn, IsFirstOf, IsGivenUp};
 ghost use Rattle.std.specs.Prelude.{◌≡◌, ◌≤◌, ℕ, List, [], ◌∷◌, ◌++◌, length, Option, ◌<◌, ◌≤ℤ◌, ◌+◌, ◌^◌, ◌&&◌, ◌↔◌, true, false};
 ghost use Rattle.std.specs.Prelude.{Some, if◌then◌else◌};
@@ -208,9 +208,7 @@ pub fn readings()
 /// first message of a connection is the record of the session that is asked for.
 pub fn requests_read()
     ensures call { (xid : ℤ) (call : Call) (end : ℕ) (rest : List ℕ) →
-        Fits (request_layout (call_operation call)) (xid, (operation_number (call_operation call), call_body call)) →
-        read_at (request_layout (call_operation call)) end (call_payload xid call ++ rest)
-        ≡ Ok ((xid, (operation_number (call_operation call), call_body call)), rest) }
+        WordingFits xid (wording call) → ReadsAs xid (wording call) end (call_payload xid call ++ rest) rest }
     ensures part { (relative : ℤ) (known missing parents : List Text) (end : ℕ) (rest : List ℕ) →
         Fits (request_layout SetWatches)
         (part_xid, (operation_number SetWatches, (relative, (texts_value known, (texts_value missing, texts_value parents))))) →
@@ -233,7 +231,7 @@ pub fn requests_fit()
     ensures new { (timeout : ℕ) → timeout < 2 ^ 31 → IsResumable (new_start timeout) }
     ensures call { (start : Start) (items : List Item) (since : List Happening) (ticket : ℕ) (call : Call) (before : Past) →
         AllAskOf IsTyped items → past_of start items ≡ since ++ Asked ticket call ∷ before →
-        Fits (request_layout (call_operation call)) (pos (xid_of before), (operation_number (call_operation call), call_body call)) }
+        WordingFits (pos (xid_of before)) (wording call) }
     ensures call_told { (start : Start) (items : List Item) (since : List Happening) (ticket : ℕ) (call : Call) (before : Past) →
         past_of start items ≡ since ++ Asked ticket call ∷ before → length (call_payload (pos (xid_of before)) call) < 2 ^ 31 }
     ensures parts { (start : Start) (items : List Item) (since : List Happening) (welcome : Welcome) (before : Past) →

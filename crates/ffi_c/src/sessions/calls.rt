@@ -2,10 +2,10 @@
 
 ghost use Rattle.std.specs.Prelude.{◌≡◌, Option, Some, None, if◌then◌else◌};
 ghost use Rattle.std.specs.Option.{option_map};
-ghost use Rattle.zk_conversation.specs.Calls.{Exists, GetData, GetChildren, SetData, Create, Delete, Close};
+ghost use Rattle.zk_conversation.specs.Calls.{Exists, GetData, GetChildren, SetData, Create, Delete, Close, raw_numbered};
 ghost use Rattle.ffi_agent_device.specs.declared.device.AgentDevice.{AgentDevice};
 ghost use Rattle.ffi_device.specs.Refused.{RefusesCreate, RefusesNothing, RefusesPath};
-ghost use Rattle.ffi_agent_device.specs.Steps.{Calls, Steps, limit_of};
+ghost use Rattle.ffi_agent_device.specs.Steps.{Calls, Steps, StepsRaw, limit_of};
 ghost use Rattle.ffi_c.specs.Held.{Holds, IsClosed};
 
 use crate::calls::data_of;
@@ -137,6 +137,27 @@ pub extern "C" fn dw_session_delete(
 {
     drive(alloc, handle, |session| {
         session.delete_at(alloc, now_ms, ticket, until_ms, path, version)
+    })
+}
+
+/// Asks for another operation, by its number, with the bytes that stand after the header of its request: they go out as they are, and what
+/// stands after the header of the reply comes back as it came.
+#[unsafe(no_mangle)]
+pub extern "C" fn dw_session_raw(
+    alloc: Global,
+    handle: &mut DwSession,
+    now_ms: u64,
+    ticket: u64,
+    until_ms: u64,
+    operation: i32,
+    bytes: &[u8],
+) -> i32
+    ensures closed { handle.old.slot.held ≡ None → IsClosed result handle.new.slot.held }
+    ensures steps { (d : AgentDevice) → handle.old.slot.held ≡ Some d → Holds handle.new.slot.held
+        (StepsRaw (raw_numbered operation) bytes.now now_ms ticket (limit_of until_ms) d result) }
+{
+    drive(alloc, handle, |session| {
+        session.raw_at(alloc, now_ms, ticket, until_ms, operation, bytes)
     })
 }
 

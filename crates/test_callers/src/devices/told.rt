@@ -42,7 +42,11 @@ fn tell_text(alloc: Global, bytes: &[u8], told: &mut String) -> Result<()> {
 }
 
 /// Names that were copied, as the bytes that spell them.
-fn tell_spelled<F: Drop>(copied: Result<usize, F>, room: &[u8], told: &mut String) -> Result<()> {
+pub fn tell_spelled<F: Drop>(
+    copied: Result<usize, F>,
+    room: &[u8],
+    told: &mut String,
+) -> Result<()> {
     match copied {
         Ok(0) | Err(_) => Ok(()),
         Ok(count) => {

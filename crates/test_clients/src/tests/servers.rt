@@ -32,8 +32,11 @@ fn bench_over<A: Allocator + Copy>(heap: A, lines: &[Line]) -> Result<Bench<A>, 
     Ok(Bench::new(heap, history))
 }
 
-// Receives bytes, and processes what is whole.
-fn give<A: Allocator + Copy>(bench: &mut Bench<A>, bytes: &[u8]) -> Result<(), AllocError> {
+/// Receives bytes, and processes what is whole.
+pub(crate) fn give<A: Allocator + Copy>(
+    bench: &mut Bench<A>,
+    bytes: &[u8],
+) -> Result<(), AllocError> {
     bench.receive(bytes)?;
     bench.process()
 }

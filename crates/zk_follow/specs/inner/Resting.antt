@@ -10,6 +10,7 @@ use Rattle.zk_turns.specs.View.{View}
 use Rattle.zk_follow.specs.declared.about.About.{About}
 use Rattle.zk_follow.specs.declared.subject.Subject.{Subject}
 use Rattle.zk_follow.specs.Following.{is_resting}
+use Rattle.zk_follow.specs.inner.Reported.{AreReported}
 
 -- ---- what outputs are about
 
@@ -49,5 +50,9 @@ covers about (turns.Report at side event) = about.has_report
 covers about (Enters state) = about.is_each
 covers about _ = true
 
+abbrev pub AreNoted : {A : Type 0} → About A → List Output → Type 0
+AreNoted about outputs = AllByRecursion (λ output. covers about output ≡ true) outputs
+
+-- that, and which paths they report
 abbrev pub AreCovered : {A : Type 0} → About A → List Output → Type 0
-AreCovered about outputs = AllByRecursion (λ output. covers about output ≡ true) outputs
+AreCovered about outputs = AreNoted about outputs × AreReported about.reported outputs

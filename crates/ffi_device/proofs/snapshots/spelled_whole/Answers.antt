@@ -10,5 +10,5 @@ returns c = record {
   is = c.in_ok-append.ensures.items;
   nodes = c.in_ok-text.ensures;
   parents = c.in_ok-parents.ensures;
-  holds = λ h served. c.one_tree.ensures h (view_of c.args.client.now) served c.args.paths.now c.args.above.now c.requires;
+  holds = λ h served. c.one_tree.ensures h (view_of c.args.client.now) c.args.paths.now c.args.above.now served c.requires;
 }

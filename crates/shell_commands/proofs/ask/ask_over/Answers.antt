@@ -4,7 +4,7 @@ use Rattle.std.proofs.Common.{◌≡◌, ◌≢◌, true, false, ap, sym, refl}
 use Rattle.shell_ask.specs.Asking.{Coming, Answered, Late}
 use Rattle.shell_ask.specs.Printing.{end_of, told}
 use Rattle.shell_ask.specs.declared.end.CallEnd.TheVariants as ends
-use Rattle.zk_conversation.specs.Results.{NoNode, Refused, Found, Read, Listing, Made, Done}
+use Rattle.zk_conversation.specs.Results.{NoNode, Refused, Found, Read, Listing, Made, Done, Brought}
 use Rattle.zk_turns.specs.Turns.{Replied, ConnectionLoss, SessionExpired, SessionClosed, NotConnected, TooManyWatches, TooLarge}
 use Rattle.zk_turns.specs.Turns.{TooManyPending}
 use Rattle.shell_commands.specs.Asks.{status_of}
@@ -18,6 +18,7 @@ never_more (Answered (Replied zxid (Found stat))) = λ e. cc
 never_more (Answered (Replied zxid (Read bytes stat))) = λ e. cc
 never_more (Answered (Replied zxid (Listing names stat))) = λ e. cc
 never_more (Answered (Replied zxid (Made path))) = λ e. cc
+never_more (Answered (Replied zxid (Brought bytes))) = λ e. cc
 never_more (Answered (Replied zxid Done)) = λ e. cc
 never_more (Answered ConnectionLoss) = λ e. cc
 never_more (Answered SessionExpired) = λ e. cc

@@ -1,4 +1,4 @@
--- The first call that waits, copied with its ticket, is the next one: `next_there`, from what indexing and `copied_call` ensure.
+-- The first call that waits, copied with its ticket, is the next one: `next_there`, from what indexing and `Call::copied` ensure.
 use Rattle.std.proofs.Common.{refl}
 use Rattle.zk_conversation.specs.Views.{call_view}
 use Rattle.zk_calls.proofs.Answering.{next_there}

@@ -1,6 +1,7 @@
--- By the case of the question: what the read of its record ensures, with `record_of` unfolded; a delete and a close read nothing.
-use Rattle.std.proofs.Common.{refl}
-use Rattle.zk_conversation.specs.Results.{record_of}
+-- By the case of the question: what the read of its record ensures, with `record_of` unfolded; a delete and a close read nothing,
+-- and what the caller has spelled is answered by all that is left.
+use Rattle.std.proofs.Common.{refl, ap, sym, Ok}
+use Rattle.zk_conversation.specs.Results.{record_of, Brought}
 use Rattle.zk_conversation.proofs.result.read_record.Goals as goal
 
 pub returns-in-Exists-clause-gives : goal.returns-in-Exists-clause-gives
@@ -30,3 +31,7 @@ returns-in-Delete-clause-gives g c = rw c.in-Delete.is refl
 pub returns-in-Close-clause-gives : goal.returns-in-Close-clause-gives
 unfolding record_of
 returns-in-Close-clause-gives g c = rw c.in-Close.is refl
+
+pub returns-in-Raw-clause-gives : goal.returns-in-Raw-clause-gives
+unfolding record_of
+returns-in-Raw-clause-gives g c = rw c.in-Raw.is (ap (λ bytes. Ok (Brought bytes)) (sym c.rest.ensures))

@@ -1,9 +1,9 @@
 -- What `process_next` ensures holds after `settle` too, whether the connection goes on or has ended: `settled` and `settled_so`.
 -- With the frame of the request taken away, the first one is processed, by `first_processed`; one that is answerable is answered, as
--- `process_next` does not end the connection then.
+-- `process_next` does not end the connection then. A call that its caller has spelled never ends with `Ok` there.
 use Rattle.std.proofs.Common.{◌≡◌, true, sym, ap, ◌∙◌, length}
 use Rattle.theory_serving.proofs.Fronts.{front_there, front_field}
-use Rattle.zk_bench.specs.Served.{Served, is_open, ended}
+use Rattle.zk_bench.specs.Served.{Served, is_open, ended, left_with}
 use Rattle.zk_bench.specs.Stepping.{IsReady, ProcessesFirst, shown_of, AnswersFirst}
 use Rattle.zk_bench.proofs.Stepped.{settled, settled_so, ready_ended, ready_disconnected, ok_so, first_processed, processed_so, answered_so}
 use Rattle.zk_bench.proofs.bench.Bench.process.Goals as goal
@@ -44,3 +44,12 @@ returns-clause-answers g c = λ request xid payload rest ready up stands now ans
     (ok_so c.process_next-outcome.result _ _ (done.serves request xid payload rest ready up stands now)
     (answered_so request xid (shown_of old) (shown_of c.process_next-outcome.new.self)))
     (λ over. absurd (done.stays request xid payload rest ready up stands now answerable over))
+
+pub returns-clause-ends_first : goal.returns-clause-ends_first
+returns-clause-ends_first g c = λ operation given xid payload rest accepted stands.
+    let old = c.args.self.now in
+    let mid = c.process_next-outcome.new.self in
+    let gone = c.process_next-outcome.ensures.unknown operation given xid payload rest accepted stands in
+    settled_so (λ (new : Served). new ≡ ended (left_with old rest)) c.process_next-outcome.result c.settle.result mid c.settle.new.self
+    c.settle.ensures.ok c.settle.ensures.ended c.settle.ensures.gives_up
+    (ok_so c.process_next-outcome.result ⊥ (mid ≡ ended (left_with old rest)) gone.1 (λ never. absurd never)) (λ over. ap ended gone.0)

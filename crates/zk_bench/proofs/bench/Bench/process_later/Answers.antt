@@ -1,7 +1,8 @@
 -- The request that is read is the one in the frame, under its xid, by `found_front`. It is answered or declined as `answer` ensures, and
 -- that the frame's bytes are gone changes nothing of that, by `front_gone`. A code that it is owed is sent, by `owed_to`, or the
--- connection ends, by `owed_unsent`. Reading fails for want of memory alone, by `read_front`.
-use Rattle.std.proofs.Common.{rules, ◌≡◌, ap, ◌∙◌, subst, ℤ, pos, drop, to_z, of_z, w32, sym, refl}
+-- connection ends, by `owed_unsent`. Reading a request that is known fails for want of memory alone, by `read_front`; a call that its
+-- caller has spelled is not read, and nothing follows but that its bytes are gone.
+use Rattle.std.proofs.Common.{rules, ◌≡◌, ap, ◌+◌, ◌∙◌, subst, ℤ, pos, drop, to_z, of_z, w32, sym, refl}
 use Rattle.std.proofs.Common.{take as first}
 use Rattle.std.specs.Prelude.{Ok, Err}
 use Rattle.zk_records.specs.Codes.{code_number}
@@ -19,8 +20,9 @@ use Rattle.zk_bench.specs.inner.Serving.{SendsHeader}
 use Rattle.zk_bench.specs.inner.Stepping.{HasClient, ProcessesOne, AnswersOne, Declines, EndsBy, OwesTo}
 use Rattle.zk_bench.specs.Stepping.{zxid_of, shown_of}
 use Rattle.zk_bench.proofs.Fields.{bench_of}
-use Rattle.zk_bench.proofs.Stepped.{ok_so, front_gone}
-use Rattle.zk_bench.proofs.Called.{found_front, read_front}
+use Rattle.zk_bench.proofs.Stepped.{ok_so, front_gone, left_front}
+use Rattle.zk_bench.proofs.Asked.{errs_never}
+use Rattle.zk_bench.proofs.Called.{found_front, known_answerable, raw_front, read_front}
 use Rattle.zk_bench.proofs.ProcessedLooks.{ends_unsent}
 use Rattle.zk_bench.proofs.ProcessedFirst.{has_front, ready_sending, owed_to, owed_unsent}
 use Rattle.zk_bench.specs.Answerable.{IsAnswerable}
@@ -34,7 +36,7 @@ returns-in-Ok-clause-serves g c = λ asked xid has later read fit.
     let mid : Served = record b { connection = record b.connection { requests = rest } } in
     let ranged : to_z w32 (of_z w32 c.in_ok-xid.xid) ≡ c.in_ok-xid.xid = search rules in
     let found = found_front b c.args.self.now c.args.length _ asked xid _ _ c.in_ok-xid.request c.self.view_is c.deref.ensures.value ranged
-    later read fit c.in_ok-xid.ensures.read in
+    later read fit c.in_ok-xid.ensures.read c.in_ok-xid.ensures.unknown in
     front_gone b c.args.self.now rest asked xid (shown_of c.answer.new.self) c.self.view_is
     (subst (λ (x : ℤ). AnswersOne asked x (shown_of mid) (shown_of c.answer.new.self)) found.1
     (c.in-Ok.ensures.answers asked (has_front b c.args.self.now rest c.self.view_is has) found.0))
@@ -46,7 +48,7 @@ returns-in-Err-Stop-clause-ends g c = λ asked xid has later read fit over.
     let mid : Served = record b { connection = record b.connection { requests = rest } } in
     let ranged : to_z w32 (of_z w32 c.in_ok-xid.xid) ≡ c.in_ok-xid.xid = search rules in
     let found = found_front b c.args.self.now c.args.length _ asked xid _ _ c.in_ok-xid.request c.self.view_is c.deref.ensures.value ranged
-    later read fit c.in_ok-xid.ensures.read in
+    later read fit c.in_ok-xid.ensures.read c.in_ok-xid.ensures.unknown in
     let new = c.answer.new.self in
     let stop : c.in-Err-Stop.stop ≡ stops.End = ap (λ o. elim o [ Ok x ↦ stops.End | Err e ↦ e ]) over in
     let ends : EndsBy c.in-Err-Stop.stop asked xid (shown_of mid) (shown_of (ended new)) =
@@ -71,7 +73,7 @@ owed g c asked xid has later read fit =
     let mid : Served = record b { connection = record b.connection { requests = rest } } in
     let ranged : to_z w32 (of_z w32 c.in_ok-xid.xid) ≡ c.in_ok-xid.xid = search rules in
     let found = found_front b c.args.self.now c.args.length _ asked xid _ _ c.in_ok-xid.request c.self.view_is c.deref.ensures.value ranged
-    later read fit c.in_ok-xid.ensures.read in (
+    later read fit c.in_ok-xid.ensures.read c.in_ok-xid.ensures.unknown in (
       subst (λ (r : Refusal). Declines asked (to_z w32 (of_z w32 c.in_ok-xid.xid)) mid c.answer.new.self r) c.in-Err-Code.field-0-is
           (c.in-Err-Code.ensures.declines asked (has_front b c.args.self.now rest c.self.view_is has) found.0),
       found.1,
@@ -111,7 +113,7 @@ returns-in-Err-Stop-clause-stays g c = λ asked xid has later read fit answerabl
     let rest = c.remove_front.new.bytes.items in
     let ranged : to_z w32 (of_z w32 c.in_ok-xid.xid) ≡ c.in_ok-xid.xid = search rules in
     let found = found_front b c.args.self.now c.args.length _ asked xid _ _ c.in_ok-xid.request c.self.view_is c.deref.ensures.value ranged
-    later read fit c.in_ok-xid.ensures.read in
+    later read fit c.in_ok-xid.ensures.read c.in_ok-xid.ensures.unknown in
     let stop : c.in-Err-Stop.stop ≡ stops.End = ap (λ o. elim o [ Ok x ↦ stops.End | Err e ↦ e ]) over in
     c.in-Err-Stop.ensures.stays asked (has_front b c.args.self.now rest c.self.view_is has) found.0
     (subst (IsAnswerable asked) (sym c.self.view_is) answerable) c.in_ok-xid.ensures.fits
@@ -127,5 +129,27 @@ returns-in_err-xid-clause-ends g c = λ asked xid has later read fit over.
 pub returns-in_err-xid-clause-stays : goal.returns-in_err-xid-clause-stays
 returns-in_err-xid-clause-stays g c = λ asked xid has later read fit answerable.
     handed_on c.from_residual.result _ _ c.from_residual.ensures.1
-    (λ over. read_front (bench_of c.self.inside) c.args.self.now c.args.length _ asked xid
-    ⊥ c.self.view_is c.deref.ensures.value later read fit (λ a found. let memory = c.in_err-xid.ensures.read a found in cc))
+    (λ over. read_front (bench_of c.self.inside) c.args.self.now c.args.length _ asked xid ⊥ c.self.view_is c.deref.ensures.value later
+    (known_answerable asked c.args.self.now answerable) read fit (λ a found. let memory = c.in_err-xid.ensures.read a found in cc))
+
+pub returns-in-Ok-clause-unknown : goal.returns-in-Ok-clause-unknown
+returns-in-Ok-clause-unknown g c = λ operation given xid raw.
+    absurd (c.in_ok-xid.ensures.unknown operation given xid
+    (raw_front (bench_of c.self.inside) c.args.self.now c.args.length _ operation given xid c.self.view_is c.deref.ensures.value raw))
+
+pub returns-in-Err-Stop-clause-unknown : goal.returns-in-Err-Stop-clause-unknown
+returns-in-Err-Stop-clause-unknown g c = λ operation given xid raw.
+    absurd (c.in_ok-xid.ensures.unknown operation given xid
+    (raw_front (bench_of c.self.inside) c.args.self.now c.args.length _ operation given xid c.self.view_is c.deref.ensures.value raw))
+
+pub returns-in-Err-Code-clause-unknown : goal.returns-in-Err-Code-clause-unknown
+returns-in-Err-Code-clause-unknown g c = λ operation given xid raw.
+    absurd (c.in_ok-xid.ensures.unknown operation given xid
+    (raw_front (bench_of c.self.inside) c.args.self.now c.args.length _ operation given xid c.self.view_is c.deref.ensures.value raw))
+
+pub returns-in_err-xid-clause-unknown : goal.returns-in_err-xid-clause-unknown
+returns-in_err-xid-clause-unknown g c = λ operation given xid raw. (
+  left_front (bench_of c.self.inside) c.args.self.now c.remove_front.new.bytes.items (4 + c.args.length) c.self.view_is
+      c.remove_front.ensures.items,
+  errs_never c.from_residual.result _ c.from_residual.ensures.1,
+)

@@ -1,5 +1,7 @@
 -- What is found of the node at the place is good, since each path is kept whole (`data_at`), and so fits the history's tree (`data_fits`).
+use Rattle.std.proofs.Common.{refl}
 use Rattle.zk_client.specs.Clients.{view_of}
+use Rattle.zk_conclusions.specs.Seen.{Is}
 use Rattle.zk_conclusions.proofs.Truths.{data_fits}
 use Rattle.zk_conclusions.proofs.Lent.{data_at}
 use Rattle.zk_conclusions.proofs.subtree.Subtree.data.Goals as goal
@@ -10,4 +12,5 @@ returns-clause-kept g c path at =
     c.args.self.now.full c.index.ensures c.in-Some.ensures at
 
 pub returns-clause-holds : goal.returns-clause-holds
-returns-clause-holds g c h path served at = data_fits h (view_of c.args.self.now.client.now) path _ served (returns-clause-kept g c path at)
+returns-clause-holds g c h path served at = data_fits (Is path) h (view_of c.args.self.now.client.now) path _ served refl
+    (returns-clause-kept g c path at)

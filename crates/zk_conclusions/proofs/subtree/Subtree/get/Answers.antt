@@ -1,7 +1,8 @@
 -- What passes `has_data` is found and good (`found_full`; `never_none`), and fits the history's tree (`data_fits`). What doesn't pass is
 -- none of the subtree's paths: `not_among`.
-use Rattle.std.proofs.Common.{sym, ◌∙◌}
+use Rattle.std.proofs.Common.{refl, sym, ◌∙◌}
 use Rattle.zk_client.specs.Clients.{view_of}
+use Rattle.zk_conclusions.specs.Seen.{Is}
 use Rattle.zk_conclusions.proofs.Truths.{data_fits}
 use Rattle.zk_conclusions.proofs.Lent.{found_full, not_among, never_none}
 use Rattle.zk_conclusions.proofs.subtree.Subtree.get.Goals as goal
@@ -18,7 +19,8 @@ returns-in-Some-clause-kept g c =
 
 pub returns-in-Some-clause-holds : goal.returns-in-Some-clause-holds
 returns-in-Some-clause-holds g c h served =
-    data_fits h (view_of c.args.self.now.client.now) c.args.path.now _ served (returns-in-Some-clause-kept g c)
+    data_fits (Is c.args.path.now) h (view_of c.args.self.now.client.now) c.args.path.now _ served refl
+    (returns-in-Some-clause-kept g c)
 
 pub returns-in-None-clause-none : goal.returns-in-None-clause-none
 returns-in-None-clause-none g c e there =

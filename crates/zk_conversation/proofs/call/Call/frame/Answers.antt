@@ -91,3 +91,17 @@ returns-in-Delete g c =
     let xid : to_z w32 (of_z w32 c.args.xid) ≡ c.args.xid = omega (arith, ints) in
     let version : to_z w32 (of_z w32 c.in-Delete.version) ≡ c.in-Delete.version = omega (arith, ints) in
     rw c.in-Delete.is (rw (xid, c.as_str-in-Delete.ensures.text, version) at c.request_frame-in-Delete.ensures)
+
+pub raw_frame-requires : goal.raw_frame-requires
+unfolding call_payload
+raw_frame-requires g c =
+    let xid : to_z w32 (of_z w32 c.args.xid) ≡ c.args.xid = omega (arith, ints) in
+    let number : to_z w32 (of_z w32 c.number.result) ≡ c.number.result = omega (arith, ints) in
+    rw (xid, number, c.number.ensures, c.as_slice.ensures.value) (small _ (rw c.in-Raw.is at c.requires))
+
+pub returns-in-Raw : goal.returns-in-Raw
+unfolding call_payload
+returns-in-Raw g c =
+    let xid : to_z w32 (of_z w32 c.args.xid) ≡ c.args.xid = omega (arith, ints) in
+    let number : to_z w32 (of_z w32 c.number.result) ≡ c.number.result = omega (arith, ints) in
+    rw c.in-Raw.is (rw (xid, number, c.number.ensures, c.as_slice.ensures.value) at c.raw_frame.ensures)

@@ -1,6 +1,6 @@
 -- By the case of the call: the length of its payload (`length-exists` and so on), with those of path and data rewritten.
 use Rattle.zk_conversation.proofs.Lengths.{length-exists, length-get_data, length-get_children, length-set_data, length-create}
-use Rattle.zk_conversation.proofs.Lengths.{length-delete, length-close}
+use Rattle.zk_conversation.proofs.Lengths.{length-delete, length-close, length-raw}
 use Rattle.zk_conversation.proofs.call.Call.payload_length.Goals as goal
 
 pub returns-in-Exists : goal.returns-in-Exists
@@ -25,3 +25,6 @@ returns-in-Delete g c = λ xid. rw (c.in-Delete.is, c.as_str-in-Delete.ensures.t
 
 pub returns-in-Close : goal.returns-in-Close
 returns-in-Close g c = λ xid. rw c.in-Close.is (length-close xid)
+
+pub returns-in-Raw : goal.returns-in-Raw
+returns-in-Raw g c = λ xid. rw (c.in-Raw.is, c.as_slice.ensures.value) (length-raw xid _ _)

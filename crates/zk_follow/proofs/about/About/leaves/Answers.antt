@@ -7,13 +7,13 @@ use Rattle.zk_follow.proofs.about.About.leaves.Goals as goal
 
 pub returns-then-not-self : goal.returns-then-not-self
 returns-then-not-self g c = λ covered left.
-    let outputs = said c.args.outputs.now in
-    none_about c.args.self.now c.args.ticket c.args.path.now outputs covered c.if-self.false
+    let outputs = said c.args._outputs.now in
+    none_about c.args.self.now c.args.ticket c.args.path.now outputs covered.0 c.if-self.false
     (sym c.is_answered.ensures ∙ c.if-is_answered.false)
     (ap (λ b. b && is_reported c.args.path.now outputs) c.if-not-self.true)
 
 pub returns : goal.returns
 returns g c = λ covered left.
-    none_about c.args.self.now c.args.ticket c.args.path.now (said c.args.outputs.now) covered c.if-self.false
+    none_about c.args.self.now c.args.ticket c.args.path.now (said c.args._outputs.now) covered.0 c.if-self.false
     (sym c.is_answered.ensures ∙ c.if-is_answered.false)
-    (and_false c.args.self.now.has_report _ (sym c.is_reported.ensures ∙ not_parts c.is_reported.result left))
+    (and_false c.args.self.now.has_report _ (sym (covered.1 c.args.path.now) ∙ sym c.has.ensures ∙ not_parts c.has.result left))

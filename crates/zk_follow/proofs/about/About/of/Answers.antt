@@ -16,5 +16,8 @@ loop-output-preserved g c = record {
 }
 
 pub returns : goal.returns
-returns g c = all_covered c.loop-output.about c.args.outputs.now
-    (λ k d within. c.loop-output.invariant.covered k d (omega (arith, within, c.loop-output-test.false)))
+returns g c = (
+  all_covered c.loop-output.about c.args.outputs.now
+      (λ k d within. c.loop-output.invariant.covered k d (omega (arith, within, c.loop-output-test.false))),
+  c.in_ok-about.ensures,
+)

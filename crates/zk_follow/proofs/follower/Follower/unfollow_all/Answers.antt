@@ -1,0 +1,15 @@
+-- What holds of all subjects holds of those that stay (`all_hold`); none is marked.
+use Rattle.zk_client.specs.Clients.{view_of}
+use Rattle.zk_follow.specs.Following.{IsCounted}
+use Rattle.zk_follow.proofs.Among.{all_hold}
+use Rattle.zk_follow.proofs.Resting.{none_marked}
+use Rattle.zk_follow.proofs.follower.Follower.unfollow_all.Goals as goal
+
+pub invariant_of-self : goal.invariant_of-self
+invariant_of-self g c =
+    let view = view_of c.args.self.now.client in
+    record {
+      counted = all_hold (IsCounted view) c.remove_all.result c.args.tickets.now c.args.self.now.subjects.items
+          c.remove_all.new.subjects.items c.remove_all.ensures.subjects c.remove_all.ensures.same c.args.self.now.counted;
+      rest = none_marked view c.remove_all.new.subjects.items c.clear.new.self.items c.clear.ensures.items;
+    }

@@ -1,0 +1,9 @@
+-- An empty map has no path: `none_in`.
+use Rattle.zk_follow.specs.declared.reported.Reported.{Reported}
+use Rattle.zk_follow.proofs.Paths.{none_in}
+use Rattle.zk_follow.proofs.reported.Reported.new.Goals as goal
+
+pub returns : goal.returns
+returns g c =
+    let made : Reported g.row.A.Denot = record { paths = c.new.result } in
+    none_in made c.new.ensures.empty

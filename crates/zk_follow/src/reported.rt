@@ -1,0 +1,75 @@
+//! Which paths outputs report, told in a time that does not rise with the number of reports.
+
+ghost use Rattle.std.specs.Prelude.{◌≡◌, ◌||◌, ℕ, List, IfOk, OnOk, false, is_some, bytes_eq};
+ghost use Rattle.indexmap.specs.IndexMap.{get_by_text};
+ghost use Rattle.zk_nodes.specs.Path.{Text};
+ghost use Rattle.zk_client.specs.Views.{output_view, said};
+ghost use Rattle.zk_follow.specs.Following.{is_report_of};
+ghost use Rattle.zk_follow.specs.inner.Reported.{has_report_of, AreReported};
+
+use indexmap::IndexMap;
+use std::alloc::{AllocError, Allocator};
+use std::hash::{BuildHasherDefault, FoldHasher};
+use zk_client::{Output, Path};
+
+/// Paths, each once.
+type Paths<A> = IndexMap<String<A>, (), BuildHasherDefault<FoldHasher>, A>;
+
+/// The paths that outputs report.
+#[derive(Drop)]
+pub(crate) struct Reported<A: Allocator + Copy> {
+    paths: Paths<A>,
+}
+
+/// Adds a path. An error means that memory ran out.
+fn add_path<A: Allocator + Copy>(
+    alloc: A,
+    paths: &mut Paths<A>,
+    path: &str,
+) -> Result<(), AllocError>
+    ensures { OnOk result ((other : List ℕ) → is_some (get_by_text paths.new other)
+        ≡ (bytes_eq path.now other || is_some (get_by_text paths.old other))) }
+{
+    paths.insert(String::from_str(alloc, path)?, ())?;
+    Ok(())
+}
+
+impl<A: Allocator + Copy> Reported<A> {
+    /// No path.
+    pub(crate) fn new(alloc: A) -> Reported<A>
+        ensures { (path : Text) → has_report_of result path ≡ false }
+    {
+        Reported {
+            paths: IndexMap::new(alloc),
+        }
+    }
+
+    /// Adds the path that an output reports, if it does. An error means that memory ran out.
+    fn note(&mut self, alloc: A, output: &Output<A>) -> Result<(), AllocError>
+        ensures { OnOk result ((path : Text) → has_report_of self.new path
+            ≡ (is_report_of path (output_view output.now) || has_report_of self.old path)) }
+    {
+        match output {
+            Output::Report { path, .. } => add_path(alloc, &mut self.paths, path.as_str()),
+            _ => Ok(()),
+        }
+    }
+
+    /// The paths that these outputs report. An error means that memory ran out.
+    pub(crate) fn of(alloc: A, outputs: &[Output<A>]) -> Result<Reported<A>, AllocError>
+        ensures { IfOk result (λ reported. AreReported reported (said outputs.now)) }
+    {
+        let mut reported = Reported::new(alloc);
+        for output in outputs {
+            reported.note(alloc, output)?;
+        }
+        Ok(reported)
+    }
+
+    /// Whether an output reports this path.
+    pub(crate) fn has(&self, path: &Path<A>) -> bool
+        ensures { result ≡ has_report_of self.now path.now }
+    {
+        self.paths.get(path.as_str()).is_some()
+    }
+}
