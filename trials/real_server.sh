@@ -473,7 +473,7 @@ refused: /asks: the node has another version (-103)
 = 0
 \e
 = 0
-00ff0a
+hex:00ff0a
 = 0
 bytes
 empty
@@ -530,6 +530,7 @@ no node: /none/node
 no node: /none
 = 5
 not connected: /asks: no server has answered in time
+@nobody connection refused
 = 7
 EOF
     rises @made @set @last

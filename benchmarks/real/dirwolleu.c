@@ -14,6 +14,7 @@
 #include <arpa/inet.h>
 #include <errno.h>
 #include <netinet/tcp.h>
+#include <poll.h>
 #include <sys/socket.h>
 #include <unistd.h>
 
@@ -215,9 +216,20 @@ static void measure_reconnect(struct session *session, int count) {
   tell(since);
 }
 
+/* Waits for a line, bytes or the next tick, so that the session lives on. Whether a line has come. */
+static bool await_line(struct session *session) {
+  struct pollfd waited[2] = {{.fd = STDIN_FILENO, .events = POLLIN}, {.fd = session->socket, .events = POLLIN}};
+  flush(session);
+  if (poll(waited, 2, TICK_MS) == 0) must(dw_tick(&session->client, now_ms()), "a moment");
+  take_outputs(session);
+  if (waited[1].revents != 0) hear(session);
+  return waited[0].revents != 0;
+}
+
 static void change(struct session *session, int first, int count) {
   ask_at_once(session, ask_read, 1);
   tell_ready();
+  while (!await_line(session)) continue;
   if (getchar() == EOF) fail("no line came");
   ask_some(session, ask_write, first, count);
 }

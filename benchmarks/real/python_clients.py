@@ -6,31 +6,13 @@ usage: python_clients.py CLIENT PORT ROW COUNT TIMES, where CLIENT is kazoo or d
 import importlib
 import logging
 import operator
-import resource
 import sys
 import threading
-import time
+
+from measure import AT_ONCE, DATA, NODE, mark, tell
 
 # The module of each client, its class, and how its answers are taken.
 CLIENTS = {"kazoo": ("kazoo.client", "KazooClient", "get"), "dirwolleu": ("dirwolleu", "Client", "result")}
-NODE = "/real"
-DATA = b"0123456789" * 10
-AT_ONCE = 1000
-
-
-def mark():
-    """The moment, and the processor time of this process until then, in microseconds."""
-    usage = resource.getrusage(resource.RUSAGE_SELF)
-    return time.monotonic_ns() // 1000, round((usage.ru_utime + usage.ru_stime) * 1_000_000)
-
-
-def tell(since):
-    wall, processor = (now - then for now, then in zip(mark(), since))
-    with open("/proc/self/status") as status:
-        peak = next(line.split()[1] for line in status if line.startswith("VmHWM:"))
-    print("took", wall, processor, peak, flush=True)
-
-
 take = operator.methodcaller(CLIENTS[sys.argv[1]][2])
 
 

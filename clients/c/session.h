@@ -452,6 +452,7 @@ static inline const char *dws_advice_of_result(enum dw_result result)
     case DW_NOT_WHOLE: return "read what is lacking, with a watch";
     case DW_TOO_MANY: return "ask for more, or for a path below";
     case DW_NOT_TEXTS: return "";
+    case DW_NO_SUCH_OPERATION: return "";
     }
     return "take both of one version";
 }

@@ -1,18 +1,25 @@
-/* A lock with a token, as docs/COOKBOOK.md has it in Python. */
+/* A lock, which is waited for again whenever it is lost, with a token to hand on: see docs/COOKBOOK.md. */
 #define _POSIX_C_SOURCE 200809L
 #include "lock.h"
 
-static void changed(dws_session *session, dws_lock *lock)
+static void fail(dws_session *session, dws_lock *lock)
 {
     char why[DWS_LONGEST_LINE];
-    if (lock->is_held) { /* hand the token on to what is protected, which refuses one below the greatest that it has seen */
-        printf("held at zxid %" PRId64 " with token %" PRId64 "\n", dws_last_zxid(session), lock->token);
-        fflush(stdout);
-    } else if (lock->why != 0) {
-        dws_lock_words(session, lock, why, sizeof why);
-        fprintf(stderr, "lock: %s\n", why);
-        dws_end(session);
+    dws_lock_words(session, lock, why, sizeof why);
+    fprintf(stderr, "lock: %s\n", why);
+    dws_end(session);
+}
+
+static void changed(dws_session *session, dws_lock *lock)
+{
+    if (lock->is_held) { /* work, and hand the token on */
+        printf("held with token %" PRId64 "\n", lock->token);
+    } else if (lock->why == 0) { /* stop: it is waited for again */
+        printf("lost\n");
+    } else {
+        fail(session, lock);
     }
+    fflush(stdout);
 }
 
 int main(void)
@@ -24,10 +31,9 @@ int main(void)
     if (session == NULL) {
         return EXIT_FAILURE;
     }
-    if (dws_lock_take(session, &lock, "/lock", DWS_EXCLUSIVE, "host-1", changed)) {
-        while (dws_turn(session)) {
-        }
+    bool is_begun = dws_lock_take(session, &lock, "/lock", DWS_EXCLUSIVE, "host-1", changed);
+    while (is_begun && dws_turn(session)) {
     }
     dws_free(session);
-    return EXIT_SUCCESS;
+    return is_begun ? EXIT_SUCCESS : EXIT_FAILURE;
 }

@@ -42,6 +42,7 @@ NOT_SAVED = -8
 NOT_WHOLE = -9
 TOO_MANY = -10
 NOT_TEXTS = -11
+NO_SUCH_OPERATION = -12
 
 SEND = 1
 ANSWER = 2
@@ -71,6 +72,7 @@ DATA = 3
 NAMES = 4
 CREATED = 5
 DONE = 6
+RAW = 7
 
 NODE_CREATED = 1
 NODE_DELETED = 2
@@ -124,6 +126,18 @@ NOTHING = 0
 ABSENT = 1
 KNOWN = 2
 FULL = 3
+
+GET_ACL = 6
+SET_ACL = 7
+SYNC = 9
+MULTI = 14
+CREATE2 = 15
+CREATE_CONTAINER = 19
+CREATE_TTL = 21
+MULTI_READ = 22
+GET_EPHEMERALS = 103
+GET_ALL_CHILDREN_NUMBER = 104
+WHO_AM_I = 107
 
 
 class _Slot(Structure):
@@ -265,6 +279,7 @@ _FUNCTIONS: dict[str, tuple[Any, tuple[Any, ...]]] = {
         (_HANDLE, c_uint64, c_uint64, c_uint64, c_char_p, c_size_t, c_char_p, c_size_t, c_bool, c_uint32),
     ),
     "dw_session_delete": (c_int32, (_HANDLE, c_uint64, c_uint64, c_uint64, c_char_p, c_size_t, c_int32)),
+    "dw_session_raw": (c_int32, (_HANDLE, c_uint64, c_uint64, c_uint64, c_int32, c_char_p, c_size_t)),
     "dw_session_close": (c_int32, (_HANDLE, c_uint64, c_uint64, c_uint64)),
     "dw_session_follow_data": (c_int32, (_HANDLE, c_uint64, c_uint64, c_char_p, c_size_t)),
     "dw_session_follow_names": (c_int32, (_HANDLE, c_uint64, c_uint64, c_char_p, c_size_t)),
@@ -326,6 +341,7 @@ _RESULT_WORDS = {
     NOT_WHOLE: "some of what is asked for is not kept, or not good; read what is lacking, with a watch",
     TOO_MANY: "the subtree has more nodes than were asked for; ask for more, or for a path below",
     NOT_TEXTS: "the bytes are no texts, each after its length",
+    NO_SUCH_OPERATION: "no operation that a caller may spell has the number",
 }
 # end of what is made
 

@@ -1,45 +1,27 @@
-//! An election: `docs/COOKBOOK.md` has it in Python.
+//! An election, in which this candidate leads again and again: see `docs/COOKBOOK.md`.
 
-use dirwolleu::{Code, DataAnswer, Error, Mark, Mode, NoReply, Session};
+use dirwolleu::{Code, Election, Error, SessionOptions};
+use std::thread::sleep;
 use std::time::Duration;
 
-/// Goes on by one call, or until something is told.
-fn go_on(session: &Session) -> Result<(), Error> {
-    let owner = session.id()?;
-    let kept = session
-        .peek("/leader")?
-        .filter(|kept| kept.mark == Mark::Good);
-    match kept.map(|kept| kept.answer) {
-        Some(DataAnswer::Absent) => drop(session.create("/leader", b"host-1", Mode::Ephemeral)?),
-        Some(DataAnswer::Full { data, stat }) => {
-            if stat.ephemeral_owner == owner {
-                println!(
-                    "leads at zxid {} with token {}",
-                    session.last_zxid(),
-                    stat.czxid
-                );
-            } else {
-                println!(
-                    "follows {}",
-                    String::from_utf8_lossy(&data.unwrap_or_default())
-                );
-            }
-            session.next_event(None)?;
-        }
-        Some(DataAnswer::Known(_)) | None => drop(session.watch("/leader")?),
+/// Leads for as long as the office is held.
+fn lead(election: &Election<'_>) -> Result<(), Error> {
+    let office = election.lead(b"host-1")?; // waits
+    println!("leads with token {}", office.token());
+    while office.check().unwrap_or(false) {
+        sleep(Duration::from_millis(100)); // a step of the leader's work
     }
     Ok(())
 }
 
 fn main() -> Result<(), Box<dyn std::error::Error>> {
-    let session = Session::open("127.0.0.1:2181", Duration::from_secs(10))?;
+    let options = SessionOptions::new(Duration::from_secs(10)).renews(true);
+    let session = options.open("127.0.0.1:2181")?;
+    let election = Election::new(&session, "/leader");
     loop {
-        match go_on(&session) {
-            Ok(()) => {}
-            Err(error) if error.code() == Some(Code::NODE_EXISTS) => {}
-            Err(error) if error.no_reply() == Some(NoReply::SessionExpired) => session.renew()?,
-            Err(error) if error.is_passing() => {}
-            Err(error) => return Err(error.into()),
+        match lead(&election) {
+            Err(error) if error.code() != Some(Code::NO_NODE) => return Err(error.into()),
+            _ => {} // the office was lost, or the session expired while it waited
         }
     }
 }

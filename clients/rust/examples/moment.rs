@@ -1,48 +1,33 @@
-//! Several nodes, and the names below another, of one moment: `docs/COOKBOOK.md` has it in Python.
+//! Two nodes of one moment: see `docs/COOKBOOK.md`.
 
-use dirwolleu::{DataAnswer, Error, Mark, NoReply, Session};
+use dirwolleu::{DataAnswer, SessionOptions};
+use std::error::Error;
+use std::thread::sleep;
 use std::time::Duration;
 
 const NODES: [&str; 2] = ["/host", "/port"];
-const PARENTS: [&str; 1] = ["/workers"];
-
-fn read_what_is_not_good(session: &Session) -> Result<(), Error> {
-    for node in NODES {
-        if session.data_mark(node)? != Some(Mark::Good) {
-            session.watch(node)?;
-        }
-    }
-    for parent in PARENTS {
-        if session.children_mark(parent)? != Some(Mark::Good) {
-            session.watch_children(parent)?;
-        }
-    }
-    Ok(())
-}
 
 fn text(node: &DataAnswer) -> String {
     match node {
-        DataAnswer::Full {
-            data: Some(data), ..
-        } => String::from_utf8_lossy(data).into_owned(),
-        _ => String::from("nothing"),
+        DataAnswer::Full { data, .. } => {
+            String::from_utf8_lossy(data.as_deref().unwrap_or_default()).into_owned()
+        }
+        DataAnswer::Known(_) | DataAnswer::Absent => String::from("nothing"),
     }
 }
 
-fn main() -> Result<(), Box<dyn std::error::Error>> {
-    let session = Session::open("127.0.0.1:2181", Duration::from_secs(10))?;
+fn main() -> Result<(), Box<dyn Error>> {
+    let options = SessionOptions::new(Duration::from_secs(10)).renews(true);
+    let session = options.open("127.0.0.1:2181")?;
+    let mut followed = NODES.map(|path| session.follow(path));
+    for node in &mut followed {
+        node.next(); // keeps it good
+    }
     loop {
-        match read_what_is_not_good(&session) {
-            Ok(()) => {}
-            Err(error) if error.no_reply() == Some(NoReply::SessionExpired) => session.renew()?,
-            Err(error) if error.is_passing() => continue,
-            Err(error) => return Err(error.into()),
+        if let Some(found) = session.snapshot(&NODES, &[])? {
+            let (host, port) = (text(&found.nodes[0]), text(&found.nodes[1]));
+            println!("{host} {port} at zxid {}", found.zxid);
         }
-        if let Some(found) = session.snapshot(&NODES, &PARENTS)? {
-            let nodes: Vec<String> = found.nodes.iter().map(text).collect();
-            let names = &found.children[0].names;
-            println!("{} {names:?} at zxid {}", nodes.join(" "), found.zxid);
-        }
-        session.next_event(None)?;
+        sleep(Duration::from_secs(1));
     }
 }

@@ -1,11 +1,6 @@
-//! Shows all nodes at and below a path, and tells each change, through lost connections, restarts and expired sessions:
-//!
-//! ```text
-//! cargo run --example tree -- 127.0.0.1:2181 /config
-//! ```
+//! All nodes at and below `/app`, and each change, through lost connections, restarts and expired sessions: see `docs/COOKBOOK.md`.
 
-use dirwolleu::{SessionOptions, SubtreeNode};
-use std::env;
+use dirwolleu::{SessionOptions, SubtreeNode, TreeSnapshot};
 use std::error::Error;
 use std::time::Duration;
 
@@ -16,26 +11,24 @@ fn tell(sign: char, nodes: &[&SubtreeNode]) {
     }
 }
 
+fn show(snapshot: TreeSnapshot, before: &mut Option<TreeSnapshot>) {
+    println!("{} nodes at zxid {}", snapshot.len(), snapshot.zxid());
+    let changes = snapshot.changes_since(before.as_ref());
+    tell('+', &changes.added);
+    tell('-', &changes.removed);
+    tell('~', &changes.changed);
+    *before = Some(snapshot);
+}
+
 fn main() -> Result<(), Box<dyn Error>> {
-    let mut words = env::args().skip(1);
-    let (Some(hosts), Some(path)) = (words.next(), words.next()) else {
-        return Err("usage: tree HOST:PORT[,HOST:PORT..][/CHROOT] PATH".into());
-    };
     let options = SessionOptions::new(Duration::from_secs(10)).renews(true);
-    let session = options.open(&hosts)?;
-    let tree = session.tree(&path)?;
+    let session = options.open("127.0.0.1:2181")?;
     let mut before = None;
+    let tree = session.tree("/app")?;
     for snapshot in tree.snapshots() {
         match snapshot {
-            Ok(snapshot) => {
-                println!("{} nodes at zxid {}", snapshot.len(), snapshot.zxid());
-                let changes = snapshot.changes_since(before.as_ref());
-                tell('+', &changes.added);
-                tell('-', &changes.removed);
-                tell('~', &changes.changed);
-                before = Some(snapshot);
-            }
-            Err(trouble) => println!("{trouble}"),
+            Ok(snapshot) => show(snapshot, &mut before),
+            Err(trouble) => println!("{trouble}"), // and it goes on
         }
     }
     Ok(())

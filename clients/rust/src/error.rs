@@ -112,8 +112,7 @@ impl fmt::Display for ErrorKind {
             ErrorKind::LockTimeout => f.write_str("the lock was not held in time"),
             ErrorKind::MixedNames { names, place } => write!(
                 f,
-                "a contender has the names of {}, {}, and this one those of {}",
-                names.other().word(),
+                "{} contends by other names than those of {}",
                 Shown(place),
                 names.word()
             ),

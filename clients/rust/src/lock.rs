@@ -18,6 +18,9 @@ const BETWEEN_LOOKS: Duration = Duration::from_millis(100);
 /// How many digits the server adds to a name.
 const DIGITS: usize = 10;
 
+/// What stands before the number of a candidate of Curator's `LeaderLatch`, which waits for no lock.
+const LATCH: &str = "-latch-";
+
 /// With whom a lock is held at once.
 ///
 /// ```no_run
@@ -72,7 +75,7 @@ impl LockNames {
         }
     }
 
-    pub(crate) const fn other(self) -> LockNames {
+    const fn other(self) -> LockNames {
         match self {
             LockNames::Kazoo => LockNames::Curator,
             LockNames::Curator => LockNames::Kazoo,
@@ -94,7 +97,7 @@ impl LockNames {
     const fn markers(self) -> &'static [&'static str] {
         match self {
             LockNames::Kazoo => &["__lock__", "__rlock__"],
-            LockNames::Curator => &["-lock-", "-__WRIT__", "-__READ__", "-latch-"],
+            LockNames::Curator => &["-lock-", "-__WRIT__", "-__READ__"],
         }
     }
 
@@ -126,12 +129,22 @@ impl LockNames {
 
     /// The number of a place of these names.
     fn number_of(self, name: &str) -> Option<&str> {
-        let end = name.len().checked_sub(DIGITS)?;
-        let (begin, number) = (name.get(..end)?, name.get(end..)?);
-        let is_number = number.bytes().all(|digit| digit.is_ascii_digit());
-        let is_place = self.markers().iter().any(|marker| begin.ends_with(marker));
-        (is_number && is_place).then_some(number)
+        number_after(self.markers(), name)
     }
+
+    /// Whether a name is that of a contender that waits for no place of these names, as none of these waits for it.
+    fn is_foreign(self, name: &str) -> bool {
+        self.other().number_of(name).is_some() || number_after(&[LATCH], name).is_some()
+    }
+}
+
+/// The number at the end of a name, if one of these stands before it.
+fn number_after<'n>(markers: &[&str], name: &'n str) -> Option<&'n str> {
+    let end = name.len().checked_sub(DIGITS)?;
+    let (begin, number) = (name.get(..end)?, name.get(end..)?);
+    let is_number = number.bytes().all(|digit| digit.is_ascii_digit());
+    let is_marked = markers.iter().any(|marker| begin.ends_with(marker));
+    (is_number && is_marked).then_some(number)
 }
 
 /// The names of places, in the order of their numbers. It is for people: who comes first is the core's verdict.
@@ -467,8 +480,7 @@ impl Line<'_> {
     fn standing(&self, name: &str) -> Result<Standing, Error> {
         let LockOptions { names, sharing, .. } = self.options;
         let (found, listed) = self.again(|| Request::listing(self.path))?;
-        let is_other = |other: &&String| names.other().number_of(other).is_some();
-        if let Some(place) = found.iter().find(is_other) {
+        if let Some(place) = found.iter().find(|other| names.is_foreign(other)) {
             let place = place.clone();
             let mixed = ErrorKind::MixedNames { names, place };
             return Err(Error::about(Some(self.path), mixed));
@@ -638,7 +650,7 @@ mod tests {
             ("z__rlock__0000000001", Some("0000000001"), None),
             ("_c_d-lock-0000000007", None, Some("0000000007")),
             ("_c_d-__WRIT__0000000007", None, Some("0000000007")),
-            ("_c_d-latch-0000000007", None, Some("0000000007")),
+            ("_c_d-latch-0000000007", None, None),
             ("lock-0000000007", None, None),
             ("a__lock__000000002", None, None),
             ("é__lock__", None, None),
@@ -646,6 +658,15 @@ mod tests {
         ] {
             let found = (kazoo.number_of(name), curator.number_of(name));
             assert_eq!(found, (of_kazoo, of_curator), "{name}");
+        }
+    }
+
+    #[test]
+    fn a_latch_is_foreign_to_both() {
+        for (name, is_foreign) in [("_c_d-latch-0000000007", true), ("note-0000000007", false)] {
+            for names in [LockNames::Kazoo, LockNames::Curator] {
+                assert_eq!(names.is_foreign(name), is_foreign, "{name}");
+            }
         }
     }
 

@@ -21,6 +21,7 @@ pub(crate) mod result {
     pub(crate) const NOT_WHOLE: i32 = -9;
     pub(crate) const TOO_MANY: i32 = -10;
     pub(crate) const NOT_TEXTS: i32 = -11;
+    pub(crate) const NO_SUCH_OPERATION: i32 = -12;
 }
 
 pub(crate) mod kind {
@@ -56,6 +57,7 @@ pub(crate) mod brought {
     pub(crate) const NAMES: i32 = 4;
     pub(crate) const CREATED: i32 = 5;
     pub(crate) const DONE: i32 = 6;
+    pub(crate) const RAW: i32 = 7;
 }
 
 pub(crate) mod event {
@@ -127,6 +129,20 @@ pub(crate) mod kept {
     pub(crate) const ABSENT: i32 = 1;
     pub(crate) const KNOWN: i32 = 2;
     pub(crate) const FULL: i32 = 3;
+}
+
+pub(crate) mod operation {
+    pub(crate) const GET_ACL: i32 = 6;
+    pub(crate) const SET_ACL: i32 = 7;
+    pub(crate) const SYNC: i32 = 9;
+    pub(crate) const MULTI: i32 = 14;
+    pub(crate) const CREATE2: i32 = 15;
+    pub(crate) const CREATE_CONTAINER: i32 = 19;
+    pub(crate) const CREATE_TTL: i32 = 21;
+    pub(crate) const MULTI_READ: i32 = 22;
+    pub(crate) const GET_EPHEMERALS: i32 = 103;
+    pub(crate) const GET_ALL_CHILDREN_NUMBER: i32 = 104;
+    pub(crate) const WHO_AM_I: i32 = 107;
 }
 
 /// The state of a session, as its client knows it.
@@ -474,6 +490,7 @@ pub(crate) mod words {
             -9 => "some of what is asked for is not kept, or not good",
             -10 => "the subtree has more nodes than were asked for",
             -11 => "the bytes are no texts, each after its length",
+            -12 => "no operation that a caller may spell has the number",
             _ => return None,
         })
     }

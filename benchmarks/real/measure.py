@@ -1,0 +1,21 @@
+"""What the programs in Python share: the nodes, and what a phase took."""
+
+import resource
+import time
+
+NODE = "/real"
+DATA = b"0123456789" * 10
+AT_ONCE = 1000
+
+
+def mark():
+    """The moment, and the processor time of this process until then, in microseconds."""
+    usage = resource.getrusage(resource.RUSAGE_SELF)
+    return time.monotonic_ns() // 1000, round((usage.ru_utime + usage.ru_stime) * 1_000_000)
+
+
+def tell(since):
+    wall, processor = (now - then for now, then in zip(mark(), since))
+    with open("/proc/self/status") as status:
+        peak = next(line.split()[1] for line in status if line.startswith("VmHWM:"))
+    print("took", wall, processor, peak, flush=True)
