@@ -5,7 +5,8 @@ from __future__ import annotations
 import os
 import subprocess
 from pathlib import Path
-from typing import Sequence
+from subprocess import PIPE
+from typing import Any, Callable, Sequence
 
 TOP = Path(__file__).resolve().parents[1]
 PLACES = (TOP / "prebuilt" / "x86_64-linux" / "zk_shell", TOP / "crates" / "zk_shell" / "out" / "zk_shell")
@@ -19,10 +20,11 @@ def program() -> str | None:
     return named or next((str(place) for place in PLACES if place.is_file()), None)
 
 
-def outcome(words: Sequence[str], given: bytes = b"") -> str:
-    """Runs a command line over this standard input, and answers `PRINTED|TOLD|STATUS`."""
+def outcome(words: Sequence[str], given: bytes | int = b"", before: Callable[[], None] | None = None) -> str:
+    """Runs a command line over this standard input, bytes or a file, and answers `PRINTED|TOLD|STATUS`. `before` is called in the process."""
     command = program()
     if command is None:
         raise FileNotFoundError(f"there is no {PLACES[0]}: build zk_shell, or name it by DIRWOLLEU_ZK_SHELL")
-    done = subprocess.run([command, *words], input=given, capture_output=True, timeout=BOUND)
+    source: dict[str, Any] = {"stdin": given} if isinstance(given, int) else {"input": given}
+    done = subprocess.run([command, *words], stdout=PIPE, stderr=PIPE, timeout=BOUND, preexec_fn=before, **source)
     return f"{done.stdout.decode()}|{done.stderr.decode()}|{done.returncode}"
