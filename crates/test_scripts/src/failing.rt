@@ -2,8 +2,7 @@
 
 use crate::case::Case;
 use crate::expanded::expanded;
-use crate::parts::whole_of;
-use crate::play::disturbed;
+use crate::play::{disturbed, whole_of};
 use crate::streams::ByBytes;
 use crate::texts::{add, compare, with_unlike};
 use shell_commands::command::{Command, command_of};

@@ -2,24 +2,18 @@
 //! a new row of a test is a case in each of the two files.
 //!
 //! [`case`] cuts a case into its parts, [`expanded`] writes out its script, and [`play`] runs its command. Each kind of case has a function
-//! that gives what is printed, in [`rows`], [`refused`], [`failing`], [`parts`], [`addresses`], [`asks`], [`held`], [`served`]
-//! and [`loopback`]; the head of `stdin` tells the kinds.
+//! that gives what is printed, in [`rows`], [`refused`], [`failing`], [`held`] and [`served`]; the head of `stdin` tells the kinds.
 #![tactic(auto)]
 
-mod addresses;
-mod asks;
 mod case;
 mod expanded;
 mod failing;
 mod held;
-mod loopback;
 mod partner;
-mod parts;
 mod play;
 mod refused;
 mod rows;
 mod served;
-mod shelf;
 mod streams;
 mod texts;
 
@@ -27,37 +21,31 @@ use case::{Case, case_of};
 use script_words::input::read_whole;
 use std::alloc::Global;
 use std::io::{self, ErrorKind, Write};
-use std::net::Net;
 use std::process::ExitCode;
 use texts::add;
 
 /// What a case prints.
-fn printed<R: Net>(net: &R, alloc: Global, case: &Case) -> Vec<u8> {
+fn printed(alloc: Global, case: &Case) -> Vec<u8> {
     match case.kind {
         "row" | "each" | "fails" | "reports" => rows::each(alloc, case),
         "refused" => refused::refused(alloc, case),
         "broken" => failing::broken(alloc, case),
         "unread" => failing::unread(alloc, case),
-        "heads" => parts::heads(alloc, case),
-        "ends" => parts::ends(alloc, case),
-        "addresses" => addresses::addresses(alloc, case.script),
-        "asks" => asks::asks(alloc, case),
         "held" => held::held(alloc, case),
         "served" => served::served(alloc, case),
-        "loopback" => loopback::loopback(net, alloc),
         _ => Vec::new(alloc),
     }
 }
 
 /// What is printed of a case: its header, and what it prints.
-fn case_printed<R: Net>(net: &R, alloc: Global, text: &str) -> io::Result<Vec<u8>> {
+fn case_printed(alloc: Global, text: &str) -> io::Result<Vec<u8>> {
     let (header, body) = text.split_once('\n').unwrap_or((text, ""));
     let case = case_of(alloc, header, body)?;
     let mut text = Vec::new(alloc);
     add(&mut text, b"== ");
     add(&mut text, header.as_bytes());
     add(&mut text, b"\n");
-    add(&mut text, printed(net, alloc, &case).as_slice());
+    add(&mut text, printed(alloc, &case).as_slice());
     Ok(text)
 }
 
@@ -71,7 +59,7 @@ fn run(rt: &HostRuntime) -> io::Result<()> {
     };
     let mut out = io::writer(rt);
     for case in text.split("\n== ").skip(1) {
-        out.write_all(case_printed(rt, rt.alloc(), case)?.as_slice())?;
+        out.write_all(case_printed(rt.alloc(), case)?.as_slice())?;
     }
     Ok(())
 }

@@ -1,18 +1,21 @@
 //! A command, run: as the program runs it, or with a request for memory, a write or a read that fails.
 
+ghost use Rattle.std.specs.Prelude.{None};
+
 use crate::case::Case;
+use crate::expanded::expanded;
 use crate::partner::Partners;
-use crate::shelf::Shelf;
-use crate::streams::FailsOnce;
+use crate::streams::{ByBytes, FailsOnce};
 use crate::texts::{add, add_number};
 use shell_commands::command::Command;
+use shell_commands::files::Files;
 use shell_commands::plays::{LiveClient, RehearsedClient, ReplayedClient, ToldHistory};
 use shell_commands::run::run;
 use shell_commands::script::script_over;
 use shell_commands::show::show;
 use shell_commands::status::Status;
 use std::alloc::{Allocator, Global};
-use std::io::{Read, Write};
+use std::io::{self, ErrorKind, Read, Write};
 use test_refusing::Refusing;
 use zk_link::{Clock, Dial};
 
@@ -28,8 +31,23 @@ impl Clock for Still {
     fn pause(&mut self, _ms: u64) {}
 }
 
+/// No file is there.
+#[derive(Drop)]
+struct NoFiles;
+
+impl Files for NoFiles {
+    type File = ByBytes<'static>;
+
+    /// Nothing is known of files.
+    ghost holds = { λ _ _. None };
+
+    fn open(&self, _name: &str) -> io::Result<ByBytes<'static>> {
+        Err(ErrorKind::NotFound.into())
+    }
+}
+
 /// What a command printed, told and answered, in one text.
-pub fn joined(printed: Vec<u8>, told: Vec<u8>, status: Status) -> Vec<u8> {
+fn joined(printed: Vec<u8>, told: Vec<u8>, status: Status) -> Vec<u8> {
     let mut text = printed;
     add(&mut text, b"|");
     add(&mut text, told.as_slice());
@@ -44,10 +62,9 @@ pub fn outcome<I: Read>(alloc: Global, case: &Case, left: usize, input: &mut I) 
     let mut errors = Vec::new(alloc);
     let dial = Partners::new(alloc, case.dialled.as_slice(), left);
     let words = case.words.as_slice();
-    let files = Shelf::new(&[]);
     let status = run(
         alloc,
-        &files,
+        &NoFiles,
         dial,
         Still,
         input,
@@ -56,6 +73,13 @@ pub fn outcome<I: Read>(alloc: Global, case: &Case, left: usize, input: &mut I) 
         words,
     );
     joined(out, errors, status)
+}
+
+/// What a case prints.
+pub fn whole_of(alloc: Global, case: &Case) -> Vec<u8> {
+    let script = expanded(alloc, case.script, 0);
+    let mut input = script.as_slice();
+    outcome(alloc, case, usize::MAX, &mut input)
 }
 
 /// Runs a command over any memory; a watch and a call are not run.

@@ -2,12 +2,30 @@
 
 use crate::case::Case;
 use crate::expanded::{byte_by_byte, expanded};
-use crate::parts::reports;
 use crate::play::outcome;
 use crate::refused::refusals;
 use crate::streams::ByBytes;
-use crate::texts::{compare, with_unlike};
+use crate::texts::{add, compare, with_unlike};
 use std::alloc::Global;
+
+/// Whether a line tells a report, the last zxid, an answer that differs from the history, or how it ended.
+fn is_report(line: &[u8]) -> bool {
+    line.starts_with(b"report ")
+        || line.starts_with(b"last ")
+        || line.ends_with(b" differs\n")
+        || line.starts_with(b"|")
+}
+
+/// Of these lines those that tell a report, the last zxid, an answer that differs from the history, and how it ended.
+fn reports(alloc: Global, printed: &[u8]) -> Vec<u8> {
+    let mut text = Vec::new(alloc);
+    for line in printed.split_inclusive(|byte| *byte == b'\n') {
+        if is_report(line) {
+            add(&mut text, line);
+        }
+    }
+    text
+}
 
 /// What a script prints, where the first connection passes `left` bytes. It is to print the same where it is read one byte at a
 /// time, and where each byte that comes to a client comes in a line of its own.

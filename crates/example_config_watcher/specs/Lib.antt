@@ -1,1 +1,0 @@
--- An example, whose functions have no contract: there is no definition to cite.

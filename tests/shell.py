@@ -1,0 +1,30 @@
+"""Runs the built zk_shell, and puts what it prints, tells and answers into one text."""
+
+from __future__ import annotations
+
+import os
+import subprocess
+from pathlib import Path
+from subprocess import PIPE
+from typing import Any, Callable, Sequence
+
+TOP = Path(__file__).resolve().parents[1]
+PLACES = (TOP / "prebuilt" / "x86_64-linux" / "zk_shell", TOP / "crates" / "zk_shell" / "out" / "zk_shell")
+BOUND = 120
+"""Seconds after which a command that does not end is ended."""
+
+
+def program() -> str | None:
+    """The program: the one that DIRWOLLEU_ZK_SHELL names, else the prebuilt one, else the one that was just built; None if there is none."""
+    named = os.environ.get("DIRWOLLEU_ZK_SHELL")
+    return named or next((str(place) for place in PLACES if place.is_file()), None)
+
+
+def outcome(words: Sequence[str], given: bytes | int = b"", before: Callable[[], None] | None = None) -> str:
+    """Runs a command line over this standard input, bytes or a file, and answers `PRINTED|TOLD|STATUS`. `before` is called in the process."""
+    command = program()
+    if command is None:
+        raise FileNotFoundError(f"there is no {PLACES[0]}: build zk_shell, or name it by DIRWOLLEU_ZK_SHELL")
+    source: dict[str, Any] = {"stdin": given} if isinstance(given, int) else {"input": given}
+    done = subprocess.run([command, *words], stdout=PIPE, stderr=PIPE, timeout=BOUND, preexec_fn=before, **source)
+    return f"{done.stdout.decode()}|{done.stderr.decode()}|{done.returncode}"

@@ -1,0 +1,285 @@
+"""A client and a session of the C library against the proved server in memory, by the rows of machine/: each number and text that a program gets.
+
+Steps have the names of include/dirwolleu.h. The wanted lines follow from the header and zookeeper.jute; a field that a kind does not name is 0.
+"""
+
+from __future__ import annotations
+
+import struct
+import unittest
+from ctypes import byref, c_int64, create_string_buffer
+from typing import Callable
+
+from machine import (
+    LONGEST_FRAME,
+    MOST_NUMBER,
+    Handle,
+    Server,
+    number_of,
+    spelled_lines,
+    text_line,
+    word_of,
+)
+from tables import Row, bytes_of, cases_of
+
+from dirwolleu import _library as declared  # machine has put it on the path
+
+TIMEOUT_MS = 9_000
+APART_MS = 100
+"""From one step of a client to the next: no ping is due in the session."""
+LONGEST_PIECE = 64
+WHOLE = 1 << 16
+MOST_TURNS = 1_000
+"""More turns than a step has."""
+NO_LIMIT = 2**64 - 1
+MARKERS = b"\0\0\0\x05lock-\0\0\0\x05lock-"
+
+
+def data_of(word: str) -> tuple[bytes, bool]:
+    """Data, and whether they are null, which is `-`."""
+    return (b"", True) if word == "-" else (bytes_of(word), False)
+
+
+def said_number(name: str, result: int) -> list[str]:
+    return [f"{name} {result}"] if result else []
+
+
+def copied_lines(name: str, copied: tuple[int, int, bytes]) -> list[str]:
+    """The number of bytes that a look-up wrote and those that fitted, or its result."""
+    result, count, written = copied
+    return said_number(name, result) if result else [f"{name} {count} {list(written)}"]
+
+
+class ClientPlay:
+    """A dw_client with its server. A step is a row; calls leave a watch, and have the moment as their ticket."""
+
+    def __init__(self, piece: int) -> None:
+        self._piece, self._now = piece, 0
+        self._client, self._server = Handle("dw_"), Server()
+        self._client.call("open", TIMEOUT_MS)
+
+    def play(self, words: list[str]) -> list[str]:
+        """Makes a step, and answers its lines."""
+        self._now += APART_MS
+        name, rest = words[0], words[1:]
+        look_up: Callable[..., list[str]] | None = getattr(self, f"_{name}", None)
+        if look_up:
+            return look_up(*rest)
+        return said_number("event", self._step(name, rest)) + self._settle()
+
+    def _step(self, name: str, rest: list[str]) -> int:
+        client, now = self._client, self._now
+        if name == "opened":
+            self._server.connect(1)
+        elif name == "expire":
+            self._server.expire(True)
+            return client.call("tick", now)
+        elif name == "resume":
+            _, _, saved = client.counted("saved")
+            return client.call("resume", TIMEOUT_MS, saved)
+        elif name == "forget":
+            return client.call(name)
+        if name in ("exists", "get_data", "get_children"):
+            return client.call(name, now, now, bytes_of(rest[0]), True)
+        if name in ("create", "set_data"):
+            return client.call(name, now, now, bytes_of(rest[0]), *data_of(rest[1]), int(rest[2]))
+        if name == "delete":
+            return client.call(name, now, now, bytes_of(rest[0]), int(rest[1]))
+        return client.call(name, now, now) if name == "close_session" else client.call(name, now)
+
+    def _settle(self) -> list[str]:
+        """Goes on until the server has nothing to say. Its bytes come in pieces."""
+        lines: list[str] = []
+        for _ in range(MOST_TURNS):
+            lines += self._pass_on()
+            piece = self._server.piece(self._piece)
+            if not piece:
+                break
+            lines += said_number("bytes", self._client.call("bytes", self._now, piece))
+        return lines
+
+    def _pass_on(self) -> list[str]:
+        """Hands the frames to the server, and answers the lines of the other outputs."""
+        lines: list[str] = []
+        frames = b""
+        for output in self._client.outputs():
+            if output.kind == declared.SEND:
+                frames += self._client.text(output.length)[1]
+            else:
+                lines += self._output_lines(output)
+        self._server.answer(frames)
+        return lines
+
+    def _output_lines(self, output: declared._Output) -> list[str]:
+        lines = [
+            f"{output.kind} {output.detail} {output.result} {output.code} ticket {number_of(output.ticket)} zxid {output.zxid}"
+            f" null {word_of(output.is_null)} stat {word_of(output.has_stat)} version {output.stat.version} pzxid {output.stat.pzxid}"
+        ]
+        if output.length:
+            lines.append(text_line(self._client.text()[1]))
+        lines += [text_line(self._client.name(index)) for index in range(output.names)]
+        return lines + spelled_lines(self._client.counted("names")[2])
+
+    def _peek(self, path: str) -> list[str]:
+        """What is kept of a path: its data, the number of names, and the names."""
+        spelled, lines = bytes_of(path), []
+        data, names = declared._KeptData(), declared._KeptNames()
+        room = create_string_buffer(WHOLE)
+        if self._client.call("peek_data", spelled, byref(data), room, WHOLE) == declared.OK:
+            lines.append(f"data {data.kind} {data.mark} null {word_of(data.is_null)}")
+            lines += [text_line(room.raw[: data.length])] if data.length else []
+        if self._client.call("peek_children", spelled, byref(names)) == declared.OK:
+            lines.append(f"names {names.mark} {names.count} pzxid {names.pzxid}")
+        return lines + spelled_lines(self._client.counted("peek_names", spelled)[2])
+
+    def _subtree(self, path: str, most: str) -> list[str]:
+        """The nodes at and below a path, if they are at most this many, and the reads that `lacking` names."""
+        words = (bytes_of(path), int(most))
+        nodes, lacking = self._client.counted("subtree", *words), self._client.counted("lacking", *words)
+        return copied_lines("nodes", nodes) + copied_lines("lacking", lacking)
+
+    def _snapshot(self, nodes: str, parents: str) -> list[str]:
+        """What is kept of these nodes, and of the names below these parents: paths, each after its length."""
+        return copied_lines("shown", self._client.counted("snapshot", bytes_of(nodes), bytes_of(parents)))
+
+    def _standing(self, name: str, listed: str, *names: str) -> list[str]:
+        """Whether the session comes first in `/l` by its node of this name, by these names that were listed at a zxid."""
+        spelled = b"".join(struct.pack(">i", len(other)) + other.encode() for other in names)
+        token = c_int64()
+        words = (b"/l", name.encode(), spelled, int(listed), MARKERS, byref(token))
+        result, _, before = self._client.counted("standing", *words)
+        said = {declared.OK: [f"first {token.value}"], declared.WAITS: [text_line(before)], declared.NONE: ["unsure"]}
+        return said.get(result, said_number("standing", result))
+
+    def _holder(self, directory: str, prefix: str, path: str) -> list[str]:
+        """Whether the session holds by its node of this path, of the names in a directory that begin with a prefix."""
+        result, token = self._client.token("holder", bytes_of(directory), bytes_of(prefix), bytes_of(path))
+        said = {declared.OK: [f"holds {token}"], declared.NONE: ["holds not"]}
+        return said.get(result, said_number("holder", result))
+
+
+class SessionPlay:
+    """A dw_session. A row begins with the moment of its step, which is its ticket too."""
+
+    def __init__(self) -> None:
+        self._session = Handle("dw_session_")
+        self._session.call("open", TIMEOUT_MS, 1, 1)
+
+    def play(self, words: list[str]) -> list[str]:
+        if words == ["deadline"]:
+            due = self._session.deadline()
+            return ["nothing is due" if due is None else f"due at {due}"]
+        now, name, *rest = words
+        return [f"at {now}: {self._step(int(now), name, rest)}"] + self._turn(int(now), name)
+
+    def _turn(self, now: int, name: str) -> list[str]:
+        """The outputs of the step, and what follows."""
+        raise NotImplementedError
+
+    def _step(self, now: int, name: str, rest: list[str]) -> int:
+        session = self._session
+        if name == "bytes":
+            return session.call(name, now, bytes_of(rest[0]))
+        if name == "raw":
+            body = b"\0" * int(rest[1][2:]) if rest[1].startswith("0*") else bytes_of(rest[1])
+            return session.call(name, now, now, NO_LIMIT, int(rest[0]), body)
+        if name == "get_data":
+            until = NO_LIMIT if rest[1] == "-" else int(rest[1])
+            return session.call(name, now, now, until, bytes_of(rest[0]), False)
+        if name == "create":
+            return session.call(name, now, now, NO_LIMIT, bytes_of(rest[0]), *data_of(rest[1]), int(rest[2]))
+        if name == "follow_tree":
+            return session.call(name, now, now, bytes_of(rest[0]), int(rest[1]))
+        if name == "follow_data":
+            return session.call(name, now, now, bytes_of(rest[0]))
+        if name in ("unfollow", "unfollow_tree"):
+            return session.call(name, now, int(rest[0]))
+        return session.call(name, now, now, NO_LIMIT) if name == "close" else session.call(name, now)
+
+    @staticmethod
+    def line_of(output: declared._Output, length: int) -> str:
+        return (
+            f"{output.kind} {output.detail} {output.result} {output.code} number {number_of(output.ticket)}"
+            f" place {min(output.names, MOST_NUMBER)} sent {word_of(output.is_null)} length {length}"
+        )
+
+
+class ServedPlay(SessionPlay):
+    """A session with the server in memory, which answers a `get_data`, and what is sent at `bytes`, only at the next step of another kind."""
+
+    def __init__(self) -> None:
+        super().__init__()
+        self._server = Server()
+
+    def _step(self, now: int, name: str, rest: list[str]) -> int:
+        if name == "opened":
+            self._server.connect(1)
+        elif name in ("expire", "admit"):
+            self._server.expire(name == "expire")
+            name = "moment"
+        return super()._step(now, name, rest)
+
+    def _turn(self, now: int, name: str) -> list[str]:
+        lines = self._pass_on()
+        if name in ("get_data", "bytes"):
+            return lines
+        for _ in range(MOST_TURNS):
+            heard = self._hear(now)
+            if not heard:
+                break
+            lines += heard + self._pass_on()
+        return lines
+
+    def _pass_on(self) -> list[str]:
+        lines = []
+        for output in self._session.outputs():
+            length, text = self._session.text()
+            if output.kind == declared.SEND:
+                self._server.hear(text)
+                self._server.process(0)
+            else:
+                lines.append(self.line_of(output, length))
+        return lines
+
+    def _hear(self, now: int) -> list[str]:
+        """Hands in the bytes of the server, or else makes a step if one is due."""
+        came = self._server.say()
+        if came:
+            return [f"bytes: {self._session.call('bytes', now, came)}"]
+        due = self._session.deadline()
+        return [f"due: {self._session.call('moment', now)}"] if due is not None and due <= now else []
+
+
+class SpelledPlay(SessionPlay):
+    """A session whose server's bytes are in the rows. Of each text the first 32 bytes are compared."""
+
+    def _turn(self, now: int, name: str) -> list[str]:
+        lines = []
+        for output in self._session.outputs():
+            length, text = self._session.text(LONGEST_FRAME)
+            lines += [self.line_of(output, length)] + spelled_lines(text[:32])
+        return lines
+
+
+class MachineTest(unittest.TestCase):
+    def _rows(self, table: str, rows: list[Row], play: ClientPlay | SessionPlay, beside: str = "") -> None:
+        for row in rows:
+            self.assertEqual(row.wanted, play.play(row.words), f"{table}:{row.line}: {' '.join(row.words)}{beside}")
+
+    def test_clients(self) -> None:
+        """Each session whole, and then with the server's bytes in pieces of each length up to 64: the same is told."""
+        for case in cases_of("machine/clients.txt"):
+            for piece in (WHOLE, *range(1, LONGEST_PIECE + 1)):
+                self._rows("machine/clients.txt", case.rows, ClientPlay(piece), f", in pieces of {piece}")
+
+    def test_sessions(self) -> None:
+        for case in cases_of("machine/sessions.txt"):
+            self._rows("machine/sessions.txt", case.rows, ServedPlay())
+
+    def test_requests_that_callers_spell(self) -> None:
+        for case in cases_of("machine/raw_requests.txt"):
+            self._rows("machine/raw_requests.txt", case.rows, SpelledPlay())
+
+
+if __name__ == "__main__":
+    unittest.main()

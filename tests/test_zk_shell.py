@@ -1,0 +1,225 @@
+"""The built zk_shell by the rows of shell/: each line that a command prints and tells, and its status."""
+
+from __future__ import annotations
+
+import ctypes
+import os
+import re
+import socket
+import tempfile
+import time
+import unittest
+from typing import Callable, NamedTuple
+
+from served import World, world
+from shell import outcome, program
+from tables import HERE, Row, cases_of, numbered, repeated
+
+ADDRESS = "127.0.0.1:2181"
+"""The address in rows, for that of the server."""
+HEAD = 45
+"""The most bytes of a line in a case `heads`."""
+DROP_CAPABILITY, OVERRIDES, SEARCHES = 24, 1, 2
+LATEST_MS = 20_000
+"""How much later than in the row a line may come: a busy machine takes long."""
+
+
+class Case(NamedTuple):
+    """A case of shell/stdin: its header, kind, numbers, command line and script, and what shell/stdout has of it."""
+
+    header: str
+    kind: str
+    numbers: list[int]
+    words: list[str]
+    script: str
+    wanted: str
+
+
+def texts_in(name: str) -> list[str]:
+    return (HERE / "shell" / name).read_bytes().decode().removesuffix("\n").split("\n== ")[1:]
+
+
+def cases() -> list[Case]:
+    """The cases: a line `== HEADER` and a script in shell/stdin, the same line and what is printed in shell/stdout."""
+    found = []
+    for given, printed in zip(texts_in("stdin"), texts_in("stdout"), strict=True):
+        header, _, script = given.partition("\n")
+        kind, _, line = header.rpartition(": ")
+        name, *numbers = kind.split(" ")
+        wanted = printed.partition("\n")[2] + "\n"
+        found.append(Case(header, name, [int(word) for word in numbers], line.split(" "), script, wanted))
+    return found
+
+
+def whole(case: Case) -> str:
+    return outcome(case.words[1:], repeated(case.script).encode())
+
+
+def heads(case: Case) -> str:
+    """Of what is printed the lines after the first few, each up to its 45th byte."""
+    return "".join(f"{line[:HEAD]}\n" for line in whole(case).split("\n")[case.numbers[0] :])
+
+
+def ends(case: Case) -> str:
+    """This many bytes from the beginning, and this many from the end."""
+    printed, (first, last) = whole(case), case.numbers
+    return f"{printed[:first]}\n{printed[-last:]}\n"
+
+
+def addresses(case: Case) -> str:
+    """Of each line whether `live` takes it for an address. Its script, which is read after that, can't be: so nothing is dialled."""
+    unread = os.open(HERE, os.O_RDONLY)
+    try:
+        statuses = [(outcome(["live", word], unread)[-1], word) for word in case.script.split("\n")]
+    finally:
+        os.close(unread)
+    return "".join(f"{'true' if status == '4' else 'false'} {word}\n" for status, word in statuses)
+
+
+def refuse_reads() -> None:
+    """Before a command: also root reads no file that nobody may read."""
+    library = ctypes.CDLL(None)
+    for capability in (OVERRIDES, SEARCHES):
+        library.prctl(DROP_CAPABILITY, capability, 0, 0, 0)
+
+
+def make_files(lines: list[str]) -> bytes:
+    """Makes the files of lines `file NAME HEX` here, and answers the one that is named `-`: standard input."""
+    given = b""
+    for line in lines:
+        name, _, digits = line.removeprefix("file ").partition(" ")
+        data = bytes.fromhex(repeated(digits))
+        if name == "-":
+            given = data
+        elif name == "broken":
+            os.mkdir(name)  # it is opened, and each read fails
+        else:
+            with open(os.open(name, os.O_CREAT | os.O_WRONLY, 0 if name == "denied" else 0o600), "wb") as file:
+                file.write(data)
+    return given
+
+
+def asked(served: World, line: str, given: bytes) -> str:
+    """What a command line prints, tells and answers, with ADDRESS for the server's."""
+    here = f"127.0.0.1:{served.port}"
+    line = line.replace("[::1],zk2:2182/", f"{ADDRESS},{ADDRESS}/").replace(" zk1/", f" {ADDRESS}/")
+    words = [re.sub(r"(127\.0\.0\.\d|localhost):2181", rf"\1:{served.port}", word) for word in line.split(" ")[1:]]
+    return outcome(words, given, refuse_reads).replace(here, ADDRESS)
+
+
+def asks(case: Case) -> str:
+    """Command lines over one server, of which `part` cuts all off and which `join` lets in again."""
+    printed, lines = "", case.script.splitlines()
+    before = os.getcwd()
+    with world() as served, tempfile.TemporaryDirectory() as folder:
+        os.chdir(folder)
+        try:
+            given = make_files([line for line in lines if line.startswith("file ")])
+            for line in (line for line in lines if not line.startswith("file ")):
+                if line in ("part", "join"):
+                    getattr(served, line)()
+                else:
+                    printed += asked(served, line, given) + "\n"
+        finally:
+            os.chdir(before)
+    return printed
+
+
+def name_is_dialled() -> bool:
+    with world() as served:
+        return outcome(["create", f"localhost:{served.port}", "/a", "one"]).endswith("|0")
+
+
+def six_is_dialled() -> bool:
+    """Whether IPv6 is, if this machine has it."""
+    try:
+        with world("::1") as served:
+            return outcome(["create", f"[::1]:{served.port}", "/a", "one"]).endswith("|0")
+    except OSError:
+        return True
+
+
+def read_ends() -> bool:
+    """Whether a command ends in time at a server that accepts the connection and says nothing."""
+    with socket.create_server(("127.0.0.1", 0)) as silent:
+        begun = time.monotonic()
+        printed = outcome(["get", f"127.0.0.1:{silent.getsockname()[1]}", "/a", "--wait", "1"])
+        return printed.endswith("|7") and 1 <= time.monotonic() - begun < LATEST_MS / 1000
+
+
+def loopback(_: Case) -> str:
+    """Over TCP: an answer, a server that is silent, a host by its name, IPv6, and a host that is none."""
+    with world() as served:
+        came = outcome(["create", f"127.0.0.1:{served.port}", "/a", "one"])[1]
+    missing = "host not found" in outcome(["get", "a..b:2181", "/a", "--wait", "1"])
+    return (
+        f"{came} came, {'a' if read_ends() else 'no'} read ends in time, {'a' if name_is_dialled() else 'no'} name is dialled,"
+        f" {'IPv6' if six_is_dialled() else 'no IPv6'} is dialled, {'a' if missing else 'no'} missing host is told\n"
+    )
+
+
+MOMENT = re.compile(r'(?m)^(\d+)\.(\d{3})(?= )|(?<="ms":)(\d+)')
+
+
+def moments_in(text: str) -> list[int]:
+    """The moments of printed lines, in milliseconds."""
+    return [int("".join(filter(None, found.groups()))) for found in MOMENT.finditer(text)]
+
+
+def without_moments(text: str) -> str:
+    """The text without moments. At an address that refuses, a busy machine dials less often: what is printed of that again counts once."""
+    lines = MOMENT.sub("-", text).split("\n")
+    again = [at for at in range(2, len(lines) - 1) if "failed" in lines[at + 1] and lines[at : at + 2] == lines[at - 2 : at]]
+    return "\n".join(line for at, line in enumerate(lines) if at not in again and at - 1 not in again)
+
+
+@unittest.skipIf(program() is None, "there is no zk_shell: rt ci builds it")
+class ShellTest(unittest.TestCase):
+    is_long = True
+
+    def _is(self, place: str, wanted: str, got: str) -> None:
+        self.assertEqual(without_moments(wanted), without_moments(got), place)
+        for due, came in zip(moments_in(wanted), moments_in(got)):
+            self.assertTrue(due <= came + 1 and came < due + LATEST_MS, f"{place}: {came} milliseconds, and {due} are wanted")
+
+    def _table(self, table: str) -> None:
+        for case in cases_of(table):
+            for row in case.rows:
+                with self.subTest(case.name):
+                    self._compare(f"{table}:{row.line}: {case.name}", row)
+
+    def _compare(self, place: str, row: Row) -> None:
+        given = "".join(f"{line}\n" for text in row.given for line in numbered(repeated(text)))
+        got, wanted = outcome(row.words, given.encode()), "\n".join(row.wanted)
+        if row.wanted[0] == "..":
+            wanted = wanted[3:]
+            got = got[-len(wanted) :]
+        self.assertEqual(wanted, got, place)
+
+    def test_values(self) -> None:
+        self._table("shell/values.txt")
+
+    def _kind(self, does: Callable[[Case], str]) -> None:
+        for case in cases():
+            if case.kind == does.__name__:
+                with self.subTest(case.header):
+                    self._is(case.header, case.wanted, does(case))
+
+    def test_heads(self) -> None:
+        self._kind(heads)
+
+    def test_ends(self) -> None:
+        self._kind(ends)
+
+    def test_addresses(self) -> None:
+        self._kind(addresses)
+
+    def test_asks(self) -> None:
+        self._kind(asks)
+
+    def test_loopback(self) -> None:
+        self._kind(loopback)
+
+
+if __name__ == "__main__":
+    unittest.main()
