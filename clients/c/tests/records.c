@@ -418,6 +418,25 @@ static void leave_out_texts(void)
     close_session();
 }
 
+/* A vector of more entries than its bytes have room for does not read, and takes no memory; nor does one of less than none. */
+static void count_too_many(void)
+{
+    static const int32_t operations[] = {DW_OPERATION_GET_ACL, DW_OPERATION_GET_EPHEMERALS, DW_OPERATION_WHO_AM_I}, counts[] = {-1, 1, INT32_MAX};
+    for (size_t i = 0; i < 9; i++) {
+        struct bytes came;
+        open_below("");
+        ask_raw(operations[i / 3], "x", 1);
+        hear_request(1, operations[i / 3], NULL);
+        came.length = 0;
+        size_t begin = begin_answer(&came, 1, 0);
+        put_int(&came, counts[i % 3]);
+        end_answer(&came, begin);
+        answer_at_once(&came);
+        EXPECT_NUMBER(DW_OUTCOME_LOST, request.call.why);
+        close_session();
+    }
+}
+
 /* A multi whose results are of another type than what was asked does not read. */
 static void mix_types(void)
 {
@@ -537,6 +556,7 @@ int main(int argc, char **argv)
     shorten_replies();
     mix_types();
     leave_out_texts();
+    count_too_many();
     cut_transactions(is_quick);
     cut_reads(is_quick);
     close(listener);

@@ -167,7 +167,7 @@ static void ask_both(size_t first, size_t rest)
     expect_said("get 0\nsync 0\nacl 0\nchange 0 mark 2 zxid 6 made /log-0000000000 version 7\nlast 0\n");
     EXPECT(acl.request.acl_count == 2 && acl.request.acls[0].permissions == DWS_MAY_ALL && strcmp(acl.request.acls[0].id, "") == 0);
     EXPECT(strcmp(acl.request.acls[1].scheme, "ip") == 0 && strcmp(acl.request.acls[1].id, "10.0.0.0/8") == 0);
-    EXPECT(acl.request.call.stat.pzxid == STAT.pzxid && dws_last_zxid(session) == 6);
+    EXPECT(acl.request.call.stat.pzxid == STAT.pzxid && acl.request.call.length == 0 && dws_last_zxid(session) == 6);
     close_all();
     release_all();
 }
