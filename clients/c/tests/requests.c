@@ -478,8 +478,8 @@ static void wipe_credentials(void)
     admit();
     expect_credentials("ann:secret");
     expect_credentials("eve:secret");
-    EXPECT(session->unsent.room >= 80);
-    for (size_t i = 0; i < 74; i++) { /* a ConnectRequest has 49 bytes, and credentials that come after it 40 */
+    EXPECT(session->unsent.room >= 129);
+    for (size_t i = 0; i < 123; i++) { /* a ConnectRequest has 49 bytes, and both credentials that come after it 40 each */
         EXPECT(memcmp(session->unsent.at + i, "secret", 6) != 0);
     }
     watch_secret(session->credentials->frame, session->credentials->length);
