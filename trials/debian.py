@@ -12,7 +12,7 @@ from provenance import PREBUILT, PROGRAM, TOP, VERSION
 LIBRARIES = "usr/lib/x86_64-linux-gnu"
 MODULES = "usr/lib/python3/dist-packages"
 # The session for C over the header, and what goes over it.
-SESSION = ("session.h", "lane.h", "lock.h", "tls.h")
+SESSION = ("session.h", "jute.h", "requests.h", "lock.h", "tls.h")
 BENCH = TOP / "clients/bench/x86_64-linux/libdirwolleu_bench.so"
 SHELL = TOP / "crates" / PROGRAM / "out" / PROGRAM
 MAINTAINER = "Dirwolleu maintainers <maintainers@users.noreply.dirwolleu.example>"

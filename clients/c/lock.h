@@ -23,7 +23,7 @@
 #ifndef DIRWOLLEU_LOCK_H
 #define DIRWOLLEU_LOCK_H
 
-#include "lane.h"
+#include "requests.h"
 
 #ifdef __cplusplus
 extern "C" {
@@ -57,7 +57,7 @@ struct dws_lock {
     struct dws_place *place;      /* NULL where there is none, and none is asked for */
     dws_call removal;
     dws_subject own, before;      /* its place, and the one that it waits for */
-    struct dws_texts listing;     /* the places, by the last listing, and its zxid */
+    struct dws_bytes listing;     /* the places, by the last listing, and its zxid */
     int64_t listed;
     bool is_listed, is_seen, is_waited_for;
     bool *is_released;            /* where that is noted while `changed` is called */
@@ -91,7 +91,7 @@ struct dws_place {
     dws_session *session;
     dws_lock *lock;      /* NULL where that was released */
     dws_call call, removal;
-    dws_lane_call sync;
+    dws_request sync;
     char path[1024], data[256], tag[DWS_LONGEST_TAG];
     char *node;          /* the path of its node, where it is known */
     bool is_asked, is_of_lock;  /* `call` or `sync` waits; the node of the lock is made */
@@ -247,15 +247,15 @@ static inline bool dws_lock_follow(dws_session *s, dws_lock *lock, dws_subject *
 /* Keeps the names of a listing as the library wants them, each after its length. */
 static inline bool dws_lock_keep(dws_lock *lock, const dws_call *listed)
 {
-    struct dws_texts *names = &lock->listing;
+    struct dws_bytes *names = &lock->listing;
     names->length = 0;
     for (size_t i = 0; i < listed->count; i++) {
         size_t length = strlen(listed->names[i]);
-        if (!dws_reserve_texts(names, names->length + 4 + length)) {
+        if (!dws_reserve_bytes(names, names->length + 4 + length)) {
             return false;
         }
-        dws_spell_int(names->bytes + names->length, (uint32_t)length);
-        memcpy(names->bytes + names->length + 4, listed->names[i], length);
+        dws_spell_int(names->at + names->length, (uint32_t)length);
+        memcpy(names->at + names->length + 4, listed->names[i], length);
         names->length += 4 + length;
     }
     lock->listed = listed->zxid;
@@ -290,7 +290,7 @@ static inline void dws_place_free(dws_session *s, struct dws_place *place)
     *at = place->errand.next;
     dws_release(&place->call);
     dws_release(&place->removal);
-    dws_lane_release(&place->sync);
+    dws_request_release(&place->sync);
     free(place->node);
     free(place);
 }
@@ -334,7 +334,7 @@ static inline void dws_place_list(dws_session *s, struct dws_place *place)
         dws_children(s, dws_place_call(place, &place->call, &place->is_asked, dws_place_listed), place->path, false);
         return;
     }
-    dws_place_call(place, &place->sync.call, &place->is_asked, dws_place_synced)->is_patient = false; /* what is asked after it waits for it */
+    dws_place_call(place, &place->sync.call, &place->is_asked, dws_place_synced);
     dws_sync(s, &place->sync, place->path);
 }
 
@@ -548,7 +548,7 @@ static inline enum dw_result dws_lock_standing(dws_session *s, const dws_lock *l
     if (directory == NULL) {
         return DW_NO_MEMORY;
     }
-    enum dw_result result = dw_session_standing(&s->machine, directory, strlen(directory), name, strlen(name), lock->listing.bytes,
+    enum dw_result result = dw_session_standing(&s->machine, directory, strlen(directory), name, strlen(name), lock->listing.at,
                                                 lock->listing.length, lock->listed, markers, spelled, token, before, room, length);
     free(directory);
     return result;
@@ -662,7 +662,7 @@ static inline void dws_lock_release(dws_lock *lock)
     }
     lock->is_released = NULL;
     dws_release(&lock->removal);
-    free(lock->listing.bytes);
+    free(lock->listing.at);
     memset(&lock->listing, 0, sizeof lock->listing);
 }
 

@@ -84,7 +84,7 @@ enum dws_event {
     DWS_READ_REFUSED,   /* the read of a subject was refused, for another reason than the last one; it is read again */
     DWS_EXPIRED,        /* the session has expired: its ephemeral nodes and its watches are gone */
     DWS_CLOSED,         /* it was closed, as it was asked */
-    DWS_BARRED,         /* the server does not take the credentials of the session, which is over: lane.h */
+    DWS_BARRED,         /* the server does not take the credentials of the session, which is over: requests.h */
     DWS_FAILED          /* memory ran out: the session is over */
 };
 
@@ -113,7 +113,13 @@ typedef struct dws_options {
     void *context;          /* is passed to read and write; dws_context gives it */
 } dws_options;
 
-enum dws_kind { DWS_EXISTS, DWS_GET, DWS_CHILDREN, DWS_SET, DWS_CREATE, DWS_DELETE, DWS_CLOSE, DWS_BESIDE /* lane.h */ };
+enum dws_kind { DWS_EXISTS, DWS_GET, DWS_CHILDREN, DWS_SET, DWS_CREATE, DWS_DELETE, DWS_CLOSE, DWS_RAW /* requests.h */ };
+
+/* Bytes that are the session's own. */
+struct dws_bytes {
+    uint8_t *at;
+    size_t length, room;
+};
 
 /* A question, and its answer. */
 struct dws_call {
@@ -131,11 +137,13 @@ struct dws_call {
     size_t count;     /* how many there are */
     /* The session's own. */
     enum dws_kind kind;
-    char *path, *bytes;
-    size_t bytes_length, room, names_room;
+    char *path;
+    struct dws_bytes body; /* the data, or the record of DWS_RAW */
+    size_t room, names_room;
     bool watch, is_null_sent, is_patient; /* the last one: it has no limit */
-    int32_t number;
+    int32_t number; /* the version, the mode, or the operation of DWS_RAW */
     uint64_t ticket, until_ms;
+    const struct dws_record *record; /* of DWS_RAW */
     dws_call *next;
 };
 
@@ -171,12 +179,6 @@ typedef struct dws_node {
     int64_t pzxid;     /* of the last change of the names below it */
 } dws_node;
 
-/* Records of a tree, which are the session's own. */
-struct dws_texts {
-    uint8_t *bytes;
-    size_t length, room;
-};
-
 /* The sides of nodes that the library follows for a tree, by tickets that rise. One that was let go has no path. */
 struct dws_member {
     uint64_t ticket;
@@ -200,7 +202,7 @@ struct dws_tree {
     void (*shown)(dws_session *session, dws_tree *tree);
     char *path, *trouble;     /* the root, and the path for which there are no newer ones */
     size_t most, nodes_room;
-    struct dws_texts text;    /* the nodes, as the library spells them */
+    struct dws_bytes text;    /* the nodes, as the library spells them */
     struct dws_members members;
     uint64_t ticket;          /* 0 where the library does not follow it yet */
     int32_t fault;            /* why it is not shown whatever is read of its nodes, as of a call, or 0 */
@@ -260,6 +262,11 @@ static inline dws_call *dws_create(dws_session *s, dws_call *call, const char *p
 /* Deletes a node that has this version, and no children; -1 is any. */
 static inline dws_call *dws_delete(dws_session *s, dws_call *call, const char *path, int32_t version);
 
+/* Tells the servers who the session is, in the words of a scheme, as `digest` and `user:password`: this connection at once, and each later one before
+ * anything else. Where a server does not take that, DWS_BARRED is told, the session is over, and each call fails with the code -115. Credentials cross
+ * the network as they are: use TLS. The copies of them here are overwritten before they are freed. False where memory ran out. */
+static inline bool dws_introduce(dws_session *s, const char *scheme, const char *bytes, size_t length);
+
 /* Waits for the answer of a call, and gives its `why`. */
 static inline int32_t dws_wait(dws_session *s, dws_call *call);
 
@@ -316,7 +323,7 @@ static inline bool dws_read_lacking(const uint8_t **at, const uint8_t *end, cons
 /* The context of the options. */
 static inline void *dws_context(const dws_session *s);
 
-/* The greatest zxid seen, in answers to lane.h too: what is marked good holds at it. */
+/* The greatest zxid seen: what is marked good holds at it. */
 static inline int64_t dws_last_zxid(dws_session *s);
 
 /* Forgets all stale answers. What is kept is bounded by nothing but memory: who goes from path to path, without following them, calls this now and
@@ -337,21 +344,20 @@ static inline enum dw_result dws_saved(dws_session *s, uint8_t *room, size_t siz
 
 /* ---- What a session has. ---- */
 
-struct dws_buffer {
-    uint8_t *bytes;
-    size_t length, room;
+/* Who the session is, in one frame that each connection is told before all else. */
+struct dws_credentials {
+    uint8_t *frame;
+    size_t length;
+    dws_call *call; /* that waits for the answer; NULL where none does */
+    struct dws_credentials *next;
 };
 
-/* Where a stream of frames is: the length and the xid of a frame, and how many bytes of the frame are left. */
-struct dws_frames {
-    uint8_t head[8];
+/* Where the stream of a connection is: the head of a frame, as far as it came, and how many bytes of the frame are left after it. */
+struct dws_heads {
+    uint8_t head[20];
     size_t held, left;
-};
-
-/* Requests of lane.h on this connection that are not answered: since when each waits, from a place on. */
-struct dws_waiting {
-    uint64_t *since_ms;
-    size_t first, count, room;
+    bool is_begun; /* the answer to the ConnectRequest has come */
+    struct dws_credentials *asked; /* whose answer comes next */
 };
 
 struct dws_host {
@@ -376,14 +382,10 @@ struct dws_seen {
     int32_t why;
 };
 
-/* What asks beside the library, on the same connection: lane.h. */
-struct dws_beside {
-    enum dw_result (*ask)(dws_session *s, dws_call *call);                                       /* a call is to be written */
-    void (*begin)(dws_session *s);                                                               /* a connection begins: the ConnectRequest waits */
-    void (*hear)(dws_session *s, uint64_t came_ms, const uint8_t *bytes, size_t length);         /* bytes came from the server */
-    void (*end)(dws_session *s);                                                                 /* the connection is over */
-    bool (*write_words)(dws_session *s, const dws_call *call, char *room, size_t size);          /* why a call has failed, where it has words */
-    void (*release)(dws_session *s);                                                             /* the session is freed */
+/* How requests.h reads the reply to what the library knows by its number alone, and says why it was refused. */
+struct dws_record {
+    int32_t (*take)(dws_session *s, dws_call *call); /* reads the reply, which is the call's text, and gives its `why` */
+    bool (*write_words)(const dws_call *call, char *room, size_t size); /* false where it has no words of its own */
 };
 
 /* What a session goes on with by itself, until it is done or the session is freed: a place of lock.h. */
@@ -396,7 +398,8 @@ struct dws_errand {
 struct dws_session {
     dw_session machine;
     dws_options options;
-    struct dws_beside *beside;         /* NULL where nothing was asked so */
+    struct dws_credentials *credentials;
+    struct dws_heads came;
     int32_t barred;                    /* the code of the server that does not take the credentials */
     char *hosts_text, *root;           /* the connection string, and the chroot in it: nothing where there is none */
     struct dws_host *hosts;
@@ -409,15 +412,13 @@ struct dws_session {
     bool has_more, has_news;           /* bytes that poll does not tell of, and something that a program may wait for */
     bool must_look, must_follow;       /* marks may be others; subjects are new or gone */
     bool must_show, is_acting;         /* subjects have changed; what a step says is being taken */
+    bool is_unread;                    /* a reply does not read */
     bool is_moment;                    /* what the library says is due, and no word of the server's */
     bool is_due_known;                 /* no step was made since the library was asked when something is due */
     uint64_t due_ms;
-    struct dws_waiting waiting;
-    struct dws_frames came;            /* where lane.h is to begin */
-    int64_t beside_zxid;               /* the greatest zxid of an answer to lane.h */
     uint64_t now_ms, last_ticket;
     int64_t suspended_ms, heard_suspended_ms; /* how long the system was suspended: before this wait, and before the last one that brought bytes */
-    struct dws_buffer unsent;
+    struct dws_bytes unsent;
     struct dws_line queue, sent;       /* calls that are to be asked, and those that were, in the order of their tickets */
     struct dws_line answered;          /* those that this step has answered, whose callbacks come when all that it says is taken */
     dws_call close;
@@ -663,6 +664,23 @@ static inline uint64_t dws_elapsed_ms(void)
     return dws_now_ms();
 }
 
+static inline uint32_t dws_read_int(const uint8_t *at)
+{
+    return (uint32_t)at[0] << 24 | (uint32_t)at[1] << 16 | (uint32_t)at[2] << 8 | at[3];
+}
+
+static inline void dws_spell_int(uint8_t *at, uint32_t number)
+{
+    for (int i = 0; i < 4; i++) {
+        at[i] = (uint8_t)(number >> (24 - 8 * i));
+    }
+}
+
+static inline int64_t dws_read_long(const uint8_t *at)
+{
+    return (int64_t)((uint64_t)dws_read_int(at) << 32 | dws_read_int(at + 4));
+}
+
 static inline uint64_t dws_least(uint64_t one, uint64_t other)
 {
     return one < other ? one : other;
@@ -704,6 +722,25 @@ static inline bool dws_reserve(void **block, size_t *room, size_t wanted)
     *block = grown;
     *room = wanted < 2 * *room ? 2 * *room : wanted;
     return true;
+}
+
+static inline bool dws_reserve_bytes(struct dws_bytes *bytes, size_t wanted)
+{
+    void *block = bytes->at;
+    bool is_there = dws_reserve(&block, &bytes->room, wanted);
+    bytes->at = (uint8_t *)block;
+    return is_there;
+}
+
+/* Adds bytes, and has room for one more, so that there is a block where there are none. Whether there was memory for them. */
+static inline bool dws_put_bytes(struct dws_bytes *bytes, const void *added, size_t length)
+{
+    bool is_there = dws_reserve_bytes(bytes, bytes->length + length + 1);
+    if (is_there && length > 0) {
+        memcpy(bytes->at + bytes->length, added, length);
+        bytes->length += length;
+    }
+    return is_there;
 }
 
 static inline bool dws_reserve_text(char **text, size_t *room, size_t wanted)
@@ -849,6 +886,18 @@ static inline void dws_be_over(dws_session *s)
     dws_lose_kept(s);
 }
 
+/* Answers the calls that wait for the answer to credentials, of which the limit has come by this moment. */
+static inline void dws_finish_credentials(dws_session *s, uint64_t until_ms, int32_t why)
+{
+    for (struct dws_credentials *one = s->credentials; one != NULL; one = one->next) {
+        dws_call *call = one->call;
+        if (call != NULL && call->until_ms <= until_ms) {
+            one->call = NULL;
+            dws_finish(s, call, why);
+        }
+    }
+}
+
 /* Answers all calls of a session that is over: those that were asked may have happened, where there is a connection. Shows what is lost. */
 static inline void dws_answer_rest(dws_session *s)
 {
@@ -858,6 +907,7 @@ static inline void dws_answer_rest(dws_session *s)
         dws_call_all_back(s);
         dws_finish_all(s, &s->sent, may_happen ? (int32_t)DW_OUTCOME_LOST : dws_why_over(s));
         dws_finish_all(s, &s->queue, dws_why_over(s));
+        dws_finish_credentials(s, UINT64_MAX, dws_why_over(s));
         while (dws_show_next(s)) {
         }
     }
@@ -892,71 +942,14 @@ static inline void dws_hang_up(dws_session *s)
     s->wire.socket = -1;
     s->wire.state = NULL;
     s->wire.words = NULL;
-    if (s->beside != NULL) {
-        s->beside->end(s);
-    }
     if (s->is_closing) {
         dws_be_over(s);
     }
-    s->is_connecting = s->has_more = false;
+    s->is_connecting = s->has_more = s->is_unread = false;
     s->read_wants = s->write_wants = 0;
-    dws_wipe(s->unsent.bytes, s->unsent.length);
+    dws_wipe(s->unsent.at, s->unsent.length);
     s->unsent.length = 0;
-    s->waiting.first = s->waiting.count = 0;
     memset(&s->came, 0, sizeof s->came);
-}
-
-/* A request of lane.h goes out. Without memory it is not counted. */
-static inline void dws_expect_answer(dws_session *s)
-{
-    struct dws_waiting *waiting = &s->waiting;
-    size_t entry = sizeof *waiting->since_ms;
-    if (waiting->first > 0 && (waiting->first + waiting->count + 1) * entry > waiting->room) {
-        memmove(waiting->since_ms, waiting->since_ms + waiting->first, waiting->count * entry);
-        waiting->first = 0;
-    }
-    void *block = waiting->since_ms;
-    bool is_there = dws_reserve(&block, &waiting->room, (waiting->first + waiting->count + 1) * entry);
-    waiting->since_ms = (uint64_t *)block;
-    if (is_there) {
-        waiting->since_ms[waiting->first + waiting->count++] = s->now_ms;
-    }
-}
-
-/* One of them is answered: by the server in their order, except for credentials. */
-static inline void dws_note_answer(struct dws_waiting *waiting)
-{
-    if (waiting->count > 0) {
-        waiting->count--;
-        waiting->first = waiting->count > 0 ? waiting->first + 1 : 0;
-    }
-}
-
-/* When the connection is to be given up, unless a request of lane.h is answered: as the library does for what it sends itself. */
-static inline uint64_t dws_end_of_waiting(dws_session *s)
-{
-    const struct dws_waiting *waiting = &s->waiting;
-    return waiting->count > 0 ? waiting->since_ms[waiting->first] + dws_most((dws_timeout_ms(s) * 2 + 2) / 3, 1000) : UINT64_MAX;
-}
-
-/* These bytes come next in a stream. */
-static inline void dws_pass_bytes(struct dws_frames *frames, const uint8_t *bytes, size_t length)
-{
-    const uint8_t *head = frames->head;
-    for (size_t taken, i = 0; i < length; i += taken) {
-        if (frames->held < sizeof frames->head) {
-            taken = 1;
-            frames->head[frames->held++] = bytes[i];
-            frames->left = (size_t)head[0] << 24 | (size_t)head[1] << 16 | (size_t)head[2] << 8 | head[3];
-            frames->left -= frames->left < 4 ? frames->left : 4;
-        } else {
-            taken = (size_t)dws_least(frames->left, length - i);
-            frames->left -= taken;
-        }
-        if (frames->held == sizeof frames->head && frames->left == 0) {
-            frames->held = 0;
-        }
-    }
 }
 
 /* Keeps the frame of the action that was told last until it is written. One of a connection that is over is forgotten. */
@@ -965,14 +958,11 @@ static inline void dws_send_later(dws_session *s, size_t length)
     if (s->wire.socket < 0) {
         return;
     }
-    void *block = s->unsent.bytes;
-    bool is_there = dws_reserve(&block, &s->unsent.room, s->unsent.length + length);
-    s->unsent.bytes = (uint8_t *)block;
-    if (!is_there) {
+    if (!dws_reserve_bytes(&s->unsent, s->unsent.length + length)) {
         dws_fail(s, DW_NO_MEMORY);
         return;
     }
-    s->unsent.length += dw_session_copy(&s->machine, 0, s->unsent.bytes + s->unsent.length, length);
+    s->unsent.length += dw_session_copy(&s->machine, 0, s->unsent.at + s->unsent.length, length);
 }
 
 /* The path that the program knows, of one that the servers know. */
@@ -1043,41 +1033,25 @@ static inline dws_call *dws_answered(dws_session *s, uint64_t ticket)
     return NULL;
 }
 
-/* Answers the calls beside the library that were asked before this ticket, where the connection is over. The library answers its own. */
-static inline void dws_lose_beside(dws_session *s, uint64_t ticket)
-{
-    struct dws_line lost;
-    if (s->wire.socket >= 0) {
-        return;
-    }
-    memset(&lost, 0, sizeof lost);
-    dws_call **at = &s->sent.first;
-    for (size_t left = s->sent.count; left > 0 && (*at)->ticket < ticket; left--) {
-        if ((*at)->kind == DWS_BESIDE) {
-            dws_append(&lost, dws_remove(&s->sent, at));
-        } else {
-            at = &(*at)->next;
-        }
-    }
-    dws_finish_all(s, &lost, DW_OUTCOME_LOST);
-}
-
 static inline void dws_take_answer(dws_session *s, const dw_output *answer)
 {
-    dws_lose_beside(s, answer->ticket);
     dws_call *call = dws_answered(s, answer->ticket);
     if (call == NULL) {
         return;
     }
     bool is_reply = answer->outcome == DW_OUTCOME_REPLIED, is_kept = true;
+    bool is_raw = is_reply && answer->reply == DW_REPLY_RAW;
     call->zxid = answer->zxid;
     call->stat = answer->stat;
-    if (is_reply && (answer->reply == DW_REPLY_DATA || answer->reply == DW_REPLY_CREATED)) {
+    if (is_raw || (is_reply && (answer->reply == DW_REPLY_DATA || answer->reply == DW_REPLY_CREATED))) {
         is_kept = dws_keep_text(s, call, answer);
     } else if (is_reply && answer->reply == DW_REPLY_NAMES) {
         is_kept = dws_keep_names(s, call, answer->names);
     }
     int32_t why = is_reply && answer->reply == DW_REPLY_CODE ? answer->code : (int32_t)answer->outcome;
+    if (is_raw && is_kept) {
+        why = call->record->take(s, call);
+    }
     dws_finish(s, call, is_kept ? why : DWS_REFUSED - (int32_t)DW_NO_MEMORY);
 }
 
@@ -1215,6 +1189,7 @@ static inline void dws_take(dws_session *s, const dw_output *action)
 
 static inline void dws_resume(dws_session *s);
 static inline void dws_see_trees(dws_session *s);
+static inline void dws_cut(dws_session *s, const char *why);
 
 /* Takes what a step answered: all that it says, in its order. A session that is over does nothing more. */
 static inline void dws_act(dws_session *s, enum dw_result result)
@@ -1229,16 +1204,17 @@ static inline void dws_act(dws_session *s, enum dw_result result)
         }
     }
     dws_see_trees(s);
-    dws_lose_beside(s, UINT64_MAX);
     s->is_acting = false;
     dws_call_all_back(s);
-    if (s->is_over || result == DW_NONE) {
+    if (s->is_over) {
         return;
     }
     if (result == DW_HALTED) {
         dws_resume(s);
-    } else {
+    } else if (result != DW_NONE) {
         dws_fail(s, result);
+    } else if (s->is_unread) {
+        dws_cut(s, "an answer does not read");
     }
 }
 
@@ -1252,7 +1228,7 @@ static inline void dws_cut(dws_session *s, const char *why)
     }
 }
 
-/* Puts the reads of a line before what waits, and gives the rest of it. */
+/* Puts the reads of a line before what waits, and gives the rest of it, with all requests of requests.h. */
 static inline struct dws_line dws_ask_again(dws_session *s, struct dws_line *asked)
 {
     struct dws_line again, rest;
@@ -1319,22 +1295,21 @@ static inline uint64_t dws_in_time(dws_session *s)
 static inline enum dw_result dws_step(dws_session *s, dws_call *call, uint64_t now_ms)
 {
     dw_session *machine = &s->machine;
-    const uint8_t *bytes = (const uint8_t *)call->bytes;
+    const uint8_t *bytes = call->body.at;
     uint64_t ticket = call->ticket, until_ms = call->until_ms;
-    size_t length = call->path != NULL ? strlen(call->path) : 0;
+    size_t length = call->path != NULL ? strlen(call->path) : 0, count = call->body.length;
     switch (call->kind) {
     case DWS_EXISTS: return dw_session_exists(machine, now_ms, ticket, until_ms, call->path, length, call->watch);
     case DWS_GET: return dw_session_get_data(machine, now_ms, ticket, until_ms, call->path, length, call->watch);
     case DWS_CHILDREN: return dw_session_get_children(machine, now_ms, ticket, until_ms, call->path, length, call->watch);
     case DWS_SET:
-        return dw_session_set_data(machine, now_ms, ticket, until_ms, call->path, length, bytes, call->bytes_length, call->is_null_sent,
-                                   call->number);
+        return dw_session_set_data(machine, now_ms, ticket, until_ms, call->path, length, bytes, count, call->is_null_sent, call->number);
     case DWS_CREATE:
-        return dw_session_create(machine, now_ms, ticket, until_ms, call->path, length, bytes, call->bytes_length, call->is_null_sent,
+        return dw_session_create(machine, now_ms, ticket, until_ms, call->path, length, bytes, count, call->is_null_sent,
                                  (uint32_t)call->number);
     case DWS_DELETE: return dw_session_delete(machine, now_ms, ticket, until_ms, call->path, length, call->number);
     case DWS_CLOSE: return dw_session_close(machine, now_ms, ticket, until_ms);
-    case DWS_BESIDE: return s->beside->ask(s, call);
+    case DWS_RAW: return dw_session_raw(machine, now_ms, ticket, until_ms, call->number, bytes, count);
     }
     return DW_NOT_PATH;
 }
@@ -1353,18 +1328,164 @@ static inline void dws_send(dws_session *s, uint64_t now_ms)
     }
 }
 
-/* Asks what waits. Where a server has accepted the session is the library's to know; a call beside it waits for that here, and those after it. */
+/* Asks what waits. Whether a server has accepted the session is the library's to know. */
 static inline void dws_send_queued(dws_session *s)
 {
     uint64_t now_ms = s->queue.count > 0 ? dws_in_time(s) : s->now_ms;
     for (size_t count = s->queue.count; count > 0 && s->queue.count > 0 && s->sent.count < DWS_MOST_ASKED && !s->is_over; count--) {
-        dws_call *first = s->queue.first;
-        if (first->until_ms <= s->now_ms) {
+        if (s->queue.first->until_ms <= s->now_ms) {
             dws_finish(s, dws_remove(&s->queue, &s->queue.first), DW_OUTCOME_NOT_CONNECTED);
-        } else if (first->kind != DWS_BESIDE || dws_is_connected(s)) {
-            dws_send(s, now_ms);
         } else {
-            return;
+            dws_send(s, now_ms);
+        }
+    }
+}
+
+/* ---- Credentials: each connection is told them before all else, and answers them in their order, under an xid of their own. ---- */
+
+/* Makes the frame of credentials, an AuthPacket of zookeeper.jute. NULL where there is no memory. */
+static inline struct dws_credentials *dws_spell_credentials(const char *scheme, const char *bytes, size_t length)
+{
+    enum { AUTH_XID = -4, TYPE_AUTH = 100 };
+    size_t named = strlen(scheme);
+    struct dws_credentials *made = (struct dws_credentials *)calloc(1, sizeof *made);
+    uint8_t *at = made != NULL ? (uint8_t *)malloc(24 + named + length) : NULL;
+    if (at == NULL) {
+        free(made);
+        return NULL;
+    }
+    made->frame = at;
+    made->length = 24 + named + length;
+    const uint32_t numbers[] = {(uint32_t)(20 + named + length), (uint32_t)AUTH_XID, TYPE_AUTH, 0, (uint32_t)named};
+    for (size_t i = 0; i < 5; i++) {
+        dws_spell_int(at + 4 * i, numbers[i]);
+    }
+    memcpy(at + 20, scheme, named);
+    dws_spell_int(at + 20 + named, (uint32_t)length);
+    memcpy(at + 24 + named, bytes, length);
+    return made;
+}
+
+static inline void dws_free_credentials(struct dws_credentials *one)
+{
+    dws_wipe(one->frame, one->length);
+    free(one->frame);
+    free(one);
+}
+
+static inline void dws_forget_credentials(dws_session *s)
+{
+    while (s->credentials != NULL) {
+        struct dws_credentials *one = s->credentials;
+        s->credentials = one->next;
+        dws_free_credentials(one);
+    }
+}
+
+static inline void dws_write_credentials(dws_session *s, const struct dws_credentials *one)
+{
+    if (!dws_put_bytes(&s->unsent, one->frame, one->length)) {
+        dws_fail(s, DW_NO_MEMORY);
+    }
+}
+
+/* A connection begins: its ConnectRequest waits to be written. */
+static inline void dws_introduce_all(dws_session *s)
+{
+    for (struct dws_credentials *one = s->credentials; one != NULL && s->wire.socket >= 0; one = one->next) {
+        dws_write_credentials(s, one);
+    }
+    s->came.asked = s->wire.socket >= 0 ? s->credentials : NULL;
+}
+
+/* Keeps credentials, and writes them where a connection is there. What a server answers is told to the call, if it is not NULL. */
+static inline enum dw_result dws_keep_credentials(dws_session *s, const char *scheme, const char *bytes, size_t length, dws_call *call)
+{
+    struct dws_credentials *made = dws_spell_credentials(scheme, bytes, length), **last = &s->credentials;
+    if (made == NULL) {
+        return DW_NO_MEMORY;
+    }
+    for (; *last != NULL; last = &(*last)->next) {
+        if ((*last)->call == NULL && call == NULL && (*last)->length == made->length && memcmp((*last)->frame, made->frame, made->length) == 0) {
+            dws_free_credentials(made);
+            return DW_OK;
+        }
+    }
+    made->call = call;
+    *last = made;
+    if (s->wire.socket >= 0 && !s->is_connecting) {
+        s->came.asked = s->came.asked != NULL ? s->came.asked : made;
+        dws_write_credentials(s, made);
+    }
+    return DW_OK;
+}
+
+static inline bool dws_introduce(dws_session *s, const char *scheme, const char *bytes, size_t length)
+{
+    return dws_keep_credentials(s, scheme, bytes, length, NULL) == DW_OK;
+}
+
+/* The first limit of a call that waits for the answer to credentials. */
+static inline uint64_t dws_credentials_due(const dws_session *s)
+{
+    uint64_t first = UINT64_MAX;
+    for (const struct dws_credentials *one = s->credentials; one != NULL; one = one->next) {
+        first = dws_least(first, one->call != NULL ? one->call->until_ms : UINT64_MAX);
+    }
+    return first;
+}
+
+/* The servers do not take the credentials of the session: it is over. */
+static inline void dws_bar(dws_session *s, int32_t code)
+{
+    char words[256];
+    dws_write_code(words, sizeof words, code, NULL);
+    s->barred = code;
+    dws_be_over(s);
+    dws_cut(s, words);
+    dws_tell(s, DWS_BARRED, words);
+}
+
+/* Credentials are answered. */
+static inline void dws_take_introduction(dws_session *s, int32_t code)
+{
+    struct dws_credentials *answered = s->came.asked;
+    if (answered == NULL) {
+        return;
+    }
+    dws_call *call = answered->call;
+    s->came.asked = answered->next;
+    if (code != 0) {
+        dws_bar(s, code);
+    } else if (call != NULL) {
+        answered->call = NULL;
+        dws_finish(s, call, 0);
+    }
+}
+
+/* Looks for answers to credentials in what came, all of which the library was handed. */
+static inline void dws_watch_heads(dws_session *s, const uint8_t *bytes, size_t length)
+{
+    enum { AUTH_XID = -4, CODE = 16 };
+    struct dws_heads *came = &s->came;
+    for (size_t i = 0; i < length && s->wire.socket >= 0;) {
+        if (came->left > 0) {
+            size_t passed = (size_t)dws_least(came->left, length - i);
+            came->left -= passed;
+            i += passed;
+            continue;
+        }
+        came->head[came->held++] = bytes[i++];
+        uint64_t whole = came->held < 4 ? UINT64_MAX : 4 + (uint64_t)dws_read_int(came->head);
+        if (came->held < sizeof came->head && came->held < whole) {
+            continue;
+        }
+        bool is_reply = came->is_begun && came->held == sizeof came->head;
+        came->left = (size_t)(whole - came->held);
+        came->held = 0;
+        came->is_begun = true;
+        if (is_reply && (int32_t)dws_read_int(came->head + 4) == AUTH_XID) {
+            dws_take_introduction(s, (int32_t)dws_read_int(came->head + CODE));
         }
     }
 }
@@ -1539,9 +1660,7 @@ static inline void dws_finish_connection(dws_session *s)
     s->write_wants = POLLOUT;
     snprintf(s->trouble, sizeof s->trouble, "connected, and it has not accepted the session");
     dws_act(s, dw_session_opened(&s->machine, s->now_ms));
-    if (s->beside != NULL && s->wire.socket >= 0) {
-        s->beside->begin(s);
-    }
+    dws_introduce_all(s);
 }
 
 static inline bool dws_is_passing(int error)
@@ -1594,17 +1713,6 @@ static inline void dws_hear(dws_session *s, uint64_t came_ms, const uint8_t *byt
     }
 }
 
-/* Takes bytes from the server. */
-static inline void dws_hear_all(dws_session *s, uint64_t came_ms, const uint8_t *bytes, size_t length)
-{
-    if (s->beside != NULL) {
-        s->beside->hear(s, came_ms, bytes, length);
-    } else {
-        dws_pass_bytes(&s->came, bytes, length);
-        dws_hear(s, came_ms, bytes, length);
-    }
-}
-
 /* Takes what the connection has. */
 static inline void dws_receive(dws_session *s)
 {
@@ -1614,7 +1722,8 @@ static inline void dws_receive(dws_session *s)
     for (int i = 0; i < DWS_MOST_PIECES && s->wire.socket >= 0 && s->has_more; i++) {
         ssize_t count = dws_read(s, piece, sizeof piece);
         if (count > 0) {
-            dws_hear_all(s, came_ms, piece, (size_t)count);
+            dws_hear(s, came_ms, piece, (size_t)count);
+            dws_watch_heads(s, piece, (size_t)count);
             s->has_more = s->options.read != NULL || count == (ssize_t)sizeof piece || s->sent.count > 0; /* else poll tells of more */
         } else if (count == 0) {
             dws_cut(s, "the server has ended the connection");
@@ -1634,12 +1743,12 @@ static inline void dws_transmit(dws_session *s)
     if (s->unsent.length == 0 || s->is_connecting || s->wire.socket < 0) {
         return;
     }
-    ssize_t count = dws_write(s, s->unsent.bytes, s->unsent.length);
+    ssize_t count = dws_write(s, s->unsent.at, s->unsent.length);
     if (count >= 0) {
         s->unsent.length -= (size_t)count;
-        memmove(s->unsent.bytes, s->unsent.bytes + count, s->unsent.length);
-        if (s->beside != NULL) { /* there may be credentials among it */
-            dws_wipe(s->unsent.bytes + s->unsent.length, (size_t)count);
+        memmove(s->unsent.at, s->unsent.at + count, s->unsent.length);
+        if (s->credentials != NULL) { /* they may be among it */
+            dws_wipe(s->unsent.at + s->unsent.length, (size_t)count);
         }
         s->write_wants = POLLOUT;
     } else if (dws_is_passing(errno)) {
@@ -1893,32 +2002,6 @@ static inline void dws_follow_new(dws_session *s)
 
 /* ---- Trees that are followed. ---- */
 
-static inline uint32_t dws_read_int(const uint8_t *at)
-{
-    return (uint32_t)at[0] << 24 | (uint32_t)at[1] << 16 | (uint32_t)at[2] << 8 | at[3];
-}
-
-static inline void dws_spell_int(uint8_t *at, uint32_t number)
-{
-    for (int i = 0; i < 4; i++) {
-        at[i] = (uint8_t)(number >> (24 - 8 * i));
-    }
-}
-
-static inline int64_t dws_read_long(const uint8_t *at)
-{
-    return (int64_t)((uint64_t)dws_read_int(at) << 32 | dws_read_int(at + 4));
-}
-
-/* A zxid that is spelled here, of what the library has seen, becomes that of what the session has seen. */
-static inline void dws_raise_zxid(const dws_session *s, uint8_t *at)
-{
-    if (dws_read_long(at) < s->beside_zxid) {
-        dws_spell_int(at, (uint32_t)((uint64_t)s->beside_zxid >> 32));
-        dws_spell_int(at + 4, (uint32_t)s->beside_zxid);
-    }
-}
-
 static inline bool dws_read_node(uint8_t **at, const uint8_t *end, dws_node *node)
 {
     if (*at >= end) {
@@ -2029,14 +2112,6 @@ static inline void dws_tree_words(dws_session *s, const dws_tree *tree, char *ro
     } else {
         dws_write_outcome(room, size, (enum dw_outcome)tree->why, inner);
     }
-}
-
-static inline bool dws_reserve_texts(struct dws_texts *texts, size_t wanted)
-{
-    void *block = texts->bytes;
-    bool is_there = dws_reserve(&block, &texts->room, wanted);
-    texts->bytes = (uint8_t *)block;
-    return is_there;
 }
 
 /* Whether it is known that there is no root. */
@@ -2231,7 +2306,7 @@ static inline void dws_lose_kept(dws_session *s)
 /* Takes the nodes that the library has spelled. */
 static inline void dws_show_tree(dws_session *s, dws_tree *tree)
 {
-    uint8_t *at = tree->text.bytes, *end = at + tree->text.length;
+    uint8_t *at = tree->text.at, *end = at + tree->text.length;
     dws_node node;
     tree->count = 0;
     while (dws_read_node(&at, end, &node)) {
@@ -2258,18 +2333,18 @@ static inline void dws_show_tree(dws_session *s, dws_tree *tree)
 /* Copies the nodes at and below the root of a tree. */
 static inline enum dw_result dws_collect(dws_session *s, dws_tree *tree)
 {
-    struct dws_texts *text = &tree->text;
+    struct dws_bytes *text = &tree->text;
     size_t length = strlen(tree->path);
     text->length = 0;
-    if (!dws_reserve_texts(text, 4096)) {
+    if (!dws_reserve_bytes(text, 4096)) {
         return DW_NO_MEMORY;
     }
-    enum dw_result result = dw_session_subtree(&s->machine, tree->path, length, tree->most, text->bytes, text->room, &text->length);
+    enum dw_result result = dw_session_subtree(&s->machine, tree->path, length, tree->most, text->at, text->room, &text->length);
     if (result == DW_OK && text->length > text->room) {
-        if (!dws_reserve_texts(text, text->length + text->length / 8)) {
+        if (!dws_reserve_bytes(text, text->length + text->length / 8)) {
             return DW_NO_MEMORY;
         }
-        result = dw_session_subtree(&s->machine, tree->path, length, tree->most, text->bytes, text->room, &text->length);
+        result = dw_session_subtree(&s->machine, tree->path, length, tree->most, text->at, text->room, &text->length);
     }
     return result;
 }
@@ -2392,7 +2467,7 @@ static inline void dws_unfollow_tree(dws_session *s, dws_tree *tree)
         dws_let_go(s, tree->ticket, true);
     }
     dws_free_members(&tree->members);
-    free(tree->text.bytes);
+    free(tree->text.at);
     free(tree->nodes);
     free(tree->trouble);
     free(tree->path);
@@ -2409,9 +2484,7 @@ static inline void dws_keep_time(dws_session *s)
         dws_act(s, dw_session_moment(&s->machine, s->now_ms));
         s->is_moment = false;
     }
-    if (!s->is_over && dws_end_of_waiting(s) <= s->now_ms) {
-        dws_cut(s, "an answer does not come");
-    }
+    dws_finish_credentials(s, s->now_ms, DWS_LATE);
     if (s->is_closing && s->close.until_ms <= s->now_ms) {
         dws_be_over(s);
     }
@@ -2423,7 +2496,7 @@ static inline void dws_keep_time(dws_session *s)
 /* Whether something is due on the connection: then what it has is read before the moment is told. */
 static inline bool dws_is_late(dws_session *s)
 {
-    return dws_least(dws_deadline(s), dws_end_of_waiting(s)) <= s->now_ms;
+    return dws_deadline(s) <= s->now_ms;
 }
 
 /* Follows what is new, shows what has changed, and asks what waits. */
@@ -2462,7 +2535,7 @@ static inline void dws_go_on(dws_session *s, short told)
 /* The first moment at which something is to be done. */
 static inline uint64_t dws_first_due(dws_session *s)
 {
-    uint64_t first = dws_least(dws_deadline(s), dws_end_of_waiting(s));
+    uint64_t first = dws_least(dws_deadline(s), dws_credentials_due(s));
     first = dws_least(first, s->queue.count > 0 ? s->queue.first->until_ms : UINT64_MAX);
     first = dws_least(first, s->is_closing ? s->close.until_ms : UINT64_MAX);
     return dws_least(first, dws_first_look(s));
@@ -2509,13 +2582,19 @@ static inline uint64_t dws_patience_ms(const dws_session *s)
     return s->options.patience_ms > 0 ? (uint64_t)s->options.patience_ms : dws_most(1000, (uint64_t)s->options.timeout_ms);
 }
 
-/* Puts a call into the queue. */
-static inline void dws_put(dws_session *s, dws_call *call)
+/* A call is asked: it has no answer, and as long as the options say. */
+static inline void dws_begin_call(const dws_session *s, dws_call *call)
 {
     call->is_answered = false;
     call->why = 0;
     call->count = call->length = 0;
     call->until_ms = s->options.patience_ms < 0 || call->is_patient ? UINT64_MAX : dws_now_ms() + dws_patience_ms(s);
+}
+
+/* Puts a call into the queue. */
+static inline void dws_put(dws_session *s, dws_call *call)
+{
+    dws_begin_call(s, call);
     if (s->is_over || s->is_closing) {
         dws_finish(s, call, dws_why_over(s));
     } else {
@@ -2540,18 +2619,15 @@ static inline char *dws_outer(const dws_session *s, const char *path)
 static inline dws_call *dws_ask(dws_session *s, dws_call *call, enum dws_kind kind, const char *path, const char *bytes, size_t length)
 {
     free(call->path);
-    free(call->bytes);
     call->kind = kind;
     call->path = dws_outer(s, path);
-    call->bytes = (char *)malloc(length + 1);
-    call->bytes_length = length;
+    call->body.length = 0;
     call->is_null_sent = bytes == NULL;
-    if (call->path == NULL || call->bytes == NULL) {
+    if (call->path == NULL || !dws_put_bytes(&call->body, bytes, bytes != NULL ? length : 0)) {
         dws_finish(s, call, DWS_REFUSED - (int32_t)DW_NO_MEMORY);
     } else if (dws_words_of_path(path) != NULL) {
         dws_finish(s, call, DWS_REFUSED - (int32_t)DW_NOT_PATH);
     } else {
-        memcpy(call->bytes, bytes != NULL ? bytes : "", length);
         dws_put(s, call);
     }
     return call;
@@ -2603,17 +2679,24 @@ static inline int32_t dws_wait(dws_session *s, dws_call *call)
 static inline void dws_release(dws_call *call)
 {
     free(call->path);
-    free(call->bytes);
+    free(call->body.at);
     free(call->text);
     free(call->names);
     memset(call, 0, sizeof *call);
 }
 
-/* The node for which a call is refused: of a create that its parent prevents the parent. */
-static inline void dws_write_place(const dws_session *s, const dws_call *call, char *room, size_t size)
+/* Whether a call makes a node. */
+static inline bool dws_is_create(const dws_call *call)
 {
-    bool is_parent = call->kind == DWS_CREATE && (call->why == DW_CODE_NO_NODE || call->why == DW_CODE_NO_CHILDREN_FOR_EPHEMERALS);
-    snprintf(room, size, "%s", call->path != NULL ? dws_inner(s, call->path) : "");
+    bool is_raw = call->number == DW_OPERATION_CREATE2 || call->number == DW_OPERATION_CREATE_CONTAINER || call->number == DW_OPERATION_CREATE_TTL;
+    return call->kind == DWS_CREATE || (call->kind == DWS_RAW && is_raw);
+}
+
+/* The node for which something about a path is refused: of a create that its parent prevents the parent. */
+static inline void dws_write_place(const char *path, bool is_create, int32_t why, char *room, size_t size)
+{
+    bool is_parent = is_create && (why == DW_CODE_NO_NODE || why == DW_CODE_NO_CHILDREN_FOR_EPHEMERALS);
+    snprintf(room, size, "%s", path);
     char *slash = strrchr(room, '/');
     if (is_parent && slash != NULL) {
         slash[slash == room] = 0;
@@ -2641,8 +2724,8 @@ static inline void dws_words(dws_session *s, const dws_call *call, char *room, s
 {
     char place[DWS_LONGEST_LINE];
     const char *path = call->path != NULL ? place : NULL;
-    dws_write_place(s, call, place, sizeof place);
-    if (call->kind == DWS_BESIDE && s->beside != NULL && s->beside->write_words(s, call, room, size)) {
+    dws_write_place(path != NULL ? dws_inner(s, call->path) : "", dws_is_create(call), call->why, place, sizeof place);
+    if (call->kind == DWS_RAW && call->record->write_words(call, room, size)) {
         return;
     }
     if (call->why > DWS_REFUSED) {
@@ -2768,13 +2851,10 @@ static inline void dws_free(dws_session *s)
     while (s->errands != NULL) {
         s->errands->end(s, s->errands);
     }
-    if (s->beside != NULL) {
-        s->beside->release(s);
-    }
+    dws_forget_credentials(s);
     dw_session_free(&s->machine);
     dws_release(&s->close);
-    free(s->unsent.bytes);
-    free(s->waiting.since_ms);
+    free(s->unsent.at);
     free(s->gone);
     free(s->seen);
     free(s->hosts);
@@ -2839,8 +2919,7 @@ static inline void *dws_context(const dws_session *s)
 
 static inline int64_t dws_last_zxid(dws_session *s)
 {
-    int64_t zxid = dw_session_last_zxid(&s->machine);
-    return zxid < s->beside_zxid ? s->beside_zxid : zxid;
+    return dw_session_last_zxid(&s->machine);
 }
 
 static inline void dws_forget(dws_session *s)
@@ -2858,11 +2937,7 @@ static inline int64_t dws_heard_ms(dws_session *s)
 
 static inline enum dw_result dws_saved(dws_session *s, uint8_t *room, size_t size, size_t *length)
 {
-    enum dw_result result = dw_session_saved(&s->machine, room, size, length);
-    if (result == DW_OK && *length >= 8 && *length <= size) {
-        dws_raise_zxid(s, room + *length - 8);
-    }
-    return result;
+    return dw_session_saved(&s->machine, room, size, length);
 }
 
 static inline int64_t dws_id(dws_session *s)

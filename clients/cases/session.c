@@ -1,13 +1,13 @@
 /* A session by session.h that does what it is told, for the table of cases: session HOSTS TRIES. Reads that are lost are asked again by the library,
  * whatever the tries. */
 #define _POSIX_C_SOURCE 200809L
-#include "lane.h"
+#include "requests.h"
 #include "lock.h"
 
 enum { MOST_WORDS = 40, MOST_ACLS = 8 };
 
 static dws_call call;
-static dws_lane_call lane;
+static dws_request request;
 static dws_lock lock;
 static dws_subject followed, names;
 static dws_tree tree;
@@ -249,14 +249,14 @@ static int add_operation(dws_session *session, char **words)
 {
     const char *name = words[0], *path = words[1];
     if (strcmp(name, "check") == 0) {
-        dws_transaction_check(session, &lane, path, (int32_t)strtol(words[2], NULL, 10));
+        dws_transaction_check(session, &request, path, (int32_t)strtol(words[2], NULL, 10));
     } else if (strcmp(name, "delete") == 0) {
-        dws_transaction_delete(session, &lane, path, -1);
+        dws_transaction_delete(session, &request, path, -1);
         return 2;
     } else if (strcmp(name, "set") == 0) {
-        dws_transaction_set(session, &lane, path, data_of(words[2]), strlen(data_of(words[2])), -1);
+        dws_transaction_set(session, &request, path, data_of(words[2]), strlen(data_of(words[2])), -1);
     } else {
-        dws_transaction_create(session, &lane, path, data_of(words[2]), strlen(data_of(words[2])), DW_MODE_PERSISTENT, NULL, 0);
+        dws_transaction_create(session, &request, path, data_of(words[2]), strlen(data_of(words[2])), DW_MODE_PERSISTENT, NULL, 0);
     }
     return 3;
 }
@@ -265,13 +265,13 @@ static void commit(dws_session *session, char **words, int count)
 {
     for (int i = 1; i < count; i += add_operation(session, words + i)) {
     }
-    if (!is_well(session, dws_commit(session, &lane))) {
+    if (!is_well(session, dws_commit(session, &request))) {
         return;
     }
     const char *before = "";
-    for (size_t i = 0; i < lane.change_count; i++) {
-        if (lane.changes[i].operation != DWS_OF_CHECK) {
-            printf("%s%s", before, lane.changes[i].path);
+    for (size_t i = 0; i < request.change_count; i++) {
+        if (request.changes[i].operation != DWS_OF_CHECK) {
+            printf("%s%s", before, request.changes[i].path);
             before = " ";
         }
     }
@@ -298,46 +298,46 @@ static size_t read_acls(dws_acl *acls, char **words, int count)
 
 static void print_acls(void)
 {
-    for (size_t i = 0; i < lane.acl_count; i++) {
-        printf("%s:%s:", lane.acls[i].scheme, lane.acls[i].id);
+    for (size_t i = 0; i < request.acl_count; i++) {
+        printf("%s:%s:", request.acls[i].scheme, request.acls[i].id);
         for (int place = 0; LETTERS[place] != 0; place++) {
-            printf("%.*s", (int)(lane.acls[i].permissions >> place & 1), LETTERS + place);
+            printf("%.*s", (int)(request.acls[i].permissions >> place & 1), LETTERS + place);
         }
         putchar(' ');
     }
-    printf("version %" PRId32 "\n", lane.call.stat.aversion);
+    printf("version %" PRId32 "\n", request.call.stat.aversion);
     fflush(stdout);
 }
 
-/* Asks beside the library. False where the first word is no such question. */
-static bool ask_beside(dws_session *session, char **words, int count)
+/* Asks one of requests.h. False where the first word is no such question. */
+static bool ask_request(dws_session *session, char **words, int count)
 {
     dws_acl acls[MOST_ACLS];
     if (strcmp(words[0], "transaction") == 0) {
         commit(session, words, count);
     } else if (strcmp(words[0], "sync") == 0) {
-        if (is_well(session, dws_sync(session, &lane, words[1]))) {
+        if (is_well(session, dws_sync(session, &request, words[1]))) {
             print_line("done");
         }
     } else if (strcmp(words[0], "auth") == 0) {
-        if (is_well(session, dws_add_auth(session, &lane, words[1], words[2], strlen(words[2])))) {
+        if (is_well(session, dws_add_auth(session, &request, words[1], words[2], strlen(words[2])))) {
             print_line("done");
         }
     } else if (strcmp(words[0], "acls") == 0) {
-        if (is_well(session, dws_get_acl(session, &lane, words[1]))) {
+        if (is_well(session, dws_get_acl(session, &request, words[1]))) {
             print_acls();
         }
     } else if (strcmp(words[0], "set_acls") == 0) {
         size_t lines = read_acls(acls, words + 3, count - 3);
-        if (is_well(session, dws_set_acl(session, &lane, words[1], acls, lines, (int32_t)strtol(words[2], NULL, 10)))) {
-            printf("version %" PRId32 "\n", lane.call.stat.aversion);
+        if (is_well(session, dws_set_acl(session, &request, words[1], acls, lines, (int32_t)strtol(words[2], NULL, 10)))) {
+            printf("version %" PRId32 "\n", request.call.stat.aversion);
             fflush(stdout);
         }
     } else if (strcmp(words[0], "create_with_acls") == 0) {
         const char *data = data_of(words[2]);
         size_t lines = read_acls(acls, words + 3, count - 3);
-        if (is_well(session, dws_create_with_acl(session, &lane, words[1], data, strlen(data), DW_MODE_PERSISTENT, acls, lines))) {
-            print_line(lane.call.text);
+        if (is_well(session, dws_create_with_acl(session, &request, words[1], data, strlen(data), DW_MODE_PERSISTENT, acls, lines))) {
+            print_line(request.call.text);
         }
     } else {
         return false;
@@ -355,7 +355,7 @@ static bool obey(dws_session *session, char *line)
     }
     char *name = words[0], *path = words[1], *data = words[2], *version = words[3];
     data = data != NULL && strcmp(data, "-") == 0 ? data + 1 : data;
-    if (ask_beside(session, words, count)) {
+    if (ask_request(session, words, count)) {
         return true;
     }
     if (strcmp(name, "get") == 0 || strcmp(name, "children") == 0 || strcmp(name, "exists") == 0) {
@@ -408,7 +408,7 @@ int main(int argc, char **argv)
     while (session != NULL && next_line(session, line, sizeof line) && obey(session, line)) {
     }
     dws_release(&call);
-    dws_lane_release(&lane);
+    dws_request_release(&request);
     dws_lock_release(&lock);
     if (session != NULL) {
         dws_close(session);

@@ -1,10 +1,10 @@
 /* Changes that happen together or not at all: see docs/COOKBOOK.md. */
 #define _POSIX_C_SOURCE 200809L
-#include "lane.h"
+#include "requests.h"
 
 int main(void)
 {
-    static dws_lane_call change;
+    static dws_request change;
     static dws_options options;
     char why[DWS_LONGEST_LINE];
     options.told = dws_print_event;
@@ -21,7 +21,7 @@ int main(void)
         dws_words(session, &change.call, why, sizeof why);
         fprintf(stderr, "transaction: operation %zu: %s\n", change.refused, why);
     }
-    dws_lane_release(&change);
+    dws_request_release(&change);
     dws_close(session);
     return EXIT_SUCCESS;
 }

@@ -185,7 +185,7 @@ static void do_request(struct bytes *came, int32_t type, const uint8_t *request)
     case TYPE_GET: read_node(came, xid, path, type == TYPE_EXISTS); break;
     case TYPE_CHILDREN: list_nodes(came, xid); break;
     case TYPE_SET_WATCHES: set_watches(came, xid, request); break;
-    case DWS_TYPE_SYNC: add_created(came, xid, zxid, "/l"); break; /* its answer has a path too */
+    case DW_OPERATION_SYNC: add_created(came, xid, zxid, "/l"); break; /* its answer has a path too */
     default: add_header(came, xid, zxid, 0); break;
     }
 }
@@ -583,11 +583,11 @@ static void share_a_lock(void)
     strcat(place, "0000000007");
     end_line();
     admit();
-    answer_sync(-1001);
-    hear_about(2, TYPE_CHILDREN, "/l");
-    answer_names(2, 7, place + 3, "a__rlock__0000000001");
-    hear_about(3, TYPE_GET, place);
-    answer_place(3, 7);
+    answer_sync(2);
+    hear_about(3, TYPE_CHILDREN, "/l");
+    answer_names(3, 7, place + 3, "a__rlock__0000000001");
+    hear_about(4, TYPE_GET, place);
+    answer_place(4, 7);
     EXPECT(lock.is_held && lock.token == 6);
     close_all();
     dws_lock_release(&lock);

@@ -23,6 +23,7 @@ enum {
     TYPE_SET = 5,
     TYPE_PING = 11,
     TYPE_CHILDREN = 12,
+    TYPE_AUTH = 100,
     TYPE_SET_WATCHES = 101
 };
 
@@ -30,6 +31,7 @@ static const dw_stat STAT = {3, 5, 1000, 2000, 0, 4, 7, 2, 9, 3, 0};
 
 static dws_session *session;
 static int listener, line;
+static const char *root = ""; /* the chroot of the sessions that are opened */
 static char said[8192], events[64];
 static struct bytes out;
 static size_t heard, told;    /* bytes of this connection that the session has read, and that it was sent */
@@ -142,14 +144,14 @@ static inline void turn(int number)
 
 static inline void open_session_with(dws_options options)
 {
-    char address[32];
+    char address[64];
     struct sockaddr_in bound;
     socklen_t length = sizeof bound;
     options.told = note;
     options.read = read_counted;
     options.write = write_plain;
     EXPECT(getsockname(listener, (struct sockaddr *)&bound, &length) == 0);
-    snprintf(address, sizeof address, "127.0.0.1:%d", ntohs(bound.sin_port));
+    snprintf(address, sizeof address, "127.0.0.1:%d%s", ntohs(bound.sin_port), root);
     session = dws_open(address, &options, NULL, 0);
     events[0] = 0;
 }
@@ -331,7 +333,7 @@ static inline void answer_none(int32_t xid, int64_t zxid)
 static inline void answer_sync(int32_t xid)
 {
     struct bytes came;
-    hear_request(xid, DWS_TYPE_SYNC, NULL);
+    hear_request(xid, DW_OPERATION_SYNC, NULL);
     came.length = 0;
     add_created(&came, xid, 7, "/l"); /* its answer has a path too */
     answer_at_once(&came);
@@ -343,6 +345,59 @@ static inline void notice(int32_t event, const char *path)
     came.length = 0;
     add_notice(&came, event, path);
     answer_at_once(&came);
+}
+
+static inline void put_words(struct bytes *bytes, const char *text)
+{
+    put_buffer(bytes, text, strlen(text));
+}
+
+static inline void put_type(struct bytes *bytes, int32_t type, uint8_t is_end)
+{
+    put_int(bytes, type);
+    bytes->at[bytes->length++] = is_end;
+    put_int(bytes, -1);
+}
+
+/* A reply: a header, and a body after it. */
+static inline size_t begin_answer(struct bytes *bytes, int32_t xid, int32_t code)
+{
+    size_t begin = bytes->length;
+    add_header(bytes, xid, 6, code);
+    return begin;
+}
+
+static inline void end_answer(struct bytes *bytes, size_t begin)
+{
+    size_t end = bytes->length;
+    bytes->length = begin;
+    put_int(bytes, (int32_t)(end - begin - 4));
+    bytes->length = end;
+}
+
+static inline void put_open_acl(struct bytes *bytes)
+{
+    put_int(bytes, 1);
+    put_int(bytes, 31);
+    put_words(bytes, "world");
+    put_words(bytes, "anyone");
+}
+
+static inline void expect_words(const dws_call *call, const char *wanted)
+{
+    char why[DWS_LONGEST_LINE];
+    dws_words(session, call, why, sizeof why);
+    if (strcmp(why, wanted) != 0) {
+        fprintf(stderr, "it says '%s' and not '%s'\n", why, wanted);
+        exit(EXIT_FAILURE);
+    }
+}
+
+static inline void wait_for_cut(void)
+{
+    for (int i = 0; strchr(events, '0' + DWS_CUT) == NULL; i++) {
+        turn(i);
+    }
 }
 
 /* Listens, for all sessions of the test. */

@@ -1,5 +1,5 @@
-/* What a session asks beside the library, at a server that the test is itself, over 127.0.0.1: it reads each request, and answers in pieces. With
- * `quick` the stream is cut at few places. Frames are spelled by zookeeper.jute. */
+/* The requests of requests.h, at a server that the test is itself, over 127.0.0.1: it reads each request, and answers in pieces. With `quick` the
+ * stream is cut at few places. Frames are spelled by zookeeper.jute. */
 #define _POSIX_C_SOURCE 200809L
 #include <stdint.h>
 #include <stdlib.h>
@@ -24,44 +24,16 @@ static inline void free_watched(void *block)
 #define free free_watched
 #include "served.h"
 
-#include "../lane.h"
+#include "../requests.h"
 
 enum { BIG = 1 << 20 };
 
 /* A call that says how it was answered, by its name. */
 struct named {
     dws_call call;
-    dws_lane_call lane;
+    dws_request request;
     const char *name;
 };
-
-static void put_words(struct bytes *bytes, const char *text)
-{
-    put_buffer(bytes, text, strlen(text));
-}
-
-static void put_type(struct bytes *bytes, int32_t type, uint8_t is_end)
-{
-    put_int(bytes, type);
-    bytes->at[bytes->length++] = is_end;
-    put_int(bytes, -1);
-}
-
-/* A reply of the lane: a header, and a body after it. */
-static size_t begin_answer(struct bytes *bytes, int32_t xid, int32_t code)
-{
-    size_t begin = bytes->length;
-    add_header(bytes, xid, 6, code);
-    return begin;
-}
-
-static void end_answer(struct bytes *bytes, size_t begin)
-{
-    size_t end = bytes->length;
-    bytes->length = begin;
-    put_int(bytes, (int32_t)(end - begin - 4));
-    bytes->length = end;
-}
 
 static void add_synced(struct bytes *bytes, int32_t xid)
 {
@@ -110,17 +82,9 @@ static void add_rolled_back(struct bytes *bytes, int32_t xid, int32_t code)
     end_answer(bytes, begin);
 }
 
-static void put_open_acl(struct bytes *bytes)
-{
-    put_int(bytes, 1);
-    put_int(bytes, 31);
-    put_words(bytes, "world");
-    put_words(bytes, "anyone");
-}
-
 static struct named get, sync_call, acl, change, last;
 
-static void spell_transaction(dws_lane_call *call)
+static void spell_transaction(dws_request *call)
 {
     dws_transaction_check(session, call, "/a", 3);
     dws_transaction_set(session, call, "/a", "two", 3, 3);
@@ -148,7 +112,7 @@ static void hear_transaction(int32_t xid)
     put_words(&body, "/b");
     put_int(&body, -1);
     put_type(&body, -1, 1);
-    hear_request(xid, DWS_TYPE_MULTI, &body);
+    hear_request(xid, DW_OPERATION_MULTI, &body);
 }
 
 /* What is kept of /a, when the answer to the transaction comes: it is stale already. */
@@ -156,10 +120,10 @@ static void tell_change(dws_session *s, dws_call *call)
 {
     dw_kept_data kept;
     uint8_t none;
-    const dws_lane_call *lane = (const dws_lane_call *)(void *)call;
+    const dws_request *request = (const dws_request *)(void *)call;
     EXPECT_NUMBER(DW_OK, dw_session_peek_data(&s->machine, "/a", 2, &kept, &none, 0));
-    say("change %d mark %d zxid %d made %s version %d\n", (int)call->why, (int)kept.mark, (int)call->zxid, lane->changes[2].path,
-        (int)lane->changes[1].stat.version);
+    say("change %d mark %d zxid %d made %s version %d\n", (int)call->why, (int)kept.mark, (int)call->zxid, request->changes[2].path,
+        (int)request->changes[1].stat.version);
 }
 
 static void release_all(void)
@@ -167,43 +131,43 @@ static void release_all(void)
     struct named *all[] = {&get, &sync_call, &acl, &change, &last};
     for (size_t i = 0; i < sizeof all / sizeof all[0]; i++) {
         dws_release(&all[i]->call);
-        dws_lane_release(&all[i]->lane);
+        dws_request_release(&all[i]->request);
     }
 }
 
-/* Calls of both kinds are on their way at once, and are answered in their order, wherever the stream is cut. */
+/* Calls and requests are on their way at once, and are answered in their order, wherever the stream is cut. */
 static void ask_both(size_t first, size_t rest)
 {
     struct bytes came;
     open_session();
     admit();
     dws_get(session, named(&get.call, "get"), "/a", true);
-    named(&sync_call.lane.call, "sync");
-    dws_sync(session, &sync_call.lane, "/a");
-    named(&acl.lane.call, "acl");
-    dws_get_acl(session, &acl.lane, "/a");
-    change.lane.call.then = tell_change;
-    spell_transaction(&change.lane);
-    dws_commit(session, &change.lane);
+    named(&sync_call.request.call, "sync");
+    dws_sync(session, &sync_call.request, "/a");
+    named(&acl.request.call, "acl");
+    dws_get_acl(session, &acl.request, "/a");
+    change.request.call.then = tell_change;
+    spell_transaction(&change.request);
+    dws_commit(session, &change.request);
     dws_exists(session, named(&last.call, "last"), "/", false);
     hear_request(1, TYPE_GET, NULL);
-    hear_request(-1001, DWS_TYPE_SYNC, NULL);
-    hear_request(-1002, DWS_TYPE_GET_ACL, NULL);
-    hear_transaction(-1003);
-    hear_request(2, TYPE_EXISTS, NULL);
+    hear_request(2, DW_OPERATION_SYNC, NULL);
+    hear_request(3, DW_OPERATION_GET_ACL, NULL);
+    hear_transaction(4);
+    hear_request(5, TYPE_EXISTS, NULL);
     came.length = 0;
     add_data(&came, 1, 5, "one", &STAT);
-    add_synced(&came, -1001);
-    add_acls(&came, -1002);
+    add_synced(&came, 2);
+    add_acls(&came, 3);
     add_notice(&came, DW_EVENT_DATA_CHANGED, "/a");
-    add_changes(&came, -1003);
-    add_stat(&came, 2, 6, &STAT);
+    add_changes(&came, 4);
+    add_stat(&came, 5, 6, &STAT);
     answer(&came, first, rest);
     wait_for(&last.call);
     expect_said("get 0\nsync 0\nacl 0\nchange 0 mark 2 zxid 6 made /log-0000000000 version 7\nlast 0\n");
-    EXPECT(acl.lane.acl_count == 2 && acl.lane.acls[0].permissions == DWS_MAY_ALL && strcmp(acl.lane.acls[0].id, "") == 0);
-    EXPECT(strcmp(acl.lane.acls[1].scheme, "ip") == 0 && strcmp(acl.lane.acls[1].id, "10.0.0.0/8") == 0);
-    EXPECT(acl.lane.call.stat.pzxid == STAT.pzxid && dws_last_zxid(session) == 6);
+    EXPECT(acl.request.acl_count == 2 && acl.request.acls[0].permissions == DWS_MAY_ALL && strcmp(acl.request.acls[0].id, "") == 0);
+    EXPECT(strcmp(acl.request.acls[1].scheme, "ip") == 0 && strcmp(acl.request.acls[1].id, "10.0.0.0/8") == 0);
+    EXPECT(acl.request.call.stat.pzxid == STAT.pzxid && acl.request.call.length == 0 && dws_last_zxid(session) == 6);
     close_all();
     release_all();
 }
@@ -214,10 +178,10 @@ static size_t measure_stream(void)
     struct bytes came;
     came.length = 0;
     add_data(&came, 1, 5, "one", &STAT);
-    add_synced(&came, -1001);
-    add_acls(&came, -1002);
+    add_synced(&came, 2);
+    add_acls(&came, 3);
     add_notice(&came, DW_EVENT_DATA_CHANGED, "/a");
-    add_changes(&came, -1003);
+    add_changes(&came, 4);
     return came.length;
 }
 
@@ -232,7 +196,7 @@ static void cut_streams(bool is_quick)
     }
 }
 
-/* The lane begins within a frame of the library's, cut at each place. */
+/* The first request is asked within a frame, cut at each place. */
 static void begin_within_a_frame(bool is_quick)
 {
     struct bytes came, rest;
@@ -244,84 +208,93 @@ static void begin_within_a_frame(bool is_quick)
         dws_get(session, named(&get.call, "get"), "/a", false);
         hear_request(1, TYPE_GET, NULL);
         send_all(came.at, first);
-        named(&sync_call.lane.call, "sync");
-        dws_sync(session, &sync_call.lane, "/a");
-        hear_request(-1001, DWS_TYPE_SYNC, NULL);
+        named(&sync_call.request.call, "sync");
+        dws_sync(session, &sync_call.request, "/a");
+        hear_request(2, DW_OPERATION_SYNC, NULL);
         rest.length = came.length - first;
         memcpy(rest.at, came.at + first, rest.length);
-        add_synced(&rest, -1001);
+        add_synced(&rest, 2);
         answer(&rest, 1, 5);
-        wait_for(&sync_call.lane.call);
+        wait_for(&sync_call.request.call);
         expect_said("get 0\nsync 0\n");
         close_all();
         release_all();
     }
 }
 
-/* Where a connection ends, calls are lost, in the order of both. The library's reads are asked again. */
+/* Where a connection ends, what may have changed something is lost, in the order of calls and requests. What only reads is asked again, in its place. */
 static void lose_both(void)
 {
+    static const dws_acl acls[] = {{DWS_MAY_ALL, "world", "anyone"}};
     struct bytes came;
     char why[DWS_LONGEST_LINE];
     open_session();
     admit();
-    named(&sync_call.lane.call, "sync");
-    dws_sync(session, &sync_call.lane, "/");
+    named(&sync_call.request.call, "sync");
+    dws_sync(session, &sync_call.request, "/");
     dws_set(session, named(&change.call, "set"), "/", "one", 3, -1);
     dws_get(session, named(&get.call, "get"), "/", false);
-    named(&acl.lane.call, "acl");
-    dws_get_acl(session, &acl.lane, "/");
+    named(&acl.request.call, "acl");
+    dws_get_acl(session, &acl.request, "/");
     dws_delete(session, named(&last.call, "last"), "/a", -1);
-    hear_request(-1001, DWS_TYPE_SYNC, NULL);
-    hear_request(1, TYPE_SET, NULL);
-    hear_request(2, TYPE_GET, NULL);
-    hear_request(-1002, DWS_TYPE_GET_ACL, NULL);
-    hear_request(3, TYPE_DELETE, NULL);
+    named(&change.request.call, "set_acl");
+    dws_set_acl(session, &change.request, "/", acls, 1, -1);
+    hear_request(1, DW_OPERATION_SYNC, NULL);
+    hear_request(2, TYPE_SET, NULL);
+    hear_request(3, TYPE_GET, NULL);
+    hear_request(4, DW_OPERATION_GET_ACL, NULL);
+    hear_request(5, TYPE_DELETE, NULL);
+    hear_request(6, DW_OPERATION_SET_ACL, NULL);
     end_line();
-    wait_for(&acl.lane.call);
-    expect_said("sync 1\nset 1\nacl 1\nlast 1\n");
-    dws_words(session, &acl.lane.call, why, sizeof why);
+    wait_for(&change.request.call);
+    expect_said("set 1\nlast 1\nset_acl 1\n");
+    dws_words(session, &change.request.call, why, sizeof why);
     EXPECT(strcmp(why, "the connection ended before the reply: /; it may or may not have happened: read again") == 0);
     admit();
-    hear_request(4, TYPE_GET, NULL);
+    hear_request(7, DW_OPERATION_SYNC, NULL);
+    hear_request(8, TYPE_GET, NULL);
+    hear_request(9, DW_OPERATION_GET_ACL, NULL);
     came.length = 0;
-    add_data(&came, 4, 5, "one", &STAT);
+    add_synced(&came, 7);
+    add_data(&came, 8, 5, "one", &STAT);
+    add_acls(&came, 9);
     answer_at_once(&came);
-    wait_for(&get.call);
-    expect_said("get 0\n");
+    wait_for(&acl.request.call);
+    expect_said("sync 0\nget 0\nacl 0\n");
     close_all();
     release_all();
 }
 
-/* A call beside the library waits for a connection, and what is asked after it waits for it. The xids begin again on each connection. */
+/* A request waits for a connection as calls do, in one line with them, and on the next one too. */
 static void keep_the_order(void)
 {
     struct bytes came;
     open_session();
     dws_get(session, named(&get.call, "get"), "/", false);
-    named(&sync_call.lane.call, "sync");
-    dws_sync(session, &sync_call.lane, "/");
+    named(&sync_call.request.call, "sync");
+    dws_sync(session, &sync_call.request, "/");
     dws_get(session, named(&last.call, "last"), "/", false);
     admit();
     hear_request(1, TYPE_GET, NULL);
-    hear_request(-1001, DWS_TYPE_SYNC, NULL);
-    hear_request(2, TYPE_GET, NULL);
-    end_line();
-    wait_for(&sync_call.lane.call);
-    expect_said("sync 1\n");
-    named(&acl.lane.call, "acl");
-    dws_get_acl(session, &acl.lane, "/");
-    admit();
+    hear_request(2, DW_OPERATION_SYNC, NULL);
     hear_request(3, TYPE_GET, NULL);
+    end_line();
+    wait_for_cut();
+    named(&acl.request.call, "acl");
+    dws_get_acl(session, &acl.request, "/");
+    admit();
     hear_request(4, TYPE_GET, NULL);
-    hear_request(-1001, DWS_TYPE_GET_ACL, NULL);
+    hear_request(5, DW_OPERATION_SYNC, NULL);
+    hear_request(6, TYPE_GET, NULL);
+    hear_request(7, DW_OPERATION_GET_ACL, NULL);
     came.length = 0;
-    add_data(&came, 3, 5, "one", &STAT);
     add_data(&came, 4, 5, "one", &STAT);
-    add_acls(&came, -1001);
+    add_synced(&came, 5);
+    add_data(&came, 6, 5, "one", &STAT);
+    add_acls(&came, 7);
     answer(&came, 9, 50);
-    wait_for(&acl.lane.call);
-    expect_said("get 0\nlast 0\nacl 0\n");
+    wait_for(&acl.request.call);
+    expect_said("get 0\nsync 0\nlast 0\nacl 0\n");
     close_all();
     release_all();
 }
@@ -332,29 +305,19 @@ static void give_up(void)
     struct bytes came;
     open_session();
     admit();
-    named(&acl.lane.call, "acl");
-    dws_get_acl(session, &acl.lane, "/");
-    hear_request(-1001, DWS_TYPE_GET_ACL, NULL);
+    named(&acl.request.call, "acl");
+    dws_get_acl(session, &acl.request, "/");
+    hear_request(1, DW_OPERATION_GET_ACL, NULL);
     came.length = 0;
-    size_t begin = begin_answer(&came, -1001, 0);
+    size_t begin = begin_answer(&came, 1, 0);
     put_int(&came, 7);
     end_answer(&came, begin);
     answer_at_once(&came);
     EXPECT(strchr(events, '0' + DWS_CUT) != NULL);
-    wait_for(&acl.lane.call);
+    wait_for(&acl.request.call);
     expect_said("acl 1\n");
     close_all();
     release_all();
-}
-
-static void expect_words(const dws_call *call, const char *wanted)
-{
-    char why[DWS_LONGEST_LINE];
-    dws_words(session, call, why, sizeof why);
-    if (strcmp(why, wanted) != 0) {
-        fprintf(stderr, "it says '%s' and not '%s'\n", why, wanted);
-        exit(EXIT_FAILURE);
-    }
 }
 
 /* What is refused, by the server and before anything is sent, has its words. */
@@ -372,25 +335,25 @@ static void tell_refusals(void)
     open_session();
     admit();
     for (size_t i = 0; i < 2; i++) {
-        spell_transaction(&change.lane);
-        dws_commit(session, &change.lane);
-        hear_transaction(-1001 - (int32_t)i);
+        spell_transaction(&change.request);
+        dws_commit(session, &change.request);
+        hear_transaction(1 + (int32_t)i);
         came.length = 0;
-        add_rolled_back(&came, -1001 - (int32_t)i, rows[i].code);
+        add_rolled_back(&came, 1 + (int32_t)i, rows[i].code);
         answer(&came, 3, 5);
-        EXPECT_NUMBER(rows[i].code, dws_wait(session, &change.lane.call));
-        EXPECT_NUMBER(2, change.lane.refused);
-        expect_words(&change.lane.call, rows[i].words);
+        EXPECT_NUMBER(rows[i].code, dws_wait(session, &change.request.call));
+        EXPECT_NUMBER(2, change.request.refused);
+        expect_words(&change.request.call, rows[i].words);
     }
-    dws_transaction_check(session, &change.lane, "/a", 1);
-    dws_transaction_delete(session, &change.lane, "/a//b", 1);
-    EXPECT(dws_wait(session, dws_commit(session, &change.lane)) == DWS_REFUSED - DW_NOT_PATH);
-    expect_words(&change.lane.call, "/a//b is no path: an empty name");
-    EXPECT(dws_wait(session, dws_sync(session, &sync_call.lane, "a")) == DWS_REFUSED - DW_NOT_PATH);
-    expect_words(&sync_call.lane.call, "a is no path: no slash at its beginning");
-    EXPECT(dws_wait(session, dws_sync(session, &sync_call.lane, "/\xee\x80\x80")) == DWS_REFUSED - DW_NOT_PATH);
-    EXPECT(dws_wait(session, dws_create_with_acl(session, &acl.lane, "/a", large, BIG, 0, NULL, 0)) == DW_OUTCOME_TOO_LARGE);
-    EXPECT(dws_commit(session, &change.lane)->is_answered == false);
+    dws_transaction_check(session, &change.request, "/a", 1);
+    dws_transaction_delete(session, &change.request, "/a//b", 1);
+    EXPECT(dws_wait(session, dws_commit(session, &change.request)) == DWS_REFUSED - DW_NOT_PATH);
+    expect_words(&change.request.call, "/a//b is no path: an empty name");
+    EXPECT(dws_wait(session, dws_sync(session, &sync_call.request, "a")) == DWS_REFUSED - DW_NOT_PATH);
+    expect_words(&sync_call.request.call, "a is no path: no slash at its beginning");
+    EXPECT(dws_wait(session, dws_sync(session, &sync_call.request, "/\xee\x80\x80")) == DWS_REFUSED - DW_NOT_PATH);
+    EXPECT(dws_wait(session, dws_create_with_acl(session, &acl.request, "/a", large, BIG, 0, NULL, 0)) == DW_OUTCOME_TOO_LARGE);
+    EXPECT(dws_commit(session, &change.request)->is_answered == false);
     free(large);
     close_all();
     release_all();
@@ -437,10 +400,10 @@ static void expect_credentials(const char *words)
     put_int(&body, 0);
     put_words(&body, "digest");
     put_words(&body, words);
-    hear_request(-4, DWS_TYPE_AUTH, &body);
+    hear_request(-4, TYPE_AUTH, &body);
 }
 
-/* Credentials are told first on each connection; those that are added, once the server has taken them. */
+/* Credentials are told first on each connection, in the order in which they were handed in, and answered once. */
 static void introduce(void)
 {
     struct bytes came;
@@ -450,10 +413,10 @@ static void introduce(void)
     admit_by(-4); /* that is no xid */
     expect_credentials("ann:secret");
     hear_request(1, TYPE_GET, NULL);
-    named(&sync_call.lane.call, "bob");
-    dws_add_auth(session, &sync_call.lane, "digest", "bob:secret", 10);
-    named(&acl.lane.call, "eve");
-    dws_add_auth(session, &acl.lane, "digest", "eve:secret", 10);
+    named(&sync_call.request.call, "bob");
+    dws_add_auth(session, &sync_call.request, "digest", "bob:secret", 10);
+    named(&acl.request.call, "eve");
+    dws_add_auth(session, &acl.request, "digest", "eve:secret", 10);
     expect_credentials("bob:secret");
     expect_credentials("eve:secret");
     came.length = 0;
@@ -464,21 +427,46 @@ static void introduce(void)
     wait_for(&get.call);
     expect_said("bob 0\nget 0\n");
     end_line();
-    wait_for(&acl.lane.call);
-    expect_said("eve 1\n");
     admit();
     expect_credentials("ann:secret");
     expect_credentials("bob:secret");
+    expect_credentials("eve:secret");
+    EXPECT(!acl.request.call.is_answered);
+    came.length = 0;
+    add_header(&came, -4, 0, 0);
+    add_header(&came, -4, 0, 0);
+    add_header(&came, -4, 0, 0);
+    answer(&came, 3, 5);
+    wait_for(&acl.request.call);
+    expect_said("eve 0\n");
     close_all();
     release_all();
 }
 
-static void watch_secret(const struct dws_bytes *body)
+/* A server that never answers credentials: the call has its limit, as all have. */
+static void wait_in_vain(void)
 {
-    watched.at = body->at;
-    watched.length = body->length;
+    dws_options options;
+    memset(&options, 0, sizeof options);
+    options.patience_ms = 1000;
+    open_session_with(options);
+    admit();
+    named(&acl.request.call, "eve");
+    dws_add_auth(session, &acl.request, "digest", "eve:secret", 10);
+    expect_credentials("eve:secret");
+    wait_for(&acl.request.call);
+    expect_said("eve 99\n");
+    expect_words(&acl.request.call, "no answer came in 1 s; it may have happened, or may yet: read again");
+    close_all();
+    release_all();
+}
+
+static void watch_secret(const uint8_t *at, size_t length)
+{
+    watched.at = at;
+    watched.length = length;
     watched.wiped = 0;
-    EXPECT(body->length > 0);
+    EXPECT(length > 0);
 }
 
 /* Credentials are overwritten before they are freed, and once they are sent. */
@@ -486,22 +474,18 @@ static void wipe_credentials(void)
 {
     open_session();
     EXPECT(dws_introduce(session, "digest", "ann:secret", 10));
-    dws_add_auth(session, &acl.lane, "digest", "eve:secret", 10);
-    watch_secret(&acl.lane.body);
+    dws_add_auth(session, &acl.request, "digest", "eve:secret", 10);
     admit();
     expect_credentials("ann:secret");
     expect_credentials("eve:secret");
-    EXPECT(session->unsent.room >= 80);
-    for (size_t i = 0; i < 74; i++) { /* a ConnectRequest has 49 bytes, and credentials that come after it 40 */
-        EXPECT(memcmp(session->unsent.bytes + i, "secret", 6) != 0);
+    EXPECT(session->unsent.room >= 129);
+    for (size_t i = 0; i < 123; i++) { /* a ConnectRequest has 49 bytes, and both credentials that come after it 40 each */
+        EXPECT(memcmp(session->unsent.at + i, "secret", 6) != 0);
     }
-    end_line();
-    wait_for(&acl.lane.call);
-    dws_lane_release(&acl.lane);
-    EXPECT(watched.wiped == watched.length);
-    watch_secret(&dws_lane_of(session)->known->body);
+    watch_secret(session->credentials->frame, session->credentials->length);
     close_all();
     EXPECT(watched.wiped == watched.length);
+    EXPECT(acl.request.call.why == DW_OUTCOME_CLOSED);
     release_all();
 }
 
@@ -511,7 +495,7 @@ static void see_mark(dws_session *s, dws_subject *subject)
     say("mark %d\n", (int)subject->mark);
 }
 
-/* Credentials that are refused end the session, all calls, and what is good. Those that are added are told to their caller. */
+/* Credentials that are refused end the session, all calls, and what is good: those that are added too. */
 static void bar(void)
 {
     static dws_subject node;
@@ -521,11 +505,12 @@ static void bar(void)
     add_header(&came, -4, 0, -115);
     open_session();
     admit();
-    EXPECT(dws_add_auth(session, &acl.lane, "digest", "eve:secret", 10) == &acl.lane.call);
+    EXPECT(dws_add_auth(session, &acl.request, "digest", "eve:secret", 10) == &acl.request.call);
     expect_credentials("eve:secret");
     answer_at_once(&came);
-    EXPECT(dws_wait(session, &acl.lane.call) == -115 && !dws_is_over(session));
-    expect_words(&acl.lane.call, "the server does not take these credentials");
+    EXPECT(dws_wait(session, &acl.request.call) == -115 && dws_is_over(session));
+    expect_words(&acl.request.call, "the server does not take these credentials");
+    EXPECT(dws_wait(session, dws_add_auth(session, &acl.request, "digest", "ann:secret", 10)) == -115);
     close_all();
     open_session();
     EXPECT(dws_introduce(session, "digest", "eve:secret", 10));
@@ -577,17 +562,17 @@ static void change_followed(void)
     add_data(&came, 1, 5, "alpha", &STAT);
     answer_at_once(&came);
     turn(0);
-    change.lane.call.then = tell_followed;
-    dws_transaction_set(session, &change.lane, "/a", "beta", 4, -1);
-    dws_commit(session, &change.lane);
-    hear_request(-1001, DWS_TYPE_MULTI, NULL);
+    change.request.call.then = tell_followed;
+    dws_transaction_set(session, &change.request, "/a", "beta", 4, -1);
+    dws_commit(session, &change.request);
+    hear_request(2, DW_OPERATION_MULTI, NULL);
     came.length = 0;
     add_notice(&came, DW_EVENT_DATA_CHANGED, "/a");
-    add_set(&came, -1001, 50);
+    add_set(&came, 2, 50);
     answer_at_once(&came);
     turn(0);
     expect_said("mark 1\nchange 0 mark 2 zxid 50\nmark 2\n");
-    hear_request(2, TYPE_GET, NULL);
+    hear_request(3, TYPE_GET, NULL);
 }
 
 /* Servers in memory: the first one is behind, at zxid 40, and ends the connection of a session that has seen more, as real servers do. The session
@@ -614,7 +599,7 @@ static void leave_servers_behind(void)
             answer_at_once(&connected);
         }
     }
-    hear_request(3, TYPE_GET, NULL);
+    hear_request(4, TYPE_GET, NULL);
     close_all();
     release_all();
 }
@@ -622,18 +607,19 @@ static void leave_servers_behind(void)
 /* The zxid of each answer counts, of those that refuse too. */
 static void count_each_zxid(void)
 {
+    static const int32_t operations[] = {DW_OPERATION_SYNC, DW_OPERATION_GET_ACL, DW_OPERATION_SET_ACL, DW_OPERATION_CREATE2};
     static const dws_acl acls[] = {{DWS_MAY_ALL, "world", "anyone"}};
     struct bytes came;
     open_session();
     admit();
-    dws_sync(session, &sync_call.lane, "/a");
-    dws_get_acl(session, &acl.lane, "/a");
-    dws_set_acl(session, &last.lane, "/a", acls, 1, -1);
-    dws_create_with_acl(session, &get.lane, "/a/b", "", 0, 0, acls, 1);
+    dws_sync(session, &sync_call.request, "/a");
+    dws_get_acl(session, &acl.request, "/a");
+    dws_set_acl(session, &last.request, "/a", acls, 1, -1);
+    dws_create_with_acl(session, &get.request, "/a/b", "", 0, 0, acls, 1);
     for (int32_t i = 0; i < 4; i++) {
-        hear_request(-1001 - i, i == 0 ? DWS_TYPE_SYNC : i == 1 ? DWS_TYPE_GET_ACL : i == 2 ? DWS_TYPE_SET_ACL : DWS_TYPE_CREATE, NULL);
+        hear_request(1 + i, operations[i], NULL);
         came.length = 0;
-        add_header(&came, -1001 - i, 20 + i, DW_CODE_NO_NODE);
+        add_header(&came, 1 + i, 20 + i, DW_CODE_NO_NODE);
         answer_at_once(&came);
         EXPECT_NUMBER(20 + i, dws_last_zxid(session));
     }
@@ -645,20 +631,25 @@ static void count_each_zxid(void)
     release_all();
 }
 
-/* A frame with an xid of the lane for which nobody waits is the library's, which gives the connection up. */
+/* A frame with an xid for which nobody waits ends the connection. */
 static void leave_the_rest(void)
 {
     struct bytes came;
     open_session();
     admit();
-    dws_sync(session, named(&sync_call.lane.call, "sync") != NULL ? &sync_call.lane : NULL, "/");
-    hear_request(-1001, DWS_TYPE_SYNC, NULL);
+    dws_sync(session, named(&sync_call.request.call, "sync") != NULL ? &sync_call.request : NULL, "/");
+    hear_request(1, DW_OPERATION_SYNC, NULL);
     came.length = 0;
-    add_synced(&came, -1002);
+    add_synced(&came, 2);
     answer(&came, 5, 5);
-    wait_for(&sync_call.lane.call);
-    expect_said("sync 1\n");
-    EXPECT(strchr(events, '0' + DWS_CUT) != NULL);
+    EXPECT(strchr(events, '0' + DWS_CUT) != NULL && !sync_call.request.call.is_answered);
+    admit();
+    hear_request(2, DW_OPERATION_SYNC, NULL);
+    came.length = 0;
+    add_synced(&came, 2);
+    answer_at_once(&came);
+    wait_for(&sync_call.request.call);
+    expect_said("sync 0\n");
     close_all();
     release_all();
 }
@@ -675,12 +666,13 @@ int main(int argc, char **argv)
     tell_refusals();
     show_paths();
     introduce();
+    wait_in_vain();
     wipe_credentials();
     bar();
     leave_the_rest();
     leave_servers_behind();
     count_each_zxid();
     close(listener);
-    printf("lane: passed\n");
+    printf("requests: passed\n");
     return EXIT_SUCCESS;
 }
