@@ -136,7 +136,7 @@ fn calls_that_wait_for_a_connection_are_sent_in_their_order() {
 }
 
 #[test]
-fn a_call_of_the_lane_waits_to_its_limit_too() {
+fn a_raw_call_waits_to_its_limit_too() {
     let options = SessionOptions::new(TIMEOUT);
     let nowhere = options.open_lazily(Hosts::default()).unwrap();
     let waits = Request::sync("/").within(millis(200));
