@@ -99,3 +99,26 @@ impl Acl {
         Acl::new(permissions, "auth", "")
     }
 }
+
+/// As whom a server knows somebody: of [`Request::who_am_i`](crate::Request::who_am_i).
+///
+/// ```
+/// use dirwolleu::Id;
+///
+/// let ann = Id { scheme: String::from("digest"), id: String::from("ann") };
+/// assert_eq!(ann.to_string(), "digest:ann");
+/// ```
+#[derive(Clone, Debug, PartialEq, Eq, Hash)]
+pub struct Id {
+    /// How somebody is known, as `ip`, `digest`, `x509`.
+    pub scheme: String,
+    /// Who, in the words of the scheme, without what is secret.
+    pub id: String,
+}
+
+/// As ZooKeeper's own tools print it: `SCHEME:ID`.
+impl fmt::Display for Id {
+    fn fmt(&self, f: &mut fmt::Formatter<'_>) -> fmt::Result {
+        write!(f, "{}:{}", self.scheme, self.id)
+    }
+}

@@ -103,7 +103,7 @@ macro_rules! calls {
             $this.call(Request::create(path, data, mode))
         }
 
-        /// Makes a node with this ACL. As [`create`](Self::create) says otherwise.
+        /// Makes a node with this ACL, as [`Request::create_with_acls`] says. As [`create`](Self::create) otherwise.
         ///
         /// # Errors
         ///
@@ -116,6 +116,84 @@ macro_rules! calls {
             acls: &[Acl],
         ) -> Result<String, Error> {
             $this.call(Request::create_with_acls(path, data, mode, acls))
+        }
+
+        /// The same, and tells what is known of the node, too.
+        ///
+        /// # Errors
+        ///
+        /// As [`create_with_acls`](Self::create_with_acls).
+        pub fn create2(
+            $($receiver)+,
+            path: &str,
+            data: &[u8],
+            mode: Mode,
+            acls: &[Acl],
+        ) -> Result<(String, Stat), Error> {
+            $this.call(Request::create2(path, data, mode, acls))
+        }
+
+        /// Makes a container: a node that the servers delete once it had children and has none any more.
+        ///
+        /// # Errors
+        ///
+        /// As [`create_with_acls`](Self::create_with_acls).
+        pub fn create_container($($receiver)+, path: &str, data: &[u8], acls: &[Acl]) -> Result<String, Error> {
+            $this.call(Request::create_container(path, data, acls))
+        }
+
+        /// Makes a node that the servers delete once it was not changed and has had no children for so long, as
+        /// [`Request::create_with_ttl`] says.
+        ///
+        /// # Errors
+        ///
+        /// As [`create_with_acls`](Self::create_with_acls); [`Fault::EphemeralWithTtl`]; of the server
+        /// [`Code::UNIMPLEMENTED`](crate::Code::UNIMPLEMENTED) and [`Code::BAD_ARGUMENTS`](crate::Code::BAD_ARGUMENTS).
+        pub fn create_with_ttl(
+            $($receiver)+,
+            path: &str,
+            data: &[u8],
+            mode: Mode,
+            ttl: Duration,
+            acls: &[Acl],
+        ) -> Result<String, Error> {
+            $this.call(Request::create_with_ttl(path, data, mode, ttl, acls))
+        }
+
+        /// Reads several nodes at one zxid: what each read has brought, in their order, or with which code the server has refused it.
+        ///
+        /// # Errors
+        ///
+        /// As [`call`](Self::call).
+        pub fn multi_read($($receiver)+, reads: &[Read]) -> Result<Vec<Result<ReadAnswer, Code>>, Error> {
+            $this.call(Request::multi_read(reads))
+        }
+
+        /// The paths of the session's ephemeral nodes that begin with this path, as [`Request::ephemerals`] says.
+        ///
+        /// # Errors
+        ///
+        /// As [`call`](Self::call).
+        pub fn ephemerals($($receiver)+, prefix: &str) -> Result<Vec<String>, Error> {
+            $this.call(Request::ephemerals(prefix))
+        }
+
+        /// How many nodes are below a node, at all depths. Where there is no node it fails with [`Code::NO_NODE`](crate::Code::NO_NODE).
+        ///
+        /// # Errors
+        ///
+        /// As [`call`](Self::call).
+        pub fn all_children_number($($receiver)+, path: &str) -> Result<i32, Error> {
+            $this.call(Request::all_children_number(path))
+        }
+
+        /// As whom the server knows the session: by its address, and by its credentials.
+        ///
+        /// # Errors
+        ///
+        /// As [`call`](Self::call): of a server before version 3.7 [`Code::UNIMPLEMENTED`](crate::Code::UNIMPLEMENTED).
+        pub fn who_am_i($($receiver)+) -> Result<Vec<Id>, Error> {
+            $this.call(Request::who_am_i())
         }
 
         /// The ACL of a node, and what is known of it.
@@ -136,12 +214,13 @@ macro_rules! calls {
             $this.call(Request::set_acls(path, acls, version))
         }
 
-        /// Tells the server who the session is, in the words of a scheme, as `digest` and `user:password`: now, and on each later
-        /// connection. It fails with [`Code::AUTH_FAILED`](crate::Code::AUTH_FAILED) where the server does not take it.
+        /// Tells servers who the session is, in the words of a scheme, as `digest` and `user:password`: now, and on each later connection
+        /// before anything else. It ends once a server has accepted that.
         ///
         /// # Errors
         ///
-        /// As [`call`](Self::call).
+        /// [`Code::AUTH_FAILED`](crate::Code::AUTH_FAILED) where a server does not take it: then the session is over, as
+        /// [`SessionOptions::auth`](crate::SessionOptions::auth) says. Else as [`call`](Self::call).
         pub fn add_auth($($receiver)+, scheme: &str, credentials: &[u8]) -> Result<(), Error> {
             $this.call(Request::auth(scheme, credentials))
         }

@@ -1,61 +1,31 @@
 //! The calls of a session, until they are answered.
 
+use crate::chroot::Chroot;
 use crate::error::{ErrorKind, Search};
-use crate::moment::Moment;
-use crate::request::Asked;
+use crate::raw::RawCall;
 use crate::ticket::{Ending, Slot};
 use crate::told::Outcome;
-use std::collections::{HashMap, VecDeque};
+use std::collections::HashMap;
 use std::mem;
 use std::sync::Arc;
 
-/// A call that is to be asked.
-pub(crate) struct Queued {
-    pub(crate) asked: Asked,
-    pub(crate) slot: Arc<Slot>,
-    /// To which moment it waits.
-    pub(crate) until: Moment,
+/// A call that waits.
+struct Waiting {
+    slot: Arc<Slot>,
+    /// By what its answer is read, which the core does not read.
+    raw: Option<RawCall>,
 }
 
-/// The calls of a session, and the answers that were not handed out yet. Those of the core wait in the machine. One of the lane waits here
-/// for a connection, and so do those that were asked after it, so that the order of asking is kept.
+/// The calls of a session, which wait in its machine, and the answers that were not handed out yet.
 #[derive(Default)]
 pub(crate) struct Calls {
     last_ticket: u64,
-    slots: HashMap<u64, Arc<Slot>>,
-    queue: VecDeque<Queued>,
+    waiting: HashMap<u64, Waiting>,
     search: Option<Search>,
     answers: Vec<(Arc<Slot>, Ending)>,
 }
 
 impl Calls {
-    /// A call waits for a connection.
-    pub(crate) fn enqueue(&mut self, queued: Queued) {
-        self.queue.push_back(queued);
-    }
-
-    /// Whether calls wait here for a connection.
-    pub(crate) fn has_queue(&self) -> bool {
-        !self.queue.is_empty()
-    }
-
-    /// The call that has waited longest for a connection.
-    pub(crate) fn dequeue(&mut self) -> Option<Queued> {
-        self.queue.pop_front()
-    }
-
-    /// The first one that may not wait any longer.
-    pub(crate) fn dequeue_late(&mut self, now: Moment) -> Option<Queued> {
-        let late = self.queue.iter().position(|queued| queued.until <= now)?;
-        self.queue.remove(late)
-    }
-
-    /// To which moment the first call may wait for a connection.
-    pub(crate) fn patience(&self) -> Moment {
-        let limits = self.queue.iter().map(|queued| queued.until);
-        limits.min().unwrap_or(Moment::from_millis(u64::MAX))
-    }
-
     /// Why calls wait for a connection: this search for a server. None where there is no such reason.
     pub(crate) fn wait_for(&mut self, search: Option<Search>) {
         self.search = search;
@@ -75,19 +45,35 @@ impl Calls {
     /// The ticket of a call that is asked now.
     pub(crate) fn begin(&mut self, slot: Arc<Slot>) -> u64 {
         let ticket = self.next_ticket();
-        self.slots.insert(ticket, slot);
+        self.waiting.insert(ticket, Waiting { slot, raw: None });
         ticket
+    }
+
+    /// The answer to the call of this ticket is read by this call.
+    pub(crate) fn is_read_by(&mut self, ticket: u64, call: RawCall) {
+        if let Some(waiting) = self.waiting.get_mut(&ticket) {
+            waiting.raw = Some(call);
+        }
+    }
+
+    /// What has come of the call of this ticket, whose answer is read where the core has not. None where it does not read.
+    pub(crate) fn read(&self, ticket: u64, outcome: Outcome, root: &Chroot) -> Option<Outcome> {
+        let waiting = self.waiting.get(&ticket);
+        match (waiting.and_then(|it| it.raw.as_ref()), outcome) {
+            (Some(call), Ok(found)) => call.read(&found.data.unwrap_or_default(), root),
+            (_, outcome) => Some(outcome),
+        }
     }
 
     /// Whether the call of this ticket has no answer yet.
     pub(crate) fn waits(&self, ticket: u64) -> bool {
-        self.slots.contains_key(&ticket)
+        self.waiting.contains_key(&ticket)
     }
 
     /// A call has its answer.
     pub(crate) fn end(&mut self, ticket: u64, outcome: Outcome) {
-        if let Some(slot) = self.slots.remove(&ticket) {
-            self.answer(slot, outcome);
+        if let Some(waiting) = self.waiting.remove(&ticket) {
+            self.answer(waiting.slot, outcome);
         }
     }
 
@@ -98,10 +84,8 @@ impl Calls {
 
     /// All calls have this answer, also those that were not sent yet.
     pub(crate) fn end_all(&mut self, kind: &ErrorKind) {
-        let asked = mem::take(&mut self.slots).into_values();
-        let queued = mem::take(&mut self.queue).into_iter();
-        for slot in asked.chain(queued.map(|queued| queued.slot)) {
-            self.answer(slot, Err(kind.clone()));
+        for waiting in mem::take(&mut self.waiting).into_values() {
+            self.answer(waiting.slot, Err(kind.clone()));
         }
     }
 

@@ -38,13 +38,36 @@ impl Chroot {
         }
     }
 
-    /// The same, of a text that nobody else looks at: it has to be the path of a node.
+    /// The same, of a text in a record that the core does not read: it has to be the path of a node.
     pub(crate) fn checked<'a>(&self, path: &'a str) -> Result<Cow<'a, str>, Fault> {
         let is_path = path == "/" || !path.is_empty() && Chroot::of(path).is_some();
         if !is_path || path.chars().any(is_no_letter) {
             return Err(Fault::not_path(path));
         }
         self.outer(path)
+    }
+
+    /// The same, of a node that is to be made. The number of a sequential one may be all of its name: then the path ends with `/`.
+    pub(crate) fn checked_create(&self, path: &str, is_sequential: bool) -> Result<String, Fault> {
+        match path.strip_suffix('/').filter(|_| is_sequential) {
+            None => self.checked(path).map(Cow::into_owned),
+            Some("") => Ok(self.prefix.clone() + "/"),
+            Some("/") => Err(Fault::not_path(path)),
+            Some(folder) => {
+                let folder = self.checked(folder).map_err(|fault| fault.at(path))?;
+                Ok(folder.into_owned() + "/")
+            }
+        }
+    }
+
+    /// The same, of a path with which others begin: those of all nodes of the program where it is `/`.
+    pub(crate) fn checked_prefix(&self, path: &str) -> Result<String, Fault> {
+        let outer = self.checked(path)?.into_owned();
+        Ok(if path == "/" && outer != "/" {
+            outer + "/"
+        } else {
+            outer
+        })
     }
 
     /// The program's path, of one that the servers know.
@@ -88,7 +111,7 @@ mod tests {
     }
 
     #[test]
-    fn a_path_that_only_the_lane_sees_is_checked() {
+    fn a_path_that_the_core_does_not_read_is_checked() {
         let app = Chroot::of("/app").unwrap();
         for (path, outer) in [("/", "/app"), ("/a", "/app/a"), ("/a/b c", "/app/a/b c")] {
             assert_eq!(app.checked(path).as_deref(), Ok(outer));
@@ -106,6 +129,33 @@ mod tests {
         ] {
             assert_eq!(app.checked(text), Err(Fault::not_path(text)), "{text:?}");
         }
+    }
+
+    #[test]
+    fn a_sequential_node_may_have_a_number_for_its_name() {
+        let (root, app) = (Chroot::default(), Chroot::of("/app").unwrap());
+        for (path, outer) in [("/", "/app/"), ("/a/", "/app/a/"), ("/a", "/app/a")] {
+            assert_eq!(app.checked_create(path, true).as_deref(), Ok(outer));
+            assert_eq!(root.checked_create(path, true).as_deref(), Ok(path));
+        }
+        for path in ["", "a/", "//", "/a//", "/./"] {
+            let fault = Fault::not_path(path);
+            assert_eq!(app.checked_create(path, true), Err(fault), "{path}");
+        }
+        assert_eq!(
+            app.checked_create("/a/", false),
+            Err(Fault::not_path("/a/"))
+        );
+    }
+
+    #[test]
+    fn a_prefix_is_that_of_nodes_of_the_program_alone() {
+        let (root, app) = (Chroot::default(), Chroot::of("/app").unwrap());
+        for (path, outer) in [("/", "/app/"), ("/a", "/app/a")] {
+            assert_eq!(app.checked_prefix(path).as_deref(), Ok(outer));
+            assert_eq!(root.checked_prefix(path).as_deref(), Ok(path));
+        }
+        assert_eq!(app.checked_prefix("/a/"), Err(Fault::not_path("/a/")));
     }
 
     #[test]

@@ -4,6 +4,7 @@
 mod asking;
 mod deleting;
 mod following;
+mod introducing;
 mod stepping;
 mod trees;
 
@@ -16,14 +17,13 @@ use crate::fault::{Code, Fault, NoReply};
 use crate::followed::Followed;
 use crate::growing::Growing;
 use crate::hosts::{chance, Host, Hosts, Order, Places};
-use crate::introductions::Introductions;
-use crate::lane::{Credentials, Lane};
+use crate::introductions::{Credentials, Introductions};
 use crate::machine::Machine;
 use crate::moment::{Clock, Moment};
 use crate::outbox::Outbox;
 use crate::saved::SavedSession;
 use crate::ticket::{Ending, Slot};
-use crate::told::{Event, Outcome, Told};
+use crate::told::{Event, Told};
 use std::collections::BTreeMap;
 use std::mem;
 use std::net::SocketAddr;
@@ -114,15 +114,12 @@ pub(crate) struct Engine {
     line: Option<Arc<Outbox>>,
     /// Those to which something was put, or which are over: to be written without the lock.
     outboxes: Vec<Arc<Outbox>>,
-    /// Whether nothing was sent on the connection yet.
-    greets: bool,
     /// The server that the connection was made to last.
     address: Option<SocketAddr>,
     /// Why no server was found since the session was connected last: the last reason of each address.
     reasons: Vec<String>,
+    /// What there was no memory for, of what came from the server.
     inbox: Vec<u8>,
-    lane: Lane,
-    answers: Vec<(u64, Outcome)>,
     introductions: Introductions,
     deletions: Deletions,
     /// The call that is to end the session, where one was asked.
@@ -157,12 +154,9 @@ impl Engine {
             dialling: None,
             line: None,
             outboxes: Vec::new(),
-            greets: false,
             address: None,
             reasons: Vec::new(),
             inbox: Vec::new(),
-            lane: Lane::default(),
-            answers: Vec::new(),
             introductions: Introductions::of(beginning.credentials),
             deletions: Deletions::default(),
             closing: None,
@@ -196,11 +190,11 @@ impl Engine {
         Ok(())
     }
 
-    /// What the next machine is to take up. After a close it is another session, which begins at the greatest zxid seen; after an expiry the
-    /// machine has it already.
+    /// What the next machine is to take up. After a close, or where credentials were refused, it is another session, which begins at the
+    /// greatest zxid seen; after an expiry the machine has it already.
     fn saved_for_renewal(&self) -> Result<SavedSession, Fault> {
         let saved = self.machine.saved()?;
-        if self.course != Course::Ended(State::Closed) {
+        if !matches!(self.course, Course::Ended(State::Closed) | Course::Barred) {
             return Ok(saved);
         }
         let mut client = Client::resume(self.asked_timeout, &saved)?;
@@ -269,21 +263,6 @@ impl Engine {
         &self.machine
     }
 
-    /// The session, to be taken up by another one: also what the lane has seen counts.
-    pub(crate) fn saved(&self) -> Result<SavedSession, Fault> {
-        Ok(self.lane.saved(&self.machine.saved()?))
-    }
-
-    /// The greatest zxid seen. A reply to the lane counts once the machine has what came before it.
-    pub(crate) fn last_zxid(&self) -> i64 {
-        let of_core = self.machine.last_zxid();
-        if self.inbox.is_empty() {
-            of_core.max(self.lane.zxid())
-        } else {
-            of_core
-        }
-    }
-
     pub(crate) fn chroot(&self) -> &Chroot {
         &self.chroot
     }
@@ -296,6 +275,7 @@ impl Engine {
     pub(crate) fn state(&self, lateness: Duration) -> Option<State> {
         match self.course {
             Course::Ended(state) => return Some(state),
+            Course::Barred => return Some(State::Closed),
             Course::Panicked => return None,
             _ => {}
         }
@@ -394,17 +374,7 @@ impl Engine {
 
     /// The first moment at which something is due, also of what the machine does not know.
     fn due(&self) -> Moment {
-        let due = self.deadline().min(self.lane.deadline());
-        due.min(self.calls.patience()).min(self.end_of_waiting())
-    }
-
-    /// When the connection is to be given up, unless an answer to the lane comes: after two thirds of the timeout, rounded up, and a second at
-    /// least, whatever else the server sends. So does the machine with what it sends itself.
-    fn end_of_waiting(&self) -> Moment {
-        let share = (self.machine.timeout() * 2 + Duration::from_millis(2)) / 3;
-        let patience = share.max(Duration::from_secs(1));
-        let since = self.lane.since();
-        since.map_or(NEVER, |since| since.saturating_add(patience))
+        self.deadline().min(self.introductions.deadline())
     }
 
     /// Whether something is due on the connection already.
@@ -483,14 +453,10 @@ impl Engine {
         self.tick_at(self.clock.now())
     }
 
-    /// Tells a moment, up to which all that came was handed in. The connection ends where the server leaves something without an answer for
-    /// too long.
+    /// Tells a moment, up to which all that came was handed in.
     pub(crate) fn tick_at(&mut self, now: Moment) -> Result<(), Fault> {
         self.step(now, Machine::tick)?;
         self.end_late(now);
-        if self.end_of_waiting() <= now {
-            return self.leave();
-        }
         Ok(())
     }
 
@@ -503,8 +469,7 @@ impl Engine {
         let now = if self.line.is_none() { now } else { limit };
         if self.line.is_none() || limit <= self.due() {
             // A machine that halts answers each call.
-            let _ = self.step(now, Machine::tick);
-            self.end_late(now);
+            let _ = self.tick_at(now);
         }
     }
 }
@@ -515,6 +480,7 @@ mod tests {
     use crate::action::Refusal;
     use crate::client::State;
     use crate::jute::Writer;
+    use crate::node::ANY_VERSION;
     use crate::request::Request;
     use crate::stream::Outgoing;
     use crate::told::{Shows, TreeNews};
@@ -640,21 +606,22 @@ mod tests {
     }
 
     #[test]
-    fn a_connection_ends_two_thirds_of_the_timeout_after_what_waits_in_the_lane() {
-        let mut engine = connected();
-        assert_eq!(engine.end_of_waiting(), NEVER);
-        engine.ask(Request::sync("/").asked, Slot::new(Some("/")));
-        let since = engine.lane.since().unwrap();
-        let waits = engine.end_of_waiting().saturating_duration_since(since);
-        assert_eq!(waits, Duration::from_secs(2));
-    }
-
-    #[test]
     fn why_a_connection_is_left_is_told() {
         let mut engine = connected();
-        engine.ask(Request::sync("/").asked, Slot::new(Some("/")));
-        engine.leave().unwrap();
-        assert_eq!((engine.is_open(), engine.end_of_waiting()), (false, NEVER));
+        let asked = Request::set_acls("/", &[], ANY_VERSION).asked;
+        engine.ask(asked, Slot::new(Some("/")));
+        let begun = engine.clock.now();
+        let after = |millis| begun.saturating_add(Duration::from_millis(millis));
+        let mut notice = Writer::default();
+        notice.int(-1).long(-1).int(0).int(3).int(3).text("/a");
+        let mut frame = Writer::default();
+        frame.buffer(&notice.into_bytes());
+        let frame = frame.into_bytes();
+        let heard = engine.step(after(1_500), |machine, now| machine.bytes(now, &frame));
+        heard.unwrap();
+        assert!(engine.is_open() && engine.take_answers().is_empty());
+        engine.tick_at(after(2_100)).unwrap();
+        assert!(!engine.is_open());
         let (_, ending) = engine.take_answers().remove(0);
         let lost = ErrorKind::NoReply(NoReply::ConnectionLoss);
         assert_eq!(ending.unwrap_err().kind(), &lost);

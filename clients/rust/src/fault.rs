@@ -88,6 +88,8 @@ pub enum Fault {
     NotWhole,
     /// The subtree has more nodes than were asked for.
     TooManyNodes,
+    /// A node with a time to live cannot go with its session: it is persistent, or persistent and sequential.
+    EphemeralWithTtl,
     /// The library that is linked is of another version than this crate.
     #[non_exhaustive]
     OtherVersion {
@@ -130,24 +132,29 @@ impl Fault {
             Fault::NotSaved => result::NOT_SAVED,
             Fault::NotWhole => result::NOT_WHOLE,
             Fault::TooManyNodes => result::TOO_MANY,
-            Fault::OtherVersion { .. } | Fault::UnknownNumber(_) | Fault::Panicked => return None,
+            Fault::OtherVersion { .. }
+            | Fault::UnknownNumber(_)
+            | Fault::Panicked
+            | Fault::EphemeralWithTtl => return None,
         })
     }
 
     pub(crate) fn reason(&self) -> &'static str {
-        match self.number() {
-            Some(number) => words::result(number).unwrap_or_default(),
-            None if *self == Fault::Panicked => "the session's thread has panicked",
-            None => "the library is of another version than this crate",
+        match (self, self.number()) {
+            (_, Some(number)) => words::result(number).unwrap_or_default(),
+            (Fault::Panicked, _) => "the session's thread has panicked",
+            (Fault::EphemeralWithTtl, _) => "a node with a time to live cannot go with its session",
+            _ => "the library is of another version than this crate",
         }
     }
 
     /// What to do. Nothing where the reason says it.
     pub(crate) fn advice(&self) -> &'static str {
-        match self.number() {
-            Some(number) => advice::result(number),
-            None if *self == Fault::Panicked => "open another session",
-            None => "take both of one version",
+        match (self, self.number()) {
+            (_, Some(number)) => advice::result(number),
+            (Fault::Panicked, _) => "open another session",
+            (Fault::EphemeralWithTtl, _) => "make it persistent",
+            _ => "take both of one version",
         }
     }
 

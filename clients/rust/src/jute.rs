@@ -1,7 +1,11 @@
-//! Records of `zookeeper.jute`, as the lane spells and reads them.
+//! Fields of records, and records, of `zookeeper.jute`.
 
-use crate::acl::{Acl, Permissions};
-use crate::node::Stat;
+use crate::acl::{Acl, Id, Permissions};
+use crate::fault::Code;
+use crate::node::{Node, Stat};
+
+/// The number that a `MultiHeader` has of what was refused, and at the end.
+const MULTI_END: i32 = -1;
 
 /// Spells fields, one after the other.
 #[derive(Default)]
@@ -15,6 +19,11 @@ impl Writer {
     }
 
     pub(crate) fn int(&mut self, number: i32) -> &mut Writer {
+        self.bytes.extend(number.to_be_bytes());
+        self
+    }
+
+    pub(crate) fn long(&mut self, number: i64) -> &mut Writer {
         self.bytes.extend(number.to_be_bytes());
         self
     }
@@ -46,6 +55,16 @@ impl Writer {
             self.text(&acl.scheme).text(&acl.id);
         }
         self
+    }
+
+    /// `MultiHeader`, of an operation of this number.
+    pub(crate) fn multi_header(&mut self, number: i32) -> &mut Writer {
+        self.int(number).boolean(false).int(-1)
+    }
+
+    /// The `MultiHeader` that ends operations.
+    pub(crate) fn multi_end(&mut self) -> &mut Writer {
+        self.int(MULTI_END).boolean(true).int(-1)
     }
 }
 
@@ -96,17 +115,64 @@ impl<'a> Reader<'a> {
         String::from_utf8(self.take(length)?.to_vec()).ok()
     }
 
-    pub(crate) fn acls(&mut self) -> Option<Vec<Acl>> {
+    /// `GetDataResponse`. The length of null data is -1.
+    pub(crate) fn node(&mut self) -> Option<Node> {
+        let data = match self.int()? {
+            -1 => None,
+            length => Some(self.bytes(usize::try_from(length).ok()?)?),
+        };
+        let stat = self.stat()?;
+        Some(Node { data, stat })
+    }
+
+    /// A vector, whose elements this reads.
+    pub(crate) fn vector<T>(&mut self, one: fn(&mut Reader<'a>) -> Option<T>) -> Option<Vec<T>> {
         let count = self.int()?;
-        (0..count).map(|_| self.acl()).collect()
+        (0..count).map(|_| one(self)).collect()
+    }
+
+    pub(crate) fn acls(&mut self) -> Option<Vec<Acl>> {
+        self.vector(Reader::acl)
     }
 
     fn acl(&mut self) -> Option<Acl> {
+        let permissions = Permissions::of(self.int()?);
+        let Id { scheme, id } = self.id()?;
         Some(Acl {
-            permissions: Permissions::of(self.int()?),
+            permissions,
+            scheme,
+            id,
+        })
+    }
+
+    /// `Id`, as which `ClientInfo` is spelled too.
+    pub(crate) fn id(&mut self) -> Option<Id> {
+        Some(Id {
             scheme: self.text()?,
             id: self.text()?,
         })
+    }
+
+    /// The result of an operation, which `read` reads where the number of its `MultiHeader` is this one, or the code with which it was refused.
+    pub(crate) fn multi_result<T>(
+        &mut self,
+        number: i32,
+        read: impl FnOnce(&mut Reader<'a>) -> Option<T>,
+    ) -> Option<Result<T, Code>> {
+        let found = self.int()?;
+        self.boolean()?;
+        self.int()?;
+        match found {
+            MULTI_END => self.int().map(|code| Err(Code(code))),
+            _ if found == number => read(self).map(Ok),
+            _ => None,
+        }
+    }
+
+    /// The `MultiHeader` that ends results.
+    pub(crate) fn multi_end(&mut self) -> Option<()> {
+        let (number, is_end, _) = (self.int()?, self.boolean()?, self.int()?);
+        (number == MULTI_END && is_end).then_some(())
     }
 
     pub(crate) fn stat(&mut self) -> Option<Stat> {

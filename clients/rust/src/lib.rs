@@ -29,13 +29,13 @@
 //!
 //! **Proved** is the core: what each function of its header says. So it is when which host is dialled, which calls wait, when they are
 //! late, which are asked again after a lost connection, and when what is followed is read. **Tested** is all that is above it, in this
-//! crate: connections, tickets, retries, chroots, the addresses of hosts, what is asked beside the core, when a [`Tree`] is read and shown,
+//! crate: connections, tickets, retries, chroots, the addresses of hosts, records that the core does not read, when a [`Tree`] is read and shown,
 //! and [`Registration`]; and of a [`Lock`] and an [`Election`] all but who comes first, which the core says. Which nodes a [`TreeSnapshot`] and a [`Snapshot`] have, and that all of them are of one moment, the core says.
 //!
-//! A session asks beside the core what the core does not know: transactions, ACLs, credentials and `sync`. It writes these requests
-//! between those of the core, and takes their answers out of the stream before the core is handed it. So for the core, what they change
-//! is changed by others: marks stay right, and what a transaction made stale is stale when its caller goes on. They leave no watch. The
-//! zxid of each reply counts when the next server is chosen: one that is behind it does not admit the session.
+//! Transactions, ACLs, `sync` and other [operations](RawOperation) go by the core, which numbers, sends, answers and loses them as each call,
+//! and reads no byte of them: what is spelled, and what an answer says, is tested. For the core, what they change is changed by others: so
+//! what a transaction made stale is stale when its caller goes on. The zxid of each reply counts: a server that is behind it does not admit the
+//! session.
 //!
 //! Enums that a later version may add to are `non_exhaustive`. [`State`], [`Mark`], [`Sharing`] and [`Watch`] are whole.
 //!
@@ -66,18 +66,19 @@ mod introductions;
 mod jute;
 mod keeper;
 mod kept;
-mod lane;
 mod local;
 mod lock;
 mod looking;
 mod machine;
 mod moment;
+mod multi_read;
 mod node;
 mod numbers;
 mod options;
 mod outbox;
 mod output;
 mod path_fault;
+mod raw;
 mod registration;
 mod request;
 mod retry;
@@ -98,7 +99,7 @@ mod tree;
 mod tree_snapshot;
 mod view;
 
-pub use acl::{Acl, Permissions};
+pub use acl::{Acl, Id, Permissions};
 pub use action::{Action, Actions, Refusal};
 pub use client::{Client, State};
 pub use error::{Error, ErrorKind};
@@ -111,10 +112,12 @@ pub use local::LocalSession;
 pub use lock::{Election, Lock, LockNames, LockOptions, Sharing};
 pub use machine::Machine;
 pub use moment::{Clock, Moment};
+pub use multi_read::{Read, ReadAnswer};
 pub use node::{DataStat, Mode, Node, NodeEvent, Side, Stat, Watch, ANY_VERSION};
 pub use options::{OpenError, SessionOptions};
 pub use output::{Brought, Bytes, Cause, GivenUp, Names, Output, Outputs, Reply, Text};
 pub use path_fault::PathFault;
+pub use raw::RawOperation;
 pub use registration::Registration;
 pub use request::Request;
 pub use retry::Retry;

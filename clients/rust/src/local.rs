@@ -1,14 +1,15 @@
 //! A session without a thread.
 
-use crate::acl::Acl;
+use crate::acl::{Acl, Id};
 use crate::both::{calls, look_ups, watch, Asks};
 use crate::client::State;
 use crate::engine::{Engine, NEVER};
 use crate::error::Error;
-use crate::fault::Fault;
+use crate::fault::{Code, Fault};
 use crate::hosts::Hosts;
 use crate::keeper::{ask, Keeper, Shared};
 use crate::kept::{Children, DataAnswer, Kept, Mark};
+use crate::multi_read::{Read, ReadAnswer};
 use crate::node::{Mode, Node, Stat};
 use crate::options::{OpenError, SessionOptions};
 use crate::request::Request;

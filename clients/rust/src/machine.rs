@@ -9,6 +9,7 @@ use crate::looking::{look_ups_of_handle, no_path_among, texts_in, whole, whole_t
 use crate::moment::Moment;
 use crate::node::{Mode, Side, Watch};
 use crate::numbers::result;
+use crate::raw::RawOperation;
 use crate::saved::SavedSession;
 use crate::snapshot::{snapshot_in, Snapshot};
 use crate::standing::{spelled, Contender, Standing};
@@ -286,6 +287,25 @@ impl Machine {
 
         /// Asks to delete a node. The version is as of [`set_data`](Machine::set_data).
         delete(version: i32);
+    }
+
+    /// Asks for another operation, with what stands after the header of its request, as `zookeeper.jute` spells its record. The core adds the
+    /// header, and reads none of these bytes: 1,048,567 at most, else it is answered [`TooLarge`](crate::NoReply::TooLarge). A reply without
+    /// an error brings [`Brought::Raw`](crate::Brought::Raw).
+    ///
+    /// # Errors
+    ///
+    /// [`Fault::NoMemory`]: then nothing has happened. [`Fault::Halted`] and [`Fault::UnknownNumber`].
+    pub fn raw(
+        &mut self,
+        now: Moment,
+        ticket: u64,
+        until: Option<Moment>,
+        operation: RawOperation,
+        body: &[u8],
+    ) -> Result<Actions<'_>, Fault> {
+        let (until, number) = (moment_of(until), operation.number());
+        self.step(|handle| handle.raw(now, ticket, until, number, body))
     }
 
     /// Asks to end the session.

@@ -149,14 +149,23 @@ pub enum Mode {
 }
 
 impl Mode {
-    /// The number of the protocol.
-    pub(crate) fn number(self) -> u32 {
-        let sum = match self {
+    /// The flags of a create, as the protocol has them.
+    pub(crate) fn flags(self) -> i32 {
+        match self {
             Mode::Persistent => mode::PERSISTENT,
             Mode::Ephemeral => mode::EPHEMERAL,
             Mode::PersistentSequential => mode::SEQUENTIAL,
             Mode::EphemeralSequential => mode::EPHEMERAL | mode::SEQUENTIAL,
-        };
-        sum.unsigned_abs()
+        }
+    }
+
+    /// The same, as the library takes them.
+    pub(crate) fn number(self) -> u32 {
+        self.flags().unsigned_abs()
+    }
+
+    /// Whether the server adds a number to the name.
+    pub(crate) fn is_sequential(self) -> bool {
+        self.flags() & mode::SEQUENTIAL != 0
     }
 }

@@ -4,8 +4,8 @@ use crate::engine::{Beginning, Engine};
 use crate::error::Error;
 use crate::fault::Fault;
 use crate::hosts::{Hosts, HostsFault, Order};
+use crate::introductions::Credentials;
 use crate::keeper::{Keeper, Shared};
-use crate::lane::Credentials;
 use crate::local::LocalSession;
 use crate::outbox::Writer;
 use crate::retry::Retry;
@@ -165,8 +165,9 @@ impl SessionOptions {
     }
 
     /// Who the session is, in the words of a scheme, as `digest` and `user:password`: told on each connection before anything else. Where a
-    /// server does not take it, [`Event::CredentialsRefused`](crate::Event::CredentialsRefused) comes, and each call fails with
-    /// [`Code::AUTH_FAILED`](crate::Code::AUTH_FAILED). Credentials cross the network as they are: use TLS.
+    /// server does not take it, the session is over: [`Event::CredentialsRefused`](crate::Event::CredentialsRefused) comes, its state is
+    /// [`State::Closed`](crate::State::Closed), each call fails with [`Code::AUTH_FAILED`](crate::Code::AUTH_FAILED), it dials no more, and it
+    /// forgets its credentials. Credentials cross the network as they are: use TLS.
     pub fn auth(mut self, scheme: &str, credentials: &[u8]) -> SessionOptions {
         self.credentials.push(Credentials::new(scheme, credentials));
         self

@@ -221,6 +221,8 @@ pub enum Brought<'a> {
     Created(Text<'a>),
     /// To [`delete`](Client::delete) and [`close_session`](Client::close_session): it is done.
     Done,
+    /// To [`Machine::raw`](crate::Machine::raw): all that stands after the header of the reply, of which the core has read nothing.
+    Raw(Bytes<'a>),
 }
 
 impl<'a> Brought<'a> {
@@ -247,6 +249,7 @@ impl<'a> Brought<'a> {
             }),
             brought::CREATED => Ok(Brought::Created(Text { bytes })),
             brought::DONE => Ok(Brought::Done),
+            brought::RAW => Ok(Brought::Raw(bytes)),
             other => return Err(UnknownNumber::of("result of a reply", other)),
         })
     }
@@ -542,7 +545,7 @@ mod tests {
             ((0, 0, 0), "output"),
             ((6, 0, 0), "output"),
             ((2, 0, 0), "result of a reply"),
-            ((2, 0, 7), "result of a reply"),
+            ((2, 0, 8), "result of a reply"),
             ((2, 8, 0), "outcome"),
             ((3, 1, 3), "side"),
             ((3, 5, 1), "event"),

@@ -1,13 +1,15 @@
 //! What a program asks of the servers.
 
-use crate::acl::Acl;
+use crate::acl::{Acl, Id};
 use crate::action::Actions;
 use crate::error::Error;
 use crate::fault::{Code, Fault};
-use crate::lane::{Credentials, LaneCall};
+use crate::introductions::Credentials;
 use crate::machine::Machine;
 use crate::moment::Moment;
+use crate::multi_read::{Read, ReadAnswer};
 use crate::node::{Mode, Node, Stat, Watch};
+use crate::raw::{Lifetime, RawCall};
 use crate::ticket::Ending;
 use crate::told::Found;
 use std::fmt;
@@ -56,16 +58,18 @@ impl CoreCall {
 #[derive(Clone, PartialEq, Eq)]
 pub(crate) enum Call {
     Core(CoreCall),
-    Lane(LaneCall),
+    Raw(RawCall),
+    Auth(Credentials),
 }
 
 impl Call {
     /// Whether the servers are as they were after it.
     fn is_read(&self) -> bool {
         match self {
-            Call::Core(CoreCall::Exists(_) | CoreCall::Data(_) | CoreCall::Children(_)) => true,
+            Call::Core(CoreCall::Exists(_) | CoreCall::Data(_) | CoreCall::Children(_))
+            | Call::Auth(_) => true,
             Call::Core(_) => false,
-            Call::Lane(call) => call.is_read(),
+            Call::Raw(call) => call.is_read(),
         }
     }
 }
@@ -82,11 +86,12 @@ pub(crate) struct Asked {
 impl Asked {
     /// The path of the node that it is about. None where it is about no node.
     pub(crate) fn node(&self) -> Option<&str> {
-        let is_of_session = matches!(
-            self.call,
-            Call::Core(CoreCall::Close) | Call::Lane(LaneCall::Auth(_) | LaneCall::Transaction(_))
-        );
-        (!is_of_session).then_some(self.path.as_str())
+        let has_node = match &self.call {
+            Call::Core(call) => *call != CoreCall::Close,
+            Call::Raw(call) => call.has_node(),
+            Call::Auth(_) => false,
+        };
+        has_node.then_some(self.path.as_str())
     }
 }
 
@@ -228,7 +233,7 @@ impl Request<Stat> {
     /// Sets the ACL of a node whose ACL has this version ([`Stat::aversion`]); [`ANY_VERSION`](crate::ANY_VERSION) is that of each node.
     pub fn set_acls(path: &str, acls: &[Acl], version: i32) -> Request<Stat> {
         let acls = acls.to_vec();
-        let call = Call::Lane(LaneCall::SetAcls { acls, version });
+        let call = Call::Raw(RawCall::SetAcls { acls, version });
         Request::new(path, call, |ending| ending.map(|found| found.stat))
     }
 }
@@ -236,8 +241,10 @@ impl Request<Stat> {
 impl Request<(Vec<Acl>, Stat)> {
     /// The ACL of a node, and what is known of it.
     pub fn acls(path: &str) -> Request<(Vec<Acl>, Stat)> {
-        Request::new(path, Call::Lane(LaneCall::Acls), |ending| {
-            ending.map(|found| (found.acls, found.stat))
+        Request::new(path, Call::Raw(RawCall::Acls), |ending| {
+            ending
+                .map(|found| (found.stat, found.records().acls))
+                .map(|(stat, acls)| (acls, stat))
         })
     }
 }
@@ -253,12 +260,96 @@ impl Request<String> {
         )
     }
 
-    /// The same, of a node with this ACL.
+    /// The same, of a node with this ACL. It goes by `create2`, which ZooKeeper has since version 3.5. The path of a sequential one may end
+    /// with `/`: then its name is the number alone.
     pub fn create_with_acls(path: &str, data: &[u8], mode: Mode, acls: &[Acl]) -> Request<String> {
-        let (data, acls) = (data.to_vec(), acls.to_vec());
-        let call = Call::Lane(LaneCall::Create { data, mode, acls });
-        Request::new(path, call, |ending| {
+        Request::created(path, data, acls, Lifetime::Mode(mode))
+    }
+
+    /// Makes a container: a node that the servers delete once it had children and has none any more (ZooKeeper Programmer's Guide, *Container
+    /// Nodes*).
+    pub fn create_container(path: &str, data: &[u8], acls: &[Acl]) -> Request<String> {
+        Request::created(path, data, acls, Lifetime::Container)
+    }
+
+    /// Makes a node that the servers delete once it was not changed and has had no children for so long, in whole milliseconds: at least 1,
+    /// less than 2^40, and else the answer is [`Code::BAD_ARGUMENTS`]. Servers have to be told to keep such nodes (Programmer's Guide, *TTL
+    /// Nodes*): else the answer is [`Code::UNIMPLEMENTED`]. The mode is [`Mode::Persistent`] or [`Mode::PersistentSequential`]; with another one
+    /// nothing is asked, and it fails with [`Fault::EphemeralWithTtl`].
+    pub fn create_with_ttl(
+        path: &str,
+        data: &[u8],
+        mode: Mode,
+        ttl: Duration,
+        acls: &[Acl],
+    ) -> Request<String> {
+        Request::created(path, data, acls, Lifetime::Ttl { mode, ttl })
+    }
+
+    fn created(path: &str, data: &[u8], acls: &[Acl], lifetime: Lifetime) -> Request<String> {
+        Request::new(path, creation(data, acls, lifetime), |ending| {
             ending.map(|found| found.path).map_err(Error::of_create)
+        })
+    }
+}
+
+/// A create that brings the path and the Stat of the node.
+fn creation(data: &[u8], acls: &[Acl], lifetime: Lifetime) -> Call {
+    let (data, acls) = (data.to_vec(), acls.to_vec());
+    Call::Raw(RawCall::Create {
+        data,
+        acls,
+        lifetime,
+    })
+}
+
+impl Request<(String, Stat)> {
+    /// As [`create_with_acls`](Request::create_with_acls), and tells what is known of the node, too.
+    pub fn create2(path: &str, data: &[u8], mode: Mode, acls: &[Acl]) -> Request<(String, Stat)> {
+        Request::new(path, creation(data, acls, Lifetime::Mode(mode)), |ending| {
+            let found = ending.map_err(Error::of_create)?;
+            Ok((found.path, found.stat))
+        })
+    }
+}
+
+impl Request<Vec<Result<ReadAnswer, Code>>> {
+    /// Reads several nodes at one zxid, and tells what each read has brought, in their order, or with which code the server has refused it.
+    /// ZooKeeper has it since version 3.6. It leaves no watch.
+    pub fn multi_read(reads: &[Read]) -> Request<Vec<Result<ReadAnswer, Code>>> {
+        let call = Call::Raw(RawCall::Reads(reads.to_vec()));
+        Request::new("/", call, |ending| {
+            ending.map(|found| found.records().answers)
+        })
+    }
+}
+
+impl Request<Vec<String>> {
+    /// The paths of the session's ephemeral nodes that begin with this path, which need not be one of a node: `/a` begins `/ab` too. ZooKeeper
+    /// has it since version 3.6.
+    pub fn ephemerals(prefix: &str) -> Request<Vec<String>> {
+        Request::new(prefix, Call::Raw(RawCall::Ephemerals), |ending| {
+            ending.map(|found| found.names)
+        })
+    }
+}
+
+impl Request<i32> {
+    /// How many nodes are below a node, at all depths. Where there is no node the answer is [`Code::NO_NODE`]. ZooKeeper has it since version
+    /// 3.6.
+    pub fn all_children_number(path: &str) -> Request<i32> {
+        Request::new(path, Call::Raw(RawCall::AllChildrenNumber), |ending| {
+            ending.map(|found| found.records().count)
+        })
+    }
+}
+
+impl Request<Vec<Id>> {
+    /// As whom the server knows the session: by its address, and by its credentials. ZooKeeper has it since version 3.7; else the answer is
+    /// [`Code::UNIMPLEMENTED`].
+    pub fn who_am_i() -> Request<Vec<Id>> {
+        Request::new("/", Call::Raw(RawCall::WhoAmI), |ending| {
+            ending.map(|found| found.records().ids)
         })
     }
 }
@@ -274,13 +365,13 @@ impl Request<()> {
     /// Has the server that the session is connected to catch up with the leader, as far as it was when that was asked: a read that is
     /// asked after it is of no older state.
     pub fn sync(path: &str) -> Request<()> {
-        Request::new(path, Call::Lane(LaneCall::Sync), |ending| ending.map(drop))
+        Request::new(path, Call::Raw(RawCall::Sync), |ending| ending.map(drop))
     }
 
     /// Tells the server who the session is, now and on each later connection.
     pub fn auth(scheme: &str, credentials: &[u8]) -> Request<()> {
-        let call = LaneCall::Auth(Credentials::new(scheme, credentials));
-        Request::new("/", Call::Lane(call), |ending| ending.map(drop))
+        let call = Call::Auth(Credentials::new(scheme, credentials));
+        Request::new("/", call, |ending| ending.map(drop))
     }
 
     /// Ends the session.

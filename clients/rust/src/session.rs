@@ -1,16 +1,17 @@
 //! A session that a thread of its own keeps alive.
 
-use crate::acl::Acl;
+use crate::acl::{Acl, Id};
 use crate::both::{calls, look_ups, watch, Asks};
 use crate::client::State;
 use crate::engine::Engine;
 use crate::error::Error;
 use crate::events::Events;
-use crate::fault::{Fault, NoReply};
+use crate::fault::{Code, Fault, NoReply};
 use crate::follow::Follow;
 use crate::hosts::Hosts;
 use crate::keeper::{ask, Keeper, Poller, Shared};
 use crate::kept::{Children, DataAnswer, Kept, Mark};
+use crate::multi_read::{Read, ReadAnswer};
 use crate::node::{Mode, Node, Stat};
 use crate::options::{OpenError, SessionOptions};
 use crate::request::Request;
@@ -34,8 +35,7 @@ const LATENESS: u32 = 6;
 
 /// A session, which lives while its program works: a thread of its own pings, reads and reconnects. Which host is dialled and when, which
 /// calls wait and how long, and what becomes of them where the connection ends, the proved core decides: it is a [`Machine`](crate::Machine)
-/// with sockets, a lock and a clock. One thing the session decides by itself: how long a request of which the core
-/// does not know, such as a transaction, waits for its answer before the connection is left.
+/// with sockets, a lock and a clock.
 ///
 /// It dials at once: one of its [`Hosts`] after the other, in an order that is random in each session, and goes on to the next one where
 /// a server is silent or the connection ends. Watches and what is kept go on over reconnects. An attempt may take a third of the timeout,
@@ -208,8 +208,7 @@ impl Session {
     }
 
     /// Asks a request, and goes on: the answer comes by the ticket. Up to 1,024 calls are on their way at once, and answered in the order
-    /// in which they were asked; more wait in line. Of those beside the core 1,024 more may be: one beyond them is answered with
-    /// [`TooManyPending`](crate::NoReply::TooManyPending).
+    /// in which they were asked; more wait in line.
     pub fn ask<T>(&self, request: Request<T>) -> Ticket<T> {
         ask(&self.shared, request)
     }

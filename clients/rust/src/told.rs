@@ -1,11 +1,12 @@
 //! What the machine of a session has said, until it is taken.
 
-use crate::acl::Acl;
+use crate::acl::{Acl, Id};
 use crate::action::{Action, Actions, Refusal};
 use crate::chroot::Chroot;
 use crate::client::State;
 use crate::error::ErrorKind;
-use crate::fault::{Fault, NoReply};
+use crate::fault::{Code, Fault, NoReply};
+use crate::multi_read::ReadAnswer;
 use crate::node::{NodeEvent, Side, Stat};
 use crate::output::{Brought, Cause, GivenUp, Reply};
 use crate::transaction::Change;
@@ -48,8 +49,7 @@ pub enum Event {
         /// What has happened.
         event: NodeEvent,
     },
-    /// The servers do not take the credentials that the session was opened with. It dials no more, and its calls fail with
-    /// [`Code::AUTH_FAILED`](crate::Code::AUTH_FAILED), until it is renewed.
+    /// A server does not take credentials of the session, which is over: [`SessionOptions::auth`](crate::SessionOptions::auth) says how.
     CredentialsRefused,
     /// The connection was given up. The next one is dialled.
     Dropped {
@@ -64,16 +64,26 @@ pub enum Event {
 }
 
 /// What a reply brings. What its call does not ask for is empty.
-#[derive(Debug, Default)]
+#[derive(Debug, Default, PartialEq)]
 pub(crate) struct Found {
-    /// The zxid at which it holds, of a reply of the core.
+    /// The zxid at which it holds.
     pub(crate) zxid: i64,
+    /// The data of a node, or what stands after the header of a reply that the core does not read.
     pub(crate) data: Option<Vec<u8>>,
     pub(crate) path: String,
     pub(crate) names: Vec<String>,
     pub(crate) stat: Stat,
+    pub(crate) records: Option<Box<Records>>,
+}
+
+/// What the records of such a reply bring.
+#[derive(Debug, Default, PartialEq)]
+pub(crate) struct Records {
     pub(crate) acls: Vec<Acl>,
     pub(crate) changes: Vec<Change>,
+    pub(crate) answers: Vec<Result<ReadAnswer, Code>>,
+    pub(crate) count: i32,
+    pub(crate) ids: Vec<Id>,
 }
 
 /// What comes of a call. The error has no path yet.
@@ -138,6 +148,11 @@ pub(crate) struct News {
 }
 
 impl Found {
+    pub(crate) fn records(self) -> Records {
+        self.records
+            .map_or_else(Records::default, |records| *records)
+    }
+
     fn of(brought: &Brought<'_>, chroot: &Chroot) -> Found {
         let mut found = Found::default();
         match brought {
@@ -152,6 +167,7 @@ impl Found {
             }
             Brought::Created(path) => found.path = chroot.inner(String::from(*path)),
             Brought::Done => {}
+            Brought::Raw(body) => found.data = Some(body.to_vec()),
         }
         found
     }

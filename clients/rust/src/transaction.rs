@@ -1,13 +1,22 @@
 //! Changes that happen together or not at all.
 
 use crate::acl::{Acl, Permissions};
-use crate::error::Error;
-use crate::lane::{LaneCall, Operation};
+use crate::chroot::Chroot;
+use crate::error::{refused_of_create, Error, ErrorKind};
+use crate::fault::{Code, Fault};
+use crate::jute::{Reader, Writer};
 use crate::node::{Mode, Stat};
+use crate::raw::RawCall;
 use crate::request::{Call, Request};
 use crate::session::Session;
 use crate::ticket::Ticket;
 use std::fmt;
+
+/// Numbers of operations, as `zookeeper.jute` has them.
+const CREATE: i32 = 1;
+const DELETE: i32 = 2;
+const SET_DATA: i32 = 5;
+const CHECK: i32 = 13;
 
 /// What an operation of a transaction has brought.
 ///
@@ -210,7 +219,210 @@ impl fmt::Debug for Operations {
 impl Request<Vec<Change>> {
     /// Operations that happen together or not at all: what each has brought, in their order, or [`ErrorKind::RolledBack`](crate::ErrorKind::RolledBack).
     pub fn transaction(operations: Operations) -> Request<Vec<Change>> {
-        let call = Call::Lane(LaneCall::Transaction(operations.list));
-        Request::new("/", call, |ending| ending.map(|found| found.changes))
+        let call = Call::Raw(RawCall::Transaction(operations.list));
+        Request::new("/", call, |ending| {
+            ending.map(|found| found.records().changes)
+        })
+    }
+}
+
+/// An operation of a transaction.
+#[derive(Clone, PartialEq, Eq)]
+pub(crate) enum Operation {
+    Check {
+        path: String,
+        version: i32,
+    },
+    Set {
+        path: String,
+        data: Vec<u8>,
+        version: i32,
+    },
+    Create {
+        path: String,
+        data: Vec<u8>,
+        mode: Mode,
+        acls: Vec<Acl>,
+    },
+    Delete {
+        path: String,
+        version: i32,
+    },
+}
+
+impl Operation {
+    fn number(&self) -> i32 {
+        match self {
+            Operation::Check { .. } => CHECK,
+            Operation::Set { .. } => SET_DATA,
+            Operation::Create { .. } => CREATE,
+            Operation::Delete { .. } => DELETE,
+        }
+    }
+
+    /// The error of a transaction in which it is refused, at this place.
+    fn refusal(&self, index: usize, code: Code) -> ErrorKind {
+        let path = match self {
+            Operation::Create { path, .. } => refused_of_create(code, path),
+            Operation::Check { path, .. }
+            | Operation::Set { path, .. }
+            | Operation::Delete { path, .. } => path,
+        };
+        let path = String::from(path);
+        ErrorKind::RolledBack { index, code, path }
+    }
+
+    /// Its record.
+    fn spell(&self, spelled: &mut Writer, root: &Chroot) -> Result<(), Fault> {
+        match self {
+            Operation::Check { path, version } | Operation::Delete { path, version } => {
+                spelled.text(&root.checked(path)?).int(*version);
+            }
+            Operation::Set {
+                path,
+                data,
+                version,
+            } => {
+                let path = root.checked(path)?;
+                spelled.text(&path).buffer(data).int(*version);
+            }
+            Operation::Create {
+                path,
+                data,
+                mode,
+                acls,
+            } => {
+                let path = root.checked_create(path, mode.is_sequential())?;
+                spelled.text(&path).buffer(data).acls(acls);
+                spelled.int(mode.flags());
+            }
+        }
+        Ok(())
+    }
+
+    /// What it has brought. None where that does not read.
+    fn read(&self, reply: &mut Reader<'_>, root: &Chroot) -> Option<Change> {
+        Some(match self {
+            Operation::Check { .. } => Change::Checked,
+            Operation::Delete { .. } => Change::Deleted,
+            Operation::Set { .. } => Change::Set(reply.stat()?),
+            Operation::Create { .. } => Change::Created(root.inner(reply.text()?)),
+        })
+    }
+}
+
+/// The records of these operations.
+pub(crate) fn spell(
+    operations: &[Operation],
+    spelled: &mut Writer,
+    root: &Chroot,
+) -> Result<(), Fault> {
+    for operation in operations {
+        spelled.multi_header(operation.number());
+        operation.spell(spelled, root)?;
+    }
+    spelled.multi_end();
+    Ok(())
+}
+
+/// What each operation has brought, or which was refused: the first whose code is not 0, since those before it have that one. None where that
+/// does not read.
+pub(crate) fn read(
+    operations: &[Operation],
+    reply: &mut Reader<'_>,
+    root: &Chroot,
+) -> Option<Result<Vec<Change>, ErrorKind>> {
+    let mut changes = Vec::with_capacity(operations.len());
+    let mut refused = None;
+    for (index, operation) in operations.iter().enumerate() {
+        let number = operation.number();
+        match reply.multi_result(number, |reply| operation.read(reply, root))? {
+            Ok(change) => changes.push(change),
+            Err(Code(0)) => {}
+            Err(code) => {
+                refused.get_or_insert((index, code));
+            }
+        }
+    }
+    reply.multi_end()?;
+    Some(match refused {
+        Some((index, code)) => Err(operations[index].refusal(index, code)),
+        None => Ok(changes),
+    })
+}
+
+#[cfg(test)]
+mod tests {
+    use super::{read, spell, Change, Operation};
+    use crate::chroot::Chroot;
+    use crate::error::ErrorKind;
+    use crate::fault::{Code, Fault};
+    use crate::jute::{Reader, Writer};
+
+    fn set(path: &str) -> Operation {
+        let (path, data, version) = (String::from(path), b"x".to_vec(), 3);
+        Operation::Set {
+            path,
+            data,
+            version,
+        }
+    }
+
+    fn check(path: &str) -> Operation {
+        let (path, version) = (String::from(path), 3);
+        Operation::Check { path, version }
+    }
+
+    /// What these operations make of a reply with this body.
+    fn told(operations: &[Operation], body: &[u8]) -> Option<Result<Vec<Change>, ErrorKind>> {
+        read(operations, &mut Reader::new(body), &Chroot::default())
+    }
+
+    /// The answer of version 3.8.0 to a transaction whose check is refused, of which the operation before and the one after are told too.
+    #[test]
+    fn the_operation_that_was_refused_is_told() {
+        let mut body = Vec::new();
+        for code in [0_i32, -103, -2] {
+            body.extend((-1_i32).to_be_bytes());
+            body.push(0);
+            body.extend(code.to_be_bytes());
+            body.extend(code.to_be_bytes());
+        }
+        body.extend([255, 255, 255, 255, 1, 255, 255, 255, 255]);
+        let outcome = told(&[check("/a"), check("/b"), set("/c")], &body).unwrap();
+        let code = Code::BAD_VERSION;
+        let path = String::from("/b");
+        let refused = ErrorKind::RolledBack {
+            index: 1,
+            code,
+            path,
+        };
+        assert_eq!(outcome.unwrap_err(), refused);
+    }
+
+    #[test]
+    fn what_each_operation_has_brought_is_told() {
+        let body = [
+            0, 0, 0, 13, 0, 0, 0, 0, 0, 255, 255, 255, 255, 1, 255, 255, 255, 255,
+        ];
+        let outcome = told(&[check("/a")], &body).unwrap();
+        assert_eq!(outcome.unwrap(), [Change::Checked]);
+    }
+
+    #[test]
+    fn an_answer_that_does_not_read_is_none() {
+        let other_type = [
+            0, 0, 0, 2, 0, 0, 0, 0, 0, 255, 255, 255, 255, 1, 255, 255, 255, 255,
+        ];
+        for body in [&other_type[..], &other_type[..9], b""] {
+            assert_eq!(told(&[check("/a")], body), None);
+        }
+    }
+
+    #[test]
+    fn what_is_no_path_is_refused() {
+        let mut spelled = Writer::default();
+        let refused = spell(&[check("/a/")], &mut spelled, &Chroot::default());
+        assert_eq!(refused, Err(Fault::not_path("/a/")));
     }
 }

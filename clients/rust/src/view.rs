@@ -54,10 +54,9 @@ impl<'a> View<'a> {
 
 /// Look-ups ask nobody. Those of a path fail with [`Fault::NotPath`] and [`Fault::NoMemory`].
 impl View<'_> {
-    /// The greatest zxid seen, not below 0. A good answer is what the servers' history has at it. That is proved of the replies that the core
-    /// knows. Those to transactions, `sync` and ACLs count too: a server tells what was watched before them, which is tested.
+    /// The greatest zxid seen, not below 0, that of a transaction's reply too. A good answer is what the servers' history has at it.
     pub fn last_zxid(&self) -> i64 {
-        self.engine.last_zxid()
+        self.engine.machine().last_zxid()
     }
 
     /// The timeout of the session: the one that a server granted last, or the one to ask for.
@@ -87,7 +86,7 @@ impl View<'_> {
     ///
     /// [`Fault::NoMemory`] alone.
     pub fn saved(&self) -> Result<SavedSession, Fault> {
-        self.engine.saved()
+        self.engine.machine().saved()
     }
 
     /// What is kept about the data of a path that was read with a watch, with its mark, and none where nothing is. The data are copied.

@@ -3,8 +3,8 @@
 mod jute;
 
 use dirwolleu::{
-    Action, Actions, Brought, Code, DataAnswer, Fault, Machine, Mark, Moment, NoReply, Refusal,
-    Reply, SavedSession, Side, State, Watch,
+    Action, Actions, Brought, Code, DataAnswer, Fault, Machine, Mark, Moment, NoReply,
+    RawOperation, Refusal, Reply, SavedSession, Side, State, Watch,
 };
 use jute::Record;
 use std::time::Duration;
@@ -378,4 +378,163 @@ fn a_session_that_is_closed_says_so() {
     let lines = said(machine.bytes(START, &closed).unwrap());
     assert_eq!(lines[..3], ["9: Done", "Closed", "hang up"]);
     assert_eq!(machine.state(), State::Closed);
+}
+
+const OPERATIONS: [RawOperation; 11] = [
+    RawOperation::GetAcl,
+    RawOperation::SetAcl,
+    RawOperation::Sync,
+    RawOperation::Multi,
+    RawOperation::Create2,
+    RawOperation::CreateContainer,
+    RawOperation::CreateTtl,
+    RawOperation::MultiRead,
+    RawOperation::GetEphemerals,
+    RawOperation::GetAllChildrenNumber,
+    RawOperation::WhoAmI,
+];
+
+/// The operations that change nothing.
+const READS: [RawOperation; 6] = [
+    RawOperation::GetAcl,
+    RawOperation::Sync,
+    RawOperation::MultiRead,
+    RawOperation::GetEphemerals,
+    RawOperation::GetAllChildrenNumber,
+    RawOperation::WhoAmI,
+];
+
+/// The frames, and the bodies of answers, by their tickets, that were said.
+#[derive(Default)]
+struct RawSaid {
+    frames: Vec<Vec<u8>>,
+    bodies: Vec<(u64, Vec<u8>)>,
+}
+
+fn raw_said(mut actions: Actions<'_>) -> RawSaid {
+    let mut said = RawSaid::default();
+    while let Some(action) = actions.next().unwrap() {
+        match action {
+            Action::Send(frame) => said.frames.push(frame.to_vec()),
+            Action::Answer { ticket, outcome } => match outcome.unwrap().result.unwrap() {
+                Brought::Raw(body) => said.bodies.push((ticket, body.to_vec())),
+                other => panic!("{other:?}"),
+            },
+            other => panic!("{other:?}"),
+        }
+    }
+    said
+}
+
+/// A reply with these bytes after its header.
+fn raw_reply(xid: i32, zxid: i64, body: &[u8]) -> Vec<u8> {
+    let mut reply = Record::reply(xid, zxid, 0).framed();
+    reply.extend(body);
+    let length = u32::try_from(reply.len() - 4).unwrap();
+    reply[..4].copy_from_slice(&length.to_be_bytes());
+    reply
+}
+
+#[test]
+fn bodies_of_raw_calls_go_and_come_as_they_are() {
+    for size in [0, 1, 1_048_567] {
+        let mut machine = connected();
+        let body: Vec<u8> = (0..=255).cycle().take(size).collect();
+        let (xid, kind) = ([0, 0, 0, 1], [0, 0, 0, 14]);
+        let actions = machine.raw(START, 7, None, RawOperation::Multi, &body);
+        let frames = raw_said(actions.unwrap()).frames;
+        let length = u32::try_from(8 + size).unwrap().to_be_bytes();
+        assert!(
+            frames == [[&length[..], &xid, &kind, &body].concat()],
+            "{size}"
+        );
+        let reply = raw_reply(1, 5, &body);
+        let RawSaid { frames, bodies } = raw_said(machine.bytes(START, &reply).unwrap());
+        assert!(frames.is_empty() && bodies == [(7, body)], "{size}");
+        assert_eq!(machine.last_zxid(), 5);
+    }
+    let mut machine = connected();
+    let body = vec![7; 1_048_568];
+    let actions = machine.raw(START, 7, None, RawOperation::Multi, &body);
+    assert_eq!(said(actions.unwrap()), ["7: TooLarge"]);
+}
+
+#[test]
+fn a_raw_call_is_answered_whatever_byte_is_the_last() {
+    for operation in OPERATIONS {
+        let reply = raw_reply(1, 5, b"body");
+        for length in 0..reply.len() {
+            let mut machine = connected();
+            let asked = machine.raw(START, 7, None, operation, b"x").unwrap();
+            assert_eq!(raw_said(asked).frames.len(), 1);
+            let heard = machine.bytes(START, &reply[..length]).unwrap();
+            assert_eq!(said(heard), [""; 0]);
+            let cut = said(machine.cut(START).unwrap());
+            let is_read = READS.contains(&operation);
+            let is_lost = cut.contains(&String::from("7: ConnectionLoss"));
+            assert_eq!(is_lost, !is_read, "{operation:?} {length}");
+            let again = connect_again(&mut machine, after(9_000));
+            assert_eq!(again.len(), if is_read { 2 } else { 1 }, "{again:?}");
+            if is_read {
+                let reply = raw_reply(2, 5, b"body");
+                let heard = machine.bytes(after(9_000), &reply).unwrap();
+                assert_eq!(raw_said(heard).bodies, [(7, b"body".to_vec())]);
+            }
+        }
+    }
+}
+
+#[test]
+fn the_answer_to_a_raw_call_comes_in_pieces() {
+    let replies = [raw_reply(1, 5, b"body"), raw_reply(2, 5, b"")].concat();
+    for piece in 1..=replies.len() {
+        let mut machine = connected();
+        for ticket in [7, 8] {
+            let asked = machine.raw(START, ticket, None, RawOperation::WhoAmI, b"");
+            let _ = asked.unwrap();
+        }
+        let mut bodies = Vec::new();
+        for bytes in replies.chunks(piece) {
+            bodies.extend(raw_said(machine.bytes(START, bytes).unwrap()).bodies);
+        }
+        assert_eq!(bodies, [(7, b"body".to_vec()), (8, Vec::new())], "{piece}");
+    }
+}
+
+/// A server that says nothing of it for two thirds of the timeout, whatever else it sends.
+#[test]
+fn a_connection_is_left_on_which_a_raw_call_waits() {
+    let mut machine = connected();
+    let asked = machine.raw(START, 7, None, RawOperation::Multi, b"x");
+    assert_eq!(said(asked.unwrap()), ["send 14"]);
+    for second in 1..6 {
+        let now = after(1_000 * second);
+        let _ = machine.tick(now).unwrap();
+        let heard = machine.bytes(now, &Record::reply(-2, 0, 0).framed());
+        assert_eq!(said(heard.unwrap()), [""; 0]);
+    }
+    assert_eq!(said(machine.tick(after(5_999)).unwrap()), [""; 0]);
+    let left = said(machine.tick(after(6_000)).unwrap());
+    assert!(
+        left.contains(&String::from("7: ConnectionLoss")),
+        "{left:?}"
+    );
+    assert!(left.contains(&String::from("hang up")), "{left:?}");
+}
+
+#[test]
+fn a_server_that_is_behind_a_raw_call_is_asked_for_more() {
+    let mut machine = connected();
+    let asked = machine.raw(START, 7, None, RawOperation::Sync, b"x");
+    let _ = asked.unwrap();
+    let _ = machine.bytes(START, &raw_reply(1, 50, b"")).unwrap();
+    let _ = machine.cut(START).unwrap();
+    let _ = machine.tick(after(9_000)).unwrap();
+    let (mut actions, mut frames) = (machine.opened(after(9_000)).unwrap(), Vec::new());
+    while let Some(action) = actions.next().unwrap() {
+        if let Action::Send(frame) = action {
+            frames.push(frame.to_vec());
+        }
+    }
+    assert_eq!(frames[0][8..16], 50_i64.to_be_bytes());
 }

@@ -2,7 +2,8 @@
 
 use dirwolleu::{
     Acl, Change, Code, Election, Error, ErrorKind, Event, LocalSession, Lock, LockOptions, Mode,
-    Operations, Permissions, Request, Session, SessionOptions, Sharing, State, ANY_VERSION,
+    Operations, Permissions, Read, ReadAnswer, Request, Session, SessionOptions, Sharing, State,
+    ANY_VERSION,
 };
 use std::env;
 use std::io::{BufRead, BufReader};
@@ -206,6 +207,110 @@ fn a_node_of_ones_own_is_read_with_credentials_alone() {
 }
 
 #[test]
+fn nodes_are_made_that_go_by_themselves_or_have_a_number_for_their_name() {
+    let Some(place) = place("kinds") else { return };
+    let session = Session::open(&place, TIMEOUT).unwrap();
+    let acls = [Acl::anyone(Permissions::ALL)];
+    let mode = Mode::PersistentSequential;
+    let made = session.create2("/a", b"one", Mode::Ephemeral, &acls);
+    let (path, stat) = made.unwrap();
+    assert_eq!((path.as_str(), stat.data_length), ("/a", 3));
+    assert_eq!(stat.ephemeral_owner, session.id().unwrap());
+    assert_eq!(stat.czxid, session.last_zxid());
+    let made = session.create_container("/folder", b"", &acls).unwrap();
+    assert_eq!(made, "/folder");
+    let numbered = session.create_with_acls("/folder/", b"", mode, &acls);
+    assert_eq!(numbered.as_deref(), Ok("/folder/0000000000"));
+    let numbered = session.create2("/", b"", mode, &acls).unwrap();
+    assert_eq!(numbered.0, "/0000000002");
+    let changed = session.transaction().create("/folder/", b"", mode).commit();
+    let made = Change::Created(String::from("/folder/0000000001"));
+    assert_eq!(changed, Ok(vec![made]));
+    let gone = session.create_with_acls("/none/a", b"", Mode::Persistent, &acls);
+    assert_eq!(gone.unwrap_err().to_string(), "no node: /none");
+}
+
+#[test]
+fn a_node_with_a_time_to_live_is_made() {
+    let Some(place) = place("lives") else { return };
+    let session = Session::open(&place, TIMEOUT).unwrap();
+    let acls = [Acl::anyone(Permissions::ALL)];
+    let make = |path, mode, ttl| session.create_with_ttl(path, b"", mode, ttl, &acls);
+    let hour = Duration::from_secs(3_600);
+    let made = make("/a", Mode::Persistent, hour);
+    if made.as_ref().err().and_then(Error::code) == Some(Code::UNIMPLEMENTED) {
+        println!("skipped: the server has no extendedTypesEnabled");
+        return;
+    }
+    assert_eq!(made.as_deref(), Ok("/a"));
+    let stat = session.exists("/a").unwrap().unwrap();
+    assert_eq!(stat.ephemeral_owner, 0, "it goes with no session");
+    let numbered = make("/", Mode::PersistentSequential, hour);
+    assert_eq!(numbered.as_deref(), Ok("/0000000001"));
+    for ttl in [
+        Duration::ZERO,
+        Duration::from_millis(1 << 40),
+        Duration::MAX,
+    ] {
+        let refused = make("/b", Mode::Persistent, ttl).unwrap_err();
+        assert_eq!(refused.code(), Some(Code::BAD_ARGUMENTS), "{ttl:?}");
+    }
+    assert!(make("/b", Mode::Persistent, Duration::from_millis((1 << 40) - 1)).is_ok());
+}
+
+#[test]
+fn several_nodes_are_read_at_one_zxid() {
+    let Some(place) = place("reads") else { return };
+    let session = Session::open(&place, TIMEOUT).unwrap();
+    session.create("/a", b"one", Mode::Persistent).unwrap();
+    session.create("/a/b", b"", Mode::Persistent).unwrap();
+    let reads = [
+        Read::Data(String::from("/a")),
+        Read::Children(String::from("/a")),
+        Read::Children(String::from("/none")),
+        Read::Data(String::from("/none")),
+    ];
+    let answers = session.multi_read(&reads).unwrap();
+    let [Ok(ReadAnswer::Data(node)), Ok(names), Err(Code::NO_NODE), Err(Code::NO_NODE)] =
+        &answers[..]
+    else {
+        panic!("{answers:?}");
+    };
+    assert_eq!(node, &session.get("/a").unwrap());
+    assert_eq!(names, &ReadAnswer::Children(vec![String::from("b")]));
+    assert_eq!(session.multi_read(&[]), Ok(Vec::new()));
+}
+
+#[test]
+fn a_session_is_told_what_it_has_and_who_it_is() {
+    let Some(place) = place("who") else { return };
+    let options = SessionOptions::new(TIMEOUT).auth("digest", b"ann:secret");
+    let session = options.open(&place).unwrap();
+    let whole = Session::open(place.strip_suffix("/who").unwrap(), TIMEOUT).unwrap();
+    whole.create("/whole", b"", Mode::Ephemeral).unwrap();
+    session.create("/a", b"", Mode::Persistent).unwrap();
+    for path in ["/a/b", "/a/c", "/ab", "/d"] {
+        session.create(path, b"", Mode::Ephemeral).unwrap();
+    }
+    let below = |prefix| {
+        let mut paths = session.ephemerals(prefix).unwrap();
+        paths.sort();
+        paths
+    };
+    assert_eq!(below("/"), ["/a/b", "/a/c", "/ab", "/d"]);
+    assert_eq!(below("/a"), ["/a/b", "/a/c", "/ab"]);
+    assert_eq!(below("/none"), [""; 0]);
+    assert_eq!(session.all_children_number("/"), Ok(5));
+    assert_eq!(session.all_children_number("/a"), Ok(2));
+    let gone = session.all_children_number("/none").unwrap_err();
+    assert_eq!(gone.code(), Some(Code::NO_NODE));
+    let ids = session.who_am_i().unwrap();
+    let ids: Vec<_> = ids.iter().map(ToString::to_string).collect();
+    assert!(ids.contains(&String::from("ip:127.0.0.1")), "{ids:?}");
+    assert!(ids.contains(&String::from("digest:ann")), "{ids:?}");
+}
+
+#[test]
 fn a_scheme_that_is_not_there_is_refused() {
     let Some(place) = place("schemes") else {
         return;
@@ -213,17 +318,13 @@ fn a_scheme_that_is_not_there_is_refused() {
     let session = Session::open(&place, TIMEOUT).unwrap();
     session.create("/mine", b"", Mode::Ephemeral).unwrap();
     let refused = session.add_auth("nobody", b"knows");
-    assert_eq!(
-        refused.map_err(Error::into_kind),
-        Err(ErrorKind::Server(Code::AUTH_FAILED))
-    );
-    let until = Instant::now() + PATIENCE;
-    while session.exists("/mine").is_err() {
-        assert!(
-            Instant::now() < until,
-            "the session goes on over another connection"
-        );
-    }
+    let kind = Err(ErrorKind::Server(Code::AUTH_FAILED));
+    assert_eq!(refused.map_err(Error::into_kind), kind);
+    let later = session.exists("/mine").map(drop);
+    assert_eq!(later.map_err(Error::into_kind), kind);
+    assert_eq!(session.state(), Some(State::Closed));
+    session.renew().unwrap();
+    assert!(session.call(Request::exists("/").within(PATIENCE)).is_ok());
     let barred = SessionOptions::new(TIMEOUT)
         .auth("nobody", b"knows")
         .open_lazily(&place)

@@ -1,14 +1,11 @@
-//! Calls: those of the core, which the machine has wait, and those of the lane beside it.
+//! Calls, which the machine has wait.
 
-use super::{Course, Engine, NEVER};
-use crate::calls::Queued;
+use super::{Engine, NEVER};
 use crate::error::ErrorKind;
-use crate::fault::{Code, NoReply};
-use crate::lane::LaneCall;
 use crate::moment::Moment;
+use crate::raw::RawCall;
 use crate::request::{Asked, Call, CoreCall};
 use crate::ticket::Slot;
-use crate::told::Event;
 use std::sync::Arc;
 use std::time::{Duration, Instant};
 
@@ -31,25 +28,21 @@ pub(crate) struct Wait {
 }
 
 impl Engine {
-    /// Asks, now or once there is a connection. The answer comes to the slot.
+    /// Asks. The answer comes to the slot.
     pub(crate) fn ask(&mut self, asked: Asked, slot: Arc<Slot>) -> Wait {
         let until = self.limit_of(&asked);
         let wait = Wait {
             until,
             is_to_wake: self.line.is_none(),
         };
-        let refusal = self.refusal_of_all();
-        if let Some(refusal) = refusal.or(self.refusal_of_backlog(&asked)) {
-            let ticket = self.calls.begin(slot);
-            self.calls.end(ticket, Err(refusal));
-            return wait;
-        }
-        let is_of_lane = matches!(asked.call, Call::Lane(_));
-        let queued = Queued { asked, slot, until };
-        if self.calls.has_queue() || is_of_lane && !self.is_connected() {
-            self.calls.enqueue(queued);
-        } else {
-            self.put(&queued);
+        let ticket = self.calls.begin(slot);
+        let refusal = self.refusal_of_all().or(self.refusal_of_backlog(&asked));
+        let put = match refusal {
+            Some(refusal) => Err(refusal),
+            None => self.put(ticket, until, asked),
+        };
+        if let Err(kind) = put {
+            self.calls.end(ticket, Err(kind));
         }
         wait
     }
@@ -73,16 +66,12 @@ impl Engine {
         until.map_or(NEVER, |until| self.clock.moment_of(until))
     }
 
-    /// Asks, by the core or by the lane.
-    fn put(&mut self, call: &Queued) {
-        let ticket = self.calls.begin(Arc::clone(&call.slot));
-        let path = &call.asked.path;
-        let asked = match &call.asked.call {
-            Call::Core(core) => self.put_core(ticket, call.until, path, core),
-            Call::Lane(lane) => self.put_lane(ticket, call.until, path, lane),
-        };
-        if let Err(fault) = asked {
-            self.calls.end(ticket, Err(fault));
+    fn put(&mut self, ticket: u64, until: Moment, asked: Asked) -> Result<(), ErrorKind> {
+        let Asked { path, call, .. } = asked;
+        match call {
+            Call::Core(core) => self.put_core(ticket, until, &path, &core),
+            Call::Raw(raw) => self.put_raw(ticket, until, &path, raw),
+            Call::Auth(credentials) => self.put_auth(ticket, until, credentials),
         }
     }
 
@@ -103,82 +92,24 @@ impl Engine {
         Ok(())
     }
 
-    fn put_lane(
+    fn put_raw(
         &mut self,
         ticket: u64,
         until: Moment,
         path: &str,
-        call: &LaneCall,
+        call: RawCall,
     ) -> Result<(), ErrorKind> {
-        if let Some(refusal) = self.refusal_of_lane() {
-            return Err(refusal);
-        }
-        let now = self.clock.now();
-        let root = &self.chroot;
-        let frame = self.lane.frame(now, ticket, until, path, call, root)?;
-        if let LaneCall::Auth(credentials) = call {
-            self.introductions.adds(ticket, credentials.clone());
-        }
-        self.write(&frame);
+        let body = call.spell(path, &self.chroot)?;
+        let operation = call.operation();
+        self.calls.is_read_by(ticket, call);
+        self.step(self.now(), |machine, now| {
+            machine.raw(now, ticket, Some(until), operation, &body)
+        })?;
         Ok(())
-    }
-
-    /// Why the lane may not write now.
-    fn refusal_of_lane(&self) -> Option<ErrorKind> {
-        if self.is_closing() {
-            return Some(NoReply::SessionClosed.into());
-        }
-        let not_connected = (!self.is_connected()).then(|| NoReply::NotConnected.into());
-        self.refusal_of_all().or(not_connected)
     }
 
     /// Whether a call waits that is to end the session.
     pub(super) fn is_closing(&self) -> bool {
         self.closing.is_some_and(|ticket| self.calls.waits(ticket))
-    }
-
-    /// Tells a connection that begins who the session is.
-    pub(super) fn introduce(&mut self) {
-        for credentials in self.introductions.known() {
-            let ticket = self.calls.next_ticket();
-            let call = LaneCall::Auth(credentials);
-            let (now, root) = (self.clock.now(), &self.chroot);
-            // Credentials that are too large were refused when they were given.
-            let Ok(frame) = self.lane.frame(now, ticket, NEVER, "/", &call, root) else {
-                continue;
-            };
-            self.introductions.sends(ticket);
-            self.write(&frame);
-        }
-    }
-
-    /// The servers do not take the credentials: nothing more happens.
-    pub(super) fn bar(&mut self) {
-        if !self.is_over() {
-            self.course = Course::Barred;
-        }
-        self.told.tell(Event::CredentialsRefused);
-        self.calls.end_all(&ErrorKind::Server(Code::AUTH_FAILED));
-    }
-
-    /// Asks what waited for a connection.
-    pub(super) fn put_queued(&mut self) {
-        while self.is_connected() {
-            let Some(queued) = self.calls.dequeue() else {
-                return;
-            };
-            self.put(&queued);
-        }
-    }
-
-    /// Tells the calls whose limit has come, of which the machine does not know.
-    pub(super) fn end_late(&mut self, now: Moment) {
-        while let Some(queued) = self.calls.dequeue_late(now) {
-            let ticket = self.calls.begin(queued.slot);
-            self.calls.end(ticket, Err(NoReply::NotConnected.into()));
-        }
-        for ticket in self.lane.take_late(now) {
-            self.calls.end(ticket, Err(ErrorKind::TimedOut));
-        }
     }
 }

@@ -1,10 +1,10 @@
 //! Places that are given up: the session deletes them.
 
-use super::{Engine, NEVER};
+use super::Engine;
 use crate::deletions::{Place, Step};
 use crate::error::ErrorKind;
-use crate::lane::LaneCall;
 use crate::node::{Watch, ANY_VERSION};
+use crate::raw::{RawCall, RawOperation};
 
 impl Engine {
     /// A place is given up: the number by which what becomes of it is told.
@@ -49,10 +49,10 @@ impl Engine {
             Place::Tagged { directory, .. } => directory,
         };
         if step == Step::Sync {
-            let (now, root) = (self.clock.now(), &self.chroot);
-            let sync = LaneCall::Sync;
-            let frame = self.lane.frame(now, ticket, NEVER, path, &sync, root)?;
-            self.write(&frame);
+            let (sync, body) = (RawOperation::Sync, RawCall::Sync.spell(path, &self.chroot)?);
+            self.step(self.now(), |machine, now| {
+                machine.raw(now, ticket, None, sync, &body)
+            })?;
             return Ok(());
         }
         let path = self.chroot.outer(path)?.into_owned();

@@ -3,8 +3,7 @@
 use super::{Attempt, Course, Engine};
 use crate::action::Actions;
 use crate::client::State;
-use crate::error::ErrorKind;
-use crate::fault::{Code, Fault, NoReply};
+use crate::fault::{Fault, NoReply};
 use crate::growing::Growing;
 use crate::machine::Machine;
 use crate::moment::Moment;
@@ -58,8 +57,6 @@ impl Engine {
         }
         if let Some(reason) = self.reason_of_end() {
             self.calls.end_all(&reason);
-        } else if news.state == Some(State::Connected) {
-            self.put_queued();
         }
         self.ask_deletions();
         taken
@@ -114,33 +111,22 @@ impl Engine {
         }
     }
 
-    /// Hands out what the core and the lane have answered. Whether the connection is to be ended: the session was moved away from it, or
-    /// its credentials are refused.
+    /// Hands out what was answered. Whether the connection is to be ended, since an answer does not read: its call may have happened.
     fn end_answered(&mut self) -> bool {
         let mut is_end = false;
         for (ticket, outcome) in mem::take(&mut self.told.answers) {
-            is_end |= matches!(
-                outcome,
-                Err(ErrorKind::Server(
-                    Code::SESSION_MOVED | Code::SESSION_EXPIRED
-                ))
-            );
-            if self.introductions.are_refused(ticket, &outcome) {
-                self.bar();
-                is_end = true;
-            }
+            let read = self.calls.read(ticket, outcome, &self.chroot);
+            is_end |= read.is_none();
+            let outcome = read.unwrap_or(Err(NoReply::ConnectionLoss.into()));
             self.deletions.hear(self.clock.now(), ticket, &outcome);
             self.calls.end(ticket, outcome);
         }
         is_end
     }
 
-    /// Has the frames of the core written. The first one of a connection is a `ConnectRequest`.
+    /// Has the frames of the machine written.
     fn send(&mut self) {
         let mut frames = mem::take(&mut self.told.frames);
-        if mem::take(&mut self.greets) {
-            self.lane.raise_zxid_of(&mut frames);
-        }
         self.write(&frames);
         frames.clear();
         self.told.frames = frames;
@@ -210,42 +196,31 @@ impl Engine {
         ));
         self.line = Some(line);
         self.address = Some(address);
-        self.greets = true;
         self.step(self.clock.now(), Machine::opened)?;
         if self.is_open() {
-            self.introduce();
+            let introductions = self.introductions.begin();
+            self.write(&introductions);
         }
         Ok(())
     }
 
-    /// Hands in what came from the server, and before it what there was no memory for. Answers to the lane are handed out after what stood
-    /// before them in the stream has been heard.
+    /// Hands in what came from the server, and before it what there was no memory for.
     pub(crate) fn hand_in(&mut self, bytes: &[u8]) -> Result<(), Fault> {
         let now = self.now();
-        let read = self
-            .lane
-            .take(bytes, &self.chroot, &mut self.inbox, &mut self.answers);
+        let credentials = self.introductions.hear(bytes);
+        self.inbox.extend(bytes);
         let actions = self.machine.bytes(now, &self.inbox);
         let taken = actions.and_then(|actions| self.told.take(actions));
         // Nothing is due at this moment: what the machine leaves a connection for has come.
         self.told.news.is_left = false;
         if taken.is_ok() {
             self.inbox.clear();
-            self.told.answers.append(&mut self.answers);
         }
         self.settle(now, taken)?;
-        if read.is_err() {
-            return self.end();
+        for (place, code) in credentials {
+            self.hear_credential(place, code);
         }
         Ok(())
-    }
-
-    /// The connection is given up, since an answer to the lane does not come. That a session is not accepted is noted already.
-    pub(super) fn leave(&mut self) -> Result<(), Fault> {
-        if self.is_connected() {
-            self.note_unanswered();
-        }
-        self.end()
     }
 
     /// Notes why a connection is given up whose session was accepted.
@@ -273,10 +248,6 @@ impl Engine {
         self.dialling = None;
         self.inbox.clear();
         self.told.frames.clear();
-        self.told.answers.append(&mut self.answers);
-        let lost = self.lane.end().into_iter();
-        let lost = lost.map(|ticket| (ticket, Err(NoReply::ConnectionLoss.into())));
-        self.told.answers.extend(lost);
         if let Some(line) = self.line.take() {
             line.end();
             self.outboxes.push(line);

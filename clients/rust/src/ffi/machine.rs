@@ -8,10 +8,10 @@ use super::{
     dw_session_get_data, dw_session_heard_at, dw_session_holder, dw_session_lacking,
     dw_session_last_zxid, dw_session_moment, dw_session_name, dw_session_names, dw_session_next,
     dw_session_open, dw_session_opened, dw_session_peek_children, dw_session_peek_data,
-    dw_session_peek_names, dw_session_resume, dw_session_revision, dw_session_saved,
-    dw_session_set_data, dw_session_snapshot, dw_session_standing, dw_session_state,
-    dw_session_subtree, dw_session_timeout_ms, dw_session_unfollow, dw_session_unfollow_tree,
-    dw_session_words, Call, Functions, Handle, Raw, OK,
+    dw_session_peek_names, dw_session_raw, dw_session_resume, dw_session_revision,
+    dw_session_saved, dw_session_set_data, dw_session_snapshot, dw_session_standing,
+    dw_session_state, dw_session_subtree, dw_session_timeout_ms, dw_session_unfollow,
+    dw_session_unfollow_tree, dw_session_words, Call, Functions, Handle, Raw, OK,
 };
 use crate::fault::{done, done_at, Fault};
 use crate::moment::Moment;
@@ -110,19 +110,19 @@ impl MachineHandle {
         Ok(MachineHandle { handle })
     }
 
-    /// The raw handle, for a step.
-    fn raw(&mut self) -> *mut Raw {
+    /// The handle, for a step.
+    fn pointer(&mut self) -> *mut Raw {
         self.handle.raw.get()
     }
 
     pub(crate) fn failed(&mut self, now: Moment) -> Result<(), Fault> {
         // SAFETY: as `Handle` says.
-        done(unsafe { dw_session_failed(self.raw(), now.as_millis()) })
+        done(unsafe { dw_session_failed(self.pointer(), now.as_millis()) })
     }
 
     pub(crate) fn addresses(&mut self, now: Moment, count: usize) -> Result<(), Fault> {
         // SAFETY: as `Handle` says.
-        done(unsafe { dw_session_addresses(self.raw(), now.as_millis(), count) })
+        done(unsafe { dw_session_addresses(self.pointer(), now.as_millis(), count) })
     }
 
     /// Follows a side of a path.
@@ -131,7 +131,7 @@ impl MachineHandle {
             Side::Data => dw_session_follow_data,
             Side::Children => dw_session_follow_names,
         };
-        let (raw, now) = (self.raw(), call.now.as_millis());
+        let (raw, now) = (self.pointer(), call.now.as_millis());
         let (path, path_length) = (call.path.as_ptr(), call.path.len());
         // SAFETY: as `Handle` says.
         let code = unsafe { follow(raw, now, call.ticket, path, path_length) };
@@ -140,11 +140,11 @@ impl MachineHandle {
 
     pub(crate) fn unfollow(&mut self, now: Moment, ticket: u64) -> Result<(), Fault> {
         // SAFETY: as `Handle` says.
-        done(unsafe { dw_session_unfollow(self.raw(), now.as_millis(), ticket) })
+        done(unsafe { dw_session_unfollow(self.pointer(), now.as_millis(), ticket) })
     }
 
     pub(crate) fn follow_tree(&mut self, call: Call<'_>, most: usize) -> Result<(), Fault> {
-        let (raw, now) = (self.raw(), call.now.as_millis());
+        let (raw, now) = (self.pointer(), call.now.as_millis());
         let (path, path_length) = (call.path.as_ptr(), call.path.len());
         // SAFETY: as `Handle` says.
         let code =
@@ -154,7 +154,7 @@ impl MachineHandle {
 
     pub(crate) fn unfollow_tree(&mut self, now: Moment, ticket: u64) -> Result<(), Fault> {
         // SAFETY: as `Handle` says.
-        done(unsafe { dw_session_unfollow_tree(self.raw(), now.as_millis(), ticket) })
+        done(unsafe { dw_session_unfollow_tree(self.pointer(), now.as_millis(), ticket) })
     }
 
     /// When the server was heard last, where it was.
@@ -176,7 +176,7 @@ impl MachineHandle {
         until: Moment,
         watch: Watch,
     ) -> Result<(), Fault> {
-        let (raw, now, is_left) = (self.raw(), call.now.as_millis(), watch.is_left());
+        let (raw, now, is_left) = (self.pointer(), call.now.as_millis(), watch.is_left());
         let (path, path_length) = (call.path.as_ptr(), call.path.len());
         // SAFETY: as `Handle` says.
         let code = unsafe {
@@ -229,7 +229,7 @@ impl MachineHandle {
         data: Option<&[u8]>,
         number: N,
     ) -> Result<(), Fault> {
-        let (raw, now, (bytes, is_null)) = (self.raw(), call.now.as_millis(), bytes_of(data));
+        let (raw, now, (bytes, is_null)) = (self.pointer(), call.now.as_millis(), bytes_of(data));
         let (path, path_length) = (call.path.as_ptr(), call.path.len());
         let (bytes, length) = (bytes.as_ptr(), bytes.len());
         // SAFETY: as `Handle` says.
@@ -276,12 +276,27 @@ impl MachineHandle {
         until: Moment,
         version: i32,
     ) -> Result<(), Fault> {
-        let (raw, now, limit) = (self.raw(), call.now.as_millis(), until.as_millis());
+        let (raw, now, limit) = (self.pointer(), call.now.as_millis(), until.as_millis());
         let (path, path_length) = (call.path.as_ptr(), call.path.len());
         // SAFETY: as `Handle` says.
         let code =
             unsafe { dw_session_delete(raw, now, call.ticket, limit, path, path_length, version) };
         done_at(call.path, code)
+    }
+
+    /// Asks for the operation of this number, with this body.
+    pub(crate) fn raw(
+        &mut self,
+        now: Moment,
+        ticket: u64,
+        until: Moment,
+        operation: i32,
+        body: &[u8],
+    ) -> Result<(), Fault> {
+        let (raw, now, limit) = (self.pointer(), now.as_millis(), until.as_millis());
+        let (bytes, length) = (body.as_ptr(), body.len());
+        // SAFETY: as `Handle` says.
+        done(unsafe { dw_session_raw(raw, now, ticket, limit, operation, bytes, length) })
     }
 
     pub(crate) fn close_session(
@@ -291,11 +306,14 @@ impl MachineHandle {
         until: Moment,
     ) -> Result<(), Fault> {
         // SAFETY: as `Handle` says.
-        done(unsafe { dw_session_close(self.raw(), now.as_millis(), ticket, until.as_millis()) })
+        done(unsafe {
+            dw_session_close(self.pointer(), now.as_millis(), ticket, until.as_millis())
+        })
     }
+
     /// Forgets stale answers, which an open session always does.
     pub(crate) fn forget(&mut self) {
         // SAFETY: as `Handle` says.
-        unsafe { dw_session_forget(self.raw()) };
+        unsafe { dw_session_forget(self.pointer()) };
     }
 }

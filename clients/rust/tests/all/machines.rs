@@ -136,7 +136,7 @@ fn calls_that_wait_for_a_connection_are_sent_in_their_order() {
 }
 
 #[test]
-fn a_call_of_the_lane_waits_to_its_limit_too() {
+fn a_raw_call_waits_to_its_limit_too() {
     let options = SessionOptions::new(TIMEOUT);
     let nowhere = options.open_lazily(Hosts::default()).unwrap();
     let waits = Request::sync("/").within(millis(200));
@@ -201,32 +201,36 @@ fn a_session_that_lives_goes_on_with_another_machine() {
     assert_eq!(asked, [vec![0; 8], same]);
 }
 
-#[test]
-fn a_refused_read_of_what_is_followed_is_told_once_and_made_again() {
-    let mut refusals = 2;
-    let partner = Partner::start(move |_, mut line| {
+/// A server that refuses this many reads of data with this code, and then tells them.
+fn refuse_reads(code: Code, mut refusals: i32) -> Partner {
+    Partner::start(move |_, mut line| {
         line.admit(10_000);
         while let Some(request) = line.request() {
             if request.kind == GET_DATA && refusals > 0 {
                 refusals -= 1;
-                line.refuse(request.xid, Code::NO_AUTH.0);
+                line.refuse(request.xid, code.0);
             } else {
                 answer(&mut line, request.xid, request.kind);
             }
         }
-    });
-    let session = Session::open(partner.address, TIMEOUT).unwrap();
-    let begun = Instant::now();
-    let mut nodes = session.follow("/a");
-    let refused = nodes.next().unwrap().unwrap_err();
-    assert_eq!(
-        (refused.code(), refused.path()),
-        (Some(Code::NO_AUTH), Some("/a"))
-    );
-    let node = nodes.next().unwrap().unwrap().unwrap();
-    assert_eq!(node.data.as_deref(), Some(b"one".as_slice()));
-    let took = begun.elapsed();
-    assert!(took >= millis(1_998), "{took:?}"); // two pauses of a second
+    })
+}
+
+/// So it is too where nobody knows the code.
+#[test]
+fn a_refused_read_of_what_is_followed_is_told_once_and_made_again() {
+    for code in [Code::NO_AUTH, Code(-999)] {
+        let partner = refuse_reads(code, 2);
+        let session = Session::open(partner.address, TIMEOUT).unwrap();
+        let begun = Instant::now();
+        let mut nodes = session.follow("/a");
+        let refused = nodes.next().unwrap().unwrap_err();
+        assert_eq!((refused.code(), refused.path()), (Some(code), Some("/a")));
+        let node = nodes.next().unwrap().unwrap().unwrap();
+        assert_eq!(node.data.as_deref(), Some(b"one".as_slice()));
+        let took = begun.elapsed();
+        assert!(took >= millis(1_998), "{took:?}"); // two pauses of a second
+    }
 }
 
 #[test]

@@ -18,15 +18,16 @@ mod server;
 
 #[cfg(dirwolleu_bench)]
 mod benches;
+mod credentials;
 #[cfg(dirwolleu_bench)]
 mod cuts;
-mod lane;
 mod lock_cuts;
 mod locks;
 mod machines;
 mod messages;
 mod outages;
 mod polls;
+mod raw;
 mod reconnects;
 mod registrations;
 mod sessions;

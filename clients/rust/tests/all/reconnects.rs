@@ -353,10 +353,11 @@ fn a_call_that_is_not_answered_is_lost_whatever_else_comes() {
 }
 
 #[test]
-fn a_call_of_the_lane_that_is_not_answered_is_lost_too() {
+fn a_raw_call_that_is_not_answered_is_lost_too() {
     let partner = distracted(jute::Record::notice(3, "/a"));
     let session = Session::open(partner.address, millis(3_000)).unwrap();
-    is_lost_in_time(|| session.call(Request::sync("/").within(millis(30_000))));
+    let write = Request::set_acls("/", &[], ANY_VERSION);
+    is_lost_in_time(|| session.call(write.within(millis(30_000))));
 }
 
 #[test]
@@ -365,6 +366,11 @@ fn a_read_that_is_not_answered_is_asked_of_another_server() {
     let mut session = session_at(&partner, millis(3_000));
     let read = Request::exists("/a").within(millis(30_000));
     assert!(session.call(read).unwrap().is_some());
+    assert_eq!(partner.dials(), 2);
+    let partner = distracted(jute::Record::notice(3, "/a"));
+    let mut session = session_at(&partner, millis(3_000));
+    let sync = Request::sync("/").within(millis(30_000));
+    assert_eq!(session.call(sync), Ok(()));
     assert_eq!(partner.dials(), 2);
 }
 

@@ -234,6 +234,7 @@ fn a_handshake_that_drips_ends_with_its_attempt() {
     assert!(session.call(Request::get("/a").within(PATIENCE)).is_ok());
 }
 
+/// Frames that are written in many pieces, and those that are written in one.
 #[test]
 fn a_server_that_reads_nothing_holds_nobody_up() {
     let Some(trust) = trust("slow", "localhost") else {
@@ -241,15 +242,20 @@ fn a_server_that_reads_nothing_holds_nobody_up() {
     };
     let address = start(Arc::clone(&trust.server), |_, mut line| {
         line.admit(90_000);
-        sleep(Duration::from_secs(3_600));
+        thread::spawn(move || {
+            sleep(Duration::from_secs(3_600));
+            drop(line);
+        });
     });
-    let session = open(&trust, address, Duration::from_secs(90));
-    session.next_event(None).unwrap();
-    let data = vec![7; 1_000_000];
-    let begun = Instant::now();
-    for _ in 0..40 {
-        drop(session.ask(Request::set("/a", &data, -1)));
-        assert!(session.state().is_some());
-        assert!(begun.elapsed() < AT_ONCE, "{:?}", begun.elapsed());
+    for (size, count) in [(1_000_000, 40), (60_000, 600)] {
+        let session = open(&trust, address, Duration::from_secs(90));
+        session.next_event(None).unwrap();
+        let data = vec![7; size];
+        let begun = Instant::now();
+        for _ in 0..count {
+            drop(session.ask(Request::set("/a", &data, -1)));
+            assert!(session.state().is_some());
+            assert!(begun.elapsed() < AT_ONCE, "{size}: {:?}", begun.elapsed());
+        }
     }
 }

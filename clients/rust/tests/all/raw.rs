@@ -1,13 +1,14 @@
-//! What a session asks beside the core: transactions, ACLs, credentials, sync. At a server that does what each test says, frame by frame.
+//! What a session asks of which the core does not read the records: transactions, ACLs, sync and others. At a server that does what each test
+//! says, frame by frame.
 
-use crate::jute::{Record, EXISTS, GET_CHILDREN_2, GET_DATA, PING, PONG};
+use crate::jute::{Record, EXISTS, GET_DATA, PING, PONG};
 use crate::partner::{Line, Partner};
 use dirwolleu::{
-    Acl, Change, Code, Error, ErrorKind, Event, Mark, Mode, NoReply, Permissions, Request, Session,
-    SessionOptions, State, ANY_VERSION,
+    Acl, Change, Code, Error, ErrorKind, Mark, Mode, NoReply, Operations, Permissions, Read,
+    ReadAnswer, Request, Session, ANY_VERSION,
 };
 use std::sync::mpsc;
-use std::time::{Duration, Instant};
+use std::time::Duration;
 
 const TIMEOUT: Duration = Duration::from_secs(10);
 
@@ -18,17 +19,15 @@ const PATIENCE: Duration = Duration::from_secs(120);
 const GET_ACL: i32 = 6;
 const SYNC: i32 = 9;
 const MULTI: i32 = 14;
-const AUTH: i32 = 100;
-
-/// The xid of credentials.
-const AUTH_XID: i32 = -4;
+const MULTI_READ: i32 = 22;
+const WHO_AM_I: i32 = 107;
 
 /// `MultiHeader`.
 fn header(record: Record, kind: i32, is_end: bool) -> Record {
     record.int(kind).boolean(is_end).int(-1)
 }
 
-/// Answers what is not of the lane, until the client ends the connection.
+/// Answers what the core reads, until the client ends the connection.
 fn serve_well(line: &mut Line) {
     while let Some(request) = line.request() {
         match request.kind {
@@ -74,7 +73,7 @@ fn a_transaction_is_spelled_and_read_as_the_protocol_has_it() {
     let spelled = spelled.int(1).int(31).text("world").text("anyone").int(2);
     let spelled = header(spelled, 2, false).text("/app/b").int(-1);
     let spelled = header(spelled, -1, true).framed()[4..].to_vec();
-    assert_eq!(asked.recv_timeout(PATIENCE), Ok((-1_001, MULTI, spelled)));
+    assert_eq!(asked.recv_timeout(PATIENCE), Ok((1, MULTI, spelled)));
 }
 
 #[test]
@@ -137,60 +136,78 @@ fn a_server_that_has_not_got_a_transaction_is_left() {
     assert_eq!(saved.as_bytes()[28..], 50_i64.to_be_bytes());
 }
 
+/// Answers a request for an ACL.
+fn tell_acls(line: &mut Line, xid: i32) -> bool {
+    let reply = Record::reply(xid, 5, 0).int(1).int(1);
+    let reply = reply.text("ip").text("10.0.0.0/8");
+    line.send(&reply.stat(5, 0, 3, 0).framed())
+}
+
 #[test]
-fn each_call_of_the_lane_is_told_where_the_connection_ends() {
+fn a_write_is_told_where_the_connection_ends_and_a_read_is_asked_again() {
     let partner = Partner::start(|number, mut line| {
         line.admit(10_000);
-        if number > 0 {
-            serve_well(&mut line);
+        if number == 0 {
+            (0..6).for_each(|_| drop(line.request()));
+            return;
         }
-        for _ in 0..3 {
-            line.request();
+        while let Some(request) = line.request() {
+            match request.kind {
+                SYNC => line.tell_path(request.xid, "/"),
+                GET_ACL => tell_acls(&mut line, request.xid),
+                PING => line.refuse(PONG, 0),
+                _ => line.tell_data(request.xid),
+            };
         }
     });
     let session = Session::open(partner.address, TIMEOUT).unwrap();
-    let first = session.ask(Request::sync("/"));
-    let second = session.ask(Request::get("/"));
-    let third = session.ask(Request::acls("/"));
+    let sync = session.ask(Request::sync("/"));
+    let node = session.ask(Request::get("/"));
+    let set = session.ask(Request::set_acls("/", &[], ANY_VERSION));
+    let made = session.ask(Request::create2("/a", b"", Mode::Persistent, &[]));
+    let changed = session.ask(Request::transaction(Operations::new().check("/a", 0)));
+    let acls = session.ask(Request::acls("/"));
     let lost = Some(NoReply::ConnectionLoss);
-    assert_eq!(first.wait_for(PATIENCE).unwrap_err().no_reply(), lost);
-    let read = second.wait_for(PATIENCE);
-    assert!(read.is_ok(), "a read of the core is asked again: {read:?}");
-    assert_eq!(third.wait_for(PATIENCE).unwrap_err().no_reply(), lost);
+    assert_eq!(set.wait_for(PATIENCE).unwrap_err().no_reply(), lost);
+    assert_eq!(made.wait_for(PATIENCE).unwrap_err().no_reply(), lost);
+    assert_eq!(changed.wait_for(PATIENCE).unwrap_err().no_reply(), lost);
+    assert_eq!(sync.wait_for(PATIENCE), Ok(()));
+    assert!(node.wait_for(PATIENCE).is_ok() && acls.wait_for(PATIENCE).is_ok());
 }
 
+/// Also one of no bytes.
 #[test]
 fn an_answer_that_does_not_read_ends_the_connection() {
     let partner = Partner::start(|number, mut line| {
         line.admit(10_000);
         while let Some(request) = line.request() {
+            let reply = Record::reply(request.xid, 6, 0);
             match (number, request.kind) {
-                (0, SYNC) => line.send(&Record::reply(request.xid, 6, 0).int(-7).framed()),
-                (_, SYNC) => line.send(&Record::reply(request.xid, 6, 0).text("/").framed()),
+                (0, SYNC) => line.send(&reply.int(-7).framed()),
+                (1, SYNC) => line.send(&reply.framed()),
+                (_, SYNC) => line.send(&reply.text("/").framed()),
                 _ => line.tell_stat(request.xid),
             };
         }
     });
     let session = Session::open(partner.address, TIMEOUT).unwrap();
-    let unread = session.sync("/");
-    assert_eq!(
-        unread.map_err(Error::into_kind),
-        Err(ErrorKind::NoReply(NoReply::ConnectionLoss))
-    );
+    for _ in 0..2 {
+        let unread = session.sync("/");
+        assert_eq!(
+            unread.map_err(Error::into_kind),
+            Err(ErrorKind::NoReply(NoReply::ConnectionLoss))
+        );
+    }
     assert_eq!(session.sync("/"), Ok(()));
 }
 
 #[test]
-fn calls_of_the_lane_and_of_the_core_are_on_their_way_at_once() {
+fn calls_that_the_core_reads_and_does_not_read_are_on_their_way_at_once() {
     let partner = Partner::start(|_, mut line| {
         line.admit(10_000);
         while let Some(request) = line.request() {
             match request.kind {
-                GET_ACL => {
-                    let reply = Record::reply(request.xid, 5, 0).int(1).int(1);
-                    let reply = reply.text("ip").text("10.0.0.0/8");
-                    line.send(&reply.stat(5, 0, 3, 0).framed())
-                }
+                GET_ACL => tell_acls(&mut line, request.xid),
                 EXISTS => line.tell_stat(request.xid),
                 _ => line.tell_data(request.xid),
             };
@@ -208,116 +225,77 @@ fn calls_of_the_lane_and_of_the_core_are_on_their_way_at_once() {
     }
 }
 
-#[test]
-fn credentials_are_told_first_on_each_connection() {
-    let (sender, told) = mpsc::channel();
-    let partner = Partner::start(move |number, mut line| {
-        line.admit(10_000);
-        while let Some(request) = line.request() {
-            sender
-                .send((number, request.xid, request.kind, request.rest))
-                .unwrap();
-            match request.kind {
-                AUTH => line.refuse(AUTH_XID, 0),
-                GET_DATA if number == 0 => return,
-                _ => line.tell_data(request.xid),
-            };
-        }
-    });
-    let options = SessionOptions::new(TIMEOUT).auth("digest", b"ann:secret");
-    let session = options.open(partner.address).unwrap();
-    assert!(session.get("/a").is_ok());
-    assert_eq!(session.add_auth("digest", b"bob:secret"), Ok(()));
-    let spelled = |secret: &[u8]| {
-        let record = Record::new().int(0).text("digest").buffer(secret);
-        record.framed()[4..].to_vec()
-    };
-    for number in [0, 1] {
-        let (of, xid, kind, rest) = told.recv_timeout(PATIENCE).unwrap();
-        assert_eq!(
-            (of, xid, kind, rest),
-            (number, AUTH_XID, AUTH, spelled(b"ann:secret"))
-        );
-        assert_eq!(told.recv_timeout(PATIENCE).unwrap().2, GET_DATA);
-    }
-    let (_, xid, kind, rest) = told.recv_timeout(PATIENCE).unwrap();
-    assert_eq!((xid, kind, rest), (AUTH_XID, AUTH, spelled(b"bob:secret")));
-}
+/// How many bytes a request has besides the data of the one node that a transaction sets: its header, two `MultiHeader`s, the path `/a` after
+/// its length, the length of the data, and the version.
+const BESIDE_DATA: usize = 8 + 9 + 9 + 6 + 4 + 4;
+
+/// The most bytes of a request, as servers take them.
+const LONGEST: usize = 1_048_575;
 
 #[test]
-fn credentials_that_are_refused_end_all_calls() {
-    let partner = Partner::start(|_, mut line| {
-        line.admit(10_000);
-        line.request();
-        line.refuse(AUTH_XID, Code::AUTH_FAILED.0);
-    });
-    let options = SessionOptions::new(TIMEOUT).auth("nobody", b"knows");
-    let session = options.open_lazily(partner.address).unwrap();
-    let refused = Some(Code::AUTH_FAILED);
-    while session.next_event(Some(Instant::now() + PATIENCE)).unwrap()
-        != Some(Event::CredentialsRefused)
-    {}
-    for _ in 0..2 {
-        assert_eq!(session.get("/a").unwrap_err().code(), refused);
-    }
-    assert_eq!(session.state(), Some(State::Idle));
-    std::thread::sleep(Duration::from_secs(1));
-    assert_eq!(partner.dials(), 1, "it dials no more");
-}
-
-#[test]
-fn credentials_that_are_refused_end_what_is_good() {
+fn a_request_is_sent_that_is_as_long_as_it_may_be() {
     let partner = Partner::start(|_, mut line| {
         line.admit(10_000);
         while let Some(request) = line.request() {
-            let reply = Record::reply(request.xid, 5, 0);
+            let reply = Record::reply(request.xid, 6, 0);
             match request.kind {
-                AUTH => true,
-                GET_DATA => line.tell_data(request.xid),
-                GET_CHILDREN_2 => line.send(&reply.texts(&[]).stat(5, 0, 3, 0).framed()),
-                _ => line.refuse(AUTH_XID, Code::AUTH_FAILED.0),
-            };
-        }
-    });
-    let options = SessionOptions::new(TIMEOUT).auth("nobody", b"knows");
-    let session = options.open(partner.address).unwrap();
-    let tree = session.tree("/a").unwrap();
-    tree.wait_for(PATIENCE).unwrap();
-    assert_eq!(session.data_mark("/a"), Ok(Some(Mark::Good)));
-    assert!(tree.current().is_some());
-    let refused = session.exists("/b").unwrap_err();
-    assert_eq!(refused.code(), Some(Code::AUTH_FAILED));
-    assert_eq!(session.data_mark("/a"), Ok(None));
-    assert_eq!(session.peek_children("/a"), Ok(None));
-    let snapshot = session.snapshot(&["/a"], &["/a"]).unwrap();
-    assert!(snapshot.is_none());
-    assert_eq!((tree.current(), tree.latest().is_some()), (None, true));
-    session.renew().unwrap();
-    tree.wait_for(PATIENCE).unwrap();
-}
-
-#[test]
-fn credentials_that_are_added_and_refused_are_told_to_their_caller() {
-    let partner = Partner::start(|_, mut line| {
-        line.admit(10_000);
-        while let Some(request) = line.request() {
-            match request.kind {
-                AUTH => {
-                    line.refuse(AUTH_XID, Code::AUTH_FAILED.0);
-                    return;
+                MULTI => {
+                    assert_eq!(8 + request.rest.len(), LONGEST);
+                    let reply = header(reply, 5, false).stat(6, 4, 3, 0);
+                    line.send(&header(reply, -1, true).framed())
                 }
-                _ => line.tell_data(request.xid),
+                _ => line.refuse(PONG, 0),
             };
         }
     });
     let session = Session::open(partner.address, TIMEOUT).unwrap();
-    let refused = session.add_auth("nobody", b"knows");
+    let mut data = vec![7; LONGEST - BESIDE_DATA];
+    let set = |data: &[u8]| session.transaction().set("/a", data, 0).commit();
+    assert_eq!(set(&data).map(|changes| changes.len()), Ok(1));
+    data.push(7);
     assert_eq!(
-        refused.map_err(Error::into_kind),
-        Err(ErrorKind::Server(Code::AUTH_FAILED))
+        set(&data).map_err(Error::into_kind),
+        Err(ErrorKind::NoReply(NoReply::TooLarge))
     );
-    let until = Instant::now() + PATIENCE;
-    while session.get("/a").is_err() {
-        assert!(Instant::now() < until, "the session goes on without them");
-    }
+}
+
+#[test]
+fn each_read_of_several_has_its_own_code() {
+    let partner = Partner::start(|_, mut line| {
+        line.admit(10_000);
+        while let Some(request) = line.request() {
+            let reply = Record::reply(request.xid, 6, 0);
+            match request.kind {
+                MULTI_READ => {
+                    let reply = header(reply, 4, false).buffer(b"one");
+                    let reply = header(reply.stat(5, 0, 3, 0), -1, false).int(-102);
+                    let reply = header(reply, 8, false).texts(&["b"]);
+                    line.send(&header(reply, -1, true).framed())
+                }
+                WHO_AM_I => {
+                    let reply = reply.int(1).text("ip").text("127.0.0.1");
+                    line.send(&reply.framed())
+                }
+                _ => line.refuse(PONG, 0),
+            };
+        }
+    });
+    let session = Session::open(partner.address, TIMEOUT).unwrap();
+    let path = || String::from("/a");
+    let reads = [
+        Read::Data(path()),
+        Read::Data(path()),
+        Read::Children(path()),
+    ];
+    let mut answers = session.multi_read(&reads).unwrap();
+    let names = ReadAnswer::Children(vec![String::from("b")]);
+    assert_eq!(answers.pop(), Some(Ok(names)));
+    assert_eq!(answers.pop(), Some(Err(Code::NO_AUTH)));
+    let Some(Ok(ReadAnswer::Data(node))) = answers.pop() else {
+        panic!("it brings data");
+    };
+    assert_eq!(node.data.as_deref(), Some(&b"one"[..]));
+    assert_eq!(session.last_zxid(), 6);
+    let ids = session.who_am_i().unwrap();
+    assert_eq!(ids[0].to_string(), "ip:127.0.0.1");
 }

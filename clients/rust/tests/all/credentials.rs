@@ -1,0 +1,176 @@
+//! Who a session is, and what servers say to it. At a server that does what each test says, frame by frame.
+
+use crate::jute::{Record, GET_CHILDREN_2, GET_DATA};
+use crate::partner::Partner;
+use dirwolleu::{
+    Code, Error, ErrorKind, Event, Mark, NoReply, Request, Session, SessionOptions, State,
+};
+use std::sync::mpsc;
+use std::time::{Duration, Instant};
+
+const TIMEOUT: Duration = Duration::from_secs(10);
+
+/// How long what is awaited may take.
+const PATIENCE: Duration = Duration::from_secs(120);
+
+/// The type of a request that tells credentials, and the xid of it and its answer.
+const AUTH: i32 = 100;
+const AUTH_XID: i32 = -4;
+
+#[test]
+fn credentials_are_told_first_on_each_connection() {
+    let (sender, told) = mpsc::channel();
+    let partner = Partner::start(move |number, mut line| {
+        line.admit(10_000);
+        while let Some(request) = line.request() {
+            sender
+                .send((number, request.xid, request.kind, request.rest))
+                .unwrap();
+            match request.kind {
+                AUTH => line.refuse(AUTH_XID, 0),
+                GET_DATA if number == 0 => return,
+                _ => line.tell_data(request.xid),
+            };
+        }
+    });
+    let options = SessionOptions::new(TIMEOUT).auth("digest", b"ann:secret");
+    let session = options.open(partner.address).unwrap();
+    assert!(session.get("/a").is_ok());
+    assert_eq!(session.add_auth("digest", b"bob:secret"), Ok(()));
+    let spelled = |secret: &[u8]| {
+        let record = Record::new().int(0).text("digest").buffer(secret);
+        record.framed()[4..].to_vec()
+    };
+    for number in [0, 1] {
+        let (of, xid, kind, rest) = told.recv_timeout(PATIENCE).unwrap();
+        assert_eq!(
+            (of, xid, kind, rest),
+            (number, AUTH_XID, AUTH, spelled(b"ann:secret"))
+        );
+        assert_eq!(told.recv_timeout(PATIENCE).unwrap().2, GET_DATA);
+    }
+    let (_, xid, kind, rest) = told.recv_timeout(PATIENCE).unwrap();
+    assert_eq!((xid, kind, rest), (AUTH_XID, AUTH, spelled(b"bob:secret")));
+}
+
+#[test]
+fn credentials_that_are_refused_end_all_calls() {
+    let partner = Partner::start(|_, mut line| {
+        line.admit(10_000);
+        line.request();
+        line.refuse(AUTH_XID, Code::AUTH_FAILED.0);
+    });
+    let options = SessionOptions::new(TIMEOUT).auth("nobody", b"knows");
+    let session = options.open_lazily(partner.address).unwrap();
+    let refused = Some(Code::AUTH_FAILED);
+    while session.next_event(Some(Instant::now() + PATIENCE)).unwrap()
+        != Some(Event::CredentialsRefused)
+    {}
+    for _ in 0..2 {
+        assert_eq!(session.get("/a").unwrap_err().code(), refused);
+    }
+    assert_eq!(session.state(), Some(State::Closed));
+    std::thread::sleep(Duration::from_secs(1));
+    assert_eq!(partner.dials(), 1, "it dials no more");
+}
+
+#[test]
+fn credentials_that_are_refused_end_what_is_good() {
+    let partner = Partner::start(|_, mut line| {
+        line.admit(10_000);
+        while let Some(request) = line.request() {
+            let reply = Record::reply(request.xid, 5, 0);
+            match request.kind {
+                AUTH => true,
+                GET_DATA => line.tell_data(request.xid),
+                GET_CHILDREN_2 => line.send(&reply.texts(&[]).stat(5, 0, 3, 0).framed()),
+                _ => line.refuse(AUTH_XID, Code::AUTH_FAILED.0),
+            };
+        }
+    });
+    let options = SessionOptions::new(TIMEOUT).auth("nobody", b"knows");
+    let session = options.open(partner.address).unwrap();
+    let tree = session.tree("/a").unwrap();
+    tree.wait_for(PATIENCE).unwrap();
+    assert_eq!(session.data_mark("/a"), Ok(Some(Mark::Good)));
+    assert!(tree.current().is_some());
+    let refused = session.exists("/b").unwrap_err();
+    assert_eq!(refused.code(), Some(Code::AUTH_FAILED));
+    assert_eq!(session.data_mark("/a"), Ok(None));
+    assert_eq!(session.peek_children("/a"), Ok(None));
+    let snapshot = session.snapshot(&["/a"], &["/a"]).unwrap();
+    assert!(snapshot.is_none());
+    assert_eq!((tree.current(), tree.latest().is_some()), (None, true));
+    session.renew().unwrap();
+    tree.wait_for(PATIENCE).unwrap();
+}
+
+/// The session is over then, as with credentials that it was opened with.
+#[test]
+fn credentials_that_are_added_and_refused_are_told_to_their_caller() {
+    let partner = Partner::start(|_, mut line| {
+        line.admit(10_000);
+        while let Some(request) = line.request() {
+            match request.kind {
+                AUTH => {
+                    line.refuse(AUTH_XID, Code::AUTH_FAILED.0);
+                    return;
+                }
+                _ => line.tell_data(request.xid),
+            };
+        }
+    });
+    let session = Session::open(partner.address, TIMEOUT).unwrap();
+    let refused = session.add_auth("nobody", b"knows");
+    let kind = Err(ErrorKind::Server(Code::AUTH_FAILED));
+    assert_eq!(refused.map_err(Error::into_kind), kind);
+    let later = session.get("/a").map(drop);
+    assert_eq!(later.map_err(Error::into_kind), kind);
+    assert_eq!(session.state(), Some(State::Closed));
+    assert_eq!(partner.dials(), 1);
+}
+
+#[test]
+fn credentials_wait_for_a_connection_and_go_first() {
+    let (sender, told) = mpsc::channel();
+    let partner = Partner::start(move |number, mut line| {
+        line.admit(10_000);
+        while let Some(request) = line.request() {
+            sender.send((number, request.kind)).unwrap();
+            match request.kind {
+                AUTH if number == 0 => return,
+                AUTH => line.refuse(AUTH_XID, 0),
+                _ => line.tell_data(request.xid),
+            };
+        }
+    });
+    let options = SessionOptions::new(TIMEOUT);
+    let session = options.open_lazily(partner.address).unwrap();
+    let node = session.ask(Request::get("/a"));
+    let added = session.ask(Request::auth("digest", b"ann:secret"));
+    assert_eq!(added.wait_for(PATIENCE), Ok(()));
+    assert!(node.wait_for(PATIENCE).is_ok());
+    assert_eq!(session.add_auth("digest", b"ann:secret"), Ok(()));
+    let told: Vec<_> = told.try_iter().filter(|it| it.1 == AUTH).collect();
+    assert_eq!(told, [(0, AUTH), (1, AUTH)], "each connection once");
+}
+
+#[test]
+fn a_call_whose_credentials_have_no_answer_ends_at_its_limit() {
+    let partner = Partner::start(|_, mut line| {
+        line.admit(10_000);
+        while let Some(request) = line.request() {
+            if request.kind != AUTH {
+                line.tell_data(request.xid);
+            }
+        }
+    });
+    let session = Session::open(partner.address, TIMEOUT).unwrap();
+    let limited = Request::auth("digest", b"ann:secret").within(Duration::from_secs(1));
+    let late = session.call(limited).map_err(Error::into_kind);
+    assert_eq!(late, Err(ErrorKind::TimedOut));
+    let nobody = SessionOptions::new(TIMEOUT).open_lazily("127.0.0.1:1");
+    let limited = Request::auth("digest", b"ann:secret").within(Duration::from_secs(1));
+    let late = nobody.unwrap().call(limited).unwrap_err();
+    assert_eq!(late.no_reply(), Some(NoReply::NotConnected));
+}
