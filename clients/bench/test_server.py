@@ -14,7 +14,7 @@ from typing import Optional
 
 import server  # noqa: F401  it finds the package
 
-from dirwolleu.testing import _lane as lane
+from dirwolleu.testing import _raw as raw
 from dirwolleu.testing._library import Bench
 
 MAKER = pathlib.Path(__file__).resolve().with_name("maker.py")
@@ -70,10 +70,10 @@ def header(payload: Optional[bytes]) -> tuple[int, int, int]:
     return xid, zxid, code
 
 
-class LaneTest(unittest.TestCase):
-    def test_the_lane_answers_nothing_that_the_proved_server_does(self) -> None:
+class RawTest(unittest.TestCase):
+    def test_what_is_answered_here_is_nothing_that_the_proved_server_does(self) -> None:
         connect = struct.pack(">iqiq", 0, 0, 6000, 0) + PASSWORD_OF_NONE + b"\0"
-        for kind in lane.ANSWERS:
+        for kind in raw.ANSWERS:
             bench = Bench(1)
             bench.connect(1)
             for payload in (connect, struct.pack(">ii", 1, kind) + text("/") + bytes(64)):
@@ -159,7 +159,7 @@ class ServerTest(unittest.TestCase):
         self.assertEqual(self.command("delete /"), "refused: -8")
         self.assertEqual(self.command("fly"), "unknown: fly")
 
-    def test_what_neither_the_model_nor_the_lane_has_ends_the_connection(self) -> None:
+    def test_what_is_answered_nowhere_ends_the_connection(self) -> None:
         self.start()
         peer = self.connected()
         self.assertIsNone(peer.ask(1, 77))

@@ -1,47 +1,29 @@
-"""The lane: requests that the host writes beside those of the core, and takes the answers to out of the stream.
+"""Requests that the core carries without reading them: each is a record of zookeeper.jute, with what reads the record of its answer.
 
-What the core says of the servers' history stays exact, since no request of the lane leaves, moves or removes a watch,
-and none ends the session: `Operation` names all that there are. README.md says more.
+The session numbers, orders and bounds them as it does all calls, and asks those again that change nothing.
 """
 
 from __future__ import annotations
 
-import collections
-import enum
-import itertools
-import struct
 from collections.abc import Sequence
-from typing import Any, Callable, Generic, NamedTuple, Optional, TypeVar
+from typing import Any, Callable, NamedTuple, Optional
 
 from dirwolleu import _jute as jute
-from dirwolleu._checks import checked_data, checked_path, checked_version
-from dirwolleu._frames import AUTH_XID, LANE_XID
+from dirwolleu import _library as library
+from dirwolleu._checks import checked_data, checked_number, checked_path, checked_version
 from dirwolleu._jute import Reader
-from dirwolleu._requests import Result, refusal_of
+from dirwolleu._library import Answer
+from dirwolleu._requests import Request, Result
 from dirwolleu._root import Root
-from dirwolleu.exceptions import TooLargeError
-from dirwolleu.security import ACL, OPEN_ACL_UNSAFE
+from dirwolleu._session import Session
+from dirwolleu.security import ACL, OPEN_ACL_UNSAFE, Id
 from dirwolleu.types import Stat
 
-LONGEST_REQUEST = 1_048_575
-MOST_PENDING = 1024
-"""How many requests of the lane wait for their answers at most; the others wait to be sent."""
-_EPHEMERAL, _SEQUENTIAL = 1, 2
+Body = Callable[[Root], bytes]
+"""Spells what comes after the header of a request, for the root of a client."""
 
-
-class Operation(enum.IntEnum):
-    """What the lane lets through, with ZooKeeper's numbers."""
-
-    CREATE = 1
-    GET_ACL = 6
-    SET_ACL = 7
-    SYNC = 9
-    MULTI = 14
-    CREATE2 = 15
-    AUTH = 100
-
-
-_CREATES = (Operation.CREATE, Operation.CREATE2)
+LONGEST_TTL_MS = 0xFF_FFFF_FFFF
+"""ZooKeeper keeps a node's TTL in 40 bits."""
 
 
 class Created(NamedTuple):
@@ -51,168 +33,161 @@ class Created(NamedTuple):
     stat: Stat
 
 
-class LaneRequest(Generic[Result]):
-    """A request of the lane, whose answer brings a result of this type. Once it is asked it does not change."""
+class RawRequest(Request[Result]):
+    """A request of another operation than the core's own. Once it is asked it does not change."""
+
+    __slots__ = ("read",)
 
     def __init__(
         self,
-        operation: Operation,
-        paths: Sequence[str],
-        body: Callable[[Root], bytes],
+        operation: int,
+        path: Optional[str],
+        body: Body,
         read: Callable[[Reader, Root], Result],
         is_repeatable: bool = False,
+        named: Optional[Sequence[str]] = None,
     ) -> None:
-        self.operation = operation
-        self.paths = paths
-        """The paths that it names, which have to be paths of nodes."""
-        self.body, self.read = body, read
-        self.is_repeatable = is_repeatable
-        """Whether it does no harm to ask it again where it may have happened."""
+        """`named` are the paths that have to be paths of nodes, where that is not `path`. `read` takes the body of the answer."""
+        if named is None:
+            named = () if path is None else (path,)
+        super().__init__(Session.raw, path, (operation, named, body), is_repeatable)
+        self.read = read
 
-    @property
-    def path(self) -> Optional[str]:
-        """The path of the node that it is about, where that is one."""
-        return self.paths[0] if len(self.paths) == 1 else None
-
-    def payload(self, xid: int, root: Root) -> bytes:
-        """The request's bytes, without their length. Raises `ValueError` and `TooLargeError`."""
-        payload = struct.pack(">ii", xid, self.operation) + self.body(root)
-        if len(payload) > LONGEST_REQUEST:
-            raise TooLargeError
-        return payload
-
-    def result(self, code: int, body: bytes, root: Root) -> Result:
-        """What an answer brings, or raises its error. Raises `Malformed` where it does not read."""
-        if code:
-            raise refusal_of(code, self.path if self.operation in _CREATES else None)
-        return self.read(Reader(body), root)
+    def result(self, answer: Answer, root: Root) -> Any:
+        """What the answer brings, or raises its error. Raises `Malformed` if its body does not read."""
+        if answer.result == library.RAW:
+            return self.read(Reader(answer.text or b""), root)
+        return super().result(answer, root)
 
 
-Asker = TypeVar("Asker")
-"""One who has asked."""
-
-
-class Reply(NamedTuple):
-    """An answer to a request of the lane, without its xid."""
-
-    zxid: int
-    code: int
-    body: bytes
-
-
-class Lane(Generic[Asker]):
-    """The requests of the lane on one connection, in the order in which they were written."""
-
-    def __init__(self) -> None:
-        self._xids = itertools.count(LANE_XID, -1)
-        self._waiting: collections.deque[tuple[int, Asker]] = collections.deque()
-        self._introduced: collections.deque[tuple[int, Asker]] = collections.deque()
-
-    def is_full(self) -> bool:
-        return len(self._waiting) >= MOST_PENDING
-
-    def frame(self, request: LaneRequest[Any], root: Root, asker: Asker) -> bytes:
-        """The frame of a request, which waits for its answer from now on."""
-        is_auth = request.operation is Operation.AUTH
-        xid = AUTH_XID if is_auth else next(self._xids)
-        payload = request.payload(xid, root)
-        (self._introduced if is_auth else self._waiting).append((xid, asker))
-        return struct.pack(">i", len(payload)) + payload
-
-    def take(self, frame: bytes) -> Optional[tuple[Asker, Reply]]:
-        """The one that waits for the answer that a frame is, and the answer. None where it answers no request of the lane."""
-        xid, zxid, code = struct.unpack(">iqi", frame[4:20])
-        waiting = self._introduced if xid == AUTH_XID else self._waiting
-        if not waiting or waiting[0][0] != xid:
-            return None
-        return waiting.popleft()[1], Reply(zxid, code, frame[20:])
-
-    def __len__(self) -> int:
-        """How many wait for an answer."""
-        return len(self._introduced) + len(self._waiting)
-
-    def pending(self) -> list[Asker]:
-        """Those that wait for an answer: those with credentials first, and else in the order in which they asked."""
-        return [asker for _, asker in [*self._introduced, *self._waiting]]
-
-    def oldest(self) -> list[Asker]:
-        """Those that have waited longest: one with credentials, and one without."""
-        return [waiting[0][1] for waiting in (self._introduced, self._waiting) if waiting]
-
-    def introduces(self) -> bool:
-        """Whether credentials wait for their answer."""
-        return bool(self._introduced)
-
-
-def body_of(path: str, more: bytes = b"") -> Callable[[Root], bytes]:
+def body_of(path: str, more: bytes = b"") -> Body:
     """A body that begins with the path of a node."""
     checked_path(path)
     return lambda root: jute.text(root.full(path)) + more
 
 
-def _nothing(*_: object) -> None:
-    return None
+def read_path(reader: Reader, root: Root) -> str:
+    return root.own(reader.text())
 
 
-def auth(scheme: str, credential: bytes) -> LaneRequest[None]:
-    spelled = jute.integer(0) + jute.text(scheme) + jute.buffer(credential)
-    return LaneRequest(Operation.AUTH, (), lambda root: spelled, _nothing, is_repeatable=True)
+def read_stat(reader: Reader, _: Root) -> Stat:
+    return reader.stat()
 
 
-def sync(path: str) -> LaneRequest[str]:
-    return LaneRequest(
-        Operation.SYNC,
-        (path,),
-        body_of(path),
-        lambda reader, root: root.own(reader.text()),
-        is_repeatable=True,
-    )
+def sync(path: str) -> RawRequest[str]:
+    return RawRequest(library.SYNC, path, body_of(path), read_path, is_repeatable=True)
 
 
-def get_acls(path: str) -> LaneRequest[tuple[list[ACL], Stat]]:
-    return LaneRequest(
-        Operation.GET_ACL,
-        (path,),
-        body_of(path),
-        lambda reader, _: (reader.items(reader.acl), reader.stat()),
-        is_repeatable=True,
-    )
+def get_acls(path: str) -> RawRequest[tuple[list[ACL], Stat]]:
+    def read(reader: Reader, _: Root) -> tuple[list[ACL], Stat]:
+        return reader.items(reader.acl), reader.stat()
+
+    return RawRequest(library.GET_ACL, path, body_of(path), read, is_repeatable=True)
 
 
-def set_acls(path: str, acls: Sequence[ACL], version: int) -> LaneRequest[Stat]:
+def set_acls(path: str, acls: Sequence[ACL], version: int) -> RawRequest[Stat]:
     body = body_of(path, jute.acls(acls) + jute.integer(checked_version(version)))
-    return LaneRequest(Operation.SET_ACL, (path,), body, lambda reader, _: reader.stat())
+    return RawRequest(library.SET_ACL, path, body, read_stat)
 
 
-def flags_of(ephemeral: bool, sequence: bool) -> int:
-    return _EPHEMERAL * ephemeral + _SEQUENTIAL * sequence
+def get_ephemerals(prefix: str) -> RawRequest[list[str]]:
+    def read(reader: Reader, root: Root) -> list[str]:
+        return [root.own(path) for path in reader.items(reader.text) if root.has(path)]
+
+    return RawRequest(library.GET_EPHEMERALS, prefix, body_of(prefix), read, is_repeatable=True)
 
 
-def create_body(
-    path: str, value: Optional[bytes], acl: Optional[Sequence[ACL]], ephemeral: bool, sequence: bool
-) -> Callable[[Root], bytes]:
+def get_all_children_number(path: str) -> RawRequest[int]:
+    def read(reader: Reader, _: Root) -> int:
+        return reader.integer()
+
+    return RawRequest(library.GET_ALL_CHILDREN_NUMBER, path, body_of(path), read, is_repeatable=True)
+
+
+def who_am_i() -> RawRequest[list[Id]]:
+    def read(reader: Reader, _: Root) -> list[Id]:
+        return reader.items(lambda: Id(reader.text(), reader.text()))
+
+    return RawRequest(library.WHO_AM_I, None, lambda _: b"", read, is_repeatable=True)
+
+
+class Mode(NamedTuple):
+    """What a node is made as: CreateMode of ZooKeeper."""
+
+    ephemeral: bool = False
+    sequence: bool = False
+    container: bool = False
+    ttl_ms: Optional[int] = None
+
+    @classmethod
+    def of(cls, ephemeral: bool, sequence: bool, container: bool, ttl: Optional[float]) -> Mode:
+        """The mode by the words of a program, with the TTL in seconds. Raises `ValueError` and `TypeError`."""
+        if container and (ephemeral or sequence):
+            raise ValueError("a container is neither ephemeral nor sequential")
+        if ttl is None:
+            return cls(ephemeral, sequence, container)
+        if ephemeral or container:
+            raise ValueError("a node with a TTL is neither ephemeral nor a container")
+        ttl_ms = round(checked_number("a TTL", ttl) * 1000)
+        if not 0 < ttl_ms <= LONGEST_TTL_MS:
+            raise ValueError(f"a TTL is 0.001 to {LONGEST_TTL_MS / 1000} seconds, and not {ttl}")
+        return cls(False, sequence, False, ttl_ms)
+
+    @property
+    def flags(self) -> int:
+        if self.ttl_ms is not None:
+            return 5 + self.sequence
+        return 4 if self.container else self.ephemeral + 2 * self.sequence
+
+    @property
+    def operation(self) -> int:
+        """What makes such a node, and answers with its path and its Stat."""
+        if self.ttl_ms is not None:
+            return library.CREATE_TTL
+        return library.CREATE_CONTAINER if self.container else library.CREATE2
+
+
+def is_nameless(path: str, mode: Mode) -> bool:
+    """Whether a new node has no name but its digits, since its path ends with a slash."""
+    return mode.sequence and path.endswith("/")
+
+
+def place_of(path: str, mode: Mode) -> str:
+    """The path of a node by which a server decides whether a new one may have this path."""
+    return path.rstrip("/") or "/" if is_nameless(checked_path(path), mode) and not path.endswith("//") else path
+
+
+def create_body(path: str, value: Optional[bytes], acl: Optional[Sequence[ACL]], mode: Mode) -> Body:
     """What a request that makes a node says, after its header."""
     spelled = (
         jute.buffer(checked_data(value))
         + jute.acls(OPEN_ACL_UNSAFE if acl is None else acl)
-        + jute.integer(flags_of(ephemeral, sequence))
+        + jute.integer(mode.flags)
+        + (b"" if mode.ttl_ms is None else jute.long(mode.ttl_ms))
     )
-    if sequence and path == "/":
-        raise ValueError("the digits would be part of the root's own name")
-    return body_of(path, spelled)
+    if not is_nameless(checked_path(path), mode):
+        return body_of(path, spelled)
+    return lambda root: jute.text(root.path + path) + spelled
 
 
-def create(
-    path: str, value: Optional[bytes], acl: Optional[Sequence[ACL]], ephemeral: bool, sequence: bool
-) -> LaneRequest[str]:
-    body = create_body(path, value, acl, ephemeral, sequence)
-    return LaneRequest(Operation.CREATE, (path,), body, lambda reader, root: root.own(reader.text()))
+class _Creation(RawRequest[Result]):
+    __slots__ = ()
+    is_create = True
 
 
-def create2(
-    path: str, value: Optional[bytes], acl: Optional[Sequence[ACL]], ephemeral: bool, sequence: bool
-) -> LaneRequest[Created]:
-    body = create_body(path, value, acl, ephemeral, sequence)
-    return LaneRequest(
-        Operation.CREATE2, (path,), body, lambda reader, root: Created(root.own(reader.text()), reader.stat())
-    )
+def _creation(
+    path: str, value: Optional[bytes], acl: Optional[Sequence[ACL]], mode: Mode, read: Callable[[Reader, Root], Result]
+) -> RawRequest[Result]:
+    body = create_body(path, value, acl, mode)
+    return _Creation(mode.operation, path, body, read, named=(place_of(path, mode),))
+
+
+def create(path: str, value: Optional[bytes], acl: Optional[Sequence[ACL]], mode: Mode) -> RawRequest[str]:
+    return _creation(path, value, acl, mode, read_path)
+
+
+def create2(path: str, value: Optional[bytes], acl: Optional[Sequence[ACL]], mode: Mode) -> RawRequest[Created]:
+    def read(reader: Reader, root: Root) -> Created:
+        return Created(root.own(reader.text()), reader.stat())
+
+    return _creation(path, value, acl, mode, read)

@@ -1,4 +1,4 @@
-"""real_server.py HOST:PORT: what a real server answers to the client's calls, its lane and its locks.
+"""real_server.py HOST:PORT: what a real server answers to the client's calls, those that are raw and its locks.
 
 `scripts/clients` runs it with a server. Where the package kazoo is there, and where DIRWOLLEU_CURATOR names the jars of Curator,
 their locks contend with those of the client.

@@ -29,7 +29,7 @@ from dirwolleu import (
 )
 from dirwolleu import _requests as requests
 from dirwolleu._contending import _check_number
-from dirwolleu._library import Listing, Standing
+from dirwolleu._handle import Listing, Standing
 from dirwolleu._retry import is_passing
 
 Asked = Callable[[Any, Any], Any]
