@@ -11,6 +11,7 @@ from dirwolleu import _jute as jute
 
 AUTH, AUTH_XID = 100, -4
 _HEAD = 20
+_AUTH = struct.pack(">i", AUTH_XID)
 
 
 class AuthFrames:
@@ -41,8 +42,12 @@ class AuthFrames:
     def cut(self) -> None:
         self._is_open = False
 
-    def answers(self, data: bytes) -> Iterator[tuple[int, int]]:
+    def answers(self, data: bytes) -> list[tuple[int, int]]:
         """The places of those that the server answers in these bytes, with its codes."""
+        is_one = not self._left and not self._head and int.from_bytes(data[:4], "big") == len(data) - 4
+        return [] if is_one and data[4:8] != _AUTH else list(self._found(data))
+
+    def _found(self, data: bytes) -> Iterator[tuple[int, int]]:
         at, end = 0, len(data)
         while at < end:
             if self._left:

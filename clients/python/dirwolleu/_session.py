@@ -161,7 +161,8 @@ class Session(LookUps[Action]):
     def received(self, now: int, data: bytes) -> list[Action]:
         """Bytes came. Raises `NoMemory` where they can be handed in again."""
         outputs = self._outputs(self._calls.bytes(self._handle, now, data, len(data)))
-        return outputs + [CredentialAnswer(*answer) for answer in self._auth.answers(data)]
+        answers = self._auth.answers(data)
+        return outputs + [CredentialAnswer(*answer) for answer in answers] if answers else outputs
 
     def addresses(self, now: int, count: int) -> list[Action]:
         """The list of addresses is another one, of this many."""

@@ -218,10 +218,10 @@ class Client(Shown):
 
         An ephemeral node goes with the session. With `sequence` ten digits are added to the path: a path that ends with a slash
         makes a node whose name is these alone. A `container` is deleted by the servers some time after its last child went, and
-        a node with a `ttl`, in seconds, when it had neither a change nor a child for so long; servers that are not told
-        `zookeeper.extendedTypesEnabled` make none. With `makepath` the nodes above it are made too, as far as they are not there.
-        Raises `NodeExistsError`, `NoNodeError` if there is no parent,
-        `NoChildrenForEphemeralsError`, `InvalidACLError`.
+        a node with a `ttl`, in seconds, when it had neither a change nor a child for so long: servers without the option
+        `zookeeper.extendedTypesEnabled` refuse that by `UnimplementedError`. With `makepath` the nodes above it are made too, as
+        far as they are not there. Raises `NodeExistsError`, `NoNodeError` if there is no parent, `NoChildrenForEphemeralsError`,
+        `InvalidACLError`.
 
         With an ACL, and where the path ends with a slash, it asks by create2, which ZooKeeper has since 3.5; a container by
         createContainer and a TTL by createTTL, of 3.5 too.

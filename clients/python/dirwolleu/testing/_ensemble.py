@@ -57,8 +57,8 @@ class Session:
         self.bench = Bench(number)
         self.connection: Optional[Connection] = None
         self.ephemerals: set[str] = set()
-        self.credentials: list[str] = []
-        """The users and passwords that its client has named on this connection."""
+        self.users: list[str] = []
+        """Whom its client has named as itself on this connection."""
         self.is_lagging = False
         """Whether its server learns nothing until it is asked for a change, or to catch up."""
 
@@ -304,7 +304,7 @@ class Connection(asyncio.Protocol):
         session = self.server.session_of(record.take_long(), record.take_buffer())
         session.drop()
         session.bench.connect(1)
-        session.credentials.clear()
+        session.users.clear()
         output = session.answer(frame)
         self.send(b"".join(output))
         if not session.bench.is_open:

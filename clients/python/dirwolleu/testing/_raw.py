@@ -13,7 +13,6 @@ import struct
 from collections.abc import Iterator
 from typing import TYPE_CHECKING, Callable, NamedTuple
 
-from dirwolleu.security import make_digest_acl_credential
 from dirwolleu.testing import _frames as frames
 from dirwolleu.testing._frames import (
     CHECK,
@@ -251,7 +250,7 @@ def ephemerals(_server: Ensemble, session: Session, record: Record, _notices: li
 
 
 def who_am_i(_server: Ensemble, session: Session, _record: Record, _notices: list[bytes]) -> bytes:
-    ids = [("ip", "127.0.0.1"), *(("digest", one) for one in session.credentials)]
+    ids = [*(("digest", user) for user in session.users), ("ip", "127.0.0.1")]
     return struct.pack(">i", len(ids)) + b"".join(put_text(scheme) + put_text(one) for scheme, one in ids)
 
 
@@ -260,8 +259,7 @@ def introduce(_server: Ensemble, session: Session, record: Record, _notices: lis
     record.take_int()
     if record.take_text() != "digest":
         raise Refused(AUTH_FAILED)
-    user, _, password = (record.take_buffer() or b"").decode(errors="replace").partition(":")
-    session.credentials.append(make_digest_acl_credential(user, password))
+    session.users.append((record.take_buffer() or b"").decode(errors="replace").partition(":")[0])
     return b""
 
 
