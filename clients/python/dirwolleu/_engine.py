@@ -593,7 +593,7 @@ class Engine(Keeping):
 
     def _introduce(self, asked: Asked, credential: Credential, now: int) -> None:
         """Has this connection and all later ones introduce themselves by a credential too, once."""
-        asked.is_sent = self.state is _CONNECTED
+        asked.is_sent = self.state is _CONNECTED or asked.ends_at is not None  # the session keeps it
         if self._introductions.is_taken(credential):
             return asked.settle(TAKEN)
         if self._introductions.wait(asked, credential):

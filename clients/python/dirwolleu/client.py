@@ -62,9 +62,9 @@ class Client(Shown):
     asked for; a server grants what lies between its own bounds. `saved` takes up the session of another client, as its
     `saved_session` told it.
 
-    `auth_data` are credentials, each a scheme and its text, which are sent on each connection before anything else, and
-    so are those of `add_auth` on later ones. Where a server refuses one of them there, the session is over: the state is
-    `LOST`, nothing is kept, and no server is dialled until the client is started again. With `ssl` the connections are
+    `auth_data` are credentials, each a scheme and its text, which are sent first on each connection, and so are those of
+    `add_auth`. If a server refuses one of them, the session is over: the state is `LOST`, nothing is kept, and no server is
+    dialled until the client is started again. With `ssl` the connections are
     TLS: see `dirwolleu.tls_context`. By `retry`, a policy, each call is asked again where that is safe; without it none
     is.
 
