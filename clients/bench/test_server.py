@@ -14,7 +14,7 @@ from typing import Optional
 
 import server  # noqa: F401  it finds the package
 
-from dirwolleu.testing import _lane as lane
+from dirwolleu.testing import _raw as raw
 from dirwolleu.testing._library import Bench
 
 MAKER = pathlib.Path(__file__).resolve().with_name("maker.py")
@@ -70,10 +70,10 @@ def header(payload: Optional[bytes]) -> tuple[int, int, int]:
     return xid, zxid, code
 
 
-class LaneTest(unittest.TestCase):
-    def test_the_lane_answers_nothing_that_the_proved_server_does(self) -> None:
+class RawTest(unittest.TestCase):
+    def test_what_is_answered_here_is_nothing_that_the_proved_server_does(self) -> None:
         connect = struct.pack(">iqiq", 0, 0, 6000, 0) + PASSWORD_OF_NONE + b"\0"
-        for kind in lane.ANSWERS:
+        for kind in raw.ANSWERS:
             bench = Bench(1)
             bench.connect(1)
             for payload in (connect, struct.pack(">ii", 1, kind) + text("/") + bytes(64)):
@@ -159,7 +159,7 @@ class ServerTest(unittest.TestCase):
         self.assertEqual(self.command("delete /"), "refused: -8")
         self.assertEqual(self.command("fly"), "unknown: fly")
 
-    def test_what_neither_the_model_nor_the_lane_has_ends_the_connection(self) -> None:
+    def test_what_is_answered_nowhere_ends_the_connection(self) -> None:
         self.start()
         peer = self.connected()
         self.assertIsNone(peer.ask(1, 77))
@@ -194,6 +194,55 @@ class ServerTest(unittest.TestCase):
         self.assertEqual(header(peer.ask(-4, 100, struct.pack(">i", 0) + text("digest") + text("a:b"))), (-4, 1, 0))
         self.assertEqual(header(peer.ask(-4, 100, struct.pack(">i", 0) + text("none") + text("x"))), (-4, 1, -115))
         self.assertIsNone(peer.take())
+
+    def test_credentials_may_come_with_the_request_to_connect(self) -> None:
+        """In one piece, before a server has answered that: ZooKeeper answers them in this order."""
+        self.start()
+        connect = struct.pack(">iqiq", 0, 0, 6000, 0) + PASSWORD_OF_NONE + b"\0"
+        for scheme, code in (("digest", 0), ("none", -115)):
+            peer, auth = self.peer(), struct.pack(">iii", -4, 100, 0) + text(scheme) + text("a:b")
+            peer.socket.sendall(b"".join(struct.pack(">i", len(one)) + one for one in (connect, auth)))
+            self.assertEqual((peer.take() or b"")[4:8], struct.pack(">i", 6000))
+            self.assertEqual(header(peer.take()), (-4, 0, code))
+            if code:
+                self.assertIsNone(peer.take())
+            else:
+                ids = struct.pack(">i", 2) + text("digest") + text("a") + text("ip") + text("127.0.0.1")
+                self.assertEqual((peer.ask(1, 107) or b"")[16:], ids)
+
+    def test_several_reads_and_counts(self) -> None:
+        """As a server of version 3.8.0 answers them."""
+        self.start()
+        for path in ("/a", "/a/b", "/a/b/c"):
+            self.assertEqual(self.command(f"create {path} x"), "done")
+        peer = self.connected()
+        parts = [struct.pack(">i?i", kind, False, -1) + text(path) + b"\0" for kind, path in ((8, "/a"), (4, "/none"), (8, "/none"))]
+        end, refused = struct.pack(">i?i", -1, True, -1), struct.pack(">i?ii", -1, False, -101, -101)
+        names = struct.pack(">i?ii", 8, False, 0, 1) + text("b")
+        self.assertEqual(peer.ask(1, 22, b"".join(parts) + end), struct.pack(">iqi", 1, 3, 0) + names + refused + refused + end)
+        self.assertEqual((peer.ask(2, 22, end) or b"")[16:], end)
+        data = peer.ask(3, 22, struct.pack(">i?i", 4, False, -1) + text("/a") + b"\0" + end) or b""
+        self.assertEqual((data[16:30], data[98:]), (struct.pack(">i?i", 4, False, 0) + text("x"), end))
+        self.assertEqual([(peer.ask(4, 104, text(path)) or b"")[16:] for path in ("/", "/a/b")], [struct.pack(">i", 3), struct.pack(">i", 1)])
+        self.assertEqual(header(peer.ask(5, 104, text("/none"))), (5, 3, -101))
+
+    def test_nodes_of_other_kinds(self) -> None:
+        self.start()
+        self.assertEqual(self.command("create /a x"), "done")
+        peer, body = self.connected(), struct.pack(">i", -1) + OPEN_ACL
+        for xid, (kind, path, flags, made) in enumerate(
+            (
+                (15, "/a/", struct.pack(">i", 3), "/a/0000000000"),
+                (15, "/a/n", struct.pack(">i", 2), "/a/n0000000001"),
+                (21, "/a/", struct.pack(">iq", 6, 1), "/a/0000000002"),
+                (21, "/ttl", struct.pack(">iq", 5, 1), "/ttl"),
+                (19, "/box", struct.pack(">i", 4), "/box"),
+            )
+        ):
+            answer = peer.ask(xid + 1, kind, text(path) + body + flags) or b""
+            self.assertEqual((header(answer)[2], answer[16 : 20 + len(made)], len(answer)), (0, text(made), 88 + len(made)))
+        self.assertEqual((peer.ask(9, 103, text("/a")) or b"")[16:], struct.pack(">i", 1) + text("/a/0000000000"))
+        self.assertEqual((peer.ask(10, 103, text("/b")) or b"")[16:], struct.pack(">i", 0))
 
     def test_a_sequential_ephemeral_node_goes_with_its_session(self) -> None:
         self.start()

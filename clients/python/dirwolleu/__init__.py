@@ -9,15 +9,17 @@ import logging
 from typing import TYPE_CHECKING, Any
 
 from dirwolleu import security
-from dirwolleu._lane import Created
 from dirwolleu._library import VERSION as _VERSION
 from dirwolleu._library import version_text as _version_text
+from dirwolleu._records import Created
 from dirwolleu._retry import Retry
 from dirwolleu._trees import AsyncTree, Tree
 from dirwolleu._watches import ChildrenWatch, DataWatch
 from dirwolleu.client import Client
 from dirwolleu.exceptions import *  # noqa: F403
 from dirwolleu.exceptions import __all__ as _exceptions
+from dirwolleu.multi_read import *  # noqa: F403
+from dirwolleu.multi_read import __all__ as _multi_read
 from dirwolleu.recipes import *  # noqa: F403
 from dirwolleu.recipes import __all__ as _recipes
 from dirwolleu.security import AuthFailedError
@@ -47,6 +49,7 @@ __all__ = [
     "testing",
     "tls_context",
     *_exceptions,
+    *_multi_read,
     *_recipes,
     *_tree,
     *_types,

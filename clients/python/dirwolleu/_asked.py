@@ -2,11 +2,12 @@
 
 from __future__ import annotations
 
-from typing import Any, Optional, Protocol, Union
+from typing import Any, Optional, Protocol
 
-from dirwolleu._lane import LaneRequest
+from dirwolleu._library import Answer
 from dirwolleu._paths import shown
 from dirwolleu._requests import Request
+from dirwolleu._root import Root
 from dirwolleu.exceptions import CallTimeoutError, NoNodeError, NotConnectedError, ZookeeperError
 
 
@@ -33,15 +34,14 @@ class Asked:
 
     def __init__(
         self,
-        request: Union[Request[Any], LaneRequest[Any]],
+        request: Request[Any],
         waiter: Waiter,
         until: int,
         ends_at: Optional[int] = None,
-        root: str = "",
+        root: Root = Root(),
     ) -> None:
         self.request, self.waiter, self.until, self.ends_at = request, waiter, until, ends_at
         self.root = root
-        """The servers' path of the node that the program knows as `/`, where it is another one."""
         self.sent_at, self.is_sent, self.is_handed = 0, False, False
 
     def fail(self, error: BaseException) -> None:
@@ -50,15 +50,15 @@ class Asked:
         if isinstance(error, ZookeeperError):
             error.path = error.path or self.request.path
             error.may_have_happened = error.may_have_happened and not self.request.is_repeatable
-            if self.root and error.path == "/" and isinstance(error, NoNodeError):
-                error.args = "no node", f"that is the root of this client, {shown(self.root)}"
+            if self.root.path and error.path == "/" and isinstance(error, NoNodeError):
+                error.args = "no node", f"that is the root of this client, {shown(self.root.path)}"
         self.waiter.set_exception(error)
 
-    def settle(self, *answer: Any) -> None:
-        """Takes the answer, as the request reads it. Raises `Malformed` where one of the lane does not read."""
+    def settle(self, answer: Answer) -> None:
+        """Takes the answer, as the request reads it. Raises `Malformed` if it does not read."""
         if not self.waiter.done():
             try:
-                self.waiter.set_result(self.request.result(*answer))
+                self.waiter.set_result(self.request.result(answer, self.root))
             except ZookeeperError as error:
                 self.fail(error)
 

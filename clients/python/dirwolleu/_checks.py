@@ -5,6 +5,7 @@ Whoever makes a request looks at that, so that a wrong one is told at once, in t
 
 from __future__ import annotations
 
+import math
 from typing import Any, Callable, Optional, TypeVar
 
 Function = TypeVar("Function", bound=Callable[..., Any])
@@ -39,6 +40,15 @@ def checked_data(value: Optional[bytes]) -> Optional[bytes]:
 def checked_version(version: int) -> int:
     """The version of a node. Raises `TypeError` and `ValueError`."""
     return checked_int("a version", version)
+
+
+def checked_number(what: str, number: float) -> float:
+    """Raises `TypeError` where it is none, and `ValueError` where it is not finite."""
+    if not isinstance(number, (int, float)):
+        raise TypeError(f"{what} is a number, and not {type(number).__name__}")
+    if not math.isfinite(number):
+        raise ValueError(f"{what} is a number that is finite, and not {number}")
+    return number
 
 
 def checked_int(what: str, number: int, bits: int = 32) -> int:

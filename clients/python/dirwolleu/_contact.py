@@ -2,7 +2,43 @@
 
 from __future__ import annotations
 
+import collections
+import struct
+from collections.abc import Iterator
 from typing import Optional
+
+_PONG = struct.pack(">ii", 16, -2)
+"""How the answer to a ping begins: its length and its xid."""
+
+
+def is_ping(frame: bytes) -> bool:
+    """Whether a frame to the server, with its length, is a ping."""
+    return frame[4:8] == _PONG[4:]
+
+
+class Pings:
+    """The pings on one connection that wait for their answers.
+
+    The session takes the answers, and tells nothing of them. So the bytes that come while a ping waits are searched for how an answer
+    begins. The data of a node may have the same bytes: then a ping counts as answered as soon as they come.
+    """
+
+    def __init__(self) -> None:
+        self._sent: collections.deque[int] = collections.deque()
+        self._tail = b""
+
+    def __bool__(self) -> bool:
+        return bool(self._sent)
+
+    def sent(self, now: int) -> None:
+        self._sent.append(now)
+
+    def answered_by(self, data: bytes) -> Iterator[int]:
+        """When those were sent that these bytes answer."""
+        seen = self._tail + data
+        for _ in range(min(seen.count(_PONG), len(self._sent))):
+            yield self._sent.popleft()
+        self._tail = seen[1 - len(_PONG) :] if self._sent else b""
 
 
 class Contact:

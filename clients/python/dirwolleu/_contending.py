@@ -16,13 +16,13 @@ import re
 import time
 from typing import TYPE_CHECKING, Any, Callable, Generic, NamedTuple, Optional, TypeVar
 
-from dirwolleu import _lane as lane
 from dirwolleu import _plans as plans
+from dirwolleu import _records as records
 from dirwolleu import _requests as requests
 from dirwolleu._checks import checked_path, checked_text
 from dirwolleu._clock import moment
 from dirwolleu._engine import Engine, News
-from dirwolleu._library import Listing, Standing
+from dirwolleu._handle import Listing, Standing
 from dirwolleu._plans import Plan
 from dirwolleu._retry import is_lived_through
 from dirwolleu._steps import Result, Steps, TimeIsOver, Wait, bounded, until_of
@@ -247,7 +247,7 @@ class Contender:
             yield Wait(BETWEEN_TRIES)
 
     def _look(self, tag: str) -> Plan[Optional[str]]:
-        yield lane.sync(self._path)
+        yield records.sync(self._path)
         names = yield from names_of(self._path)
         return next((plans.child_of(self._path, name) for name in names if name.startswith(tag)), None)
 

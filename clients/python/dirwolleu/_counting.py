@@ -4,8 +4,8 @@ from __future__ import annotations
 
 from typing import Any, Callable, Generic, Optional, TypeVar
 
-from dirwolleu import _lane as lane
 from dirwolleu import _plans as plans
+from dirwolleu import _records as records
 from dirwolleu import _requests as requests
 from dirwolleu._contending import BETWEEN_TRIES, AnyClient, patiently
 from dirwolleu._plans import Plan
@@ -75,7 +75,7 @@ class BaseCounter(Generic[AnyClient, Number]):
 
     def _is_open(self, spelled: bytes, version: int) -> Plan[bool]:
         """Whether a set whose answer was lost may have happened. It can't happen any more after a `sync`."""
-        yield lane.sync(self._path)
+        yield records.sync(self._path)
         try:
             data, stat = yield requests.get(self._path, None)
         except NoNodeError:

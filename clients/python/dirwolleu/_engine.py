@@ -2,7 +2,7 @@
 
 The session decides which server is dialled and when, when a connection is left, which calls wait and what becomes of them at a
 cut, what is read again, which nodes of a tree are read, and when another session begins. What is decided here is of the host
-alone: the lane, and when an answer to it has taken too long, when a tree is looked at, and whose function is called.
+alone: when a tree is looked at, and whose function is called.
 """
 
 from __future__ import annotations
@@ -12,28 +12,40 @@ import contextlib
 import itertools
 import logging
 import os
-import struct
 from collections.abc import Iterable, Iterator
-from typing import Any, Callable, NamedTuple, Optional, Protocol, Union
+from typing import Any, Callable, NamedTuple, Optional, Protocol
 
-from dirwolleu import _lane as lane
 from dirwolleu import _library as library
 from dirwolleu._asked import Asked, Waiter
-from dirwolleu._contact import Contact
+from dirwolleu._contact import Contact, Pings, is_ping
+from dirwolleu._credentials import TAKEN, Credential, Introduction, Introductions
 from dirwolleu._followed import Followed
-from dirwolleu._frames import Frames, Kind, is_ping, joined
 from dirwolleu._growing import Growing, TreeNews
+from dirwolleu._handle import made
 from dirwolleu._jute import Malformed
 from dirwolleu._keeping import Keeping
-from dirwolleu._lane import Lane, LaneRequest
-from dirwolleu._library import Answer, Closed, Drop, NoMemory, Report, Send, StateChange, made
+from dirwolleu._library import Answer, Closed, Drop, NoMemory, Report, Send, StateChange
 from dirwolleu._line import Line
 from dirwolleu._listening import Listeners
 from dirwolleu._process import this_process
 from dirwolleu._registry import Watchers
 from dirwolleu._requests import Request, refusal_of
 from dirwolleu._root import Root
-from dirwolleu._session import Action, Bounded, Dial, LetGo, Refused, Session, Shown, Sign, TakenOn, TimedOut, Whole
+from dirwolleu._session import (
+    Action,
+    Bounded,
+    CredentialAnswer,
+    Dial,
+    LetGo,
+    Refused,
+    Session,
+    Shown,
+    Sign,
+    TakenOn,
+    TimedOut,
+    Whole,
+    unbegun,
+)
 from dirwolleu.exceptions import (
     ConnectionClosedError,
     ConnectionLoss,
@@ -59,7 +71,7 @@ _EVENTS = {
     library.CHILDREN_CHANGED: EventType.CHILD,
 }
 # end of what is made
-_LANE, _PONG, _CONNECTED = Kind.LANE, Kind.PONG, State.CONNECTED  # a class of an enum takes its time
+_CONNECTED = State.CONNECTED  # a class of an enum takes its time
 _LATE = "an answer has taken more than two thirds of the timeout"
 _ELSEWHERE = "the server has said that the session is over or elsewhere"
 _ENDING = (SessionExpiredError.code, SessionMovedError.code)
@@ -72,16 +84,6 @@ _LONGEST_TIMEOUT_MS = 2_147_483_647
 _SESSION = 0xFFFF_FFFF_FFFF_FFFF
 MOST_HANDED = 256
 """How many calls the core has at once, at most. The others wait in the host's line, where one that is cancelled is taken out and never sent."""
-
-
-class Credential(NamedTuple):
-    """What a session says of who it is. It is a secret."""
-
-    scheme: str
-    credential: bytes
-
-    def __repr__(self) -> str:
-        return f"Credential(scheme={self.scheme!r}, credential=..)"
 
 
 class News(Protocol):
@@ -100,15 +102,6 @@ class Orders(NamedTuple):
 
 
 _NO_ORDERS = Orders(False, None, b"")
-
-
-def _is_auth(asked: Asked) -> bool:
-    return isinstance(asked.request, LaneRequest) and asked.request.operation is lane.Operation.AUTH
-
-
-def _unbegun(last_zxid: int) -> bytes:
-    """What takes up no session, but admits no server that is behind this zxid."""
-    return struct.pack(">qi", 0, 16) + bytes(16) + struct.pack(">q", last_zxid)
 
 
 class Engine(Keeping):
@@ -132,10 +125,11 @@ class Engine(Keeping):
             raise ValueError(f"a timeout is 0.001 to {_LONGEST_TIMEOUT_MS / 1000} seconds")
         self._timeout_ms = int(timeout * 1000)
         self._root, self._count, self._tell = root, 0, tell
+        self._introductions = Introductions(credentials)
         self._session = self._new_session(saved)
         self._granted_ms = self._session.timeout_ms()
         self._session.peek_data("/")  # a ValueError where the root is no path
-        self._hold_callers(credentials)
+        self._hold_callers()
         self._hold_connection()
         self.contact = Contact()
         self.hosts = ""
@@ -152,7 +146,7 @@ class Engine(Keeping):
         """How often it was begun."""
         self.state = State.LOST
 
-    def _hold_callers(self, credentials: Iterable[Credential]) -> None:
+    def _hold_callers(self) -> None:
         """Makes what holds those who have asked, and who listen."""
         self._tickets = itertools.count(1)
         self._handed: collections.deque[Asked] = collections.deque()
@@ -160,8 +154,6 @@ class Engine(Keeping):
         self._line = Line()
         self._sent: dict[int, Asked] = {}
         self._subjects: dict[int, Followed] = {}
-        self._lane: Lane[Asked] = Lane()
-        self._credentials = list(credentials)
         self._watchers = Watchers()
         self._listening = Listeners()
         self._trees: list[Growing] = []
@@ -170,16 +162,18 @@ class Engine(Keeping):
 
     def _hold_connection(self) -> None:
         """Makes what holds what is to be done about the connection, and what came over it."""
-        self._came, self._frames, self._pings = Frames(), list[bytes](), collections.deque[int]()
+        self._frames, self._pings = list[bytes](), Pings()
         self._dial: Optional[Dial] = None
-        self._hangs_up, self._why = False, ""
+        self._hangs_up, self._why, self._fault = False, "", ""
         self._is_admitted, self._is_recast = False, True
-        self._now = self._written = self._sends = self._number = 0
+        self._now = self._number = 0
         self._due: Optional[int] = None
 
     def _new_session(self, saved: Optional[bytes], addresses: int = 0) -> Session:
         seed = int.from_bytes(os.urandom(8), "big")
-        return Session(self._timeout_ms, seed, saved, self._root, addresses)
+        session = Session(self._timeout_ms, seed, saved, self._root, addresses)
+        self._introductions.begin(session)
+        return session
 
     # The life of a client.
 
@@ -205,7 +199,6 @@ class Engine(Keeping):
         """
         self.is_running = False
         self._listening = Listeners()
-        self._lane = Lane()
         self._handed.clear()
         self._line.clear()
         self._sent.clear()
@@ -234,10 +227,9 @@ class Engine(Keeping):
 
     def opened(self, now: int) -> None:
         """The connection that was asked for is there."""
-        self._came, self._is_recast, self._sends = Frames(), True, 0
-        self._pings.clear()
+        self._is_recast = True
+        self._introductions.begin_connection()
         self._step(now, Session.opened)
-        self._frames = [self._with_zxid_of_lane(frame) for frame in self._frames]
 
     def failed(self, now: int) -> None:
         """The connection that was asked for could not be made."""
@@ -260,9 +252,6 @@ class Engine(Keeping):
         self._why = _LATE  # where the session leaves a connection, and says no more
         self._step(now, Session.moment)
         self._why = ""
-        ends = self._end_of_waiting()
-        if ends is not None and ends <= now:
-            self.drop(now, _LATE)
         for asked in self._line.late(now, self.state is State.CONNECTED):
             self.contact.losses += 1
             asked.give_up(self.no_server(self._timeout_ms / 1000))
@@ -271,26 +260,17 @@ class Engine(Keeping):
             self._grow_trees(now)
 
     def received(self, now: int, data: bytes) -> None:
-        """Bytes came. Each frame is a step of its own, so that what is kept can be looked up as it was with the frame.
-
-        Where there are trees, over which each step goes, several are one step, if no notice follows an answer in it: so each answer that
-        was good when it came is good after the step, and the session tends its trees by it before the next one.
-        """
-        came = self._came
-        pieces = came.cut(data)
-        for piece, kind in joined(pieces) if self._trees else pieces:
-            if kind is not _LANE or not self._reply(now, piece):
-                try:
-                    self._step(now, Session.received, piece)
-                except NoMemory:
-                    self._bring_again(now, piece)
-                if kind is _PONG:
-                    self._pong(now)
-                if self._trees:
-                    self._tend_trees(now)
-                    self._grow_trees(now)
-            if self._came is not came:
-                return  # the connection is over
+        """Bytes came."""
+        try:
+            self._step(now, Session.received, data)
+        except NoMemory:
+            self._bring_again(now, data)
+        if self._pings:
+            for pinged_at in self._pings.answered_by(data):
+                self.contact.answered(pinged_at, now)
+        if self._trees:
+            self._tend_trees(now)
+            self._grow_trees(now)
         if self.state is _CONNECTED:
             self.contact.heard_at = now
         if self._line.waiting:
@@ -319,7 +299,7 @@ class Engine(Keeping):
         if self._saved_at_close is not None:
             return None
         is_connected = self.state is State.CONNECTED
-        moments = [self._session.deadline(), self._end_of_waiting(), self._line.deadline(is_connected)]
+        moments = [self._session.deadline(), self._line.deadline(is_connected)]
         if is_connected:
             moments += [tree.deadline() for tree in list(self._trees)]
         self._due = min((moment for moment in moments if moment is not None), default=None)
@@ -337,7 +317,7 @@ class Engine(Keeping):
 
     def is_idle(self) -> bool:
         """Whether nothing that was sent waits for its answer."""
-        return not self._sent and not self._lane
+        return not self._sent
 
     def is_recast(self) -> bool:
         """Whether the deadline may be earlier than when it was asked for last, by other things than frames that came and
@@ -356,7 +336,7 @@ class Engine(Keeping):
     def ask(
         self,
         now: int,
-        request: Union[Request[Any], LaneRequest[Any]],
+        request: Request[Any],
         waiter: Waiter,
         timeout: Optional[float] = None,
     ) -> None:
@@ -367,7 +347,7 @@ class Engine(Keeping):
         self.check_process()
         ends_at = None if timeout is None else now + int(min(max(timeout, 0) * 1000, _LONGEST_TIMEOUT_MS))
         if not self.is_running or not self._is_handed_in(
-            Asked(request, waiter, now + self._timeout_ms, ends_at, self._root.path)
+            Asked(request, waiter, now + self._timeout_ms, ends_at, self._root)
         ):
             waiter.cancel()
             raise self.why_over("the client is not started")
@@ -391,7 +371,7 @@ class Engine(Keeping):
         handed, waiting = self._handed, self._line.waiting
         while handed:
             asked = handed.popleft()
-            if waiting or not self._is_next(asked):
+            if waiting or len(self._sent) >= MOST_HANDED:
                 self._line.add(asked)
                 self._is_recast = self._is_recast or asked.ends_at is not None or self.state is not State.CONNECTED
             elif asked.waiter.begin():
@@ -417,10 +397,10 @@ class Engine(Keeping):
 
     def is_introduced(self) -> bool:
         """Whether a server has accepted the session, and answered for all credentials."""
-        return self.state is State.CONNECTED and not self._lane.introduces() and not self.refused
+        return self.state is State.CONNECTED and self._introductions.are_answered() and not self.refused
 
     def stats(self) -> Stats:
-        contact, sent = self.contact, len(self._sent)
+        contact, sent = self.contact, len(self._sent) + len(self._introductions.waiting())
         held = 0 if self.state is State.CONNECTED else sent
         return Stats(
             dials=contact.dials,
@@ -429,18 +409,16 @@ class Engine(Keeping):
             answered=contact.answers,
             lost=contact.losses,
             waiting=len(self._line) + len(self._handed) + held,
-            in_flight=sent - held + len(self._lane),
+            in_flight=sent - held,
             round_trip=None if contact.round_trip is None else contact.round_trip / 1000,
         )
 
     # Subjects and trees, which the core keeps good.
 
     @contextlib.contextmanager
-    def following(
-        self, path: str, side: int, settled: Callable[[], Any], wake: Callable[[], None]
-    ) -> Iterator[Followed]:
+    def following(self, path: str, side: int, wake: Callable[[], None]) -> Iterator[Followed]:
         """Within it, the core keeps a side of a path good. `wake` is called where it shows that, or a read is refused."""
-        followed = Followed(path, side, settled, wake)
+        followed = Followed(path, side, wake)
         self._wishes.append((self._follow, followed))
         try:
             yield followed
@@ -526,7 +504,6 @@ class Engine(Keeping):
         if self._saved_at_close is not None:
             return
         self._now = now
-        self._written = len(self._frames)
         session = self._session
         try:
             for action in step(session, now, *words):
@@ -540,16 +517,14 @@ class Engine(Keeping):
         except KeyboardInterrupt:  # within an event loop of the main thread
             self._resume("the client was interrupted")
             raise
+        fault, self._fault = self._fault, ""
+        if fault:
+            self.drop(now, fault)
 
     def _take_frame(self, send: Send) -> None:
         self._frames.append(send.frame)
-        self._sends += 1
         if is_ping(send.frame):
-            self._pings.append(self._now)
-
-    def _pong(self, now: int) -> None:
-        if self._pings:
-            self.contact.answered(self._pings.popleft(), now)
+            self._pings.sent(self._now)
 
     def _take_reason(self, drop: Drop) -> None:
         self._why = f"{drop.fault} {drop.words}"
@@ -584,36 +559,15 @@ class Engine(Keeping):
             level = logging.WARNING if self.is_running else logging.INFO
             where, reason = self.place or "the server", self._why or "it was closed"
             logger.log(level, "the connection to %s is over: %s", where, reason)
-        self._lose_lane("the connection ended before the reply")
         self._why = ""
         self._frames.clear()
-        self._came = Frames()
-        self._pings.clear()
-        self._is_admitted, self._sends = False, 0
-        self._is_recast = True
-
-    def _end_of_waiting(self) -> Optional[int]:
-        """When the server has had its time to answer the oldest request of the lane: two thirds of the timeout, and a second at least.
-
-        So the session does with what it sends itself.
-        """
-        asked_at = [asked.sent_at for asked in self._lane.oldest()]
-        return min(asked_at) + max((2 * self._granted_ms + 2) // 3, 1000) if asked_at else None
-
-    def _is_next(self, asked: Asked) -> bool:
-        """Whether a request is handed over now: of the core where that has few, of the lane where what was asked before is sent."""
-        if isinstance(asked.request, Request):
-            return len(self._sent) < MOST_HANDED
-        return self.state is State.CONNECTED and not self._lane.is_full() and self._are_sent()
-
-    def _are_sent(self) -> bool:
-        """Whether no call of the core can wait for its turn, which it does where 1,024 of it and of its own reads are on their way."""
-        return not self._sent or self._sends - self._came.answers < lane.MOST_PENDING
+        self._pings = Pings()
+        self._is_admitted, self._is_recast = False, True
 
     def _send_line(self, now: int) -> None:
         """Hands over what waits for that, as far as it can be, except what nobody waits for any more."""
         waiting = self._line.waiting
-        while waiting and self._is_next(waiting[0]):
+        while waiting and len(self._sent) < MOST_HANDED:
             asked = waiting.popleft()
             if asked.waiter.begin():
                 self._hand_over(asked, now)
@@ -625,9 +579,9 @@ class Engine(Keeping):
             until = now + self._timeout_ms if self.state is _CONNECTED else asked.until
         if self._due is None or until < self._due:
             self._is_recast = True
-        if isinstance(request, LaneRequest):
+        if isinstance(request, Introduction):
             self._line.limit(asked, until)
-            return self._send_in_lane(asked, request)
+            return self._introduce(asked, Credential(*request.words), now)
         ticket = next(self._tickets)
         asked.is_handed = True
         self._sent[ticket] = asked
@@ -637,73 +591,36 @@ class Engine(Keeping):
             self._sent.pop(ticket, None)
             asked.fail(error)
 
-    def _send_in_lane(self, asked: Asked, request: LaneRequest[Any]) -> None:
-        """Writes a frame of the lane, whole, after those of the core that there are."""
-        try:
-            for path in request.paths:
-                self._session.peek_data(path)  # a ValueError where it is none
-            self._frames.append(self._lane.frame(request, self._root, asked))
-            asked.is_sent = True
-        except Exception as error:  # as above
-            asked.fail(error)
+    def _introduce(self, asked: Asked, credential: Credential, now: int) -> None:
+        """Has this connection and all later ones introduce themselves by a credential too, once."""
+        asked.is_sent = self.state is _CONNECTED or asked.ends_at is not None  # the session keeps it
+        if self._introductions.is_taken(credential):
+            return asked.settle(TAKEN)
+        if self._introductions.wait(asked, credential):
+            try:
+                self._step(now, Session.credential, *credential)
+            except Exception as error:  # as above
+                self._introductions.withdraw(asked)
+                asked.fail(error)
 
-    def _reply(self, now: int, frame: bytes) -> bool:
-        """Takes a frame that answers a request of the lane, and tells whether it is one."""
-        found = self._lane.take(frame)
-        if found is None:
-            return False
-        asked, reply = found
-        self._lane_zxid = max(self._lane_zxid, reply.zxid)
-        self.contact.answered(asked.sent_at, now)
-        ends = f"the server answered {reply.code}" if reply.code in _ENDING else ""
-        self.contact.answers += not ends
-        if isinstance(asked.waiter, _Introduction) and reply.code == AuthFailedError.code:
-            self._bar(asked.waiter.scheme)
-            return True
-        try:
-            asked.settle(reply.code, reply.body, self._root)
-        except Malformed:
-            ends = "an answer does not read"
-            self._count_loss(asked, ConnectionLoss("the answer does not read"))
-        if _is_auth(asked):
-            self._wake(None)
-        if ends:
-            self.drop(now, ends)
-        return True
-
-    def _with_zxid_of_lane(self, frame: bytes) -> bytes:
-        """A ConnectRequest that also asks for a server which has all that the lane has seen."""
-        zxid = max(self._lane_zxid, *struct.unpack(">q", frame[8:16]))
-        return frame[:8] + struct.pack(">q", zxid) + frame[16:]
-
-    def _introduce(self) -> None:
-        """Has the credentials sent before all else on a connection whose session a server has accepted."""
-        frames = []
-        for credential in self._credentials:
-            request = lane.auth(*credential)
-            asked = Asked(request, _Introduction(credential.scheme), self._now)
-            asked.sent_at, asked.is_sent = self._now, True
-            frames.append(self._lane.frame(request, self._root, asked))
-        self._frames[self._written : self._written] = frames
+    def _hear_of_credential(self, answer: CredentialAnswer) -> None:
+        if answer.code:
+            return self._bar(self._introductions.scheme(answer.place))
+        for asked in self._introductions.take(answer.place):
+            self.contact.answers += 1
+            self.contact.answered(asked.sent_at, self._now)
+            asked.settle(TAKEN)
+        self._wake(None)
 
     def _bar(self, scheme: str) -> None:
         """A server refuses credentials of the client: the session is over, and no server is dialled any more."""
         self.refused = self.trouble = self._why = f"the server refuses the credentials of the scheme {scheme}"
         logger.error("%s", self.refused)
+        self._enter(State.LOST)  # who listens knows before those who follow find that it does not run
         self.is_running = False
         error = AuthFailedError(self.refused)
         error.may_have_happened = True  # what was sent after the credentials
         self._begin_anew(error)
-
-    def add_credential(self, credential: Credential) -> None:
-        """Has each connection from the next one on introduce itself by this credential too."""
-        if credential not in self._credentials:
-            self._credentials.append(credential)
-
-    def _lose_lane(self, why: str) -> None:
-        lost, self._lane = self._lane.pending(), Lane()
-        for asked in lost:
-            self._count_loss(asked, ConnectionLoss(why))
 
     def _count_loss(self, asked: Asked, error: ZookeeperError) -> None:
         self.contact.losses += 1
@@ -722,10 +639,13 @@ class Engine(Keeping):
         else:
             self.contact.losses += 1
         request = asked.request
-        assert isinstance(request, Request)
         if request.watcher is not None and request.leaves_watch(answer):
             self._watchers.add(request.watcher)
-        asked.settle(answer)
+        try:
+            asked.settle(answer)
+        except Malformed:
+            self._fault = "an answer does not read"
+            self._count_loss(asked, ConnectionLoss("the answer does not read"))
 
     def _time_out(self, timed_out: TimedOut) -> None:
         asked = self._sent.pop(timed_out.ticket, None)
@@ -793,13 +713,12 @@ class Engine(Keeping):
             "connected to %s: session %#x with a timeout of %s seconds",
             self.place or "a server", self._number, self.timeout(),
         )  # fmt: skip
-        self._introduce()
         self._enter(State.CONNECTED)
 
     def _begin_anew(self, error: ZookeeperError) -> None:
         """Has a session that is not begun, and takes no server that has seen less than the old one, and leaves all callers of that."""
         if self._saved_at_close is None:
-            self._replace(_unbegun(self._session.last_zxid()), 0)
+            self._replace(unbegun(self._session.last_zxid()), 0)
         self._subjects.clear()
         self._forget_callers(error, State.LOST)
         self._leave_connection()
@@ -829,13 +748,12 @@ class Engine(Keeping):
         self._refuse_handed(error)
         for tree in list(self._trees):
             tree.end_current()
-        for asked in [*self._sent.values(), *self._lane.pending()]:
+        for asked in [*self._sent.values(), *self._introductions.clear()]:
             lost = type(error)(*error.args)
             lost.may_have_happened = error.may_have_happened
             self._count_loss(asked, lost)
         for asked in self._line.clear():
             self._count_loss(asked, type(error)(*error.args))
-        self._lane = Lane()
         self._sent.clear()
         watchers = self._watchers.all()
         self._watchers.clear()
@@ -875,23 +793,5 @@ _TAKERS: dict[type, Callable[[Engine, Any], None]] = {
     LetGo: Engine._hear_of_tree,
     Bounded: Engine._hear_of_tree,
     Whole: Engine._hear_of_tree,
+    CredentialAnswer: Engine._hear_of_credential,
 }
-
-
-class _Introduction:
-    """What waits for the answer to a credential that is sent on each connection."""
-
-    def __init__(self, scheme: str) -> None:
-        self.scheme = scheme
-
-    def begin(self) -> bool:
-        return True
-
-    def cancel(self) -> None: ...
-
-    def done(self) -> bool:
-        return False
-
-    def set_result(self, _: Any) -> None: ...
-
-    def set_exception(self, _: BaseException) -> None: ...

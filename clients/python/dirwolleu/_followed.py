@@ -2,29 +2,21 @@
 
 from __future__ import annotations
 
-import collections
-from typing import Any, Callable, Optional
+from typing import Callable, Optional
 
 
 class Followed:
-    """A subject of the core's: the data of a node, or the names of its children.
+    """A subject of the core's: the data of a node, or the names of its children. `refused` says why a read was refused last."""
 
-    `found` has the last answer that was good when it came, until it is taken, and `refused` why a read was refused last.
-    """
-
-    def __init__(self, path: str, side: int, settled: Callable[[], Any], wake: Callable[[], None]) -> None:
+    def __init__(self, path: str, side: int, wake: Callable[[], None]) -> None:
         self.path, self.side = path, side
-        self._settled, self._wake = settled, wake
-        self.found: collections.deque[Any] = collections.deque(maxlen=1)
+        self._wake = wake
         self.refused: Optional[BaseException] = None
 
     def show(self) -> None:
-        """What is kept of it is good now: a later frame may end that."""
+        """What is kept of it is good."""
         self.refused = None
-        settled = self._settled()
-        if settled is not None:
-            self.found.append(settled)
-            self._wake()
+        self._wake()
 
     def refuse(self, error: BaseException) -> None:
         self.refused = error

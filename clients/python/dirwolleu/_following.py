@@ -40,12 +40,15 @@ class Subject(Generic[Told]):
         path: str,
         side: int,
         settled: Callable[[], Optional[Told]],
+        overtaken: Callable[[], Optional[Told]],
         fields: Callable[[Told], Any],
         read: Callable[[], Plan[Any]],
     ) -> None:
         self.path, self.side = checked_path(path), side
         self.settled = settled
         """What is good and whole of it now, or None."""
+        self.overtaken = overtaken
+        """What was, and a notice has ended, or None."""
         self.fields = fields
         """What makes an answer another one."""
         self.read = read
@@ -56,6 +59,7 @@ def data_of(engine: Engine, path: str) -> Subject[Kept]:
         path,
         library.DATA_SIDE,
         lambda: engine.settled(path),
+        lambda: engine.overtaken(path),
         lambda kept: (kept.stat, kept.data),
         lambda: _read(path, requests.get),
     )
@@ -66,6 +70,7 @@ def children_of(engine: Engine, path: str) -> Subject[KeptChildren]:
         path,
         library.CHILDREN_SIDE,
         lambda: engine.settled_children(path),
+        lambda: engine.overtaken_children(path),
         lambda kept: (kept.exists, kept.names, kept.pzxid),
         lambda: _read(path, requests.get_children),
     )
@@ -86,6 +91,8 @@ class Follower(Generic[Told]):
         self._engine, self._subject, self._news = engine, subject, news
         self._life = engine.life
         self._told = told
+        self._past: Optional[Told] = None
+        """What was overtaken before it followed."""
         self._trouble = ""
         """What was told of the reads since the last good answer."""
 
@@ -96,14 +103,14 @@ class Follower(Generic[Told]):
         An answer that was good when it came is told, even where a notice has come since.
         """
         subject, wake = self._subject, self._news.set
-        with self._engine.news(wake), self._engine.following(subject.path, subject.side, subject.settled, wake) as followed:
+        self._past = subject.overtaken()
+        with self._engine.news(wake, subject.path), self._engine.following(subject.path, subject.side, wake) as followed:
             yield lambda: self._next(followed)
 
     def _next(self, followed: Followed) -> Steps[Optional[Told]]:
         while self._engine.is_running and self._engine.life == self._life:
             self._news.clear()
-            came = followed.found.pop() if followed.found else None
-            kept = self._subject.settled() or came
+            kept = self._subject.settled() or self._overtaken()
             if kept is not None and self._is_another(kept):
                 return kept
             refused, followed.refused = followed.refused, None
@@ -111,6 +118,11 @@ class Follower(Generic[Told]):
                 self._let_pass(refused)
             yield Wait(None)
         return None
+
+    def _overtaken(self) -> Optional[Told]:
+        """An answer that was good when it came, though nobody has looked before a notice ended it."""
+        kept, past = self._subject.overtaken(), self._past
+        return None if kept is None or past is not None and self._subject.fields(kept) == self._subject.fields(past) else kept
 
     def _let_pass(self, error: BaseException) -> None:
         """Raises an error after which no read brings anything. One that nothing is known of is told, and the read is asked again."""

@@ -9,9 +9,9 @@ from __future__ import annotations
 import logging
 from typing import Callable, Optional, Protocol, Union
 
-from dirwolleu import _library as library
 from dirwolleu._clock import moment
-from dirwolleu._library import NotWhole, SubtreeNode, TooManyNodes
+from dirwolleu._handle import Lacking, SubtreeNode
+from dirwolleu._library import NotWhole, TooManyNodes
 from dirwolleu._retry import is_passing
 from dirwolleu._session import Bounded, LetGo, TakenOn, Whole
 from dirwolleu.exceptions import ConnectionClosedError, NoNodeError, ZookeeperError
@@ -33,7 +33,7 @@ class Host(Protocol):
     """What a tree wants of the client that it is of."""
 
     def settled(self, path: str) -> Optional[Kept]: ...
-    def lacking(self, path: str, most: int) -> list[library.Lacking]: ...
+    def lacking(self, path: str, most: int) -> list[Lacking]: ...
     def subtree(self, path: str, most: int) -> tuple[Optional[list[SubtreeNode]], int]: ...
 
 

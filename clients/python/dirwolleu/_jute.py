@@ -1,4 +1,4 @@
-"""Records as zookeeper.jute spells them, as far as the lane needs them."""
+"""Records as zookeeper.jute spells them, as far as the core does not know them."""
 
 from __future__ import annotations
 
@@ -12,6 +12,8 @@ from dirwolleu.types import Stat
 
 Item = TypeVar("Item")
 _STAT = struct.Struct(">qqqqiiiqiiq")
+ERROR = -1
+"""Stands for an operation in a multi, where a part of it was refused, and at its end."""
 
 
 class Malformed(Exception):
@@ -20,6 +22,10 @@ class Malformed(Exception):
 
 def integer(value: int) -> bytes:
     return struct.pack(">i", checked_int("a number", value))
+
+
+def long(value: int) -> bytes:
+    return struct.pack(">q", value)
 
 
 def boolean(value: bool) -> bytes:
@@ -47,6 +53,14 @@ def _acl(value: ACL) -> bytes:
         raise TypeError(f"an ACL is a list of security.ACL, and this one has {value!r}") from None
 
 
+def multi_header(operation: int, is_last: bool = False) -> bytes:
+    """A MultiHeader: it comes before each part of a multi, and at its end."""
+    return integer(operation) + boolean(is_last) + integer(-1)
+
+
+MULTI_END = multi_header(ERROR, True)
+
+
 class Reader:
     """Takes the fields of a record, from left to right. Each function raises `Malformed`."""
 
@@ -63,11 +77,12 @@ class Reader:
     def integer(self) -> int:
         return int(struct.unpack(">i", self._take(4))[0])
 
-    def long(self) -> int:
-        return int(struct.unpack(">q", self._take(8))[0])
-
     def boolean(self) -> bool:
         return self._take(1) != b"\0"
+
+    def buffer(self) -> Optional[bytes]:
+        count = self.integer()
+        return None if count == -1 else self._take(count)
 
     def text(self) -> str:
         try:
@@ -80,6 +95,11 @@ class Reader:
             self._take(_STAT.size)
         )
         return Stat(czxid, mzxid, ctime, mtime, version, cversion, aversion, owner, length, children, pzxid)
+
+    def multi_header(self) -> int:
+        """The operation that a MultiHeader names."""
+        operation, _, _ = self.integer(), self.boolean(), self.integer()
+        return operation
 
     def acl(self) -> ACL:
         return ACL(self.integer(), Id(self.text(), self.text()))

@@ -7,7 +7,8 @@ from collections.abc import Iterable
 from typing import Callable, Optional
 
 from dirwolleu import _library as library
-from dirwolleu._library import Closed, Found, KeptData, KeptNames
+from dirwolleu._handle import Found, KeptData, KeptNames, Lacking, Listing, Standing, SubtreeNode
+from dirwolleu._library import Closed
 from dirwolleu._session import Session
 from dirwolleu.types import Kept, KeptChildren, Mark, Snapshot
 
@@ -30,7 +31,7 @@ class Keeping:
     _saved_at_close: Optional[bytes] = None
 
     def __init__(self) -> None:
-        self._lane_zxid = self._used = 0
+        self._used = 0
 
     def _look(self, look: Callable[[Session], Found]) -> Optional[Found]:
         """What is found in the session, once more where that was closed meanwhile; None where the client is closed."""
@@ -44,21 +45,16 @@ class Keeping:
     def saved(self) -> bytes:
         """The session, as the library puts it away. It is a secret."""
         saved = self._look(lambda session: session.saved())
-        saved = saved if saved is not None else self._saved_at_close or b""
-        return saved[:-8] + struct.pack(">q", max(self._lane_zxid, *struct.unpack(">q", saved[-8:])))
+        return saved if saved is not None else self._saved_at_close or b""
 
     def session_id(self) -> int:
         """The number of the session, 0 where none was begun."""
         return int(struct.unpack(">q", self.saved()[:8])[0])
 
     def last_zxid(self) -> int:
-        """The greatest zxid that the core has seen. What the lane has seen may be greater."""
+        """The greatest zxid that was seen."""
         looked = self._look(lambda session: session.last_zxid())
         return looked if looked is not None else int(struct.unpack(">q", (self._saved_at_close or b"")[-8:])[0])
-
-    def lane_zxid(self) -> int:
-        """The greatest zxid that the lane has seen."""
-        return self._lane_zxid
 
     def kept(self, path: str) -> Optional[Kept]:
         looked = self._look(lambda session: session.peek_data(path))
@@ -98,20 +94,34 @@ class Keeping:
             return None
         return KeptChildren(path, Mark.GOOD, kept.last_zxid, (), 0, exists=False)
 
-    def lacking(self, path: str, most: int) -> list[library.Lacking]:
+    def overtaken(self, path: str) -> Optional[Kept]:
+        """What is kept of a node that is stale, as it was while it was good: at the zxid of its last change."""
+        kept = self.kept(path)
+        if kept is None or kept.mark is Mark.GOOD or not kept.has_data or kept.stat is None:
+            return None
+        return kept._replace(mark=Mark.GOOD, last_zxid=kept.stat.mzxid)
+
+    def overtaken_children(self, path: str) -> Optional[KeptChildren]:
+        """The same of the names of a node's children."""
+        kept = self.kept_children(path)
+        if kept is None or kept.mark is Mark.GOOD:
+            return None
+        return kept._replace(mark=Mark.GOOD, last_zxid=kept.pzxid)
+
+    def lacking(self, path: str, most: int) -> list[Lacking]:
         """What is still to be read, with a watch, before there is a subtree."""
         return self._look(lambda session: session.lacking(path, most)) or []
 
-    def subtree(self, path: str, most: int) -> tuple[Optional[list[library.SubtreeNode]], int]:
+    def subtree(self, path: str, most: int) -> tuple[Optional[list[SubtreeNode]], int]:
         """All nodes at and below a path, and the zxid at which the servers have just these; None where that is not shown."""
         return self._look(lambda session: session.subtree(path, most)) or (None, 0)
 
-    def standing(self, directory: str, name: str, listing: library.Listing, markers: Iterable[str]) -> library.Standing:
+    def standing(self, directory: str, name: str, listing: Listing, markers: Iterable[str]) -> Standing:
         """Whether the session comes first in a directory by its node of this name, and else whom it waits for, by a listing that
         was answered after the node was made. That is the core's verdict: see `Session.standing`.
         """
         stands = self._look(lambda session: session.standing(directory, name, *listing, markers))
-        return stands or library.Standing(None, None)
+        return stands or Standing(None, None)
 
     def token_of(self, path: str) -> Optional[int]:
         """The zxid at which a node of this session was made, where that it is there is kept and good."""

@@ -8,8 +8,8 @@ from __future__ import annotations
 
 from typing import TYPE_CHECKING, Any, Callable, Optional
 
-from dirwolleu import _lane as lane
 from dirwolleu import _plans as plans
+from dirwolleu import _records as records
 from dirwolleu import _requests as requests
 from dirwolleu._contending import (
     BETWEEN_TRIES,
@@ -169,7 +169,7 @@ class Lessee:
 
 
 def _synced(path: str) -> Plan[None]:
-    yield lane.sync(path)
+    yield records.sync(path)
 
 
 class BaseSemaphore(BaseTaker[AnyClient, AnyHeld]):

@@ -12,8 +12,8 @@ from dirwolleu._asked import Asked
 
 
 class Line:
-    """What was asked and is handed over later: requests of the lane, which wait for a connection, and the calls of the core
-    after them, or after as many as the core has at once: `waiting`, the one that was asked first in front.
+    """What was asked and is handed over later, since the core has as many as it is to have: `waiting`, the one that was asked first in
+    front. And the limits of these, and of credentials.
     """
 
     def __init__(self) -> None:

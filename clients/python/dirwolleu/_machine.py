@@ -5,7 +5,8 @@ from __future__ import annotations
 from typing import Any, Optional
 
 from dirwolleu import _library as library
-from dirwolleu._library import LookUps, Output, checked, functions
+from dirwolleu._handle import LookUps
+from dirwolleu._library import Output, checked, functions
 from dirwolleu._root import Root
 
 

@@ -3,12 +3,12 @@
 from __future__ import annotations
 
 from collections.abc import Generator, Sequence
-from typing import TYPE_CHECKING, Any, Optional, Union
+from typing import TYPE_CHECKING, Any, Optional
 
-from dirwolleu import _lane as lane
+from dirwolleu import _records as records
 from dirwolleu import _requests as requests
 from dirwolleu._checks import checked_path
-from dirwolleu._lane import LaneRequest
+from dirwolleu._records import Mode, is_nameless
 from dirwolleu._requests import Request, Result
 from dirwolleu.exceptions import NodeExistsError, NoNodeError, NotEmptyError
 from dirwolleu.security import ACL
@@ -16,8 +16,7 @@ from dirwolleu.security import ACL
 if TYPE_CHECKING:
     from uuid import UUID
 
-AnyRequest = Union[Request[Result], LaneRequest[Result]]
-Plan = Generator[Union[Request[Any], LaneRequest[Any]], Any, Result]
+Plan = Generator[Request[Any], Any, Result]
 Acls = Optional[Sequence[ACL]]
 
 
@@ -36,11 +35,12 @@ def new_tag() -> UUID:
     return uuid.uuid4()
 
 
-def create_request(path: str, value: Optional[bytes], acl: Acls, ephemeral: bool, sequence: bool) -> AnyRequest[str]:
-    """A node that is open to all is made by the core, and one with an ACL by the lane."""
-    if acl is None:
-        return requests.create(path, value, ephemeral, sequence)
-    return lane.create(path, value, acl, ephemeral, sequence)
+def create_request(path: str, value: Optional[bytes], acl: Acls, mode: Mode) -> Request[str]:
+    """The core makes a node that is open to all, and has a name."""
+    is_plain = acl is None and not mode.container and mode.ttl_ms is None
+    if is_plain and not is_nameless(checked_path(path), mode):
+        return requests.create(path, value, mode.ephemeral, mode.sequence)
+    return records.create(path, value, acl, mode)
 
 
 def ensure_path(path: str, acl: Acls) -> Plan[None]:
@@ -57,14 +57,14 @@ def _ensure(path: str, acl: Acls) -> Plan[None]:
         path = parent_of(path)
     for path in reversed(missing):
         try:
-            request = create_request(path, b"", acl, False, False)
+            request = create_request(path, b"", acl, Mode())
             request.is_repeatable = True
             yield request
         except NodeExistsError:
             pass
 
 
-def create(request: AnyRequest[Result], path: str, acl: Acls, makepath: bool) -> Plan[Result]:
+def create(request: Request[Result], path: str, acl: Acls, makepath: bool) -> Plan[Result]:
     """Makes a node, and those above it where `makepath` is true."""
     result: Result
     try:
@@ -83,7 +83,7 @@ def delete(path: str, version: int, recursive: bool) -> Plan[None]:
     return _delete_all(path, version) if recursive else _asked(request)
 
 
-def _asked(request: AnyRequest[Result]) -> Plan[Result]:
+def _asked(request: Request[Result]) -> Plan[Result]:
     result: Result = yield request
     return result
 

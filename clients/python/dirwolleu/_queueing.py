@@ -5,8 +5,8 @@ from __future__ import annotations
 import re
 from typing import Generic, Optional
 
-from dirwolleu import _lane as lane
 from dirwolleu import _plans as plans
+from dirwolleu import _records as records
 from dirwolleu import _requests as requests
 from dirwolleu._contending import BETWEEN_TRIES, AnyClient, names_of, patiently
 from dirwolleu._engine import News
@@ -55,7 +55,7 @@ class BaseQueue(Generic[AnyClient]):
                     return found
 
     def _find(self, tag: str) -> Plan[Optional[str]]:
-        yield lane.sync(self._path)
+        yield records.sync(self._path)
         names = yield from names_of(self._path)
         return next((plans.child_of(self._path, name) for name in names if name.startswith(tag)), None)
 

@@ -6,8 +6,10 @@ from typing import Any, Callable, Generic, NamedTuple, Optional, TypeVar
 
 from dirwolleu import _library as library
 from dirwolleu._checks import checked_data, checked_function, checked_path, checked_version
-from dirwolleu._library import Answer, Listing
+from dirwolleu._handle import Listing
+from dirwolleu._library import Answer
 from dirwolleu._paths import parent
+from dirwolleu._root import Root
 from dirwolleu._session import Action, Session
 from dirwolleu.exceptions import (
     ConnectionClosedError,
@@ -86,8 +88,8 @@ class Request(Generic[Result]):
         is_absent = answer.result == library.CODE
         return answer.lack == 0 and (not is_absent or self.is_exists and answer.code == NoNodeError.code)
 
-    def result(self, answer: Answer) -> Any:
-        """What the answer brings, or raises its error."""
+    def result(self, answer: Answer, root: Root) -> Any:
+        """What the answer brings, or raises its error. The root is that of the client."""
         _, lack, result, code, stat, text, names, _ = answer
         if lack:
             raise _ERRORS[lack]()
@@ -140,8 +142,8 @@ class _Listing(Request[Listing]):
 
     __slots__ = ()
 
-    def result(self, answer: Answer) -> Any:
-        return Listing.of(super().result(answer), answer.zxid)
+    def result(self, answer: Answer, root: Root) -> Any:
+        return Listing.of(super().result(answer, root), answer.zxid)
 
 
 def listing(path: str) -> Request[Listing]:

@@ -29,6 +29,10 @@ class Root(NamedTuple):
         except UnicodeEncodeError:  # half of a character, as of a name that is no UTF-8
             raise no_path(path, self.path) from None
 
+    def has(self, full: str) -> bool:
+        """Whether a servers' path is the root, or below it."""
+        return full == self.path or full.startswith(self.path + "/")
+
     def own(self, full: str) -> str:
         """The program's path of a servers' path. One that is not below the root stays as it is."""
         if full == self.path:

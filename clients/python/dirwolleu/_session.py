@@ -9,11 +9,14 @@ from __future__ import annotations
 
 import enum
 import struct
+from collections.abc import Sequence
 from ctypes import byref, c_size_t, c_uint64
-from typing import Any, NamedTuple, Optional, Union
+from typing import Any, Callable, NamedTuple, Optional, Union
 
 from dirwolleu import _library as library
-from dirwolleu._library import LookUps, checked, functions, known, made
+from dirwolleu._auth_frames import AuthFrames, after_first
+from dirwolleu._handle import LookUps, made
+from dirwolleu._library import checked, functions, known
 from dirwolleu._root import Root
 
 NO_LIMIT = 2**64 - 1
@@ -96,7 +99,20 @@ class Whole(NamedTuple):
 
 _SIGNS = {library.HANG_UP: Sign.HANG_UP, library.RENEWED: Sign.RENEWED}
 
-Action = Union[library.Output, Dial, Sign, TimedOut, Shown, Refused, TakenOn, LetGo, Bounded, Whole]
+
+class CredentialAnswer(NamedTuple):
+    """A server has answered the credential at this place, from 0 on: with code 0 it takes it. Each connection has another answer."""
+
+    place: int
+    code: int
+
+
+Action = Union[library.Output, Dial, Sign, TimedOut, Shown, Refused, TakenOn, LetGo, Bounded, Whole, CredentialAnswer]
+
+
+def unbegun(last_zxid: int) -> bytes:
+    """What takes up no session, but admits no server that is behind this zxid."""
+    return struct.pack(">qi", 0, 16) + bytes(16) + struct.pack(">q", last_zxid)
 
 
 class Session(LookUps[Action]):
@@ -112,6 +128,7 @@ class Session(LookUps[Action]):
     ) -> None:
         super().__init__(root)
         self._count, self._take_all = c_size_t(), self._calls.outputs
+        self._auth = AuthFrames()
         self._place = self._found_place()
         if saved is None:
             checked(self._calls.open(self._handle, timeout_ms, addresses, seed))
@@ -125,7 +142,8 @@ class Session(LookUps[Action]):
 
     def opened(self, now: int) -> list[Action]:
         """The connection that was asked for is there."""
-        return self._outputs(self._calls.opened(self._handle, now))
+        outputs = self._outputs(self._calls.opened(self._handle, now))
+        return after_first(outputs, list(map(_Send, self._auth.opened())))
 
     def failed(self, now: int) -> list[Action]:
         """The connection that was asked for could not be made."""
@@ -133,6 +151,7 @@ class Session(LookUps[Action]):
 
     def cut(self, now: int) -> list[Action]:
         """The connection is over."""
+        self._auth.cut()
         return self._outputs(self._calls.cut(self._handle, now))
 
     def moment(self, now: int) -> list[Action]:
@@ -141,7 +160,9 @@ class Session(LookUps[Action]):
 
     def received(self, now: int, data: bytes) -> list[Action]:
         """Bytes came. Raises `NoMemory` where they can be handed in again."""
-        return self._outputs(self._calls.bytes(self._handle, now, data, len(data)))
+        outputs = self._outputs(self._calls.bytes(self._handle, now, data, len(data)))
+        answers = self._auth.answers(data)
+        return outputs + [CredentialAnswer(*answer) for answer in answers] if answers else outputs
 
     def addresses(self, now: int, count: int) -> list[Action]:
         """The list of addresses is another one, of this many."""
@@ -180,6 +201,19 @@ class Session(LookUps[Action]):
         spelled = self._root.spell(path)
         code = self._calls.delete(self._handle, now, ticket, until, spelled, len(spelled), version)
         return self._outputs(code, path)
+
+    def raw(
+        self, now: int, ticket: int, until: int, operation: int, named: Sequence[str], body: Callable[[Root], bytes]
+    ) -> list[Action]:
+        """Asks for another operation, with a body that the library does not read: so the paths that it names are looked at before."""
+        for path in named:
+            self._side_kept(path)
+        spelled = body(self._root)
+        return self._outputs(self._calls.raw(self._handle, now, ticket, until, operation, spelled, len(spelled)))
+
+    def credential(self, now: int, scheme: str, secret: bytes) -> list[Action]:
+        """Has the session introduce itself by this too, on this connection and each later one, before all else. They have places, from 0 on."""
+        return list(map(_Send, self._auth.add(scheme, secret)))
 
     def close_session(self, now: int, ticket: int, until: int) -> list[Action]:
         """Ends the session of the servers. After `SESSION_CLOSED` nothing more of it is to be done."""

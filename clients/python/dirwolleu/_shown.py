@@ -7,11 +7,11 @@ import sys
 from collections.abc import Iterable
 from typing import TYPE_CHECKING, Any, Callable, Optional, TypeVar, Union
 
-from dirwolleu import _lane as lane
 from dirwolleu import _watches as watches
 from dirwolleu._checks import checked_function, checked_text
 from dirwolleu._clock import moment
-from dirwolleu._engine import Credential, Engine, Listener, News, Tell
+from dirwolleu._credentials import Credential, Introduction
+from dirwolleu._engine import Engine, Listener, News, Tell
 from dirwolleu._freshening import freshening
 from dirwolleu._hosts import Servers
 from dirwolleu._plans import Plan
@@ -230,8 +230,7 @@ class Shown:
 
     def _introducing(self, credential: Credential) -> Plan[None]:
         """Says who the session is, now and on each later connection."""
-        yield lane.auth(*credential)
-        self._engine.add_credential(credential)
+        yield Introduction(credential)
 
     def _freshening(self, quorum: bool) -> Plan[int]:
         return freshening(self._engine, quorum)

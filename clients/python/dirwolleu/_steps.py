@@ -10,8 +10,7 @@ import time
 from collections.abc import Generator
 from typing import Any, Callable, NamedTuple, Optional, TypeVar, Union
 
-from dirwolleu._lane import LaneRequest
-from dirwolleu._plans import AnyRequest, Plan
+from dirwolleu._plans import Plan
 from dirwolleu._requests import Request
 from dirwolleu._retry import Retry
 from dirwolleu.exceptions import CallTimeoutError, ZookeeperError
@@ -27,7 +26,7 @@ class Ask(NamedTuple):
     in steps that are `bounded` too.
     """
 
-    request: Union[Request[Any], LaneRequest[Any]]
+    request: Request[Any]
     timeout: Optional[float]
 
 
@@ -43,7 +42,7 @@ class Call(NamedTuple):
     function: Callable[[], Any]
 
 
-Step = Union[Request[Any], LaneRequest[Any], Ask, Wait, Call]
+Step = Union[Request[Any], Ask, Wait, Call]
 Steps = Generator[Step, Any, Result]
 
 
@@ -61,7 +60,7 @@ def until_of(seconds: Optional[float]) -> Optional[float]:
     return None if seconds is None else time.monotonic() + seconds
 
 
-def by_policy(request: AnyRequest[Any], retry: Optional[Retry], until: Optional[float]) -> Steps[Any]:
+def by_policy(request: Request[Any], retry: Optional[Retry], until: Optional[float]) -> Steps[Any]:
     """Asks once, and again by a policy where there is one, up to a moment."""
     if retry is None:
         return (yield Ask(request, left_of(until)))
@@ -118,4 +117,4 @@ def _within(step: Step, until: float) -> Step:
     left = until - time.monotonic()
     if isinstance(step, Wait):
         return Wait(max(left, 0) if step.seconds is None else min(step.seconds, max(left, 0)))
-    return Ask(step, max(left, SHORTEST_ASK)) if isinstance(step, (Request, LaneRequest)) else step
+    return Ask(step, max(left, SHORTEST_ASK)) if isinstance(step, Request) else step

@@ -13,7 +13,6 @@ from collections.abc import Generator
 from typing import Any, Callable, Optional, Protocol, Union
 
 from dirwolleu import _ending as ending
-from dirwolleu._lane import LaneRequest
 from dirwolleu._requests import Request
 from dirwolleu._semaphore import Semaphore, has_system_threads
 from dirwolleu._steps import Ask, Call, Step, Steps, Wait
@@ -387,7 +386,7 @@ class Task:
 
     def _ask(self, step: Any) -> None:
         request, timeout = step if isinstance(step, Ask) else (step, None)
-        assert isinstance(request, (Request, LaneRequest))
+        assert isinstance(request, Request)
         self._client._hand_in(request, _Turn(self, self._number), timeout)
 
     def _wait(self, seconds: Optional[float]) -> None:

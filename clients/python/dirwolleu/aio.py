@@ -6,28 +6,29 @@ import asyncio
 import contextlib
 import inspect
 import ssl as _ssl
-from collections.abc import AsyncGenerator, Awaitable, Sequence
+from collections.abc import AsyncGenerator, Awaitable, Iterable, Sequence
 from types import TracebackType
 from typing import Any, Callable, Optional, TypeVar, Union
 
 from dirwolleu import _following as following
-from dirwolleu import _lane as lane
 from dirwolleu import _plans as plans
+from dirwolleu import _records as records
 from dirwolleu import _requests as requests
 from dirwolleu import _steps as steps_of
 from dirwolleu._clock import moment
 from dirwolleu._driver import Driver
 from dirwolleu._engine import News as AnyNews
-from dirwolleu._lane import Created
-from dirwolleu._plans import Acls, AnyRequest, Plan
-from dirwolleu._requests import Result
+from dirwolleu._plans import Acls, Plan
+from dirwolleu._records import Created, Mode
+from dirwolleu._requests import Request, Result
 from dirwolleu._retry import Retry
 from dirwolleu._shown import AuthData, Shown, credential_of, parts_of
 from dirwolleu._steps import Ask, Call, Step, Steps, Wait
 from dirwolleu._trees import MOST_NODES, AsyncTree
 from dirwolleu._watches import ChildrenWatch, DataWatch
 from dirwolleu.exceptions import ZookeeperError
-from dirwolleu.security import ACL
+from dirwolleu.multi_read import Read, ReadOutcome, multi_read
+from dirwolleu.security import ACL, Id
 from dirwolleu.transaction import AsyncTransaction
 from dirwolleu.types import Kept, KeptChildren, Stat, Watch
 
@@ -184,18 +185,26 @@ class Client(Shown):
         acl: Acls = None,
         ephemeral: bool = False,
         sequence: bool = False,
+        container: bool = False,
+        ttl: Optional[float] = None,
         makepath: bool = False,
         timeout: Optional[float] = None,
     ) -> str:
         """Makes a node, open to all unless an ACL is given, and tells its path. None as value is null data.
 
-        An ephemeral node goes with the session. Where `sequence` is true, ten digits are added to the path. With
-        `makepath` the nodes above it are made too, as far as they are not there. Raises `NodeExistsError`,
-        `NoNodeError` where there is no parent, `NoChildrenForEphemeralsError`, `InvalidACLError`.
+        An ephemeral node goes with the session. With `sequence` ten digits are added to the path: a path that ends with a slash
+        makes a node whose name is these alone. A `container` is deleted by the servers some time after its last child went, and
+        a node with a `ttl`, in seconds, when it had neither a change nor a child for so long: servers without the option
+        `zookeeper.extendedTypesEnabled` refuse that by `UnimplementedError`. With `makepath` the nodes above it are made too, as
+        far as they are not there. Raises `NodeExistsError`, `NoNodeError` if there is no parent, `NoChildrenForEphemeralsError`,
+        `InvalidACLError`.
+
+        With an ACL, and where the path ends with a slash, it asks by create2, which ZooKeeper has since 3.5; a container by
+        createContainer and a TTL by createTTL, of 3.5 too.
 
             path = await client.create("/queue/job-", b"one", sequence=True, makepath=True)
         """
-        request = plans.create_request(path, value, acl, ephemeral, sequence)
+        request = plans.create_request(path, value, acl, Mode.of(ephemeral, sequence, container, ttl))
         return await self._run(plans.create(request, path, acl, makepath), timeout)
 
     async def create2(
@@ -210,7 +219,7 @@ class Client(Shown):
         timeout: Optional[float] = None,
     ) -> Created:
         """Makes a node as `create` does, and tells its `path` and its `stat`."""
-        request = lane.create2(path, value, acl, ephemeral, sequence)
+        request = records.create2(path, value, acl, Mode(ephemeral, sequence))
         return await self._run(plans.create(request, path, acl, makepath), timeout)
 
     async def ensure_path(self, path: str, *, acl: Acls = None, timeout: Optional[float] = None) -> None:
@@ -239,7 +248,7 @@ class Client(Shown):
         A read after it sees each write that any client had an answer to before `sync` was called. It marks no kept
         answer: what is kept has those writes once a later read or ping is answered.
         """
-        return await self._call(lane.sync(path), timeout)
+        return await self._call(records.sync(path), timeout)
 
     async def fresh(self, *, quorum: bool = False, timeout: Optional[float] = None) -> int:
         """Sees to it that what is good has each write that was answered before this call, to whichever client.
@@ -252,9 +261,30 @@ class Client(Shown):
         """
         return await self._run(self._freshening(quorum), timeout)
 
+    async def get_ephemerals(self, prefix: str = "/", *, timeout: Optional[float] = None) -> list[str]:
+        """The paths of the session's ephemeral nodes that begin with a path, in no order. ZooKeeper has it since 3.6."""
+        return await self._call(records.get_ephemerals(prefix), timeout)
+
+    async def get_all_children_number(self, path: str, *, timeout: Optional[float] = None) -> int:
+        """How many nodes are below a node, at all depths. Raises `NoNodeError`. ZooKeeper has it since 3.6."""
+        return await self._call(records.get_all_children_number(path), timeout)
+
+    async def who_am_i(self, *, timeout: Optional[float] = None) -> list[Id]:
+        """By which schemes and ids the server knows this client: its address, and its credentials. ZooKeeper has it since 3.7."""
+        return await self._call(records.who_am_i(), timeout)
+
+    async def multi_read(self, reads: Iterable[Read], *, timeout: Optional[float] = None) -> list[ReadOutcome]:
+        """Reads the data or the names of several nodes at one zxid, and tells what each read has brought: the data and what is
+        known of the node, or the names, or the error of that read, as an error that is not raised. It leaves no watch, and
+        nothing of it is kept. ZooKeeper has it since 3.6.
+
+            config, names = await client.multi_read([dirwolleu.Read.data("/config"), dirwolleu.Read.children("/")])
+        """
+        return await self._call(multi_read(reads), timeout)
+
     async def get_acls(self, path: str, *, timeout: Optional[float] = None) -> tuple[list[ACL], Stat]:
         """The ACL of a node, and what is known of it. Raises `NoNodeError`."""
-        return await self._call(lane.get_acls(path), timeout)
+        return await self._call(records.get_acls(path), timeout)
 
     async def set_acls(
         self, path: str, acls: Sequence[ACL], version: int = -1, *, timeout: Optional[float] = None
@@ -263,13 +293,13 @@ class Client(Shown):
 
         Raises `NoNodeError`, `BadVersionError`, `InvalidACLError`, `NoAuthError`.
         """
-        return await self._call(lane.set_acls(path, acls, version), timeout)
+        return await self._call(records.set_acls(path, acls, version), timeout)
 
     async def add_auth(self, scheme: str, credential: Union[str, bytes], *, timeout: Optional[float] = None) -> None:
         """Says who the session is, now and on each later connection.
 
-        Raises `AuthFailedError` where the server refuses it or does not know the scheme; then it is forgotten, and the
-        server ends the connection. The session goes on over the next one. The scheme `digest` takes any `username:password`.
+        Raises `AuthFailedError` if the server refuses it or does not know the scheme: the session is over then, as with those
+        of `auth_data`, and it is forgotten. The scheme `digest` takes any `username:password`.
 
             await client.add_auth("digest", "bob:secret")
             await client.create("/bobs", acl=dirwolleu.security.CREATOR_ALL_ACL)
@@ -321,10 +351,12 @@ class Client(Shown):
         acl: Acls = None,
         ephemeral: bool = False,
         sequence: bool = False,
+        container: bool = False,
+        ttl: Optional[float] = None,
         makepath: bool = False,
     ) -> asyncio.Future[str]:
         """`create`, which is handed in at once, and needs no task, unless `makepath` is true."""
-        request = plans.create_request(path, value, acl, ephemeral, sequence)
+        request = plans.create_request(path, value, acl, Mode.of(ephemeral, sequence, container, ttl))
         return self._begin_plan(plans.create(request, path, acl, makepath)) if makepath else self._send(request)
 
     def create2_async(
@@ -338,7 +370,7 @@ class Client(Shown):
         makepath: bool = False,
     ) -> asyncio.Future[Created]:
         """`create2`, which is handed in at once, and needs no task, unless `makepath` is true."""
-        request = lane.create2(path, value, acl, ephemeral, sequence)
+        request = records.create2(path, value, acl, Mode(ephemeral, sequence))
         return self._begin_plan(plans.create(request, path, acl, makepath)) if makepath else self._send(request)
 
     def ensure_path_async(self, path: str, *, acl: Acls = None) -> asyncio.Future[None]:
@@ -357,15 +389,31 @@ class Client(Shown):
 
     def sync_async(self, path: str = "/") -> asyncio.Future[str]:
         """`sync`, which is handed in at once, and needs no task."""
-        return self._send(lane.sync(path))
+        return self._send(records.sync(path))
+
+    def get_ephemerals_async(self, prefix: str = "/") -> asyncio.Future[list[str]]:
+        """`get_ephemerals`, which is handed in at once, and needs no task."""
+        return self._send(records.get_ephemerals(prefix))
+
+    def get_all_children_number_async(self, path: str) -> asyncio.Future[int]:
+        """`get_all_children_number`, which is handed in at once, and needs no task."""
+        return self._send(records.get_all_children_number(path))
+
+    def who_am_i_async(self) -> asyncio.Future[list[Id]]:
+        """`who_am_i`, which is handed in at once, and needs no task."""
+        return self._send(records.who_am_i())
+
+    def multi_read_async(self, reads: Iterable[Read]) -> asyncio.Future[list[ReadOutcome]]:
+        """`multi_read`, which is handed in at once, and needs no task."""
+        return self._send(multi_read(reads))
 
     def get_acls_async(self, path: str) -> asyncio.Future[tuple[list[ACL], Stat]]:
         """`get_acls`, which is handed in at once, and needs no task."""
-        return self._send(lane.get_acls(path))
+        return self._send(records.get_acls(path))
 
     def set_acls_async(self, path: str, acls: Sequence[ACL], version: int = -1) -> asyncio.Future[Stat]:
         """`set_acls`, which is handed in at once, and needs no task."""
-        return self._send(lane.set_acls(path, acls, version))
+        return self._send(records.set_acls(path, acls, version))
 
     def add_auth_async(self, scheme: str, credential: Union[str, bytes]) -> asyncio.Future[None]:
         """`add_auth`, as a task."""
@@ -401,7 +449,7 @@ class Client(Shown):
             while (kept := await self._drive(next_one(), news)) is not None:
                 yield kept
 
-    async def _call(self, request: AnyRequest[Result], timeout: Optional[float] = None) -> Result:
+    async def _call(self, request: Request[Result], timeout: Optional[float] = None) -> Result:
         if self._retry is None:
             return await self._ask(request, timeout)
         result: Result = await self._drive(steps_of.by_policy(request, self._retry, steps_of.until_of(timeout)))
@@ -437,11 +485,11 @@ class Client(Shown):
             return (await told) if inspect.isawaitable(told) else told
         return await (self._ask(step.request, step.timeout) if isinstance(step, Ask) else self._ask(step))
 
-    async def _ask(self, request: AnyRequest[Result], timeout: Optional[float] = None) -> Result:
+    async def _ask(self, request: Request[Result], timeout: Optional[float] = None) -> Result:
         result: Result = await self._send(request, timeout)
         return result
 
-    def _send(self, request: AnyRequest[Any], timeout: Optional[float] = None) -> _Waiter:
+    def _send(self, request: Request[Any], timeout: Optional[float] = None) -> _Waiter:
         waiter = _Waiter(loop=asyncio.get_running_loop())
         self._engine.ask(moment(), request, waiter, timeout)
         self._act()

@@ -9,29 +9,30 @@ import functools
 import logging
 import time
 import weakref
-from collections.abc import Generator, Sequence
+from collections.abc import Generator, Iterable, Sequence
 from types import TracebackType
 from typing import TYPE_CHECKING, Any, Callable, Optional, TypeVar, Union
 
 from dirwolleu import _ending as ending
 from dirwolleu import _following as following
-from dirwolleu import _lane as lane
 from dirwolleu import _plans as plans
+from dirwolleu import _records as records
 from dirwolleu import _requests as requests
 from dirwolleu import _steps as steps_of
 from dirwolleu._asked import Waiter as AnyWaiter
 from dirwolleu._clock import moment
 from dirwolleu._engine import News as AnyNews
-from dirwolleu._lane import Created
-from dirwolleu._plans import Acls, AnyRequest, Plan
-from dirwolleu._requests import Result
+from dirwolleu._plans import Acls, Plan
+from dirwolleu._records import Created, Mode
+from dirwolleu._requests import Request, Result
 from dirwolleu._retry import Retry
 from dirwolleu._shown import AuthData, Shown, credential_of, parts_of
 from dirwolleu._steps import Ask, Call, Step, Steps, Wait
 from dirwolleu._trees import MOST_NODES, Tree
 from dirwolleu._waiting import Future, News, Sleepers, Task, Waiter
 from dirwolleu.exceptions import ConnectionClosedError, ZookeeperError
-from dirwolleu.security import ACL, AuthFailedError
+from dirwolleu.multi_read import Read, ReadOutcome, multi_read
+from dirwolleu.security import ACL, AuthFailedError, Id
 from dirwolleu.transaction import Transaction
 from dirwolleu.types import Kept, KeptChildren, Stat, State, Watch
 
@@ -61,9 +62,9 @@ class Client(Shown):
     asked for; a server grants what lies between its own bounds. `saved` takes up the session of another client, as its
     `saved_session` told it.
 
-    `auth_data` are credentials, each a scheme and its text, which are sent on each connection before anything else, and
-    so are those of `add_auth` on later ones. Where a server refuses one of them there, the session is over: the state is
-    `LOST`, nothing is kept, and no server is dialled until the client is started again. With `ssl` the connections are
+    `auth_data` are credentials, each a scheme and its text, which are sent first on each connection, and so are those of
+    `add_auth`. If a server refuses one of them, the session is over: the state is `LOST`, nothing is kept, and no server is
+    dialled until the client is started again. With `ssl` the connections are
     TLS: see `dirwolleu.tls_context`. By `retry`, a policy, each call is asked again where that is safe; without it none
     is.
 
@@ -208,18 +209,26 @@ class Client(Shown):
         acl: Acls = None,
         ephemeral: bool = False,
         sequence: bool = False,
+        container: bool = False,
+        ttl: Optional[float] = None,
         makepath: bool = False,
         timeout: Optional[float] = None,
     ) -> str:
         """Makes a node, open to all unless an ACL is given, and tells its path. None as value is null data.
 
-        An ephemeral node goes with the session. Where `sequence` is true, ten digits are added to the path. With
-        `makepath` the nodes above it are made too, as far as they are not there. Raises `NodeExistsError`,
-        `NoNodeError` where there is no parent, `NoChildrenForEphemeralsError`, `InvalidACLError`.
+        An ephemeral node goes with the session. With `sequence` ten digits are added to the path: a path that ends with a slash
+        makes a node whose name is these alone. A `container` is deleted by the servers some time after its last child went, and
+        a node with a `ttl`, in seconds, when it had neither a change nor a child for so long: servers without the option
+        `zookeeper.extendedTypesEnabled` refuse that by `UnimplementedError`. With `makepath` the nodes above it are made too, as
+        far as they are not there. Raises `NodeExistsError`, `NoNodeError` if there is no parent, `NoChildrenForEphemeralsError`,
+        `InvalidACLError`.
+
+        With an ACL, and where the path ends with a slash, it asks by create2, which ZooKeeper has since 3.5; a container by
+        createContainer and a TTL by createTTL, of 3.5 too.
 
             path = client.create("/queue/job-", b"one", sequence=True, makepath=True)
         """
-        request = plans.create_request(path, value, acl, ephemeral, sequence)
+        request = plans.create_request(path, value, acl, Mode.of(ephemeral, sequence, container, ttl))
         return self._run(plans.create(request, path, acl, makepath), timeout)
 
     def create2(
@@ -234,7 +243,7 @@ class Client(Shown):
         timeout: Optional[float] = None,
     ) -> Created:
         """Makes a node as `create` does, and tells its `path` and its `stat`."""
-        request = lane.create2(path, value, acl, ephemeral, sequence)
+        request = records.create2(path, value, acl, Mode(ephemeral, sequence))
         return self._run(plans.create(request, path, acl, makepath), timeout)
 
     def ensure_path(self, path: str, *, acl: Acls = None, timeout: Optional[float] = None) -> None:
@@ -263,13 +272,12 @@ class Client(Shown):
         A read after it sees each write that any client had an answer to before `sync` was called. It marks no kept
         answer: what is kept has those writes once a later read or ping is answered.
         """
-        return self._call(lane.sync(path), timeout)
+        return self._call(records.sync(path), timeout)
 
     def fresh(self, *, quorum: bool = False, timeout: Optional[float] = None) -> int:
         """Sees to it that what is good has each write that was answered before this call, to whichever client.
 
-        It asks a server, by the lane's `sync`, for all that was done, and then for a zxid that is not before it, unless
-        that was seen already. Notices of what has changed come first, so those answers are stale, and what is good after
+        It asks a server, by `sync`, for all that was done: the zxid of the answer is not before that. Notices of what has changed come first, so those answers are stale, and what is good after
         it is what the servers held when it was called, or later. It tells the zxid that was seen.
 
         A leader of an ensemble that is cut off from the others, and has not found out yet, answers `sync` all the same.
@@ -281,9 +289,30 @@ class Client(Shown):
         """
         return self._run(self._freshening(quorum), timeout)
 
+    def get_ephemerals(self, prefix: str = "/", *, timeout: Optional[float] = None) -> list[str]:
+        """The paths of the session's ephemeral nodes that begin with a path, in no order. ZooKeeper has it since 3.6."""
+        return self._call(records.get_ephemerals(prefix), timeout)
+
+    def get_all_children_number(self, path: str, *, timeout: Optional[float] = None) -> int:
+        """How many nodes are below a node, at all depths. Raises `NoNodeError`. ZooKeeper has it since 3.6."""
+        return self._call(records.get_all_children_number(path), timeout)
+
+    def who_am_i(self, *, timeout: Optional[float] = None) -> list[Id]:
+        """By which schemes and ids the server knows this client: its address, and its credentials. ZooKeeper has it since 3.7."""
+        return self._call(records.who_am_i(), timeout)
+
+    def multi_read(self, reads: Iterable[Read], *, timeout: Optional[float] = None) -> list[ReadOutcome]:
+        """Reads the data or the names of several nodes at one zxid, and tells what each read has brought: the data and what is
+        known of the node, or the names, or the error of that read, as an error that is not raised. It leaves no watch, and
+        nothing of it is kept. ZooKeeper has it since 3.6.
+
+            config, names = client.multi_read([dirwolleu.Read.data("/config"), dirwolleu.Read.children("/")])
+        """
+        return self._call(multi_read(reads), timeout)
+
     def get_acls(self, path: str, *, timeout: Optional[float] = None) -> tuple[list[ACL], Stat]:
         """The ACL of a node, and what is known of it. Raises `NoNodeError`."""
-        return self._call(lane.get_acls(path), timeout)
+        return self._call(records.get_acls(path), timeout)
 
     def set_acls(
         self, path: str, acls: Sequence[ACL], version: int = -1, *, timeout: Optional[float] = None
@@ -292,13 +321,13 @@ class Client(Shown):
 
         Raises `NoNodeError`, `BadVersionError`, `InvalidACLError`, `NoAuthError`.
         """
-        return self._call(lane.set_acls(path, acls, version), timeout)
+        return self._call(records.set_acls(path, acls, version), timeout)
 
     def add_auth(self, scheme: str, credential: Union[str, bytes], *, timeout: Optional[float] = None) -> None:
         """Says who the session is, now and on each later connection.
 
-        Raises `AuthFailedError` where the server refuses it or does not know the scheme; then it is forgotten, and the
-        server ends the connection. The session goes on over the next one. The scheme `digest` takes any `username:password`.
+        Raises `AuthFailedError` if the server refuses it or does not know the scheme: the session is over then, as with those
+        of `auth_data`, and it is forgotten. The scheme `digest` takes any `username:password`.
 
             client.add_auth("digest", "bob:secret")
             client.create("/bobs", acl=dirwolleu.security.CREATOR_ALL_ACL)
@@ -348,10 +377,12 @@ class Client(Shown):
         acl: Acls = None,
         ephemeral: bool = False,
         sequence: bool = False,
+        container: bool = False,
+        ttl: Optional[float] = None,
         makepath: bool = False,
     ) -> concurrent.futures.Future[str]:
         """`create`, which does not wait."""
-        request = plans.create_request(path, value, acl, ephemeral, sequence)
+        request = plans.create_request(path, value, acl, Mode.of(ephemeral, sequence, container, ttl))
         return self._begin_plan(plans.create(request, path, acl, makepath)) if makepath else self._send(request)
 
     def create2_async(
@@ -365,7 +396,7 @@ class Client(Shown):
         makepath: bool = False,
     ) -> concurrent.futures.Future[Created]:
         """`create2`, which does not wait."""
-        request = lane.create2(path, value, acl, ephemeral, sequence)
+        request = records.create2(path, value, acl, Mode(ephemeral, sequence))
         return self._begin_plan(plans.create(request, path, acl, makepath)) if makepath else self._send(request)
 
     def ensure_path_async(self, path: str, *, acl: Acls = None) -> concurrent.futures.Future[None]:
@@ -388,17 +419,33 @@ class Client(Shown):
 
     def sync_async(self, path: str = "/") -> concurrent.futures.Future[str]:
         """`sync`, which does not wait."""
-        return self._send(lane.sync(path))
+        return self._send(records.sync(path))
+
+    def get_ephemerals_async(self, prefix: str = "/") -> concurrent.futures.Future[list[str]]:
+        """`get_ephemerals`, which does not wait."""
+        return self._send(records.get_ephemerals(prefix))
+
+    def get_all_children_number_async(self, path: str) -> concurrent.futures.Future[int]:
+        """`get_all_children_number`, which does not wait."""
+        return self._send(records.get_all_children_number(path))
+
+    def who_am_i_async(self) -> concurrent.futures.Future[list[Id]]:
+        """`who_am_i`, which does not wait."""
+        return self._send(records.who_am_i())
+
+    def multi_read_async(self, reads: Iterable[Read]) -> concurrent.futures.Future[list[ReadOutcome]]:
+        """`multi_read`, which does not wait."""
+        return self._send(multi_read(reads))
 
     def get_acls_async(self, path: str) -> concurrent.futures.Future[tuple[list[ACL], Stat]]:
         """`get_acls`, which does not wait."""
-        return self._send(lane.get_acls(path))
+        return self._send(records.get_acls(path))
 
     def set_acls_async(
         self, path: str, acls: Sequence[ACL], version: int = -1
     ) -> concurrent.futures.Future[Stat]:
         """`set_acls`, which does not wait."""
-        return self._send(lane.set_acls(path, acls, version))
+        return self._send(records.set_acls(path, acls, version))
 
     def add_auth_async(self, scheme: str, credential: Union[str, bytes]) -> concurrent.futures.Future[None]:
         """`add_auth`, which does not wait."""
@@ -455,7 +502,7 @@ class Client(Shown):
             while (kept := self._drive(next_one(), news)) is not None:
                 yield kept
 
-    def _call(self, request: AnyRequest[Result], timeout: Optional[float] = None) -> Result:
+    def _call(self, request: Request[Result], timeout: Optional[float] = None) -> Result:
         if self._retry is None:
             try:
                 return self._ask(request, timeout=timeout)
@@ -499,7 +546,7 @@ class Client(Shown):
         return self._ask(step.request, timeout=step.timeout) if isinstance(step, Ask) else self._ask(step)
 
     def _ask(
-        self, request: AnyRequest[Result], patience: Optional[float] = None, timeout: Optional[float] = None
+        self, request: Request[Result], patience: Optional[float] = None, timeout: Optional[float] = None
     ) -> Result:
         waiter = Waiter(self._sleepers)
         try:
@@ -511,7 +558,7 @@ class Client(Shown):
             waiter.cancel()
             raise
 
-    def _send(self, request: AnyRequest[Any]) -> Future:
+    def _send(self, request: Request[Any]) -> Future:
         future = Future(self._tell)
         try:
             self._hand_in(request, future)
@@ -520,7 +567,7 @@ class Client(Shown):
             raise
         return future
 
-    def _hand_in(self, request: AnyRequest[Any], waiter: AnyWaiter, timeout: Optional[float] = None) -> None:
+    def _hand_in(self, request: Request[Any], waiter: AnyWaiter, timeout: Optional[float] = None) -> None:
         self._engine.ask(moment(), request, waiter, timeout)
         self._act()
 

@@ -7,11 +7,12 @@ from types import TracebackType
 from typing import Callable, NamedTuple, Optional, Union
 
 from dirwolleu import _jute as jute
-from dirwolleu import _lane as lane
+from dirwolleu import _library as library
+from dirwolleu import _records as records
 from dirwolleu._checks import checked_data, checked_version
-from dirwolleu._jute import Malformed, Reader
-from dirwolleu._lane import LaneRequest, Operation
+from dirwolleu._jute import ERROR, Malformed, Reader
 from dirwolleu._plans import Acls
+from dirwolleu._records import Mode, RawRequest
 from dirwolleu._requests import refusal_of
 from dirwolleu._root import Root
 from dirwolleu.exceptions import TransactionFailedError
@@ -22,7 +23,7 @@ __all__ = ["AsyncTransaction", "Outcome", "Transaction"]
 Outcome = Union[str, Stat, bool]
 """What an operation brings: the path of a node that was made, the Stat of one that was set, else True, as in kazoo."""
 
-_DELETE, _SET_DATA, _CHECK, _ERROR = 2, 5, 13, -1
+_CREATE, _DELETE, _SET_DATA, _CHECK = 1, 2, 5, 13
 _ROLLED_BACK, _NOT_TRIED = 0, -2
 
 
@@ -33,14 +34,12 @@ class _Part(NamedTuple):
     path: str
     body: Callable[[Root], bytes]
     read: Callable[[Reader, Root], Outcome]
-
-
-def _header(operation: int, is_last: bool) -> bytes:
-    return jute.integer(operation) + jute.boolean(is_last) + jute.integer(-1)
+    named: str
+    """The path that has to be the path of a node."""
 
 
 def _versioned(path: str, version: int, data: bytes = b"") -> Callable[[Root], bytes]:
-    return lane.body_of(path, data + jute.integer(checked_version(version)))
+    return records.body_of(path, data + jute.integer(checked_version(version)))
 
 
 class _Operations:
@@ -59,35 +58,38 @@ class _Operations:
         sequence: bool = False,
     ) -> None:
         """Makes a node. Its result is its path."""
-        body = lane.create_body(path, value, acl, ephemeral, sequence)
-        self._parts.append(_Part(Operation.CREATE, path, body, lambda reader, root: root.own(reader.text())))
+        mode = Mode(ephemeral, sequence)
+        body = records.create_body(path, value, acl, mode)
+        self._parts.append(_Part(_CREATE, path, body, records.read_path, records.place_of(path, mode)))
 
     def delete(self, path: str, version: int = -1) -> None:
         """Deletes a node of this version, where -1 is any. Its result is True."""
-        self._parts.append(_Part(_DELETE, path, _versioned(path, version), lambda *_: True))
+        self._parts.append(_Part(_DELETE, path, _versioned(path, version), lambda *_: True, path))
 
     def set_data(self, path: str, value: Optional[bytes], version: int = -1) -> None:
         """Sets the data of a node of this version, where -1 is any. Its result is the node's `Stat`."""
         body = _versioned(path, version, jute.buffer(checked_data(value)))
-        self._parts.append(_Part(_SET_DATA, path, body, lambda reader, _: reader.stat()))
+        self._parts.append(_Part(_SET_DATA, path, body, records.read_stat, path))
 
     def check(self, path: str, version: int) -> None:
         """Lets the transaction happen only if the node has this version, where -1 is any. Its result is True."""
-        self._parts.append(_Part(_CHECK, path, _versioned(path, version), lambda *_: True))
+        self._parts.append(_Part(_CHECK, path, _versioned(path, version), lambda *_: True, path))
 
     def __len__(self) -> int:
         return len(self._parts)
 
-    def request(self) -> LaneRequest[list[Outcome]]:
+    def request(self) -> RawRequest[list[Outcome]]:
         """All of it, as one request."""
         parts = list(self._parts)
 
         def body(root: Root) -> bytes:
-            spelled = [_header(part.operation, False) + part.body(root) for part in parts]
-            return b"".join(spelled) + _header(-1, True)
+            return b"".join(jute.multi_header(part.operation) + part.body(root) for part in parts) + jute.MULTI_END
 
-        paths = [part.path for part in parts]
-        return LaneRequest(Operation.MULTI, paths, body, lambda reader, root: _outcomes(parts, reader, root))
+        def read(reader: Reader, root: Root) -> list[Outcome]:
+            return _outcomes(parts, reader, root)
+
+        path = parts[0].path if len(parts) == 1 else None
+        return RawRequest(library.MULTI, path, body, read, named=[part.named for part in parts])
 
 
 def _outcomes(parts: list[_Part], reader: Reader, root: Root) -> list[Outcome]:
@@ -95,8 +97,8 @@ def _outcomes(parts: list[_Part], reader: Reader, root: Root) -> list[Outcome]:
     outcomes: list[Outcome] = []
     codes: list[int] = []
     for part in parts:
-        operation, _, _ = reader.integer(), reader.boolean(), reader.integer()
-        if operation == _ERROR:
+        operation = reader.multi_header()
+        if operation == ERROR:
             codes.append(reader.integer())
         elif operation == part.operation:
             outcomes.append(part.read(reader, root))
@@ -111,7 +113,7 @@ def _raise(parts: list[_Part], codes: list[int]) -> None:
     refused = [index for index, code in enumerate(codes) if code not in (_ROLLED_BACK, _NOT_TRIED)]
     index = refused[0] if refused else 0
     part = parts[index]
-    error = refusal_of(codes[index], part.path if part.operation == Operation.CREATE else None)
+    error = refusal_of(codes[index], part.path if part.operation == _CREATE else None)
     error.path = error.path or part.path
     raise TransactionFailedError(f"operation {index} was refused, and nothing has happened: {error}", index, error) from error
 
@@ -128,7 +130,7 @@ class Transaction(_Operations):
         path = transaction.results[2]
     """
 
-    def __init__(self, ask: Callable[[LaneRequest[list[Outcome]], Optional[float]], list[Outcome]]) -> None:
+    def __init__(self, ask: Callable[[RawRequest[list[Outcome]], Optional[float]], list[Outcome]]) -> None:
         super().__init__()
         self._ask = ask
         self.results: list[Outcome] = []
@@ -156,7 +158,7 @@ class Transaction(_Operations):
 class AsyncTransaction(_Operations):
     """A `Transaction` of the client for asyncio: `commit` is a coroutine, and `async with` does it at its end."""
 
-    def __init__(self, ask: Callable[[LaneRequest[list[Outcome]], Optional[float]], Awaitable[list[Outcome]]]) -> None:
+    def __init__(self, ask: Callable[[RawRequest[list[Outcome]], Optional[float]], Awaitable[list[Outcome]]]) -> None:
         super().__init__()
         self._ask = ask
         self.results: list[Outcome] = []

@@ -1,4 +1,4 @@
-"""real_server.py HOST:PORT: what a real server answers to the client's calls, its lane and its locks.
+"""real_server.py HOST:PORT: what a real server answers to the client's calls, those that are raw and its locks.
 
 `scripts/clients` runs it with a server. Where the package kazoo is there, and where DIRWOLLEU_CURATOR names the jars of Curator,
 their locks contend with those of the client.
@@ -34,11 +34,14 @@ from dirwolleu import (  # noqa: E402
     Lock,
     Mark,
     NoAuthError,
+    NoChildrenForEphemeralsError,
     NoNodeError,
+    Read,
     ReadLock,
     Registration,
     Semaphore,
     TransactionFailedError,
+    UnimplementedError,
     WriteLock,
     aio,
     security,
@@ -160,10 +163,48 @@ class RealServerTest(unittest.TestCase):
         with self.assertRaises(InvalidACLError):
             self.other.create("/c", acl=[security.ACL(31, security.Id("none", "x"))])
 
+    def test_nodes_of_other_kinds(self) -> None:
+        """A TTL wants an option of the server: zookeeper.extendedTypesEnabled."""
+        self.assertEqual(self.one.create("/box", b"x", container=True), "/box")
+        self.assertEqual(self.one.create("/box/", b"x", sequence=True), "/box/0000000000")
+        self.assertEqual(self.one.create2("/box/", None, sequence=True, ephemeral=True).path, "/box/0000000001")
+        self.assertEqual(self.one.create("/new/folder/", sequence=True, makepath=True), "/new/folder/0000000000")
+        self.assertRegex(self.one.create("/", sequence=True), r"^/\d{10}$")
+        try:
+            self.assertRegex(self.one.create("/brief-", b"x", ttl=100.0, sequence=True), r"^/brief-\d{10}$")
+            self.assertEqual(self.one.create("/brief", b"x", ttl=0.001, acl=security.OPEN_ACL_UNSAFE), "/brief")
+        except UnimplementedError:
+            pass
+        for path, kind in (("/none/", NoNodeError), ("/box/0000000001/", NoChildrenForEphemeralsError)):
+            with self.assertRaises(kind) as caught:
+                self.one.create(path, sequence=True)
+            self.assertEqual(caught.exception.path, path[:-1])
+
+    def test_several_reads_and_who_the_client_is(self) -> None:
+        self.one.create("/a", b"x")
+        self.one.create("/a/b", None, ephemeral=True)
+        self.other.create("/a/c", ephemeral=True)
+        reads = [Read.data("/a"), Read.children("/a"), Read.data("/none"), Read.data("/a/b")]
+        found: list[Any] = self.one.multi_read(reads)
+        (data, stat), names, error, null = found
+        self.assertEqual((data, stat, sorted(names)), (b"x", self.one.exists("/a"), ["b", "c"]))
+        assert isinstance(error, NoNodeError)
+        self.assertEqual((error.path, null[0]), ("/none", None))
+        self.assertEqual(self.one.multi_read([]), [])
+        self.assertIsNone(self.one.kept("/a"))
+        self.assertEqual((self.one.get_ephemerals(), self.other.get_ephemerals("/a")), (["/a/b"], ["/a/c"]))
+        self.assertEqual((self.one.get_ephemerals("/a/b"), self.one.get_ephemerals("/b")), (["/a/b"], []))
+        self.assertEqual([self.one.get_all_children_number(path) for path in ("/", "/a", "/a/b")], [3, 2, 0])
+        with self.assertRaises(NoNodeError):
+            self.one.get_all_children_number("/none")
+        self.one.add_auth("digest", "bob:secret")
+        self.assertEqual(sorted(self.one.who_am_i()), [security.Id("digest", "bob"), security.Id("ip", "127.0.0.1")])
+
     def test_credentials_that_are_refused(self) -> None:
         with self.assertRaises(AuthFailedError):
             self.one.add_auth("none", "x")
-        self.assertEqual(self.one.retry(self.one.get_children, "/"), [])
+        self.one.start(WAIT)
+        self.assertEqual(self.one.get_children("/"), [])
         client = Client(HOST, 6.0, auth_data=[("none", "x")])
         self.addCleanup(client.close)
         with self.assertRaises(AuthFailedError):

@@ -29,7 +29,7 @@ from dirwolleu import (
 )
 from dirwolleu import _requests as requests
 from dirwolleu._contending import _check_number
-from dirwolleu._library import Listing, Standing
+from dirwolleu._handle import Listing, Standing
 from dirwolleu._retry import is_passing
 
 Asked = Callable[[Any, Any], Any]
@@ -268,6 +268,20 @@ class ContendingRules(BothCase):
             held = self.recipe("Lock", self.one, "/locks", names=names).acquire(WAIT)
             held.check()
             held.release()
+
+    def test_contenders_are_those_of_its_own_names(self) -> None:
+        for names, line in (
+            ("kazoo", ("b__rlock__2000000003", "c__lock__2000000004", "a-latch-0000000001")),
+            ("curator", ("b-lock-2000000003", "c-__READ__2000000004", "a-latch-0000000001")),
+        ):
+            with self.subTest(names):
+                held = self.recipe("Lock", self.one, "/locks", identifier="own", names=names).acquire(WAIT)
+                for name in line:
+                    self.one.create(f"/locks/{name}", name.encode())
+                lock = self.recipe("Lock", self.other, "/locks", names=names)
+                self.assertEqual(lock.contenders(), ["own", line[0], line[1]])
+                held.release()
+                self.one.delete("/locks", recursive=True)
 
     def test_an_election_has_one_kind_of_names(self) -> None:
         self.one.create("/leader/a-latch-0000000000", makepath=True)

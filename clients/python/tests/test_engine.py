@@ -26,19 +26,51 @@ from dirwolleu import (
     TooManyWatchesError,
     ZookeeperError,
 )
-from dirwolleu import _lane as lane
+from dirwolleu import _records as records
 from dirwolleu import _requests as requests
 from dirwolleu._asked import Asked
-from dirwolleu._engine import MOST_HANDED, Credential, Engine
-from dirwolleu._frames import Frames, Kind, Piece, is_ping, joined
-from dirwolleu._library import DATA_SIDE, Answer, Halted, NoMemory
-from dirwolleu._plans import AnyRequest
+from dirwolleu._contact import Pings, is_ping
+from dirwolleu._credentials import Credential, Introduction
+from dirwolleu._engine import MOST_HANDED, Engine
+from dirwolleu._library import DATA_SIDE, SYNC, Answer, Halted, NoMemory
+from dirwolleu._records import Mode
+from dirwolleu._requests import Request
+from dirwolleu._root import Root
 from dirwolleu._session import Session
 from dirwolleu.exceptions import error_of
+from dirwolleu.multi_read import Read, multi_read
+from dirwolleu.security import OPEN_ACL_UNSAFE
+from dirwolleu.transaction import Transaction
 
 
 NOTICE = frame(support.notice("/elsewhere"))
 REFUSAL = reply(-4, 0, -115)
+
+
+MADE = buffer(b"/a") + STAT_BYTES
+END = struct.pack(">i?i", -1, True, -1)
+
+
+def transaction() -> Request[Any]:
+    made = Transaction(lambda *_: [])
+    made.check("/a", 1)
+    return made.request()
+
+
+RAW_CALLS: list[tuple[Callable[[], Request[Any]], bytes]] = [
+    (lambda: records.get_acls("/a"), struct.pack(">ii", 1, 31) + buffer(b"world") + buffer(b"anyone") + STAT_BYTES),
+    (lambda: records.set_acls("/a", OPEN_ACL_UNSAFE, 1), STAT_BYTES),
+    (lambda: records.sync("/a"), buffer(b"/a")),
+    (transaction, struct.pack(">i?i", 13, False, 0) + END),
+    (lambda: records.create2("/a", b"", None, Mode()), MADE),
+    (lambda: records.create("/a", b"", None, Mode(container=True)), MADE),
+    (lambda: records.create("/a", b"", None, Mode(ttl_ms=1)), MADE),
+    (lambda: multi_read([Read.data("/a")]), struct.pack(">i?i", 4, False, 0) + buffer(b"one") + STAT_BYTES + END),
+    (lambda: records.get_ephemerals("/"), struct.pack(">i", 1) + buffer(b"/a")),
+    (lambda: records.get_all_children_number("/"), struct.pack(">i", 7)),
+    (lambda: records.who_am_i(), struct.pack(">i", 1) + buffer(b"ip") + buffer(b"127.0.0.1")),
+]
+"""A call of each operation that the core does not read, and the body of an answer."""
 
 
 class Future(concurrent.futures.Future[Any]):
@@ -67,7 +99,7 @@ class EngineTest(support.PartnerCase):
         self.engine.received(now, CONNECT_RESPONSE[:8] + struct.pack(">i", granted_ms) + CONNECT_RESPONSE[12:])
         self.engine.take_orders()
 
-    def ask(self, request: AnyRequest[Any], timeout: Optional[float] = None, now: int = 200) -> Future:
+    def ask(self, request: Request[Any], timeout: Optional[float] = None, now: int = 200) -> Future:
         waiter: Future = Future()
         self.engine.ask(now, request, waiter, timeout)
         self.engine.take_handed(now)
@@ -95,7 +127,7 @@ class EngineTest(support.PartnerCase):
 
     def test_what_is_followed_is_followed_after_a_want_of_memory(self) -> None:
         woken = list[None]()
-        with self.engine.following("/f", DATA_SIDE, lambda: self.engine.settled("/f"), lambda: woken.append(None)) as followed:
+        with self.engine.following("/f", DATA_SIDE, lambda: woken.append(None)) as followed:
             self.engine.take_handed(200)
             with mock.patch.object(Session, "received", side_effect=Halted):
                 self.engine.received(400, b"bytes")
@@ -103,7 +135,9 @@ class EngineTest(support.PartnerCase):
             self.engine.tick(400)
             self.admit(600)
             self.engine.received(700, reply(1, 9, 0, buffer(b"one") + STAT_BYTES))
-            self.assertEqual((followed.found.pop().data, len(woken)), (b"one", 1))
+            kept = self.engine.settled("/f")
+            assert kept is not None
+            self.assertEqual((kept.data, len(woken), followed.refused), (b"one", 1, None))
         self.engine.take_handed(800)
         self.assertEqual(self.engine._subjects, {})
 
@@ -145,8 +179,9 @@ class EngineTest(support.PartnerCase):
 
     def introduce(self, now: int) -> None:
         """The next connection introduces itself by two credentials."""
-        self.engine.add_credential(Credential("digest", b"bob:secret"))
-        self.engine.add_credential(Credential("x509", b"1"))
+        for credential in (Credential("digest", b"bob:secret"), Credential("x509", b"1")):
+            self.ask(Introduction(credential), now=now)
+        self.engine.received(now, reply(-4, 0) + reply(-4, 0))
         self.engine.cut(now)
         self.engine.tick(now + 1000)
         self.admit(now + 1000)
@@ -168,7 +203,7 @@ class EngineTest(support.PartnerCase):
             self.engine.received(1600, REFUSAL + frame(support.notice("/a")) + REFUSAL)
         self.assertEqual([one.getMessage() for one in logged.records], ["the server refuses the credentials of the scheme x509"])
         self.assertEqual((self.engine.state, self.engine.is_running, self.engine.session_id()), (State.LOST, False, 0))
-        self.assertEqual(self.told, [(watch, (EventType.NONE, State.LOST, "/a")), (listen, State.LOST)])
+        self.assertEqual(self.told, [(watch, (EventType.CHANGED, State.CONNECTED, "/a")), (listen, State.LOST)])  # what came with it is told first
         self.assertIsNone(self.engine.kept("/a"))
         self.assertEqual(self.engine.take_orders(), (True, None, b""))
         for now in (2000, 10_000):
@@ -179,7 +214,7 @@ class EngineTest(support.PartnerCase):
         """A change that was sent after them may have happened."""
         self.introduce(200)
         change = requests.set("/a", b"x", -1)
-        asked: list[AnyRequest[Any]] = [requests.get("/a", None), change, lane.create2("/b", None, None, False, False)]
+        asked: list[Request[Any]] = [requests.get("/a", None), change, records.create2("/b", None, None, Mode())]
         sent = [self.ask(request, now=1300) for request in asked]
         self.engine._line.add(Asked(change, waits := Future(), 9000))
         self.engine._handed.append(Asked(change, handed := Future(), 9000))
@@ -194,7 +229,7 @@ class EngineTest(support.PartnerCase):
             self.ask(requests.get("/a", None))
         self.engine.end()
         with self.raises(AuthFailedError, -115):
-            self.ask(lane.sync("/"))
+            self.ask(records.sync("/"))
         self.engine.begin()
         self.engine.addresses(2000, 1)
         self.admit(2000)
@@ -285,14 +320,51 @@ class EngineTest(support.PartnerCase):
             self.engine.tick(now)
             self.assertEqual(self.engine.take_orders().hangs_up, now == 4200)
 
-    def test_a_call_of_the_lane_waits_for_two_thirds_of_the_timeout(self) -> None:
-        call: Future = Future()
-        self.engine.ask(200, lane.sync("/"), call)
-        self.engine.take_handed(200)
+    def test_a_raw_call_waits_for_two_thirds_of_the_timeout(self) -> None:
+        call = self.ask(records.create2("/a", b"x", None, Mode()))
         self.engine.take_orders()
         self.wait(300, 2867)
         with self.raises(ConnectionLoss, -4):
             call.result(0)
+
+    def test_raw_answers_that_are_cut_at_each_byte(self) -> None:
+        """They are read when they are whole. Where the connection ends before, what changes nothing is asked again."""
+        for asks, body in RAW_CALLS:
+            whole = reply(1, 9, 0, body)
+            wanted = self.answered(asks, whole)
+            for end in range(len(whole) + 1):
+                with self.subTest(asks=asks, end=end):
+                    self.assertEqual(self.answered(asks, whole[:end], whole[end:]), wanted)
+                    self.check_cut(asks, whole, end, wanted)
+
+    def answered(self, asks: Callable[[], Request[Any]], *pieces: bytes) -> Any:
+        """What a call brings whose answer comes in these pieces."""
+        self.doCleanups()
+        self.setUp()
+        call = self.ask(asks())
+        for piece in pieces:
+            self.assertFalse(call.done() and piece)
+            self.engine.received(300, piece)
+        return call.result(0)
+
+    def check_cut(self, asks: Callable[[], Request[Any]], whole: bytes, end: int, wanted: Any) -> None:
+        """The connection ends after this many bytes of the answer."""
+        self.doCleanups()
+        self.setUp()
+        request = asks()
+        call = self.ask(request)
+        self.engine.received(300, whole[:end])
+        self.engine.cut(400)
+        if request.is_repeatable and end < len(whole):
+            self.assertFalse(call.done())
+            self.engine.tick(1400)
+            self.admit(1400)
+            self.engine.received(1500, whole[:7] + b"\2" + whole[8:])
+        if request.is_repeatable or end == len(whole):
+            return self.assertEqual(call.result(0), wanted)
+        with self.assertRaises(ConnectionLoss) as caught:
+            call.result(0)
+        self.assertTrue(caught.exception.may_have_happened)
 
     def test_the_oldest_call_that_waits_counts(self) -> None:
         calls = [self.ask(requests.get("/a", None))]
@@ -328,7 +400,7 @@ class EngineTest(support.PartnerCase):
 
     def test_why_a_connection_is_left_is_told(self) -> None:
         """A read of the session's own that is answered by a server that has the session no more, and a call that is not answered."""
-        with self.engine.following("/a", DATA_SIDE, lambda: None, lambda: None):
+        with self.engine.following("/a", DATA_SIDE, lambda: None):
             self.engine.take_handed(200)
             with self.assertLogs("dirwolleu.connection", "WARNING") as told:
                 self.engine.received(300, reply(1, 9, -118))
@@ -358,11 +430,11 @@ class EngineTest(support.PartnerCase):
         for error in (TypeError("wrong"), AttributeError("none"), OverflowError("much"), RuntimeError("other")):
             with mock.patch.object(Session, "get_data", side_effect=error):
                 failed = [self.ask(requests.get("/b", None))]
-            failed.append(self.ask(lane.LaneRequest(lane.Operation.SYNC, ("/b",), fail, lambda *_: None)))
+            failed.append(self.ask(records.RawRequest(SYNC, "/b", fail, lambda *_: None)))
             for call in failed:
                 with self.raises(type(error), None):
                     call.result(0)
-        self.assertEqual((len(self.engine._sent), len(self.engine._lane), self.engine.state), (1, 0, State.CONNECTED))
+        self.assertEqual((len(self.engine._sent), self.engine.state), (1, State.CONNECTED))
         self.engine.received(300, reply(1, 9, 0, buffer(b"one") + STAT_BYTES))
         self.assertEqual(lived.result(0), (b"one", STAT))
 
@@ -411,38 +483,19 @@ class EngineTest(support.PartnerCase):
         self.engine.take_handed(200)
         self.assertEqual(self.engine.take_orders().frames, b"")
 
-    def test_frames_are_cut_however_they_come(self) -> None:
+    def test_answers_to_pings_are_found_however_they_come(self) -> None:
         answers = [
-            CONNECT_RESPONSE, reply(1, 9, 0, buffer(b"one") + STAT_BYTES), reply(-2, 9), reply(-1001, 9, 0, b"lane"),
-            reply(-1, -1, 0, b"short"), reply(-4, 0), reply(-2, 9), struct.pack(">i", 2) + b"ab", reply(-1002, 9),
+            CONNECT_RESPONSE, reply(1, 9, 0, buffer(b"one") + STAT_BYTES), reply(-2, 9), reply(-1, -1, 0, b"short"), reply(-4, 0), reply(-2, 9),
         ]  # fmt: skip
         whole = b"".join(answers)
         for size in range(1, 60):
-            frames, came = Frames(), list[Piece]()
+            pings, found = Pings(), list[int]()
+            for sent_at in (100, 200, 300):
+                pings.sent(sent_at)
             for begin in range(0, len(whole), size):
-                came.extend(frames.cut(whole[begin : begin + size]))
-            self.assertEqual(b"".join(piece.data for piece in came), whole)
-            self.assertEqual(sum(piece.kind is Kind.PONG for piece in came), 2)
-            of_lane = [piece.data for piece in came if piece.kind is Kind.LANE]
-            self.assertEqual(of_lane, [answers[3], answers[5], answers[8]])
-        self.assertEqual([piece.data for piece in Frames().cut(whole)], answers)
-
-    def test_in_what_is_joined_no_notice_follows_an_answer(self) -> None:
-        answer, pong, of_lane, frames = reply(1, 9), reply(-2, 9), reply(-1001, 9, 0, b"lane"), Frames()
-        self.assertEqual(list(joined(frames.cut(CONNECT_RESPONSE))), [Piece(CONNECT_RESPONSE, Kind.CORE)])
-        first = [NOTICE, NOTICE, answer, answer, NOTICE, answer, of_lane, of_lane, answer, pong, NOTICE, pong, answer[:9]]
-        pieces = [
-            Piece(NOTICE + NOTICE + answer + answer, Kind.CORE), Piece(NOTICE + answer, Kind.CORE), Piece(of_lane, Kind.LANE),
-            Piece(of_lane, Kind.LANE), Piece(answer + pong, Kind.PONG), Piece(NOTICE + pong, Kind.PONG), Piece(answer[:9], Kind.CORE),
-        ]  # fmt: skip
-        self.assertEqual(list(joined(frames.cut(b"".join(first)))), pieces)
-        self.assertEqual(list(joined(frames.cut(answer[9:] + NOTICE))), [Piece(answer[9:], Kind.CORE), Piece(NOTICE, Kind.CORE)])
-        self.assertEqual((frames.answers, list(joined([]))), (8, []))
-
-    def test_a_frame_that_is_too_long_goes_on_at_once(self) -> None:
-        for length in (-1, 4_194_305, 2_147_483_647):
-            data = reply(1, 9) + struct.pack(">ii", length, -1001) + b"more"
-            self.assertEqual(b"".join(piece.data for piece in Frames().cut(data)), data)
+                found += pings.answered_by(whole[begin : begin + size])
+            self.assertEqual((found, bool(pings)), ([100, 200], True))
+        self.assertEqual(list(Pings().answered_by(whole)), [])
 
     def test_an_interrupt_within_a_step_leaves_the_session(self) -> None:
         lost, session = self.ask(requests.get("/b", None)), self.engine.session_id()
@@ -465,7 +518,7 @@ class EngineTest(support.PartnerCase):
         request = requests.get("/a", None)
         for lack, kind in {1: ConnectionLoss, 3: ConnectionClosedError, 5: TooManyWatchesError}.items():
             with self.assertRaises(kind):
-                request.result(Answer(1, lack, 0, 0, None, None, []))
+                request.result(Answer(1, lack, 0, 0, None, None, []), Root())
 
     def test_a_client_that_is_closed_takes_no_call(self) -> None:
         waits = self.ask(requests.get("/a", None))

@@ -7,6 +7,7 @@ import logging
 import threading
 import time
 import unittest
+from unittest import mock
 
 from support import EXISTS, GET_DATA, STAT, WAIT, Asked, PartnerCase, Peer, RawServer, data_reply, notice, reply, within
 
@@ -93,6 +94,22 @@ class BlockingTest(PartnerCase):
             server.code = 0
             within(lambda: told)
         self.assertEqual(logs.output, ["WARNING:dirwolleu:a read is refused, and asked again: the server answers -99: /a"])
+
+    def test_a_watch_tells_once_too_and_reads_again(self) -> None:
+        server, told = Refusing(-99), list[object]()
+        client = dirwolleu.Client(self.raw_server(server.serve).host, 30.0)
+        self.addCleanup(client.close)
+        client.start(WAIT)
+
+        def watch() -> None:
+            client.DataWatch("/a", lambda data, _: told.append(data))
+
+        with self.assertLogs("dirwolleu", logging.WARNING) as logs, mock.patch("dirwolleu._following.BETWEEN_REFUSED_READS", 0.05):
+            threading.Thread(target=watch, daemon=True).start()
+            within(lambda: len(server.reads) >= 4)
+            server.code = 0
+            within(lambda: told)
+        self.assertEqual((told, logs.output), ([b"one"], ["WARNING:dirwolleu:a read is refused, and asked again: the server answers -99: /a"]))
 
     def test_another_refusal_is_raised(self) -> None:
         errors: list[Exception] = []

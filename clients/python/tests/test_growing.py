@@ -13,10 +13,10 @@ from test_session import asked, names, read
 
 from dirwolleu import NoAuthError, NoNodeError, TooManyWatchesError
 from dirwolleu import _growing as growing
-from dirwolleu import _lane as lane
+from dirwolleu import _library as library
+from dirwolleu import _records as records
 from dirwolleu import _requests as requests
 from dirwolleu._engine import Engine
-from dirwolleu._frames import LANE_XID
 from dirwolleu._growing import SHARE, Growing
 from dirwolleu._library import READ_TOO_MANY_WATCHES, Halted, NoMemory, NotWhole, TooManyNodes
 from dirwolleu._session import Action, Refused, Session, TakenOn
@@ -100,16 +100,17 @@ class GrowingTest(unittest.TestCase):
         self.assertEqual((tree.is_current(), self.nodes(tree)["/t/a"]), (True, b"two"))
 
     def test_answers_that_come_at_once_are_one_step(self) -> None:
-        """So a large tree is read in few steps: each goes over all of it. Where there is no tree, each frame is one."""
+        """So a large tree is read in few steps: each goes over all of it."""
         for path in ("/a", "/b"):
             self.ask(requests.get(path, None))
         with mock.patch.object(Session, "received", autospec=True, side_effect=Session.received) as received:
             self.come(data(1), data(2))
-            self.assertEqual(received.call_count, 2)
+            self.assertEqual(received.call_count, 1)
             tree = self.planted()
             self.come(data(3), listed(4, "a"))
-            self.come(data(5), listed(6), notice("/t/a"), notice("/t", CHILD))
-        self.assertEqual((received.call_count, tree.is_current(), len(self.nodes(tree))), (5, False, 2))
+            self.come(data(5), listed(6))
+            self.come(notice("/t/a"), notice("/t", CHILD))
+        self.assertEqual((received.call_count, tree.is_current(), len(self.nodes(tree))), (4, False, 2))
 
     def test_what_is_kept_already_is_not_read(self) -> None:
         self.ask(requests.get("/t", True))
@@ -268,7 +269,7 @@ class GrowingTest(unittest.TestCase):
         self.assertTrue(self.frames().endswith(read(1, "/t", True).frame + list_of(2, "/t")))
 
     def test_reads_of_a_large_tree_leave_room_for_calls(self) -> None:
-        """A tree has 960 reads on their way. Beside them 64 calls have room; what is asked after those waits, in the lane too."""
+        """A tree has 960 reads on their way. Beside them 64 calls have room; what is asked after those waits, raw calls too."""
         self.planted(2000)
         self.come(data(1), listed(2, *(f"n{number:03}" for number in range(512))))
         self.assertTrue(self.frames().endswith(list_of(962, "/t/n447")))
@@ -276,13 +277,13 @@ class GrowingTest(unittest.TestCase):
             self.engine.ask(300, requests.get("/other", None), Future())
         call, synced = Future(), Future()
         self.engine.ask(300, requests.get("/other", None), call)
-        self.engine.ask(300, lane.sync("/"), synced)
+        self.engine.ask(300, records.sync("/"), synced)
         self.engine.take_handed(300)
         self.assertEqual(self.frames(), b"".join(read(963 + number, "/other").frame for number in range(64)))
         self.come(data(3))
         self.assertEqual(self.frames(), read(1027, "/other").frame)
         self.come(data(4))
-        self.assertEqual(struct.unpack(">ii", self.frames()[4:12]), (LANE_XID, lane.Operation.SYNC.value))
+        self.assertEqual(struct.unpack(">ii", self.frames()[4:12]), (1028, library.SYNC))
 
 
 if __name__ == "__main__":

@@ -196,8 +196,7 @@ class RootTest(PartnerCase):
             for call in calls:
                 with self.subTest(path=path), self.assertRaises(ValueError):
                     call(path)
-        with self.assertRaises(ValueError):
-            self.client.create("/", b"", sequence=True)
+        self.assertEqual(self.client.create("/", b"", sequence=True), "/0000000001")
 
     def test_events_and_kept_answers_are_below_the_root(self) -> None:
         client, events = self.client, queue.Queue[WatchedEvent]()

@@ -19,8 +19,7 @@ from unittest import mock
 
 from support import CLIENTS, GET_DATA, TIMEOUT, WAIT, Partner, PartnerCase, Peer, data_reply, reply, within
 
-from dirwolleu._lane import Operation
-from dirwolleu._library import Standing
+from dirwolleu._handle import Standing
 from dirwolleu.kazoo import client, exceptions, security
 from dirwolleu.kazoo import retry as retries
 from dirwolleu.kazoo._session import Ask
@@ -124,8 +123,6 @@ class CallsTest(KazooCase):
         for call in calls:
             with self.assertRaises(TypeError):
                 call()
-        with self.assertRaisesRegex(ValueError, "number"):
-            zk.create("/a/", sequence=True)
         with self.assertRaisesRegex(ValueError, "relative"):
             zk.get("/a/../b")
 
@@ -329,7 +326,7 @@ class StatesTest(KazooCase):
             peer.admit()
             while True:
                 asked = peer.take()
-                if asked.kind == Operation.AUTH and refuses.is_set():
+                if asked.kind == 100 and refuses.is_set():
                     peer.send(struct.pack(">iqi", -4, 0, -115))
                     return peer.finish()
                 if b"/cut" in asked.body:

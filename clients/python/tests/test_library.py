@@ -17,6 +17,7 @@ from unittest import mock
 
 import support
 
+from dirwolleu import _handle as handle
 from dirwolleu import _library as library
 from dirwolleu._library import Answer, Drop, Report, Send, StateChange
 from dirwolleu._machine import Machine
@@ -100,7 +101,7 @@ class NumberTest(unittest.TestCase):
             output = library._Output(kind=library.STATE)
             setattr(output, field, 99)
             with self.assertRaises(library.UnknownNumber) as raised:
-                machine._read(library._fields_of_output(output), b"")
+                machine._read(handle._fields_of_output(output), b"")
             self.assertEqual(str(raised.exception), wanted.format(what))
         with self.assertRaises(library.UnknownNumber):
             library.checked(-99)
@@ -239,7 +240,7 @@ class MachineTest(unittest.TestCase):
         machine.received(500, reply(4, 9, 0, struct.pack(">i", 0) + STAT_BYTES))
         self.assertEqual(machine.lacking("/a", 9), [])
         stat = DataStat(2, 5, 1000, 2000, 3, 0, 5)
-        nodes = [library.SubtreeNode("/a", b"hello", stat, 6), library.SubtreeNode("/a/ö", None, stat, 6)]
+        nodes = [handle.SubtreeNode("/a", b"hello", stat, 6), handle.SubtreeNode("/a/ö", None, stat, 6)]
         self.assertEqual(machine.subtree("/a", 2), (nodes, 9))
         with self.assertRaises(library.TooManyNodes):
             machine.subtree("/a", 1)
@@ -260,11 +261,11 @@ class MachineTest(unittest.TestCase):
         machine.received(300, reply(4, 9, 0, names + STAT_BYTES))
         stat = DataStat(2, 5, 1000, 2000, 3, 0, 5)
         nodes = [
-            library.KeptData(library.ABSENT, library.GOOD, None, None),
-            library.KeptData(library.FULL, library.GOOD, stat, b"hello"),
-            library.KeptData(library.KNOWN, library.GOOD, stat, None),
+            handle.KeptData(library.ABSENT, library.GOOD, None, None),
+            handle.KeptData(library.FULL, library.GOOD, stat, b"hello"),
+            handle.KeptData(library.KNOWN, library.GOOD, stat, None),
         ]
-        children = [library.KeptNames(library.GOOD, ("c", "ä"), 6)]
+        children = [handle.KeptNames(library.GOOD, ("c", "ä"), 6)]
         self.assertEqual(machine.snapshot(paths, ["/ö"]), ((nodes, children), 9))
         self.assertEqual(machine.snapshot([], []), (([], []), 9))
         with self.assertRaisesRegex(ValueError, "^b is no path"):
@@ -307,7 +308,7 @@ class MachineTest(unittest.TestCase):
         self.assertEqual(machine.standing("/l", own, names, 90, markers), (88, None))
         self.assertEqual(machine.standing("/l", own, names, 87, markers), (None, None))
         self.assertEqual(machine.standing("/l", other, names, 90, markers), (None, own))
-        listing = library.Listing.of(names, 90)
+        listing = handle.Listing.of(names, 90)
         self.assertEqual(machine.standing("/l", own, *listing, markers), (88, None))
         with self.assertRaises(ValueError):
             machine.standing("/l", own, names, 90, [])

@@ -71,7 +71,7 @@ class RefusalTest(MessageCase):
         ):
             self.assertEqual(commit(change), wanted)
 
-    def test_what_the_lane_asks_has_its_path_too(self) -> None:
+    def test_what_is_asked_raw_has_its_path_too(self) -> None:
         partner = self.partner()
         client = self.client(partner)
         for call, wanted in (

@@ -8,6 +8,7 @@ from unittest import mock
 
 from test_library import CONNECT_REQUEST, CONNECT_RESPONSE, STAT, STAT_BYTES, buffer, frame, reply
 
+from dirwolleu import _handle as handle
 from dirwolleu import _library as library
 from dirwolleu._library import Answer, Drop, Halted, NoMemory, Report, Send, StateChange
 from dirwolleu._root import Root
@@ -217,9 +218,9 @@ class SessionTest(unittest.TestCase):
         with self.assertRaises(NoMemory):
             library.checked(library.NO_MEMORY)
         with self.assertRaises(library.UnknownNumber):
-            session._read(library._fields_of_output(library._Output(kind=99)), b"")
+            session._read(handle._fields_of_output(library._Output(kind=99)), b"")
         with self.assertRaises(library.UnknownNumber):
-            session._read(library._fields_of_output(library._Output(kind=library.REFUSED, detail=99)), b"")
+            session._read(handle._fields_of_output(library._Output(kind=library.REFUSED, detail=99)), b"")
 
 
 if __name__ == "__main__":

@@ -3,16 +3,17 @@
 from __future__ import annotations
 
 import functools
+import itertools
 import struct
 import time
 import unittest
-from typing import Any, Callable
+from typing import Any, Callable, Optional
 from unittest import mock
 
 from both import AioCase, BothCase, in_thread
 from support import GET_DATA, STAT, WAIT, Asked, Peer, data_reply, reply, within
 
-from dirwolleu import ConnectionLoss, LockLostError, LockTimeout, aio
+from dirwolleu import CallTimeoutError, ConnectionLoss, LockLostError, LockTimeout, aio
 from dirwolleu import _requests as requests
 from dirwolleu import _steps as steps
 from dirwolleu._contending import EXCLUSIVE, READING, WRITING
@@ -282,11 +283,11 @@ class SharingRules(BothCase):
         with self.assertRaises(ValueError):
             entries.put(b"", 1000)
 
-    def queue_of(self, delete: Callable[[Peer, Asked], None]) -> Any:
+    def queue_of(self, delete: Callable[[Peer, Asked], None], timeout: float = 6.0, granted_ms: Optional[int] = None) -> Any:
         """A queue with one entry, at a server that does with a delete what it is told to."""
 
         def serve(peer: Peer) -> None:
-            peer.admit()
+            peer.admit(granted_ms)
             while True:
                 asked = peer.take()
                 if asked.kind == GET_CHILDREN_2:
@@ -297,7 +298,7 @@ class SharingRules(BothCase):
                 else:
                     peer.send(data_reply(asked, b"one") if asked.kind == GET_DATA else reply(asked))
 
-        client = self.client(self.raw_server(serve).host, 6.0)
+        client = self.client(self.raw_server(serve).host, timeout)
         return self.recipe("Queue", client, "/queue")
 
     def test_an_entry_whose_delete_is_answered_late_is_given(self) -> None:
@@ -314,6 +315,13 @@ class SharingRules(BothCase):
 
         with self.assertRaises(ConnectionLoss) as caught:
             self.queue_of(cut).get(0)
+        error = caught.exception
+        self.assertEqual((error.may_have_happened, error.entry, error.path), (True, b"one", "/queue/entry-100-0000000001"))
+
+    def test_an_entry_whose_delete_is_answered_never_is_told(self) -> None:
+        """Also where the time for the wait is over before that of the call: a server has granted a longer timeout than that."""
+        with mock.patch.object(steps, "SHORTEST_ASK", 0.05), self.assertRaises(CallTimeoutError) as caught:
+            self.queue_of(lambda *_: None, 3.0, 60_000).get(1.5)
         error = caught.exception
         self.assertEqual((error.may_have_happened, error.entry, error.path), (True, b"one", "/queue/entry-100-0000000001"))
 
@@ -377,6 +385,15 @@ class OrderTest(unittest.TestCase):
             for own, kind, wanted in zip(line, kinds, (None, 0, 0, 2, 3, 4)):
                 found = Machine(6000).standing("/locks", own, listing, 9, kind.markers(names))
                 self.assertEqual(found, (None, None if wanted is None else line[wanted]))
+
+
+    def test_those_of_other_names_are_not_waited_for(self) -> None:
+        """By the core, which knows the markers of its own names alone: what is before it by others is told as an error."""
+        for names, others in (("kazoo", "curator"), ("curator", "kazoo")):
+            for kind, other in itertools.product((EXCLUSIVE, READING, WRITING), repeat=2):
+                own, foreign = f"b{kind.marker(names)}0000000002", f"a{other.marker(others)}0000000001"
+                found = Machine(6000).standing("/locks", own, [foreign, own], 9, kind.markers(names))
+                self.assertEqual(found, (None, None))
 
 
 def load_tests(loader: unittest.TestLoader, *_: Any) -> unittest.TestSuite:

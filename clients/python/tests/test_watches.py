@@ -222,10 +222,10 @@ class FreshRules(BothCase):
         client.fresh()
         self.assertEqual(client.stats().answered - before, 1)  # sync alone: its zxid was seen already
         partner.do("create /later")
-        self.assertEqual(partner_asks(client, True) - 1, 1)  # the transaction, and a look at its zxid
+        self.assertEqual(partner_asks(client, True), 1)  # the transaction alone
 
-    def test_it_waits_for_a_zxid_of_the_core(self) -> None:
-        """The answer to sync has a greater zxid than any before: the core is to see it, with the notices before it."""
+    def test_the_zxid_of_its_answer_is_seen(self) -> None:
+        """The answer to sync has a greater zxid than any before, and notices of what came up to it are before it."""
         asked_for = list[int]()
 
         def serve(peer: Peer) -> None:
@@ -234,11 +234,9 @@ class FreshRules(BothCase):
                 asked = peer.take()
                 asked_for.append(asked.kind)
                 if asked.kind == SYNC:
-                    peer.send(reply(asked, struct.pack(">i", 1) + b"/", zxid=9))
+                    peer.send(notice("/a"), reply(asked, struct.pack(">i", 1) + b"/", zxid=9))
                 elif asked.kind == GET_DATA:
                     peer.send(data_reply(asked, b"old", zxid=5))
-                elif asked.kind == EXISTS:
-                    peer.send(notice("/a"), reply(asked, code=-101, zxid=9))
                 else:
                     peer.send(reply(asked))
 
@@ -246,7 +244,7 @@ class FreshRules(BothCase):
         client.get("/a", watch=True)
         self.assertEqual((client.fresh(), client.last_zxid), (9, 9))
         self.assertEqual((client.kept("/a").mark, client.kept("/a").data), (Mark.STALE, b"old"))
-        self.assertEqual(asked_for, [GET_DATA, SYNC, EXISTS])
+        self.assertEqual(asked_for, [GET_DATA, SYNC])
 
     def test_a_root_that_is_not_there(self) -> None:
         client = self.client(self.partner().host + "/none")

@@ -22,12 +22,12 @@ from dirwolleu import _requests as requests
 from dirwolleu._asked import Asked
 from dirwolleu._clock import moment
 from dirwolleu._contact import Contact
+from dirwolleu._credentials import Credential
 from dirwolleu._driver import Driver, Link
-from dirwolleu._engine import Credential, Engine, Tell
+from dirwolleu._engine import Engine, Tell
+from dirwolleu._handle import Listing, Standing
 from dirwolleu._hosts import Place, Servers
-from dirwolleu._library import Listing, Standing
-from dirwolleu._plans import AnyRequest
-from dirwolleu._requests import Watcher
+from dirwolleu._requests import Request, Watcher
 from dirwolleu._root import Root
 from dirwolleu.client import Client
 from dirwolleu.kazoo.exceptions import error_of
@@ -50,7 +50,7 @@ def _count_of_hosts(servers: Servers) -> int:
 class Ask(NamedTuple):
     """A request, and the form that kazoo gives to its result."""
 
-    request: AnyRequest[Any]
+    request: Request[Any]
     form: Callable[[Any], Any]
 
 
@@ -381,10 +381,6 @@ class Session(Client):
     def no_server(self, timeout: Optional[float]) -> str:
         """That no server was found in this time, and what became of the last attempt, in words."""
         return self._engine.no_server(timeout)
-
-    def accept_credential(self, credential: Credential) -> None:
-        """Has later connections introduce themselves by this credential too."""
-        self._engine.add_credential(credential)
 
     def place(self) -> Optional[Place]:
         """The server of the connection, or of the last one."""

@@ -7,9 +7,8 @@ from collections.abc import Sequence
 from types import TracebackType
 from typing import TYPE_CHECKING, Any, Optional
 
-from dirwolleu import _lane as lane
 from dirwolleu._jute import Malformed, Reader
-from dirwolleu._lane import LaneRequest
+from dirwolleu._records import Mode, RawRequest
 from dirwolleu._root import Root
 from dirwolleu.kazoo._checks import Acls, check, check_acls, check_flags, checked_path, own_acls
 from dirwolleu.kazoo.exceptions import error_of_code
@@ -45,7 +44,7 @@ class TransactionRequest:
             check_acls(acl)
         check("value", value, bytes, "must be a byte string")
         check_flags(ephemeral=ephemeral, sequence=sequence)
-        self._add(Create(checked_path(path), value, own_acls(acl), lane.flags_of(ephemeral, sequence)))
+        self._add(Create(checked_path(path), value, own_acls(acl), Mode(ephemeral, sequence).flags))
 
     def delete(self, path: str, version: int = -1) -> None:
         """Deletes a node of this version, where -1 is any. Its result is True."""
@@ -96,7 +95,7 @@ class TransactionRequest:
         self.operations.append(operation)
 
 
-def _request_of(operations: Sequence[Operation]) -> LaneRequest[Any]:
+def _request_of(operations: Sequence[Operation]) -> RawRequest[Any]:
     """The request of a transaction, whose result is kazoo's."""
     asked = _Operations()
     for one in operations:
@@ -108,7 +107,7 @@ def _request_of(operations: Sequence[Operation]) -> LaneRequest[Any]:
             asked.set_data(one.path, one.data, one.version)
         else:
             asked.check(one.path, one.version)
-    request: LaneRequest[Any] = asked.request()
+    request: RawRequest[Any] = asked.request()
     request.read = functools.partial(_results, len(operations))
     return request
 
@@ -119,7 +118,7 @@ def _results(count: int, reader: Reader, root: Root) -> list[Any]:
 
 def _result(reader: Reader, root: Root) -> Any:
     """What one operation has brought, or its error. Raises `Malformed`."""
-    operation, _, _ = reader.integer(), reader.boolean(), reader.integer()
+    operation = reader.multi_header()
     if operation == serialization.ERROR:
         return error_of_code(reader.integer())
     if operation == serialization.CREATE:

@@ -3,7 +3,6 @@
 from __future__ import annotations
 
 import functools
-import inspect
 import logging
 import re
 import ssl
@@ -13,18 +12,19 @@ from collections.abc import Iterable, Sequence
 from typing import Any, Callable, Optional, Union
 
 from dirwolleu import _ending as ending
-from dirwolleu import _lane as lane
 from dirwolleu import _plans as plans
+from dirwolleu import _records as records
 from dirwolleu import _requests as requests
 from dirwolleu import exceptions as own
-from dirwolleu._engine import Credential
-from dirwolleu._hosts import Hosts, Servers, hosts_of
-from dirwolleu._lane import Created
-from dirwolleu._library import Answer, Listing, Standing
-from dirwolleu._plans import AnyRequest, Plan
+from dirwolleu._credentials import Introduction
+from dirwolleu._handle import Listing, Standing
+from dirwolleu._hosts import Hosts, Servers
+from dirwolleu._plans import Plan
+from dirwolleu._records import Mode
 from dirwolleu._requests import Request
 from dirwolleu._root import Root
 from dirwolleu._shown import credential_of
+from dirwolleu.kazoo import _forms as forms
 from dirwolleu.kazoo._checks import Acls, check, check_acls, check_flags, check_watch, checked_path, own_acls, own_key
 from dirwolleu.kazoo._session import PASSWORD_LENGTH, Ask, Identity, Session, Told
 from dirwolleu.kazoo._transaction import TransactionRequest
@@ -38,7 +38,7 @@ from dirwolleu.kazoo.exceptions import (
     error_of,
 )
 from dirwolleu.kazoo.handlers.threading import AsyncResult, SequentialThreadingHandler
-from dirwolleu.kazoo.protocol.paths import normpath, own_path
+from dirwolleu.kazoo.protocol.paths import own_path
 from dirwolleu.kazoo.protocol.states import Callback, EventType, KazooState, KeeperState, WatchedEvent, ZnodeStat
 from dirwolleu.kazoo.recipe.election import Election
 from dirwolleu.kazoo.recipe.lock import Lock, ReadLock, WriteLock
@@ -47,7 +47,7 @@ from dirwolleu.kazoo.recipe.watchers import ChildrenWatch, DataWatch
 from dirwolleu.kazoo.retry import KazooRetry
 from dirwolleu.kazoo.security import ACL, OPEN_ACL_UNSAFE
 from dirwolleu.tls import tls_context
-from dirwolleu.types import Kept, KeptChildren, Stat, State
+from dirwolleu.types import Kept, KeptChildren, State
 from dirwolleu.types import WatchedEvent as OwnEvent
 
 __all__ = [
@@ -76,7 +76,6 @@ __all__ = [
 
 log = logging.getLogger(__name__)
 
-HostList = Union[str, Sequence[str]]
 Watch = Optional[Callable[[WatchedEvent], object]]
 Listener = Callable[[str], object]
 
@@ -93,74 +92,6 @@ _LEFT_OUT = (
 )
 _VERSION = re.compile(r"zookeeper[. ]version[=:]\s*(\d+(?:\.\d+)+)", re.IGNORECASE)
 _LONGEST_WORDS = 65536
-
-
-def _as_it_is(result: Any) -> Any:
-    return result
-
-
-def _true(_: object) -> bool:
-    return True
-
-
-def _stat(stat: Optional[Stat]) -> Optional[ZnodeStat]:
-    return None if stat is None else ZnodeStat(*stat)
-
-
-def _data(result: tuple[Optional[bytes], Stat]) -> tuple[Optional[bytes], ZnodeStat]:
-    return result[0], ZnodeStat(*result[1])
-
-
-def _acls(result: tuple[list[ACL], Stat]) -> tuple[list[ACL], ZnodeStat]:
-    return result[0], ZnodeStat(*result[1])
-
-
-def _created(result: Created) -> tuple[str, ZnodeStat]:
-    return result.path, ZnodeStat(*result.stat)
-
-
-class _Children(Request[Any]):
-    """Reads the names of a node's children, and what is known of the node."""
-
-    def result(self, answer: Answer) -> Any:
-        names = super().result(answer)
-        return names, _stat(answer.stat)
-
-
-def _hosts(hosts: HostList) -> Hosts:
-    """What a text or a list of hosts says, with the chroot in kazoo's form. Raises `ValueError`."""
-    if not isinstance(hosts, str):
-        texts = [host.strip() for host in hosts]
-        chroot = texts.pop() if texts and texts[-1].startswith("/") else ""
-        hosts = ",".join(texts) + chroot
-    servers, slash, root = hosts.partition("/")
-    chroot = normpath(slash + root)
-    return hosts_of(servers + ("" if chroot == "/" else chroot))
-
-
-def _policy(name: str, policy: object, handler: SequentialThreadingHandler) -> KazooRetry:
-    """The policy that a keyword has, where None is one without end."""
-    if policy is None:
-        return KazooRetry(max_tries=None, sleep_func=handler.sleep_func)
-    if isinstance(policy, dict):
-        policy = KazooRetry(**policy)
-    if not isinstance(policy, KazooRetry):
-        raise ConfigurationError(f"{name} is a KazooRetry or a dict of its words, and not {policy!r}")
-    if policy.sleep_func != handler.sleep_func:
-        raise ConfigurationError(f"{name} and the handler must use the same sleep func")
-    return policy
-
-
-def _refuse(sasl_options: object, read_only: object, handler: object, others: dict[str, Any]) -> None:
-    """Raises an error that names the keyword which asks for what is not done."""
-    if others:
-        raise TypeError(f"__init__() got unexpected keyword arguments: {', '.join(sorted(others))}")
-    if sasl_options:
-        raise ConfigurationError("sasl_options: dirwolleu.kazoo does no SASL")
-    if read_only:
-        raise ConfigurationError("read_only: dirwolleu.kazoo connects to no server that only reads")
-    if inspect.isclass(handler):
-        raise ConfigurationError(f"handler is an instance of a class, and not the class {handler!r}")
 
 
 class Connection:
@@ -216,7 +147,7 @@ class KazooClient:
 
     def __init__(
         self,
-        hosts: HostList = "127.0.0.1:2181",
+        hosts: forms.HostList = "127.0.0.1:2181",
         timeout: float = 10.0,
         client_id: Optional[tuple[int, bytes]] = None,
         handler: Optional[SequentialThreadingHandler] = None,
@@ -236,7 +167,7 @@ class KazooClient:
         verify_certs: bool = True,
         **kwargs: Any,
     ) -> None:
-        _refuse(sasl_options, read_only, handler, kwargs)
+        forms.refuse(sasl_options, read_only, handler, kwargs)
         self.logger = logger or log
         self.handler = SequentialThreadingHandler() if handler is None else handler
         self.default_acl, self.auth_data, self.read_only = default_acl, set(auth_data or ()), read_only
@@ -249,8 +180,8 @@ class KazooClient:
         self.set_hosts(hosts)
         self._session_timeout = int(timeout * 1000)
         self._identity = None if client_id is None else Identity(client_id[0], client_id[1])
-        self._conn_retry = _policy("connection_retry", connection_retry, self.handler)
-        self._retry = _policy("command_retry", command_retry, self.handler)
+        self._conn_retry = forms.policy("connection_retry", connection_retry, self.handler)
+        self._retry = forms.policy("command_retry", command_retry, self.handler)
         self._begin_states()
         self._begin_recipes()
 
@@ -314,12 +245,12 @@ class KazooClient:
         """The node of the servers that the program knows as `/`: empty where that is the servers' own."""
         return "" if self._found is None else self._found.root.path
 
-    def set_hosts(self, hosts: HostList, randomize_hosts: Optional[bool] = None) -> None:
+    def set_hosts(self, hosts: forms.HostList, randomize_hosts: Optional[bool] = None) -> None:
         """Has each dial from now on go to one of these hosts. A connection that there is goes on.
 
         Raises `ConfigurationError` where the chroot is another one than before.
         """
-        found = _hosts(hosts)
+        found = forms.hosts(hosts)
         if self._found is not None and found.root != self._found.root:
             raise ConfigurationError("Changing chroot at runtime is not currently supported")
         if randomize_hosts is not None:
@@ -553,7 +484,7 @@ class KazooClient:
 
     def _look(self, path: str) -> Optional[ZnodeStat]:
         """What is known of a node, which is kept from then on, or None where there is none."""
-        found: Optional[ZnodeStat] = self._send(requests.exists(checked_path(path), True), _stat).get()
+        found: Optional[ZnodeStat] = self._send(requests.exists(checked_path(path), True), forms.stat).get()
         return found
 
     def _standing(self, path: str, name: str, markers: Sequence[str]) -> Standing:
@@ -591,12 +522,12 @@ class KazooClient:
         async_object.set_exception(error or ConnectionClosedError("Connection has been closed"))
         return False
 
-    def _send(self, request: AnyRequest[Any], form: Callable[[Any], Any] = _as_it_is) -> AsyncResult:
+    def _send(self, request: Request[Any], form: Callable[[Any], Any] = forms.as_it_is) -> AsyncResult:
         outcome = self.handler.async_result()
         self._call(Ask(request, form), outcome)
         return outcome
 
-    def _run(self, plan: Plan[Any], form: Callable[[Any], Any] = _as_it_is) -> AsyncResult:
+    def _run(self, plan: Plan[Any], form: Callable[[Any], Any] = forms.as_it_is) -> AsyncResult:
         return _Run(self, plan, form).begin()
 
     def _told(self, watch: Watch) -> Optional[Told]:
@@ -614,7 +545,7 @@ class KazooClient:
 
     def exists_async(self, path: str, watch: Watch = None) -> AsyncResult:
         """`exists`, which does not wait."""
-        return self._send(requests.exists(checked_path(path), self._told(watch)), _stat)
+        return self._send(requests.exists(checked_path(path), self._told(watch)), forms.stat)
 
     def get(self, path: str, watch: Watch = None) -> tuple[Optional[bytes], ZnodeStat]:
         """The data of a node, and what is known of it. Raises `NoNodeError`."""
@@ -623,7 +554,7 @@ class KazooClient:
 
     def get_async(self, path: str, watch: Watch = None) -> AsyncResult:
         """`get`, which does not wait."""
-        return self._send(requests.get(checked_path(path), self._told(watch)), _data)
+        return self._send(requests.get(checked_path(path), self._told(watch)), forms.data)
 
     def get_children(self, path: str, watch: Watch = None, include_data: bool = False) -> Any:
         """The names of a node's children; with `include_data` also what is known of the node. Raises `NoNodeError`."""
@@ -634,7 +565,7 @@ class KazooClient:
         check_flags(include_data=include_data)
         request: Request[Any] = requests.get_children(checked_path(path), self._told(watch))
         if include_data:
-            request = _Children(request.call, request.path, request.words, request.is_repeatable, request.watcher)
+            request = forms.Children(request.call, request.path, request.words, request.is_repeatable, request.watcher)
         return self._send(request)
 
     def create(
@@ -670,15 +601,15 @@ class KazooClient:
         if value is not None:
             check("value", value, bytes, "must be a byte string")
         check_flags(ephemeral=ephemeral, sequence=sequence, makepath=makepath, include_data=include_data)
-        found, spelled = own_acls(acl), checked_path(path)
-        if sequence and path.endswith("/"):
-            raise ValueError(f"{path}: a node with a number needs a name before it, and no slash at its end")
-        request: AnyRequest[Any]
+        found, spelled, mode = own_acls(acl), checked_path(path), Mode(ephemeral, sequence)
+        if sequence and path.endswith("/") and spelled != "/":
+            spelled += "/"
+        request: Request[Any]
         if include_data:
-            request = lane.create2(spelled, value, found, ephemeral, sequence)
+            request = records.create2(spelled, value, found, mode)
         else:
-            request = plans.create_request(spelled, value, found, ephemeral, sequence)
-        return self._run(plans.create(request, spelled, found, makepath), _created if include_data else _as_it_is)
+            request = plans.create_request(spelled, value, found, mode)
+        return self._run(plans.create(request, spelled, found, makepath), forms.created if include_data else forms.as_it_is)
 
     def ensure_path(self, path: str, acl: Acls = None) -> bool:
         """Makes a node and those above it, as far as they are not there."""
@@ -686,7 +617,7 @@ class KazooClient:
 
     def ensure_path_async(self, path: str, acl: Acls = None) -> AsyncResult:
         """`ensure_path`, which does not wait."""
-        return self._run(plans.ensure_path(checked_path(path), own_acls(acl or self.default_acl)), _true)
+        return self._run(plans.ensure_path(checked_path(path), own_acls(acl or self.default_acl)), forms.true)
 
     def set(self, path: str, value: Optional[bytes], version: int = -1) -> ZnodeStat:
         """Sets the data of a node of this version, where -1 is any. Raises `NoNodeError` and `BadVersionError`."""
@@ -698,7 +629,7 @@ class KazooClient:
         if value is not None:
             check("value", value, bytes, "must be a byte string")
         check("version", version, int, "int")
-        return self._send(requests.set(checked_path(path), value, version), _stat)
+        return self._send(requests.set(checked_path(path), value, version), forms.stat)
 
     def delete(self, path: str, version: int = -1, recursive: bool = False) -> bool:
         """Deletes a node of this version, where -1 is any; with `recursive` of any version, with all below it.
@@ -707,13 +638,13 @@ class KazooClient:
         """
         check_flags(recursive=recursive)
         if recursive:
-            return bool(self._run(plans.delete(checked_path(path), -1, True), _true).get())
+            return bool(self._run(plans.delete(checked_path(path), -1, True), forms.true).get())
         return bool(self.delete_async(path, version).get())
 
     def delete_async(self, path: str, version: int = -1) -> AsyncResult:
         """`delete` of one node, which does not wait."""
         check("version", version, int, "int")
-        return self._send(requests.delete(checked_path(path), version), _true)
+        return self._send(requests.delete(checked_path(path), version), forms.true)
 
     def sync(self, path: str) -> str:
         """Has the server take in all that was done before it answers."""
@@ -721,7 +652,7 @@ class KazooClient:
 
     def sync_async(self, path: str) -> AsyncResult:
         """`sync`, which does not wait."""
-        return self._send(lane.sync(checked_path(path)))
+        return self._send(records.sync(checked_path(path)))
 
     def get_acls(self, path: str) -> tuple[list[ACL], ZnodeStat]:
         """The ACL of a node, and what is known of it. Raises `NoNodeError`."""
@@ -730,7 +661,7 @@ class KazooClient:
 
     def get_acls_async(self, path: str) -> AsyncResult:
         """`get_acls`, which does not wait."""
-        return self._send(lane.get_acls(checked_path(path)), _acls)
+        return self._send(records.get_acls(checked_path(path)), forms.acls)
 
     def set_acls(self, path: str, acls: Sequence[ACL], version: int = -1) -> ZnodeStat:
         """Sets the ACL of a node whose `aversion` is this one, where -1 is any.
@@ -744,7 +675,7 @@ class KazooClient:
         """`set_acls`, which does not wait."""
         check_acls(acls)
         check("version", version, int, "int")
-        return self._send(lane.set_acls(checked_path(path), acls, version), _stat)
+        return self._send(records.set_acls(checked_path(path), acls, version), forms.stat)
 
     def add_auth(self, scheme: str, credential: str) -> bool:
         """Says who the session is, now and on each later connection.
@@ -758,25 +689,8 @@ class KazooClient:
         check("scheme", scheme, str, "string")
         check("credential", credential, str, "string")
         known = credential_of(scheme, credential)
-        outcome = self.handler.async_result()
-        answer = AsyncResult(self.handler)
-        answer.relay(lambda _: self._told_auth(known, answer, outcome))
         self.auth_data.add((scheme, credential))
-        self._call(Ask(lane.auth(*known), _true), answer)
-        return outcome
-
-    def _told_auth(self, known: Credential, answer: AsyncResult, outcome: AsyncResult) -> None:
-        session = self._session
-        if answer.exception is None and session is not None:
-            session.accept_credential(known)
-        elif isinstance(answer.exception, AuthFailedError) and self._state != KeeperState.AUTH_FAILED:
-            self._told_refusal()
-            if session is not None:
-                session.abandon()
-        if answer.exception is None:
-            outcome.set(True)
-        else:
-            outcome.set_exception(answer.exception)
+        return self._send(Introduction(known), forms.true)
 
     def transaction(self) -> TransactionRequest:
         """Several changes that happen together or not at all."""
@@ -840,7 +754,7 @@ class _Run:
         self._go_on(lambda: next(self._plan))
         return self._outcome
 
-    def _go_on(self, advance: Callable[[], AnyRequest[Any]]) -> None:
+    def _go_on(self, advance: Callable[[], Request[Any]]) -> None:
         try:
             request = advance()
         except StopIteration as end:
@@ -851,7 +765,7 @@ class _Run:
             return
         step = AsyncResult(self._client.handler)
         step.relay(self._told)
-        self._client._call(Ask(request, _as_it_is), step)
+        self._client._call(Ask(request, forms.as_it_is), step)
 
     def _told(self, step: AsyncResult) -> None:
         error = step.exception

@@ -1,6 +1,6 @@
 """ZooKeeper servers in memory at a socket: a loop of asyncio that moves bytes from and to the proved server.
 
-What is answered to a request, and which notices go before it, the proved server says; six requests that it does not know are in `_lane`. What is
+What is answered to a request, and which notices go before it, the proved server says; requests that it does not know are in `_raw`. What is
 here is tested and not proved: whose session a connection takes up, when servers learn from one another, and when a session ends.
 """
 
@@ -14,7 +14,7 @@ import time
 from typing import Optional
 
 from dirwolleu.testing import _frames as frames
-from dirwolleu.testing import _lane as lane
+from dirwolleu.testing import _raw as raw
 from dirwolleu.testing._frames import Malformed, Record, Reply
 from dirwolleu.testing._library import DELETED, MADE, WRITTEN, Bench
 
@@ -57,6 +57,8 @@ class Session:
         self.bench = Bench(number)
         self.connection: Optional[Connection] = None
         self.ephemerals: set[str] = set()
+        self.users: list[str] = []
+        """Whom its client has named as itself on this connection."""
         self.is_lagging = False
         """Whether its server learns nothing until it is asked for a change, or to catch up."""
 
@@ -82,7 +84,7 @@ class Ensemble:
 
     def __init__(self) -> None:
         self.log = Bench(0)
-        self.acls: dict[str, lane.Acl] = {}
+        self.acls: dict[str, raw.Acl] = {}
         self.sessions: dict[int, Session] = {}
         self.connections: dict[Connection, None] = {}
         self.came = 0
@@ -166,7 +168,7 @@ class Ensemble:
         elif kind == frames.CREATE:
             record.take_text(), record.take_buffer()
             path, acl = Record(reply.body).take_text(), record.take_acl()
-            self.acls[path] = lane.Acl(acl)
+            self.acls[path] = raw.Acl(acl)
             if record.take_int() & frames.EPHEMERAL:
                 session.ephemerals.add(path)
 
@@ -302,6 +304,7 @@ class Connection(asyncio.Protocol):
         session = self.server.session_of(record.take_long(), record.take_buffer())
         session.drop()
         session.bench.connect(1)
+        session.users.clear()
         output = session.answer(frame)
         self.send(b"".join(output))
         if not session.bench.is_open:
@@ -318,8 +321,8 @@ class Connection(asyncio.Protocol):
             self.server.catch_up(session)
         if kind == frames.CLOSE_SESSION:
             self.server.end(session)
-        if kind in lane.ANSWERS:
-            output, is_last = lane.answer(self.server, session, xid, kind, record)
+        if kind in raw.ANSWERS:
+            output, is_last = raw.answer(self.server, session, xid, kind, record)
         else:
             output, is_last = session.answer(frame), False
             if output and (reply := frames.read_reply(output[-1])).code == frames.OK:

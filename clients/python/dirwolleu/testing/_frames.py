@@ -8,13 +8,17 @@ from typing import NamedTuple, Optional
 
 CREATE, DELETE, EXISTS, GET_DATA, SET_DATA, GET_ACL, SET_ACL, GET_CHILDREN, SYNC = 1, 2, 3, 4, 5, 6, 7, 8, 9
 PING, GET_CHILDREN2, CHECK, MULTI, CREATE2, AUTH, SET_WATCHES, CLOSE_SESSION, ERROR = 11, 12, 13, 14, 15, 100, 101, -11, -1
+CREATE_CONTAINER, CREATE_TTL, MULTI_READ, GET_EPHEMERALS, GET_ALL_CHILDREN_NUMBER, WHO_AM_I = 19, 21, 22, 103, 104, 107
 
-READS = (EXISTS, GET_DATA, GET_ACL, GET_CHILDREN, GET_CHILDREN2, PING, AUTH, SET_WATCHES)
+READS = (
+    EXISTS, GET_DATA, GET_ACL, GET_CHILDREN, GET_CHILDREN2, PING, AUTH, SET_WATCHES, MULTI_READ, GET_EPHEMERALS, GET_ALL_CHILDREN_NUMBER,
+    WHO_AM_I,
+)  # fmt: skip
 """The requests that a server answers by what it knows, however far it is behind the others."""
 
 OK = 0
-EPHEMERAL = 1
-"""The flag of a create."""
+EPHEMERAL, SEQUENTIAL, CONTAINER, TTL = 1, 2, 4, 5
+"""The flags of a create, and the numbers of other kinds of nodes: one more is a sequential node with a TTL."""
 
 LONGEST = 1_048_575
 """The greatest length of a frame that is taken, as real servers have it by default."""

@@ -1,18 +1,37 @@
-"""Requests that the model of a server has not, and that the proved server would end the connection at: sync, create2, ACLs, credentials and
-transactions. No other request is answered here.
+"""Requests that the model of a server has not, and that the proved server would end the connection at: those that clients ask for by
+`dw_session_raw`, and credentials. No other request is answered here.
 
-What the model has of them the proved server is asked: each change, whether a node is there, and its Stat. What is not proved: a transaction is
-tried on another server that has learned all, and then made by one change after the other, so each has a zxid of its own, and a check compares
-the version of a Stat; ACLs are kept beside and admit everybody; the scheme `digest` takes any credentials; and sync answers at once.
+What the model has of them the proved server is asked: each change, whether a node is there, its data, names and Stat. What is not proved: a
+transaction is tried on another server that has learned all, and then made by one change after the other, so each has a zxid of its own, and a
+check compares the version of a Stat; ACLs are kept beside and admit everybody; the scheme `digest` takes any credentials; sync answers at once;
+and a container and a node with a TTL stay until somebody deletes them.
 """
 
 from __future__ import annotations
 
 import struct
+from collections.abc import Iterator
 from typing import TYPE_CHECKING, Callable, NamedTuple
 
 from dirwolleu.testing import _frames as frames
-from dirwolleu.testing._frames import CHECK, CREATE, CREATE2, DELETE, ERROR, EXISTS, OK, SET_DATA, Malformed, Record, Reply, put_text
+from dirwolleu.testing._frames import (
+    CHECK,
+    CREATE,
+    CREATE2,
+    DELETE,
+    ERROR,
+    EXISTS,
+    GET_CHILDREN,
+    GET_DATA,
+    OK,
+    SEQUENTIAL,
+    SET_DATA,
+    TTL,
+    Malformed,
+    Record,
+    Reply,
+    put_text,
+)
 
 if TYPE_CHECKING:
     from dirwolleu.testing._ensemble import Ensemble, Session
@@ -64,8 +83,33 @@ def sync(_server: Ensemble, _session: Session, record: Record, _notices: list[by
     return put_text(record.take_text())
 
 
+def number_below(server: Ensemble, session: Session, folder: str) -> str:
+    """The digits of the next sequential node below a path that ends with a slash, which another server finds by making one."""
+    trial = server.trial_of(session)
+    trial.learn(session.bench)
+    reply = ask(trial, CREATE, put_text(f"{folder}n") + put_text("") + OPEN_ACL + struct.pack(">i", SEQUENTIAL), [])
+    if reply.code != OK:
+        raise Refused(reply.code)
+    return Record(reply.body).take_text()[-10:]
+
+
+def modelled(server: Ensemble, session: Session, record: Record) -> bytes:
+    """A create as the model has it, without a TTL, and with the whole path of a node that has no name but its digits."""
+    path, rest = record.take_text(), record.rest()
+    record.take_buffer(), record.take_acl()
+    spelled, flags = rest[: len(rest) - len(record.rest())], record.take_int()
+    if flags in (TTL, TTL + 1):
+        flags = SEQUENTIAL * (flags - TTL)
+        record.take_long()
+    if flags == frames.CONTAINER:
+        flags = 0
+    if flags & SEQUENTIAL and path.endswith("/"):
+        path, flags = path + number_below(server, session, path), flags - SEQUENTIAL
+    return put_text(path) + spelled + struct.pack(">i", flags)
+
+
 def create2(server: Ensemble, session: Session, record: Record, notices: list[bytes]) -> bytes:
-    body = record.rest()
+    body = modelled(server, session, record)
     reply = ask(session, CREATE, body, notices)
     if reply.code != OK:
         raise Refused(reply.code)
@@ -160,16 +204,73 @@ def transact(server: Ensemble, session: Session, record: Record, notices: list[b
     return b"".join(put_header(kind, OK) + operate(server, session, kind, part, notices) for kind, part in parts) + END
 
 
-def introduce(_server: Ensemble, _session: Session, record: Record, _notices: list[bytes]) -> bytes:
+def put_texts(texts: list[str]) -> bytes:
+    return struct.pack(">i", len(texts)) + b"".join(map(put_text, texts))
+
+
+def read_one(session: Session, kind: int, path: str, notices: list[bytes]) -> bytes:
+    """What a read of several brings."""
+    reply = ask(session, kind, put_text(path) + b"\0", notices)
+    if reply.code != OK:
+        return put_header(ERROR, reply.code) + struct.pack(">i", reply.code)
+    return put_header(kind, OK) + reply.body
+
+
+def read_all(_server: Ensemble, session: Session, record: Record, notices: list[bytes]) -> bytes:
+    """Reads the data or the names of several nodes."""
+    found = b""
+    while (kind := record.take_int()) != ERROR:
+        record.take_boolean(), record.take_int()
+        if kind not in (GET_DATA, GET_CHILDREN):
+            raise Malformed
+        path, _ = record.take_text(), record.take_boolean()
+        found += read_one(session, kind, path, notices)
+    return found + END
+
+
+def below(session: Session, path: str, notices: list[bytes]) -> Iterator[str]:
+    """The paths of all nodes below one that is there."""
+    reply = ask(session, GET_CHILDREN, put_text(path) + b"\0", notices)
+    if reply.code != OK:
+        raise Refused(reply.code)
+    names = Record(reply.body)
+    for _ in range(names.take_int()):
+        child = f"{path.rstrip('/')}/{names.take_text()}"
+        yield child
+        yield from below(session, child, notices)
+
+
+def count_below(_server: Ensemble, session: Session, record: Record, notices: list[bytes]) -> bytes:
+    return struct.pack(">i", len(list(below(session, record.take_text(), notices))))
+
+
+def ephemerals(_server: Ensemble, session: Session, record: Record, _notices: list[bytes]) -> bytes:
+    prefix = record.take_text()
+    return put_texts(sorted(path for path in session.ephemerals if path.startswith(prefix)))
+
+
+def who_am_i(_server: Ensemble, session: Session, _record: Record, _notices: list[bytes]) -> bytes:
+    ids = [*(("digest", user) for user in session.users), ("ip", "127.0.0.1")]
+    return struct.pack(">i", len(ids)) + b"".join(put_text(scheme) + put_text(one) for scheme, one in ids)
+
+
+def introduce(_server: Ensemble, session: Session, record: Record, _notices: list[bytes]) -> bytes:
     """Takes credentials."""
     record.take_int()
     if record.take_text() != "digest":
         raise Refused(AUTH_FAILED)
+    session.users.append((record.take_buffer() or b"").decode(errors="replace").partition(":")[0])
     return b""
 
 
 ANSWERS: dict[int, Callable[[Ensemble, Session, Record, list[bytes]], bytes]] = {
     CREATE2: create2,
+    frames.CREATE_CONTAINER: create2,
+    frames.CREATE_TTL: create2,
+    frames.MULTI_READ: read_all,
+    frames.GET_EPHEMERALS: ephemerals,
+    frames.GET_ALL_CHILDREN_NUMBER: count_below,
+    frames.WHO_AM_I: who_am_i,
     frames.SYNC: sync,
     frames.GET_ACL: get_acl,
     frames.SET_ACL: set_acl,

@@ -1,8 +1,11 @@
-"""Tests of the lane, with frames as ZooKeeper 3.8.0 has answered them, and as zookeeper.jute spells them."""
+"""Tests of requests that the core carries without reading them, with frames as ZooKeeper 3.8.0 has answered them, and as zookeeper.jute spells
+them; and of credentials.
+"""
 
 from __future__ import annotations
 
 import concurrent.futures
+import contextlib
 import queue
 import struct
 import threading
@@ -22,8 +25,10 @@ from dirwolleu import (
     ConnectionLoss,
     Mark,
     NoAuthError,
+    NoNodeError,
     NodeExistsError,
     NotConnectedError,
+    Read,
     State,
     TooLargeError,
     TransactionFailedError,
@@ -31,10 +36,12 @@ from dirwolleu import (
     WatchedEvent,
     security,
 )
-from dirwolleu._lane import Operation
+from dirwolleu._records import RawRequest
+from dirwolleu._session import Session
 from dirwolleu.types import Stat
 
-CREATE, GET_ACL, SET_ACL, SYNC, MULTI, CREATE2, AUTH = 1, 6, 7, 9, 14, 15, 100
+GET_ACL, SET_ACL, SYNC, MULTI, CREATE2, CONTAINER, TTL, MULTI_READ, AUTH = 6, 7, 9, 14, 15, 19, 21, 22, 100
+GET_EPHEMERALS, COUNT, WHO_AM_I = 103, 104, 107
 
 
 def text(value: str) -> bytes:
@@ -48,9 +55,21 @@ def header(kind: int, is_last: bool = False, code: int = -1) -> bytes:
 END = header(-1, True)
 REFUSED = "the server refuses the credentials of the scheme digest"
 OPEN_ACL = struct.pack(">ii", 1, 31) + text("world") + text("anyone")
+NONE = struct.pack(">i", 0)
+"""An empty vector, a count or a text."""
+BODIES = {
+    SYNC: text("/a"), GET_ACL: OPEN_ACL + STAT, MULTI_READ: header(4, code=0) + text("one") + STAT + END, GET_EPHEMERALS: NONE, COUNT: NONE,
+    WHO_AM_I: NONE,
+}  # fmt: skip
+"""What each call that changes nothing is answered with."""
 
 
-class LaneCase(PartnerCase):
+def raw(body: bytes) -> RawRequest[bytes]:
+    """A request with this body, whose answer brings its body."""
+    return RawRequest(SYNC, None, lambda _: body, lambda reader, _: reader._payload, is_repeatable=True)
+
+
+class RawCase(PartnerCase):
     def client(self, host: str, timeout: float = TIMEOUT, auth_data: Any = ()) -> Client:
         client = Client(host, timeout, auth_data=auth_data)
         self.addCleanup(client.close)
@@ -78,11 +97,11 @@ class LaneCase(PartnerCase):
         return self.serve(answer), asked
 
 
-class SpellingTest(LaneCase):
+class SpellingTest(RawCase):
     def test_sync(self) -> None:
         host, asked = self.answering(text("/app/a"))
         self.assertEqual(self.client(host + "/app").sync("/a"), "/a")
-        self.assertEqual(asked[0], (-1001, SYNC, text("/app/a")))
+        self.assertEqual(asked[0], (1, SYNC, text("/app/a")))
 
     def test_get_acls(self) -> None:
         body = struct.pack(">ii", 1, 31) + text("digest") + text("bob:x") + STAT
@@ -90,24 +109,112 @@ class SpellingTest(LaneCase):
         acls, stat = self.client(host).get_acls("/a")
         self.assertEqual(acls, [security.ACL(31, security.Id("digest", "bob:x"))])
         self.assertEqual(stat, Stat._make(struct.unpack(">qqqqiiiqiiq", STAT)))
-        self.assertEqual(asked[0], (-1001, GET_ACL, text("/a")))
+        self.assertEqual(asked[0], (1, GET_ACL, text("/a")))
 
     def test_set_acls(self) -> None:
         host, asked = self.answering(STAT)
         self.client(host).set_acls("/a", security.OPEN_ACL_UNSAFE, 7)
-        self.assertEqual(asked[0], (-1001, SET_ACL, text("/a") + OPEN_ACL + struct.pack(">i", 7)))
+        self.assertEqual(asked[0], (1, SET_ACL, text("/a") + OPEN_ACL + struct.pack(">i", 7)))
 
     def test_create_with_an_acl_and_create2(self) -> None:
         acl = struct.pack(">ii", 1, 31) + text("auth") + text("")
         host, asked = self.answering(text("/app/a"))
         client = self.client(host + "/app")
         self.assertEqual(client.create("/a", b"x", acl=security.CREATOR_ALL_ACL, ephemeral=True), "/a")
-        self.assertEqual(asked[0], (-1001, CREATE, text("/app/a") + text("x") + acl + struct.pack(">i", 1)))
+        self.assertEqual(asked[0], (1, CREATE2, text("/app/a") + text("x") + acl + struct.pack(">i", 1)))
         host, asked = self.answering(text("/a0000000000") + STAT)
         created = self.client(host).create2("/a", None, sequence=True)
         self.assertEqual((created.path, created.stat.czxid), ("/a0000000000", 5))
         null = struct.pack(">i", -1)
-        self.assertEqual(asked[0], (-1001, CREATE2, text("/a") + null + OPEN_ACL + struct.pack(">i", 2)))
+        self.assertEqual(asked[0], (1, CREATE2, text("/a") + null + OPEN_ACL + struct.pack(">i", 2)))
+
+    def test_a_container_and_a_node_with_a_ttl(self) -> None:
+        """By records of their own, with the modes that they have there."""
+        body, null = text("/app/a") + STAT, struct.pack(">i", -1)
+        host, asked = self.answering(body)
+        client = self.client(host + "/app")
+        self.assertEqual(client.create("/a", None, container=True), "/a")
+        self.assertEqual(client.create("/a", None, ttl=1.5, acl=security.OPEN_ACL_UNSAFE), "/a")
+        self.assertEqual(client.create_async("/a", None, ttl=0.001, sequence=True).result(WAIT), "/a")
+        spelled = text("/app/a") + null + OPEN_ACL
+        self.assertEqual(asked[0], (1, CONTAINER, spelled + struct.pack(">i", 4)))
+        self.assertEqual(asked[1], (2, TTL, spelled + struct.pack(">iq", 5, 1500)))
+        self.assertEqual(asked[2], (3, TTL, spelled + struct.pack(">iq", 6, 1)))
+
+    def test_what_no_node_is_made_as(self) -> None:
+        host, asked = self.answering()
+        client = self.client(host)
+        container, limits = "a container is neither ephemeral nor sequential", "a TTL is 0.001 to 1099511627.775 seconds, and not"
+        for words, named in (
+            (container, {"container": True, "ephemeral": True}),
+            (container, {"container": True, "sequence": True}),
+            ("a node with a TTL is neither ephemeral nor a container", {"ttl": 1, "ephemeral": True}),
+            ("a node with a TTL is neither ephemeral nor a container", {"ttl": 1, "container": True}),
+            (f"{limits} 0", {"ttl": 0}),
+            (f"{limits} 1099511628", {"ttl": 1_099_511_628}),
+            ("a TTL is a number that is finite, and not inf", {"ttl": float("inf")}),
+        ):
+            with self.subTest(named), self.assertRaises(ValueError) as caught:
+                client.create("/a", **named)  # type: ignore[arg-type]
+            self.assertEqual(str(caught.exception), words)
+        with self.assertRaisesRegex(TypeError, "^a TTL is a number, and not str$"):
+            client.create("/a", ttl="1")  # type: ignore[arg-type]
+        self.assertEqual(asked, [])
+
+    def test_a_sequential_node_without_a_name(self) -> None:
+        """Its digits come after the slash. A node of that path is its parent, whatever is refused."""
+        for root, path, full, named in (
+            ("", "/folder/", "/folder/", "/folder"), ("/app", "/folder/", "/app/folder/", "/folder"), ("/app", "/", "/app/", "/"), ("", "/", "/", "/"),
+        ):  # fmt: skip
+            host, asked = self.answering(text(full + "0000000007") + STAT)
+            client, spelled = self.client(host + root), text(full) + text("x") + OPEN_ACL
+            with self.subTest(full):
+                self.assertEqual(client.create(path, b"x", sequence=True), path + "0000000007")
+                self.assertEqual(client.create2(path, b"x", sequence=True, ephemeral=True).path, path + "0000000007")
+                self.assertEqual(asked[0], (1, CREATE2, spelled + struct.pack(">i", 2)))
+                self.assertEqual(asked[1], (2, CREATE2, spelled + struct.pack(">i", 3)))
+            client = self.client(self.answering(code=-101)[0] + root)
+            with self.subTest(full), self.assertRaises(NoNodeError) as caught:
+                client.create(path, sequence=True)
+            self.assertEqual(caught.exception.path, named)
+        for path in ("/folder//", "//", "folder/", "/folder/../"):
+            with self.subTest(path), self.raises(ValueError, None):
+                client.create(path, sequence=True)
+        with self.raises(ValueError, None):
+            client.create("/folder/")
+
+    def test_several_reads_at_once(self) -> None:
+        """Each has what it brings, or its own error."""
+        names = header(8, code=0) + struct.pack(">i", 2) + text("a") + text("b")
+        refused = header(-1, code=-101) + struct.pack(">i", -101)
+        body = header(4, code=0) + text("one") + STAT + names + refused + header(4, code=0) + struct.pack(">i", -1) + STAT + END
+        host, asked = self.answering(body)
+        reads = [Read.data("/a"), Read.children("/"), Read.data("/none"), Read.data("/null")]
+        found = self.client(host + "/app").multi_read(reads)
+        stat = Stat._make(struct.unpack(">qqqqiiiqiiq", STAT))
+        self.assertEqual((found[:2], found[3]), ([(b"one", stat), ["a", "b"]], (None, stat)))
+        error = found[2]
+        assert isinstance(error, NoNodeError)
+        self.assertEqual(error.path, "/none")
+        spelled = [header(4) + text("/app/a"), header(8) + text("/app"), header(4) + text("/app/none"), header(4) + text("/app/null")]
+        self.assertEqual(asked[0], (1, MULTI_READ, b"\0".join(spelled) + b"\0" + END))
+        host, asked = self.answering(END)
+        self.assertEqual((self.client(host).multi_read([]), asked[0]), ([], (1, MULTI_READ, END)))
+        with self.assertRaisesRegex(TypeError, "^a read is a dirwolleu.Read, and not str$"):
+            self.client(host).multi_read(["/a"])  # type: ignore[list-item]
+
+    def test_ephemerals_counts_and_who_the_client_is(self) -> None:
+        paths = [text(path) for path in ("/app", "/app/a", "/apple", "/other")]
+        host, asked = self.answering(struct.pack(">i", 4) + b"".join(paths))
+        self.assertEqual(self.client(host + "/app").get_ephemerals("/a"), ["/", "/a"])
+        self.assertEqual(self.client(host).get_ephemerals(), ["/app", "/app/a", "/apple", "/other"])
+        self.assertEqual([one[1:] for one in asked], [(GET_EPHEMERALS, text("/app/a")), (GET_EPHEMERALS, text("/"))])
+        host, asked = self.answering(struct.pack(">i", 19))
+        self.assertEqual((self.client(host).get_all_children_number("/a"), asked[0]), (19, (1, COUNT, text("/a"))))
+        ids = struct.pack(">i", 2) + text("digest") + text("bob") + text("ip") + text("127.0.0.1")
+        host, asked = self.answering(ids)
+        wanted = [security.Id("digest", "bob"), security.Id("ip", "127.0.0.1")]
+        self.assertEqual((self.client(host).who_am_i(), asked[0]), (wanted, (1, WHO_AM_I, b"")))
 
     def test_a_transaction(self) -> None:
         body = header(1, code=0) + text("/app/a") + header(5, code=0) + STAT + header(13, code=0) + header(2, code=0)
@@ -126,7 +233,7 @@ class SpellingTest(LaneCase):
             + header(13) + text("/app/c") + struct.pack(">i", 4)
             + header(2) + text("/app/d") + struct.pack(">i", -1) + END
         )  # fmt: skip
-        self.assertEqual(asked[0], (-1001, MULTI, spelled))
+        self.assertEqual(asked[0], (1, MULTI, spelled))
 
     def test_a_transaction_that_is_refused(self) -> None:
         codes = (0, -103, -2)
@@ -165,11 +272,34 @@ class SpellingTest(LaneCase):
             client.create2("/a", "text")  # type: ignore[arg-type]
         self.assertEqual([one for one in asked if one.kind != PING], [])
 
+    def test_bodies_of_each_size(self) -> None:
+        """A request has 1,048,575 bytes at most, 8 of them its header. An answer may have none after its own."""
+        host, asked = self.answering()
+        client = self.client(host)
+        for size in (0, 1, 1_048_567):
+            self.assertEqual(client._call(raw(bytes(size))), b"")
+            self.assertEqual(len(asked[-1].body), size)
+        with self.raises(TooLargeError, None):
+            client._call(raw(bytes(1_048_568)))
+        self.assertEqual([one.kind for one in asked], 3 * [SYNC])
+        for size in (0, 1, 4_194_304 - 16):
+            host, _ = self.answering(bytes(size))
+            self.assertEqual(len(self.client(host)._call(raw(b""))), size)
+
     def test_nothing_that_moves_watches_or_ends_the_session_goes_through(self) -> None:
-        self.assertEqual({int(one) for one in Operation}, {CREATE, GET_ACL, SET_ACL, SYNC, MULTI, CREATE2, AUTH})
+        """The library takes eleven operations by their numbers."""
+        session, taken = Session(6000, 1), list[int]()
+        for number in range(-20, 200):
+            with contextlib.suppress(ValueError):
+                session.raw(1, 1000 + number, 2**63, number, (), lambda _: b"")
+                taken.append(number)
+        self.assertEqual(
+            taken,
+            [GET_ACL, SET_ACL, SYNC, MULTI, CREATE2, CONTAINER, TTL, MULTI_READ, GET_EPHEMERALS, COUNT, WHO_AM_I],
+        )
 
 
-class OrderTest(LaneCase):
+class OrderTest(RawCase):
     def test_replies_come_in_the_order_of_both(self) -> None:
         def answer(peer: Peer, asked: Asked) -> None:
             data = struct.pack(">i", asked.xid)
@@ -184,17 +314,16 @@ class OrderTest(LaneCase):
         concurrent.futures.wait(futures, WAIT)
         within(lambda: len(ended) == 400)
         self.assertEqual(ended, list(range(400)))
-        of_lane = [int(future.result()) for future in futures[::3]]
-        self.assertEqual(of_lane, [-1001 - number for number in range(len(of_lane))])
+        self.assertEqual([int(future.result()) for future in futures[::3]], list(range(1, 401, 3)))
 
-    def test_more_at_once_than_the_lane_takes(self) -> None:
+    def test_more_at_once_than_the_core_takes(self) -> None:
         host, asked = self.answering(text("/"))
         client = self.client(host, 60.0)
         futures = [client.sync_async("/") for _ in range(2500)]
         self.assertEqual(len(concurrent.futures.wait(futures, 3 * WAIT).done), 2500)
-        self.assertEqual([one.xid for one in asked if one.kind != PING], [-1001 - number for number in range(2500)])
+        self.assertEqual([one.xid for one in asked if one.kind != PING], list(range(1, 2501)))
 
-    def test_what_a_write_of_the_lane_ended_is_stale_when_its_caller_goes_on(self) -> None:
+    def test_what_a_raw_write_ended_is_stale_when_its_caller_goes_on(self) -> None:
         def answer(peer: Peer, asked: Asked) -> None:
             if asked.kind == GET_DATA:
                 peer.send(data_reply(asked, b"one"))
@@ -207,37 +336,52 @@ class OrderTest(LaneCase):
             transaction.set_data("/a", b"two")
         kept = client.kept("/a")
         assert kept is not None
-        self.assertEqual((kept.mark, kept.last_zxid, client.last_zxid), (Mark.STALE, 5, 5))
+        self.assertEqual((kept.mark, kept.last_zxid, client.last_zxid), (Mark.STALE, 6, 6))
         self.assertEqual(events.get(timeout=WAIT).path, "/a")
 
-    def test_a_cut_is_told_to_each_call_of_the_lane(self) -> None:
+    def test_what_a_cut_has_lost_is_asked_again_if_it_changes_nothing(self) -> None:
+        """All else is told that it may have happened."""
         asked, may_end = queue.Queue[Asked](), threading.Event()
         self.addCleanup(may_end.set)
 
         def serve(peer: Peer) -> None:
             peer.admit()
-            for _ in range(3):
+            if may_end.is_set():
+                while True:
+                    one = peer.take()
+                    asked.put(one)
+                    peer.send(reply(one, BODIES[one.kind]))
+            for _ in range(12):
                 asked.put(peer.take())
             may_end.wait(WAIT)
 
         client = self.client(self.raw_server(serve).host)
-        futures: list[Any] = [client.sync_async("/"), client.get_acls_async("/"), client.sync_async("/b")]
-        for _ in range(3):
-            asked.get(timeout=WAIT)
+        futures = [*self.reads(client), *self.changes(client)]
+        kinds = [asked.get(timeout=WAIT).kind for _ in futures]
         may_end.set()
-        for future in futures:
+        for future in futures[:6]:
+            self.assertIsNone(future.exception(WAIT))
+        for future in futures[6:]:
             self.assertIsInstance(future.exception(WAIT), ConnectionLoss)
-            self.assertFalse(future.exception().may_have_happened)
+            self.assertTrue(future.exception().may_have_happened)
+        self.assertEqual(kinds, [SYNC, GET_ACL, MULTI_READ, GET_EPHEMERALS, COUNT, WHO_AM_I, SET_ACL, CREATE2, CREATE2, CONTAINER, TTL, MULTI])
+        self.assertEqual([asked.get(timeout=WAIT).kind for _ in range(6)], kinds[:6])
 
-    def test_a_write_of_the_lane_that_was_cut_may_have_happened(self) -> None:
-        def serve(peer: Peer) -> None:
-            peer.admit()
-            peer.take()
+    def reads(self, client: Client) -> list[Any]:
+        reads = [client.sync_async("/a"), client.get_acls_async("/a"), client.multi_read_async([Read.data("/a")])]
+        return [*reads, client.get_ephemerals_async(), client.get_all_children_number_async("/"), client.who_am_i_async()]
 
-        client = self.client(self.raw_server(serve).host)
-        with self.assertRaises(ConnectionLoss) as caught:
-            client.create2("/a")
-        self.assertTrue(caught.exception.may_have_happened)
+    def changes(self, client: Client) -> list[Any]:
+        transaction = client.transaction()
+        transaction.check("/a", 1)
+        return [
+            client.set_acls_async("/a", security.OPEN_ACL_UNSAFE),
+            client.create2_async("/a"),
+            client.create_async("/a", acl=security.OPEN_ACL_UNSAFE),
+            client.create_async("/a", container=True),
+            client.create_async("/a", ttl=1.5),
+            client._send(transaction.request()),
+        ]
 
     def test_an_answer_of_another_xid_ends_the_connection(self) -> None:
         def answer(peer: Peer, asked: Asked) -> None:
@@ -245,7 +389,7 @@ class OrderTest(LaneCase):
 
         client = self.client(self.serve(answer))
         with self.raises(ConnectionLoss, -4):
-            client.sync("/")
+            client.create2("/")
 
     def test_an_answer_that_does_not_read_ends_the_connection(self) -> None:
         for body in (b"", b"\0\0\0\5ab", struct.pack(">i", -1), struct.pack(">i", 2) + b"\xff\xfe"):
@@ -255,16 +399,16 @@ class OrderTest(LaneCase):
                 client.sync("/")
             within(lambda: client.stats().connections == 2)
 
-    def test_a_silent_server_is_left_for_the_sake_of_the_lane(self) -> None:
+    def test_a_silent_server_is_left_for_the_sake_of_a_raw_call(self) -> None:
         def answer(peer: Peer, asked: Asked) -> None:
-            if asked.kind != SYNC:
+            if asked.kind != CREATE2:
                 peer.send(reply(asked))
 
         client = self.client(self.serve(answer), 3.0)
         with self.raises(ConnectionLoss, -4):
-            client.sync("/")
+            client.create2("/a")
 
-    def test_what_is_asked_before_and_after_a_call_of_the_lane_keeps_its_place(self) -> None:
+    def test_what_is_asked_before_and_after_a_raw_call_keeps_its_place(self) -> None:
         """Also while no server has accepted the session."""
         came = list[int]()
 
@@ -284,7 +428,7 @@ class OrderTest(LaneCase):
             call.result(WAIT)
         self.assertEqual(came, [EXISTS, SYNC, EXISTS, SYNC])
 
-    def test_calls_of_the_lane_without_a_connection_are_not_sent(self) -> None:
+    def test_raw_calls_without_a_connection_are_not_sent(self) -> None:
         partner = self.partner()
         client = self.client(partner.host, 1.0)
         partner.do("down")
@@ -294,7 +438,33 @@ class OrderTest(LaneCase):
                 client.create2("/a", timeout=timeout)
             self.assertFalse(caught.exception.may_have_happened)
 
-    def test_what_the_lane_has_seen_binds_the_next_server(self) -> None:
+    def test_a_server_that_is_behind_what_a_raw_call_has_seen_takes_no_call(self) -> None:
+        """It ends the connection, as ZooKeeper does: so what it has, which is older, is not shown."""
+        seen: list[int] = []
+
+        def serve(peer: Peer) -> None:
+            asked = peer.take_connect()
+            seen.append(asked.last_zxid)
+            if len(seen) == 2:
+                return  # the zxid of this one is 5
+            peer.send(struct.pack(">iiq", 0, asked.timeout_ms, asked.session or 7) + struct.pack(">i", 16) + bytes(16) + b"\0")
+            data, zxid = (b"old", 5) if len(seen) == 1 else (b"new", 77)
+            while True:
+                one = peer.take()
+                if one.kind == GET_DATA:
+                    peer.send(data_reply(one, data, zxid=zxid))
+                elif one.kind == MULTI:
+                    peer.send(notice("/a"), reply(one, header(5, code=0) + STAT + END, zxid=77))
+                    return
+
+        client = self.client(self.raw_server(serve).host)
+        self.assertEqual(client.get("/a", watch=True)[0], b"old")
+        with client.transaction() as transaction:
+            transaction.set_data("/a", b"new")
+        self.assertEqual(client.get("/a", watch=True)[0], b"new")
+        self.assertEqual((seen, client.kept("/a").mark), ([0, 77, 77], Mark.GOOD))  # type: ignore[union-attr]
+
+    def test_what_a_raw_call_has_seen_binds_the_next_server(self) -> None:
         seen: list[int] = []
 
         def serve(peer: Peer) -> None:
@@ -313,7 +483,7 @@ class OrderTest(LaneCase):
         self.assertEqual(struct.unpack(">q", saved[-8:])[0], 77)
 
 
-class AuthTest(LaneCase):
+class AuthTest(RawCase):
     def server(self, refuses: bool = False) -> tuple[str, list[list[Asked]]]:
         """A server that answers credentials and reads, and ends the first connection after a read."""
         connections: list[list[Asked]] = []
@@ -361,11 +531,12 @@ class AuthTest(LaneCase):
         with self.assertLogs("dirwolleu", "ERROR"), self.raises(AuthFailedError, -115):
             client.start(WAIT)
         client = self.client(host)
-        with self.raises(AuthFailedError, -115):
-            client.add_auth("none", "x")
-        count = len(connections)
-        within(lambda: len(connections) > count and client.connected)
-        self.assertEqual(connections[-1], [])
+        calls: list[Callable[[], Any]] = [lambda: client.add_auth("none", "x"), lambda: client.get("/a")]
+        for call in calls:
+            with self.raises(AuthFailedError, -115):
+                call()
+        client.start(WAIT)
+        self.assertEqual((client.state, connections[-1]), (State.CONNECTED, []))
 
 
 class RefusedTest(BothCase):
@@ -482,16 +653,39 @@ class RefusedTest(BothCase):
             self.assertTrue(self.has_ended(client))
         self.check_over(client)
 
-    def test_what_is_added_and_refused_is_forgotten(self) -> None:
+    def test_what_is_added_and_refused_ends_the_session_and_is_forgotten(self) -> None:
         client, states = self.introduced(), list[State]()
         client.add_listener(states.append)
         self.refuses.add("none")
-        with self.raises(AuthFailedError, -115):
+        with self.assertLogs("dirwolleu.connection", "ERROR"), self.raises(AuthFailedError, -115):
             client.add_auth("none", "x")
-        within(lambda: len(self.came) == 2 and client.connected)
+        within(lambda: states == [State.LOST])
+        self.check_over(client)
+        client.start(WAIT)
         self.assertEqual(client.get("/a")[0], b"one")
         self.assertEqual([one.kind for one in self.came[1]], [AUTH, AUTH, GET_DATA])
-        within(lambda: states == [State.SUSPENDED, State.CONNECTED])
+
+    def test_what_is_added_twice_is_given_once(self) -> None:
+        client = self.introduced()
+        for _ in range(3):
+            client.add_auth("digest", "bob:secret")
+            client.add_auth("digest", "eve:secret")
+        client.get("/cut")
+        self.assertEqual([one.kind for one in self.came[0] if one.kind == AUTH], 3 * [AUTH])
+        self.assertEqual([one.kind for one in self.came[1]], [*3 * [AUTH], SET_WATCHES, GET_DATA])
+
+    def test_what_is_added_waits_for_a_connection(self) -> None:
+        client = self.introduced()
+        self.admits.clear()
+        cut = in_thread(lambda: client.get("/cut"))
+        within(lambda: client.state is State.SUSPENDED)
+        adds = in_thread(lambda: client.add_auth("digest", "eve:secret"))
+        within(lambda: client.stats().waiting >= 2)
+        self.assertTrue(adds.empty())
+        self.admits.set()
+        self.assertIsNone(adds.get(timeout=WAIT))
+        self.assertEqual(cut.get(timeout=WAIT)[0], b"one")
+        self.assertEqual([one.kind for one in self.came[1]][:3], 3 * [AUTH])
 
     def test_what_was_added_counts(self) -> None:
         client = self.client(self.server.host)
