@@ -1,7 +1,7 @@
 -- What moves of an agent keep: a client that is served, with what is under way in the driver. Move by move, each is some turns of the
 -- client, another session, or neither. Two moves keep it only as the driver notes them: a connection begins, to a server at a place of the
 -- history, where the client had none; and bytes come, all that were held.
-use Rattle.std.proofs.Common.{◌≡◌, ◌≤◌, ◌<◌, ◌++◌, ◌∙◌, ℕ, ℤ, Bool, true, false, cond, List, [], ◌∷◌, Option, Some, None, length, ap}
+use Rattle.std.proofs.Common.{◌≡◌, ◌≤◌, ◌<◌, ◌++◌, ◌∙◌, ℕ, ℤ, Bool, true, false, cond, List, [], ◌∷◌, Option, Some, None, length, map, ap}
 use Rattle.std.proofs.Common.{append_assoc, refl, sym, subst, arith}
 use Rattle.std.specs.Prelude.{⊤, fold, filter, FitsSigned, pos, ◌≤ℤ◌, unsigned_abs}
 use Rattle.std.specs.List.{list_any, AllByRecursion, FoldsTo}
@@ -26,11 +26,11 @@ use Rattle.zk_dialler.specs.declared.dialler.DialDue.TheVariants.{Dial, GiveUp}
 use Rattle.zk_dialler.specs.Dialling.{is_open, DialsWell}
 use Rattle.zk_calls.specs.declared.entry.Ending.TheVariants as ending
 use Rattle.zk_agent.specs.Agents.{is_given, Addressed, Asks, Closes, Decides, Does, Ended, Follows, GivesUp, Hands, Hears, HearsSo, HungUp}
-use Rattle.zk_agent.specs.Agents.{Tends}
+use Rattle.zk_agent.specs.Agents.{Presents, Tends}
 use Rattle.zk_agent.specs.Agents.{LeavesWhere, Move, Opened, Renews, Tires, Trail, Unfollows}
 use Rattle.zk_agent.specs.Calls.{closings, endings}
 use Rattle.zk_agent.specs.Replies.{heard_in, is_lost}
-use Rattle.zk_agent.specs.Telling.{due_told, Begins, Dials, HangsUp, Says, TellsTree, Told}
+use Rattle.zk_agent.specs.Telling.{due_told, judged_told, Begins, Dials, HangsUp, Introduces, Says, TellsTree, Told}
 use Rattle.zk_agent.proofs.Moves.{ours_is_open}
 use Rattle.zk_driver.specs.Driving.{carried, ChannelView}
 use Rattle.theory_serving.specs.Shown.{connected, Shown}
@@ -113,6 +113,23 @@ module _ {A : Type 0} (channel : ChannelView) (held : List ℕ) (shown : Shown) 
       → new.told ≡ old.told ++ more → left_by channel new ≡ fold carried (left_by channel old) more
   told_more old new more is = ap (fold carried channel) is ∙ fold-append carried channel old.told more
 
+  -- nor is what is told of credentials
+  judged_keep : (here : ChannelView) (judged : List (ℕ × ℤ)) → fold carried here (map judged_told judged) ≡ here
+  judged_keep here [] = refl
+  judged_keep here (one ∷ more) = judged_keep here more
+
+  frames_keep : (here : ChannelView) (frames : List (List ℕ)) → fold carried here (map Introduces frames) ≡ here
+  frames_keep here [] = refl
+  frames_keep here (frame ∷ more) = frames_keep here more
+
+  presents_none : (judged : List (ℕ × ℤ)) (frames : List (List ℕ)) (old new : Trail A) → Does old (Presents judged frames) new
+      → left_by channel new ≡ left_by channel old
+  presents_none judged frames old new does =
+      ap (left_by channel) does
+      ∙ fold-append carried channel (old.told ++ map judged_told judged) (map Introduces frames)
+      ∙ frames_keep (fold carried channel (old.told ++ map judged_told judged)) frames
+      ∙ fold-append carried channel old.told (map judged_told judged) ∙ judged_keep (left_by channel old) judged
+
   hung_here : (old new : Trail A) → new.view ≡ old.view → new.told ≡ old.told ++ HangsUp ∷ [] → Here old → Here new
   hung_here old new view told k =
       subst (λ (c : ChannelView). Kept new.view c.is_open c.unsent held shown) (sym (told_more old new (HangsUp ∷ []) told))
@@ -192,6 +209,8 @@ module _ {A : Type 0} (channel : ChannelView) (held : List ℕ) (shown : Shown) 
       (told_more old new (closings old.line) (ap (λ (t : Trail A). t.told) does.last) ∙ closings_keep (left_by channel old) old.line) k
   move_here (Tends one) old new does plain later k =
       same_here old new (ap (λ (t : Trail A). t.view) does) (told_more old new (TellsTree one ∷ []) (ap (λ (t : Trail A). t.told) does)) k
+  move_here (Presents judged frames) old new does plain later k =
+      same_here old new (ap (λ (t : Trail A). t.view) does) (presents_none judged frames old new does) k
 
   -- ---- where the client has no connection
 
@@ -299,6 +318,8 @@ module _ {A : Type 0} (channel : ChannelView) (held : List ℕ) (shown : Shown) 
   move_idle (Tends one) old new does plain k idle =
       same_idle old new (ap (λ (t : Trail A). t.view) does)
       (told_more old new (TellsTree one ∷ []) (ap (λ (t : Trail A). t.told) does)) idle
+  move_idle (Presents judged frames) old new does plain k idle =
+      same_idle old new (ap (λ (t : Trail A). t.view) does) (presents_none judged frames old new does) idle
 
   -- ---- a connection that the client has is there
 
@@ -373,6 +394,8 @@ module _ {A : Type 0} (channel : ChannelView) (held : List ℕ) (shown : Shown) 
       same_tied old new (ap (λ (t : Trail A). t.view) does.last) (ap (λ (t : Trail A). t.dialler.phase) does.last) tied
   move_tied (Tends one) old new does free k tied =
       same_tied old new (ap (λ (t : Trail A). t.view) does) (ap (λ (t : Trail A). t.dialler.phase) does) tied
+  move_tied (Presents judged frames) old new does free k tied =
+      same_tied old new (ap (λ (t : Trail A). t.view) does) (ap (λ (t : Trail A). t.dialler.phase) does) tied
 
 -- ---- the timeout of later sessions stays
 
@@ -397,14 +420,39 @@ stays_by {A} (Addressed count) old new does = ap (λ (t : Trail A). t.timeout) d
 stays_by {A} (Decides now due) old new does = ap (λ (t : Trail A). t.timeout) does.last
 stays_by {A} Closes old new does = ap (λ (t : Trail A). t.timeout) does.last
 stays_by {A} (Tends one) old new does = ap (λ (t : Trail A). t.timeout) does
+stays_by {A} (Presents judged frames) old new does = ap (λ (t : Trail A). t.timeout) does
 
 -- ---- moves, one after the other
+
+-- Moves that come from outside. What is told of credentials is none: no driver is handed one, and it is of no connection's bytes.
+abbrev pub is_met : Move → Bool
+is_met (Presents judged frames) = false
+is_met move = is_given move
+
+pub met_through : (moves : List Move) → filter is_met moves ≡ filter is_met (filter is_given moves)
+met_through [] = refl
+met_through (Hears now input ∷ moves) = ap (λ l. Hears now input ∷ l) (met_through moves)
+met_through (Hands now ticket asked ∷ moves) = met_through moves
+met_through (Renews ∷ moves) = met_through moves
+met_through (Follows ticket side path ∷ moves) = ap (λ l. Follows ticket side path ∷ l) (met_through moves)
+met_through (Unfollows ticket ∷ moves) = ap (λ l. Unfollows ticket ∷ l) (met_through moves)
+met_through (Asks ticket asked until ∷ moves) = ap (λ l. Asks ticket asked until ∷ l) (met_through moves)
+met_through (GivesUp now ∷ moves) = met_through moves
+met_through (Tires now ∷ moves) = met_through moves
+met_through (Opened now ∷ moves) = ap (λ l. Opened now ∷ l) (met_through moves)
+met_through (Ended now ∷ moves) = ap (λ l. Ended now ∷ l) (met_through moves)
+met_through (HungUp ∷ moves) = ap (λ l. HungUp ∷ l) (met_through moves)
+met_through (Addressed count ∷ moves) = ap (λ l. Addressed count ∷ l) (met_through moves)
+met_through (Decides now due ∷ moves) = met_through moves
+met_through (Closes ∷ moves) = met_through moves
+met_through (Tends one ∷ moves) = met_through moves
+met_through (Presents judged frames ∷ moves) = met_through moves
 
 -- moves of which these come from outside
 pub record Given {A : Type 0} (given : List Move) (old new : Trail A) : Type 0 where
   pub moves : List Move
   pub does : FoldsTo Does old moves new
-  pub comes : filter is_given moves ≡ given
+  pub comes : filter is_met moves ≡ given
 
 -- up to the first of these, that one, and the others
 record Split {A : Type 0} (first : Move) (more : List Move) (old new : Trail A) : Type 0 where
@@ -429,22 +477,22 @@ rest_of : (first given : Move) (more rest : List Move) → first ∷ more ≡ gi
 rest_of first given more rest e = ap tail_of e
 
 split : {A : Type 0} (moves : List Move) (first : Move) (more : List Move) (old new : Trail A) (does : FoldsTo Does old moves new)
-    → filter is_given moves ≡ first ∷ more → Split first more old new
+    → filter is_met moves ≡ first ∷ more → Split first more old new
 split [] first more old new does comes = let e : [] ≡ first ∷ more = comes in cc
 split {A} (move ∷ moves) first more old new does comes =
-    by (is_given move) refl comes (λ e. split moves first more does.0 new does.2 e)
+    by (is_met move) refl comes (λ e. split moves first more does.0 new does.2 e)
   where
-    by : (b : Bool) → is_given move ≡ b → cond b (move ∷ filter is_given moves) (filter is_given moves) ≡ first ∷ more
-        → (filter is_given moves ≡ first ∷ more → Split first more does.0 new) → Split first more old new
+    by : (b : Bool) → is_met move ≡ b → cond b (move ∷ filter is_met moves) (filter is_met moves) ≡ first ∷ more
+        → (filter is_met moves ≡ first ∷ more → Split first more does.0 new) → Split first more old new
     by true is e rest =
         let moved : Does old first does.0 =
-        subst (λ m. Does old m does.0) (first_of move first (filter is_given moves) more e) does.1 in
+        subst (λ m. Does old m does.0) (first_of move first (filter is_met moves) more e) does.1 in
         record {
           before = old;
           own = record { moves = []; does = refl; comes = refl };
           after = does.0;
           does = moved;
-          rest = record { moves = moves; does = does.2; comes = rest_of move first (filter is_given moves) more e };
+          rest = record { moves = moves; does = does.2; comes = rest_of move first (filter is_met moves) more e };
         }
     by false is e rest =
         let s = rest e in
@@ -453,7 +501,7 @@ split {A} (move ∷ moves) first more old new does comes =
           own = record {
             moves = move ∷ s.own.moves;
             does = (does.0, does.1, s.own.does);
-            comes = ap (λ b. cond b (move ∷ filter is_given s.own.moves) (filter is_given s.own.moves)) is ∙ s.own.comes;
+            comes = ap (λ b. cond b (move ∷ filter is_met s.own.moves) (filter is_met s.own.moves)) is ∙ s.own.comes;
           };
           after = s.after;
           does = s.does;
@@ -463,7 +511,7 @@ split {A} (move ∷ moves) first more old new does comes =
 first_given : {A : Type 0} (first : Move) (more : List Move) (old new : Trail A) → Given (first ∷ more) old new → Split first more old new
 first_given first more old new given = split given.moves first more old new given.does given.comes
 
-own_free : (move : Move) → is_given move ≡ false → IsFree move
+own_free : (move : Move) → is_met move ≡ false → IsFree move
 own_free (Hears now input) own = let e : true ≡ false = own in cc
 own_free (Ended now) own = let e : true ≡ false = own in cc
 own_free _ own = tt
@@ -471,14 +519,14 @@ own_free _ own = tt
 module _ {A : Type 0} (P : Trail A → Type 0)
     (step : (move : Move) (old new : Trail A) (does : Does old move new) → IsFree move → P old → P new) where
   own_through : (moves : List Move) (old new : Trail A) (does : FoldsTo Does old moves new)
-      → filter is_given moves ≡ [] → P old → P new
+      → filter is_met moves ≡ [] → P old → P new
   own_through [] old new same comes p = subst P same p
   own_through (move ∷ moves) old new does comes p =
-      by (is_given move) refl comes (λ e between. own_through moves does.0 new does.2 e between)
+      by (is_met move) refl comes (λ e between. own_through moves does.0 new does.2 e between)
     where
-      by : (b : Bool) → is_given move ≡ b → cond b (move ∷ filter is_given moves) (filter is_given moves) ≡ []
-          → (filter is_given moves ≡ [] → P does.0 → P new) → P new
-      by true is e rest = let f : move ∷ filter is_given moves ≡ [] = e in cc
+      by : (b : Bool) → is_met move ≡ b → cond b (move ∷ filter is_met moves) (filter is_met moves) ≡ []
+          → (filter is_met moves ≡ [] → P does.0 → P new) → P new
+      by true is e rest = let f : move ∷ filter is_met moves ≡ [] = e in cc
       by false is e rest = rest e (step move old does.0 does.1 (own_free move is) p)
 
   pub own_all : (old new : Trail A) → Given [] old new → P old → P new

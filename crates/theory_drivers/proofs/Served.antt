@@ -1,7 +1,7 @@
 -- A driver's deeds, one after the other, keep its client served.
-use Rattle.std.proofs.Common.{◌≡◌, ◌≤◌, ◌++◌, ◌∙◌, ℕ, Bool, true, false, List, [], ◌∷◌, Option, Some, None, length, ap, append-nil}
+use Rattle.std.proofs.Common.{◌≡◌, ◌≤◌, ◌++◌, ◌∙◌, ℕ, ℤ, Bool, true, false, cond, List, [], ◌∷◌, Option, Some, None, length, ap, append-nil}
 use Rattle.std.proofs.Common.{refl, sym, subst}
-use Rattle.std.specs.Prelude.{◌&&◌, not, max}
+use Rattle.std.specs.Prelude.{◌&&◌, filter, not, max}
 use Rattle.std.specs.List.{AllByRecursion, FoldsTo}
 use Rattle.std.specs.Io.KnownBytes.{Appends, Consumes}
 use Rattle.std.proofs.lemmas.List.{append_cancel_left, append_cancel_right}
@@ -21,9 +21,10 @@ use Rattle.theory_serving.specs.Wires.{is_up}
 use Rattle.theory_serving.proofs.Entries.{served_so}
 use Rattle.theory_serving.proofs.Views.{first_session, good_session}
 use Rattle.zk_conclusions.specs.Seen.{IsServedFrom}
+use Rattle.zk_agent.specs.declared.agent.Agent.{Agent}
 use Rattle.zk_agent.specs.declared.input.AgentInput.{AgentInput}
 use Rattle.zk_agent.specs.declared.input.AgentInput.TheVariants as happens
-use Rattle.zk_agent.specs.Agents.{bytes_at, given_of, opened_at, trail_of, Ended, Hears, HungUp, Move, Opened, Trail}
+use Rattle.zk_agent.specs.Agents.{bytes_at, given_of, moves_of, opened_at, trail_of, Ended, Hears, HungUp, Move, Opened, Presents, Trail}
 use Rattle.zk_driver.specs.Driving.{closed, opened, ChannelView, Course, Looked, Noted, Takes, Written}
 use Rattle.zk_link.specs.FarEnds.{FarEnd, Reaches}
 use Rattle.zk_driver.specs.Flowing.{Asked, Carries, Deed, Flow, Made, Passes}
@@ -33,7 +34,7 @@ use Rattle.theory_drivers.specs.ServedDrivers.{Begins, MeetsServers}
 use Rattle.theory_drivers.proofs.Turned.{kept_down, let_go, Kept}
 use Rattle.theory_drivers.proofs.Heard.{left_by}
 use Rattle.theory_drivers.proofs.Moved.{all_apart, all_ready, bytes_noted, late_noted, opened_noted, over_noted, Apart, Given, IsFree}
-use Rattle.theory_drivers.proofs.Moved.{IsLater}
+use Rattle.theory_drivers.proofs.Moved.{is_met, met_through, IsLater}
 use Rattle.theory_drivers.proofs.Moved.{Loose, Ready}
 use Rattle.theory_drivers.proofs.Acted.{acts_keep, apart_kept}
 
@@ -87,6 +88,33 @@ module _ {A : Type 0} {far : FarEnd} (old new : Flow A far) (before after : Show
 
 -- ---- the agent takes an input
 
+met_bytes : (there : Bool) (now : ℕ) (bytes : List ℕ) (told : Move) → is_met told ≡ false
+    → filter is_met (bytes_at there now bytes ++ told ∷ []) ≡ bytes_at there now bytes
+met_bytes true now bytes told none = ap (λ b. Hears now (turns.Bytes bytes) ∷ cond b (told ∷ []) []) none
+met_bytes false now bytes told none = ap (λ b. Hears now (turns.Now now) ∷ cond b (told ∷ []) []) none
+
+met_opened : (phase : Phase) (now : ℕ) (judged : List (ℕ × ℤ)) (frames : List (List ℕ))
+    → filter is_met (opened_at phase now ++ Presents judged frames ∷ []) ≡ opened_at phase now
+met_opened Waiting now judged frames = refl
+met_opened (Dialling began until) now judged frames = refl
+met_opened Open now judged frames = refl
+
+-- what an input makes, without what is told of credentials
+made_met : {A : Type 0} (there : Bool) (now : ℕ) (input : AgentInput A) (agent : Agent A)
+    → filter is_met (moves_of there now input agent) ≡ given_of agent.dialler.phase now input
+made_met there now happens.Opened agent = met_opened agent.dialler.phase now _ _
+made_met there now happens.Failed agent = refl
+made_met there now (happens.Bytes bytes) agent = met_bytes (is_open agent.dialler.phase) now bytes.items _ refl
+made_met there now happens.Cut agent = refl
+made_met there now happens.Moment agent = refl
+made_met there now (happens.Addresses count) agent = refl
+made_met there now (happens.Call ticket call until) agent = refl
+made_met there now (happens.Credential credential) agent = refl
+made_met there now (happens.Follow ticket side path) agent = refl
+made_met there now (happens.Unfollow ticket) agent = refl
+made_met there now (happens.FollowTree ticket root most) agent = refl
+made_met there now (happens.UnfollowTree ticket) agent = refl
+
 module _ {A : Type 0} {far : FarEnd} (old new : Flow A far) (now : ℕ) (input : AgentInput A) (between : ChannelView)
     (takes : Takes now input (record old.course { channel = between }) new.course)
     (none : new.held ≡ []) where
@@ -100,7 +128,12 @@ module _ {A : Type 0} {far : FarEnd} (old new : Flow A far) (now : ℕ) (input :
   moment = max old.course.agent.latest now
 
   came : (given : List Move) → given_of old.course.agent.dialler.phase moment input ≡ given → Given given first last
-  came given is = record { moves = takes.comes.moves; does = takes.comes.does; comes = takes.comes.comes ∙ is }
+  came given is = record {
+    moves = takes.comes.moves;
+    does = takes.comes.does;
+    comes = met_through takes.comes.moves ∙ ap (filter is_met) takes.comes.comes
+        ∙ made_met (is_open new.course.agent.dialler.phase) moment input old.course.agent ∙ is;
+  }
 
   done : (shown : Shown) → Ready between [] shown last → Bound new shown
   done shown ready = record {
@@ -245,6 +278,7 @@ noted_bound now happens.Moment old new before after carries meets bound =
     (tt, tt) carries.0.1.1 (sym carries.2))
 noted_bound now (happens.Addresses count) old new before after carries meets bound = absurd carries.0.1
 noted_bound now (happens.Call ticket call until) old new before after carries meets bound = absurd carries.0.1
+noted_bound now (happens.Credential credential) old new before after carries meets bound = absurd carries.0.1
 noted_bound now (happens.Follow ticket side path) old new before after carries meets bound = absurd carries.0.1
 noted_bound now (happens.Unfollow ticket) old new before after carries meets bound = absurd carries.0.1
 noted_bound now (happens.FollowTree ticket root most) old new before after carries meets bound = absurd carries.0.1
@@ -263,6 +297,7 @@ asked_bound now (happens.Addresses count) old new before carries bound =
 asked_bound now (happens.Call ticket call until) old new before carries bound =
     plain_bound old new now (happens.Call ticket call until) old.course.channel carries.0 carries.4 before bound _ refl
     (tt, (tt, tt)) refl carries.3
+asked_bound now (happens.Credential credential) old new before carries bound = absurd carries.1
 asked_bound now (happens.Follow ticket side path) old new before carries bound =
     plain_bound old new now (happens.Follow ticket side path) old.course.channel carries.0 carries.4 before bound _ refl
     (tt, (tt, tt)) refl carries.3

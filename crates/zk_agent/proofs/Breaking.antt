@@ -13,7 +13,8 @@ use Rattle.zk_follow.specs.declared.subject.Subject.{Subject}
 use Rattle.zk_follow.specs.Following.{Steps}
 use Rattle.zk_follow.specs.Following as follow
 use Rattle.zk_agent.specs.Agents.{Advance, ByTurn, ByRenewal, Advances, BreaksOff, Trail, Move, Hears, Hands, Renews, Follows, Unfollows}
-use Rattle.zk_agent.specs.Agents.{Asks, GivesUp, Tires, Opened, Ended, HungUp, Addressed, Decides, Closes, Tends, Does, Comes, HearsSo}
+use Rattle.zk_agent.specs.Agents.{Asks, GivesUp, Tires, Opened, Ended, HungUp, Addressed, Decides, Closes, Tends, Presents, Does, Comes}
+use Rattle.zk_agent.specs.Agents.{HearsSo}
 use Rattle.zk_agent.specs.Agents.{LeavesWhere}
 use Rattle.zk_agent.proofs.Moves.{stays_by}
 
@@ -81,6 +82,7 @@ went_by {A} (Addressed count) old new does = stayed old.timeout old.view new.vie
 went_by {A} (Decides now due) old new does = stayed old.timeout old.view new.view (ap (λ (t : Trail A). t.view) does.last)
 went_by {A} Closes old new does = stayed old.timeout old.view new.view (ap (λ (t : Trail A). t.view) does.last)
 went_by {A} (Tends told) old new does = stayed old.timeout old.view new.view (ap (λ (t : Trail A). t.view) does)
+went_by {A} (Presents judged frames) old new does = stayed old.timeout old.view new.view (ap (λ (t : Trail A). t.view) does)
 
 went_through : {A : Type 0} (moves : List Move) (old new : Trail A) → FoldsTo Does old moves new → Went old.timeout old.view new.view
 went_through {A} [] old new same = stayed old.timeout old.view new.view (sym (ap (λ (t : Trail A). t.view) same))

@@ -1,6 +1,7 @@
 -- Ticket by ticket, the calls that wait and the ends that are told are together as many as the calls that waited and those that were asked:
 -- each move keeps that sum, and one that asks for a call adds that call.
-use Rattle.std.proofs.Common.{zero-add, ◌≡◌, ◌++◌, ◌+◌, ℕ, Bool, true, false, cond, ◌&&◌, not, List, [], ◌∷◌, Option, Some, None, map, refl}
+use Rattle.std.proofs.Common.{zero-add, ◌≡◌, ◌++◌, ◌+◌, ℕ, ℤ, Bool, true, false, cond, ◌&&◌, not, List, [], ◌∷◌, Option, Some, None, map}
+use Rattle.std.proofs.Common.{refl}
 use Rattle.std.proofs.Common.{sym, ap, ◌∙◌, arith}
 use Rattle.std.specs.Prelude.{◌==◌}
 use Rattle.std.specs.List.{count_by, filter, flat_map, FoldsTo}
@@ -23,14 +24,18 @@ use Rattle.zk_calls.specs.Lines.{waits_turn}
 use Rattle.zk_dialler.specs.declared.dialler.Phase.{Phase}
 use Rattle.zk_dialler.specs.declared.dialler.Phase.TheVariants.{Waiting, Dialling, Open}
 use Rattle.zk_dialler.specs.Dialling.{is_open}
+use Rattle.zk_agent.specs.declared.agent.Agent.{Agent}
 use Rattle.zk_agent.specs.declared.input.AgentInput.{AgentInput}
 use Rattle.zk_agent.specs.declared.input.AgentInput.TheVariants as happens
 use Rattle.zk_agent.specs.Agents.{Comes, Move, Hears, Hands, Renews, Follows, Unfollows, Asks, GivesUp, Tires, Opened, Ended as Over}
-use Rattle.zk_agent.specs.Agents.{HungUp, Closes, Addressed, Decides, Tends, Does, HearsSo, LeavesWhere, LetsGoWhere, Trail, bytes_at}
+use Rattle.zk_agent.specs.Agents.{HungUp, Closes, Addressed, Decides, Tends, Presents, Does, HearsSo, LeavesWhere, LetsGoWhere, Trail}
+use Rattle.zk_agent.specs.Agents.{bytes_at}
 use Rattle.zk_agent.specs.inner.Agents.{asks_for}
-use Rattle.zk_agent.specs.Agents.{given_of, how_many_asked, how_many_ended, is_given, opened_at}
+use Rattle.zk_agent.specs.Agents.{given_of, judging_in, moves_of, papers_in, how_many_asked, how_many_ended, is_given, opened_at}
+use Rattle.zk_agent.specs.Credentials.{unwritten}
 use Rattle.zk_agent.specs.Calls.{answers, closings, endings, handed, hears, hears_all, how_many, tells, tells_all}
-use Rattle.zk_agent.specs.Telling.{Told, Says, HangsUp, Begins, TellsTree, closed_told, due_told, ended_told, is_end_of, news_told}
+use Rattle.zk_agent.specs.Telling.{Told, Says, HangsUp, Begins, Introduces, TellsTree, closed_told, due_told, ended_told, is_end_of}
+use Rattle.zk_agent.specs.Telling.{judged_told, news_told}
 
 -- ---- counts
 
@@ -94,6 +99,8 @@ asks_alone ticket (Over now ∷ moves) = both_more (asks_for ticket) (Over now) 
 asks_alone ticket (HungUp ∷ moves) = both_more (asks_for ticket) HungUp (filter is_given moves) moves (asks_alone ticket moves)
 asks_alone ticket (Addressed count ∷ moves) =
     both_more (asks_for ticket) (Addressed count) (filter is_given moves) moves (asks_alone ticket moves)
+asks_alone ticket (Presents judged frames ∷ moves) =
+    both_more (asks_for ticket) (Presents judged frames) (filter is_given moves) moves (asks_alone ticket moves)
 
 -- an input asks its call, and no other
 bytes_ask : (ticket : ℕ) (is_there : Bool) (now : ℕ) (bytes : List ℕ) → count_by (asks_for ticket) (bytes_at is_there now bytes) ≡ 0
@@ -116,10 +123,26 @@ asks_its ticket phase now (happens.Addresses count) = refl
 asks_its ticket phase now (happens.Call its call until) =
     count_cons (asks_for ticket) (Asks its (call_view call) until) (Hears now (turns.Now now) ∷ [])
     ∙ (let none : count_by (asks_for ticket) (Hears now (turns.Now now) ∷ []) ≡ 0 = refl in omega (arith, none))
+asks_its ticket phase now (happens.Credential credential) = refl
 asks_its ticket phase now (happens.Follow its side path) = refl
 asks_its ticket phase now (happens.Unfollow its) = refl
 asks_its ticket phase now (happens.FollowTree its root most) = refl
 asks_its ticket phase now (happens.UnfollowTree its) = refl
+
+-- and so does a step
+none_presented : (ticket : ℕ) (judged : List (ℕ × ℤ)) (frames : List (List ℕ))
+    → count_by (asks_for ticket) (Presents judged frames ∷ []) ≡ 0
+none_presented ticket judged frames = refl
+
+pub asks_made : {A : Type 0} (ticket : ℕ) (is_there : Bool) (now : ℕ) (input : AgentInput A) (agent : Agent A)
+    → count_by (asks_for ticket) (moves_of is_there now input agent) ≡ how_many_asked ticket input
+asks_made ticket is_there now input agent =
+    let judged = (judging_in input agent).1.judged in
+    let frames = unwritten is_there (papers_in input agent) in
+    let its = asks_its ticket agent.dialler.phase now input in
+    let none = none_presented ticket judged frames in
+    let both = count_append (asks_for ticket) (given_of agent.dialler.phase now input) (Presents judged frames ∷ []) in
+    omega (arith, its, none, both)
 
 module _ {A : Type 0} (ticket : ℕ) where
   abbrev is_its : Entry A → Bool
@@ -331,6 +354,13 @@ module _ {A : Type 0} (ticket : ℕ) where
       let same : total new ≡ total (record old { told = old.told ++ TellsTree told ∷ [] }) = ap total does in
       let more = count_append (is_end_of ticket) old.told (TellsTree told ∷ []) in
       let none : how_many_ended ticket (TellsTree told ∷ []) ≡ 0 = refl in omega (arith, same, more, none)
+  moved (Presents judged frames) old new does =
+      let some = old.told ++ map judged_told judged in
+      let same : total new ≡ total (record old { told = some ++ map Introduces frames }) = ap total does in
+      let a = count_append (is_end_of ticket) some (map Introduces frames) in
+      let b = count_append (is_end_of ticket) old.told (map judged_told judged) in
+      let none = count_none (is_end_of ticket) judged_told (λ one. refl) judged in
+      let no_frame = count_none (is_end_of ticket) Introduces (λ frame. refl) frames in omega (arith, same, a, b, none, no_frame)
 
   moved_all : (moves : List Move) (old new : Trail A)
       → FoldsTo Does old moves new → total new ≡ total old + count_by (asks_for ticket) moves

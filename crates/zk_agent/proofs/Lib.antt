@@ -12,4 +12,5 @@ pub mod Moves
 pub mod Passing
 mod Resting
 pub mod Saying
+mod Spelled
 pub mod Turning

@@ -1,5 +1,6 @@
 -- Moves, one after the other: what each of them keeps, lists of them keep; and single moves, each from what the agent's parts say of it.
-use Rattle.std.proofs.Common.{◌≡◌, ◌≢◌, ◌++◌, ◌⊎◌, inl, inr, ℕ, ℤ, Bool, true, false, cond, ◌&&◌, List, [], ◌∷◌, Option, map, refl, sym, ap}
+use Rattle.std.proofs.Common.{◌≡◌, ◌≢◌, ◌++◌, ◌⊎◌, inl, inr, ℕ, ℤ, Bool, true, false, cond, ◌&&◌, List, [], ◌∷◌, Option, Some, None, map}
+use Rattle.std.proofs.Common.{refl, sym, ap}
 use Rattle.std.proofs.Common.{subst, ◌∙◌}
 use Rattle.std.specs.Prelude.{Result, Ok, Err, OnOk, All, is_some}
 use Rattle.std.specs.List.{filter, list_any, AllByRecursion, FoldsTo}
@@ -13,25 +14,32 @@ use Rattle.zk_turns.specs.Turns as turns
 use Rattle.zk_turns.specs.View.{View, view_at}
 use Rattle.zk_turns.specs.Rule.{Rule, Stands}
 use Rattle.zk_turns.proofs.Stepped.{one_turn}
-use Rattle.zk_client.specs.Clients.{renewed_start}
+use Rattle.zk_client.specs.Clients.{renewed_start, view_of}
 use Rattle.zk_dialler.specs.declared.dialler.Dialler.{Dialler}
 use Rattle.zk_dialler.specs.declared.dialler.Phase.{Phase}
 use Rattle.zk_dialler.specs.declared.dialler.Phase.TheVariants.{Waiting, Dialling, Open}
 use Rattle.zk_dialler.specs.Backoffs.{row_ended}
 use Rattle.zk_dialler.specs.Dialling.{is_due, is_open, AttemptEnds, DialsWell, Ends, Opens}
 use Rattle.zk_dialler.specs.declared.dialler.DialDue.{DialDue}
+use Rattle.zk_dialler.specs.declared.dialler.DialDue.TheVariants.{Dial, GiveUp}
 use Rattle.zk_follow.specs.declared.subject.Subject.{Subject}
 use Rattle.zk_follow.specs.Following.{due_again, told_of, IsFollowed}
 use Rattle.zk_calls.specs.declared.entry.Entry.{Entry}
 use Rattle.zk_calls.specs.declared.entry.Ending.TheVariants as ending
+use Rattle.zk_agent.specs.declared.agent.Agent.{Agent}
+use Rattle.zk_agent.specs.declared.input.AgentInput.{AgentInput}
 use Rattle.zk_agent.specs.declared.replies.Heard.{Heard}
 use Rattle.zk_agent.specs.Agents.{Trail, Move, Hears, Hands, Renews, Follows, Unfollows, Asks, GivesUp, Tires, Opened, Ended, HungUp}
-use Rattle.zk_agent.specs.Agents.{Closes, Addressed, Decides, Tends, Does, IsAt, IsLed, IsShut, Comes, HearsSo, LeavesWhere, MayHear}
+use Rattle.zk_agent.specs.Agents.{Closes, Addressed, Decides, Tends, Presents, Does, IsAt, IsLed, IsShut, Comes, HearsSo, LeavesWhere}
+use Rattle.zk_agent.specs.Agents.{MayHear}
 use Rattle.zk_agent.specs.inner.Agents.{MayTake}
-use Rattle.zk_agent.specs.Agents.{LetsGo, LetsGoWhere, TakesSo, is_connected, is_given, noted, opened_at, over_at, row_after}
+use Rattle.zk_agent.specs.Agents.{LetsGo, LetsGoWhere, TakesSo, given_of, is_connected, is_given, moves_of, noted, opened_at}
+use Rattle.zk_agent.specs.Agents.{over_at, row_after}
+use Rattle.zk_agent.specs.Credentials.{judging_of, papers_of, unwritten, with_credential, with_judging, Judging, Papers}
+use Rattle.zk_agent.specs.declared.credentials.Credentials.{Credentials}
 use Rattle.zk_agent.specs.Calls.{closings, endings, handed}
 use Rattle.zk_agent.specs.Replies.{is_over}
-use Rattle.zk_agent.specs.Telling.{Told, Begins, TellsTree, due_told}
+use Rattle.zk_agent.specs.Telling.{Told, Begins, Introduces, TellsTree, due_told, judged_told}
 use Rattle.zk_agent.specs.Waits.{Waited, heard_input, waited_after}
 use Rattle.zk_agent.proofs.Closing.{is_bytes, steps_closed}
 
@@ -75,6 +83,7 @@ led_by {A} (Addressed count) old new does led = subst IsLed (sym (ap (λ (t : Tr
 led_by {A} (Decides now due) old new does led = subst IsLed (sym (ap (λ (t : Trail A). t.view) does.last)) led
 led_by {A} Closes old new does led = subst IsLed (sym (ap (λ (t : Trail A). t.view) does.last)) led
 led_by {A} (Tends told) old new does led = subst IsLed (sym (ap (λ (t : Trail A). t.view) does)) led
+led_by {A} (Presents judged frames) old new does led = subst IsLed (sym (ap (λ (t : Trail A). t.view) does)) led
 
 led_through : {A : Type 0} (moves : List Move) (old new : Trail A) → FoldsTo Does old moves new → IsLed old.view → IsLed new.view
 led_through {A} [] old new same led = subst (λ (t : Trail A). IsLed t.view) same led
@@ -182,6 +191,7 @@ shut_by {A} (Decides now due) old new does shut =
     λ closed. absurd (does.goes_on (sym (ap (λ (t : Trail A). t.view.standing.state) does.last) ∙ closed))
 shut_by Closes old new does shut = subst IsShut (sym does.last) shut
 shut_by (Tends told) old new does shut = subst IsShut (sym does) shut
+shut_by (Presents judged frames) old new does shut = subst IsShut (sym does) shut
 
 shut_through : {A : Type 0} (moves : List Move) (old new : Trail A) → FoldsTo Does old moves new → IsShut old → IsShut new
 shut_through [] old new same shut = subst IsShut same shut
@@ -210,6 +220,7 @@ stays_by {A} (Addressed count) old new does = ap (λ (t : Trail A). t.timeout) d
 stays_by {A} (Decides now due) old new does = ap (λ (t : Trail A). t.timeout) does.last
 stays_by {A} Closes old new does = ap (λ (t : Trail A). t.timeout) does.last
 stays_by {A} (Tends told) old new does = ap (λ (t : Trail A). t.timeout) does
+stays_by {A} (Presents judged frames) old new does = ap (λ (t : Trail A). t.timeout) does
 
 stays_through : {A : Type 0} (moves : List Move) (old new : Trail A) → FoldsTo Does old moves new → new.timeout ≡ old.timeout
 stays_through {A} [] old new same = sym (ap (λ (t : Trail A). t.timeout) same)
@@ -288,15 +299,53 @@ pub ok_after : {A X E : Type 0} (result : Result X E) (now : ℕ) (given more : 
 ok_after (Ok x) now given more old between new first rest = after now given more old between new first rest
 ok_after (Err e) now given more old between new first rest = tt
 
--- six parts, of which the first alone comes from outside
-pub in_turn : {A : Type 0} (now : ℕ) (given : List Move) (first second third fourth fifth sixth last : Trail A)
+-- six parts, of which the first and the last alone are given
+pub in_turn : {A : Type 0} (now : ℕ) (given more : List Move) (first second third fourth fifth sixth last : Trail A)
     → Comes now given first second → Comes now [] second third
-    → Comes now [] third fourth → Comes now [] fourth fifth → Comes now [] fifth sixth → Comes now [] sixth last
-    → Comes now given first last
-in_turn now given first second third fourth fifth sixth last a b c d e f =
-    then_none now given first sixth last
+    → Comes now [] third fourth → Comes now [] fourth fifth → Comes now [] fifth sixth → Comes now more sixth last
+    → Comes now (given ++ more) first last
+in_turn now given more first second third fourth fifth sixth last a b c d e f =
+    after now given more first sixth last
     (then_none now given first fifth sixth (then_none now given first fourth fifth
     (then_none now given first third fourth (then_none now given first second third a b) c) d) e) f
+
+-- what is told of credentials, and then what the dialler decides
+pub presented : {A X E : Type 0} (result : Result X E) (now : ℕ) (judged : List (ℕ × ℤ)) (frames : List (List ℕ))
+    (old between new : Trail A)
+    → between ≡ record old { told = (old.told ++ map judged_told judged) ++ map Introduces frames }
+    → OnOk result (Comes now [] between new) → OnOk result (Comes now (Presents judged frames ∷ []) old new)
+presented (Ok x) now judged frames old between new is rest =
+    then_none now (Presents judged frames ∷ []) old between new (gives now (Presents judged frames) old between refl tt is) rest
+presented (Err e) now judged frames old between new is rest = tt
+
+-- What the dialler decides leaves a connection that is there, and makes none.
+pub decides_none : {A : Type 0} (timeout now : ℕ) (old new : Dialler A) (due : Option DialDue) → DialsWell timeout now old new due
+    → is_open new.phase ≡ is_open old.phase
+decides_none {A} timeout now old new None same = ap (λ (d : Dialler A). is_open d.phase) same
+decides_none timeout now old new (Some (Dial place within)) dials = ap is_open dials.phase ∙ sym (ap is_open dials.waiting)
+decides_none timeout now old new (Some GiveUp) dials = ap is_open dials.ends.phase ∙ sym (ap is_open dials.dialling)
+
+-- what a step makes, by what its parts were given
+module _ {A : Type 0} (is_there : Bool) (now : ℕ) (input : AgentInput A) (agent : Agent A) where
+  abbrev judging : Papers → Judging
+  judging papers =
+      judging_of (is_open agent.dialler.phase) (view_of agent.asker.follower.client).standing.state agent.waits.came input papers
+
+  abbrev presents : (judged : List (ℕ × ℤ)) (papers : Papers) → List Move
+  presents judged papers = Presents judged (unwritten is_there (with_credential input papers)) ∷ []
+
+  pub made : (was : Credentials A) (told judged : List (ℕ × ℤ)) (papers : Papers) (phase : Phase) (old new : Trail A)
+      → was ≡ agent.credentials → told ≡ judged → judged ≡ (judging (papers_of was)).1.judged
+      → papers ≡ with_judging (judging (papers_of was)) (papers_of was) → phase ≡ agent.dialler.phase
+      → Comes now (given_of phase now input ++ presents told papers) old new
+      → Comes now (moves_of is_there now input agent) old new
+  made was told judged papers phase old new same is its are at comes =
+      subst (λ (c : Credentials A). Comes now (given_of agent.dialler.phase now input
+      ++ presents (judging (papers_of c)).1.judged (with_judging (judging (papers_of c)) (papers_of c))) old new) same
+      (subst (λ j. Comes now (given_of agent.dialler.phase now input
+      ++ presents j (with_judging (judging (papers_of was)) (papers_of was))) old new) (is ∙ its)
+      (subst (λ p. Comes now (given_of agent.dialler.phase now input ++ presents told p) old new) are
+      (subst (λ h. Comes now (given_of h now input ++ presents told papers) old new) at comes)))
 
 -- ---- single moves
 

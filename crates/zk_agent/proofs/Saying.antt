@@ -1,5 +1,6 @@
 -- What outputs say, and what is told of them: output by output, what is gone through so far and what is left are all.
-use Rattle.std.proofs.Common.{◌≡◌, ◌<◌, ◌+◌, ◌++◌, append_assoc, ℕ, Bool, List, [], ◌∷◌, length, get_or, map, take, fold, refl, sym, ap}
+use Rattle.std.proofs.Common.{◌≡◌, ◌<◌, ◌+◌, ◌++◌, append_assoc, ℕ, zero, suc, Bool, List, [], ◌∷◌, drop, length, get_or, map, take, fold}
+use Rattle.std.proofs.Common.{refl, sym, ap}
 use Rattle.std.proofs.Common.{◌∙◌}
 use Rattle.std.specs.Prelude.{Result, Ok, Err, OnOk, ◌||◌}
 use Rattle.std.specs.List.{list_any}
@@ -21,6 +22,10 @@ pub on_ok : {X E : Type 0} (P Q : Type 0) (result : Result X E) → (P → Q) �
 on_ok P Q (Ok x) to h = to h
 on_ok P Q (Err e) to h = tt
 
+pub ok_always : {X E P : Type 0} (result : Result X E) → P → OnOk result P
+ok_always (Ok x) p = p
+ok_always (Err e) p = tt
+
 pub both_ok : {X E : Type 0} {P Q R : Type 0} (result : Result X E) → (P → Q → R) → OnOk result P → OnOk result Q → OnOk result R
 both_ok (Ok x) to p q = to p q
 both_ok (Err e) to p q = tt
@@ -30,6 +35,16 @@ pub map_more : {X Y : Type 0} (f : X → Y) (xs : List X) (i : ℕ) (x : X)
     → i < length xs → x ≡ get_or xs i x → map f (take (i + 1) xs) ≡ map f (take i xs) ++ f x ∷ []
 map_more f xs i x within is =
     ap (map f) (take_more xs i x within) ∙ map-append f (take i xs) (get_or xs i x ∷ []) ∙ ap (λ y. map f (take i xs) ++ f y ∷ []) (sym is)
+
+-- what is left of a list that was mapped
+map_twice : {X Y Z : Type 0} (f : Y → Z) (g : X → Y) (xs : List X) → map f (map g xs) ≡ map (λ x. f (g x)) xs
+map_twice f g [] = refl
+map_twice f g (x ∷ xs) = ap (λ l. f (g x) ∷ l) (map_twice f g xs)
+
+pub map_drop : {X Y Z : Type 0} (f : Y → Z) (g : X → Y) (n : ℕ) (xs : List X) → map f (drop n (map g xs)) ≡ map (λ x. f (g x)) (drop n xs)
+map_drop f g zero xs = map_twice f g xs
+map_drop f g (suc n) [] = refl
+map_drop f g (suc n) (x ∷ xs) = map_drop f g n xs
 
 -- one more of outputs that are used up
 module _ {A : Type 0} (line new : List (Entry A)) where

@@ -35,8 +35,9 @@ use Rattle.zk_agent.specs.declared.input.AgentInput.{AgentInput}
 use Rattle.zk_agent.specs.declared.input.AgentInput.TheVariants as happens
 use Rattle.zk_agent.specs.declared.replies.Heard.{Heard}
 use Rattle.zk_agent.specs.Calls.{closings, endings, handed, hears_all, tells_all}
+use Rattle.zk_agent.specs.Credentials.{judging_of, papers_of, unwritten, with_credential, with_judging, Judging, Papers}
 use Rattle.zk_agent.specs.Replies.{heard_in}
-use Rattle.zk_agent.specs.Telling.{Told, HangsUp, Begins, TellsTree, due_told, is_end_of, news_told, told_by}
+use Rattle.zk_agent.specs.Telling.{Told, HangsUp, Begins, Introduces, TellsTree, due_told, is_end_of, judged_told, news_told, told_by}
 use Rattle.zk_agent.specs.Waits.{Waited, ends_at, heard_input, nothing_waits, waited_after, waited_of}
 
 -- ---- how far it has come
@@ -78,6 +79,7 @@ pub data Move : Type 0 where
   Addressed : (count : ℕ) → Move
   Decides : (now : ℕ) → Option DialDue → Move
   Tends : TreeTold → Move
+  Presents : (judged : List (ℕ × ℤ)) → (frames : List (List ℕ)) → Move
 
 -- The dialler after outputs, where the client is in this state then. A row of failures ends with a reply, and with a connection that has
 -- lived for a third of the timeout.
@@ -221,6 +223,8 @@ Does old HungUp new = new ≡ record old { told = old.told ++ HangsUp ∷ [] }
 Does old (Addressed count) new = AddressesSo count old.dialler new.dialler × (new ≡ record old { dialler = new.dialler })
 Does old (Decides now due) new = DecidesSo now due old new
 Does old Closes new = ClosesSo old new
+Does old (Presents judged frames) new =
+    new ≡ record old { told = (old.told ++ map judged_told judged) ++ map Introduces frames }
 Does old (Tends one) new = new ≡ record old { subjects = shifted one old.subjects; told = old.told ++ TellsTree one ∷ [] }
 
 -- A client stands where turns by the rule have led, from what some session began with.
@@ -233,8 +237,8 @@ IsShut trail = trail.view.standing.state ≡ Closed → trail.dialler.phase ≡ 
 
 -- ---- moves that come from outside, and those of its own
 
--- Of its own an agent hands calls over, begins another session, settles calls, leaves a server that does not answer, decides about the
--- connection, and follows what is wanted of trees.
+-- What is told of credentials follows from what is handed in, and counts with that. Of its own an agent hands calls over, begins another
+-- session, settles calls, leaves a server that does not answer, decides about the connection, and follows what is wanted of trees.
 abbrev pub is_given : Move → Bool
 is_given (Hands now ticket asked) = false
 is_given Renews = false
@@ -279,10 +283,28 @@ given_of phase now (happens.Bytes bytes) = bytes_at (is_open phase) now bytes.it
 given_of phase now happens.Moment = Hears now (turns.Now now) ∷ []
 given_of phase now (happens.Addresses count) = Addressed count ∷ Hears now (turns.Now now) ∷ []
 given_of phase now (happens.Call ticket call until) = Asks ticket (call_view call) until ∷ Hears now (turns.Now now) ∷ []
+given_of phase now (happens.Credential credential) = Hears now (turns.Now now) ∷ []
 given_of phase now (happens.Follow ticket side path) = Follows ticket side path ∷ Hears now (turns.Now now) ∷ []
 given_of phase now (happens.Unfollow ticket) = Unfollows ticket ∷ Hears now (turns.Now now) ∷ []
 given_of phase now (happens.FollowTree ticket root most) = Hears now (turns.Now now) ∷ []
 given_of phase now (happens.UnfollowTree ticket) = Hears now (turns.Now now) ∷ []
+
+-- what the bytes of an input answer, where they come on the connection
+abbrev pub judging_in : {A : Type 0} → AgentInput A → Agent A → Judging
+judging_in input agent =
+    judging_of (is_open agent.dialler.phase) (view_of agent.asker.follower.client).standing.state agent.waits.came input
+    (papers_of agent.credentials)
+
+-- the credentials with one that is handed in, and with these answers
+abbrev pub papers_in : {A : Type 0} → AgentInput A → Agent A → Papers
+papers_in input agent = with_credential input (with_judging (judging_in input agent) (papers_of agent.credentials))
+
+-- What a step makes, by whether a connection is there at its end: what the input makes; then it tells of credentials which were answered,
+-- and writes those that were not yet written on the connection that is there.
+abbrev pub moves_of : {A : Type 0} → (is_open : Bool) → (now : ℕ) → AgentInput A → Agent A → List Move
+moves_of is_open now input agent =
+    given_of agent.dialler.phase now input
+    ++ Presents (judging_in input agent).1.judged (unwritten is_open (papers_in input agent)) ∷ []
 
 -- Moves, the oldest first, all at one moment. Those that come from outside are these, and no other. A client that was led stands where it
 -- was led, after a close there is no connection, and the timeout of later sessions stays.

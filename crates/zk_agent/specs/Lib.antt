@@ -2,6 +2,7 @@
 -- when.
 pub mod Agents
 pub mod Calls
+pub mod Credentials
 pub mod Renewal
 pub mod Replies
 pub mod Telling

@@ -1,5 +1,5 @@
 -- What a program is told.
-use Rattle.std.specs.Prelude.{◌==◌, ℕ, Bool, false, List, [], ◌∷◌, map, Option, Some, None, string_bytes}
+use Rattle.std.specs.Prelude.{◌==◌, ℕ, ℤ, Bool, false, List, [], ◌∷◌, map, Option, Some, None, string_bytes}
 use Rattle.zk_turns.specs.Turns.{Output, ConnectionLoss, SessionExpired, SessionClosed}
 use Rattle.zk_turns.specs.Turns as turns
 use Rattle.zk_client.specs.Views.{fault_view, outcome_view}
@@ -21,12 +21,16 @@ pub data Told : Type 0 where
   Dials : (place within : ℕ) → Told
   TimesOut : (ticket : ℕ) → (was_sent : Bool) → Told
   HangsUp Begins : Told
+  Introduces : (frame : List ℕ) → Told
+  Judges : (place : ℕ) → (code : ℤ) → Told
   TellsTree : TreeTold → Told
 
 abbrev pub action_view : {A : Type 0} → Action A → Told
 action_view (action.Dial place within) = Dials place within
 action_view action.HangUp = HangsUp
 action_view (action.Send bytes) = Says (turns.Send bytes.items)
+action_view (action.Introduce credential) = Introduces credential.frame.items
+action_view (action.Credential place code) = Judges place code
 action_view (action.Answer ticket outcome) = Says (turns.Answer ticket (outcome_view outcome))
 action_view (action.TimedOut ticket was_sent) = TimesOut ticket was_sent
 action_view (action.Report path side event) = Says (turns.Report (string_bytes path) side event)
@@ -42,6 +46,10 @@ told_by actions = map action_view actions
 
 abbrev pub news_told : (ℕ × News) → Told
 news_told news = Tells news.0 news.1
+
+-- what is told of an answer to a credential
+abbrev pub judged_told : (ℕ × ℤ) → Told
+judged_told judged = Judges judged.0 judged.1
 
 abbrev pub due_told : Option DialDue → List Told
 due_told None = []

@@ -1,5 +1,6 @@
 -- What becomes of an agent's trees within a step.
 use Rattle.std.specs.Prelude.{◌≡◌, ◌++◌, ℕ, List, [], fold, map, string_bytes}
+use Rattle.zk_dialler.specs.Dialling.{is_open}
 use Rattle.zk_trees.specs.Tending.{noted_report, noted_shown, Footing, Plants, Tends, Uproots}
 use Rattle.zk_trees.specs.declared.tree.Tree.{Tree}
 use Rattle.zk_trees.specs.declared.tree.Trees.{Trees}
@@ -8,7 +9,7 @@ use Rattle.zk_agent.specs.declared.action.Action.TheVariants as action
 use Rattle.zk_agent.specs.declared.agent.Agent.{Agent}
 use Rattle.zk_agent.specs.declared.input.AgentInput.{AgentInput}
 use Rattle.zk_agent.specs.declared.input.AgentInput.TheVariants as happens
-use Rattle.zk_agent.specs.Agents.{given_of, trail_of, Comes, Trail}
+use Rattle.zk_agent.specs.Agents.{moves_of, trail_of, Comes, Trail}
 use Rattle.zk_agent.specs.Telling.{TellsTree}
 
 -- A tree is followed, or followed no more, where an input asks for that, and for no other.
@@ -45,7 +46,7 @@ pub record GoesOn {A : Type 0} (now : ℕ) (input : AgentInput A) (old new : Age
   pub grown : Trail A
   pub trees : Trees A
   pub grows : Grows now input old.trees trees (trail_of old []) grown
-  pub rest : Comes now (given_of old.dialler.phase now input) grown (trail_of new said)
+  pub rest : Comes now (moves_of (is_open new.dialler.phase) now input old) grown (trail_of new said)
   pub noted : new.trees.all.items ≡ noted_by said trees.all.items
   pub next : new.trees.next ≡ trees.next
   pub due : new.trees.due ≡ trees.due

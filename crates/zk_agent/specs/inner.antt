@@ -1,3 +1,4 @@
 -- What contracts of private functions say: nobody has to believe it.
 pub mod Agents
 pub mod Calls
+pub mod Credentials

@@ -4,6 +4,7 @@ ghost use Rattle.std.specs.Prelude.{◌≡◌, ◌++◌, ◌∷◌, [], map, OnO
 ghost use Rattle.zk_trees.specs.Tending.{trees_told};
 ghost use Rattle.zk_agent.specs.Telling.{action_view, due_told, news_told, told_by, TellsTree};
 
+use crate::credential::Credential;
 use std::alloc::{AllocError, Allocator, Global};
 use std::collections::VecDeque;
 use zk_client::{Event, Fault, Outcome, Side, State};
@@ -23,6 +24,16 @@ pub enum Action<A: Allocator = Global> {
     HangUp,
     /// Write all of these bytes, which are one frame.
     Send(Vec<u8, A>),
+    /// Write all of these bytes, which are one frame and introduce the session by a credential. Those hand them on that hand credentials
+    /// in: no driver of `zk_driver` does.
+    Introduce(Credential<A>),
+    /// The server has answered the credential at this place of those that were handed in, from 0 on, on this connection. Code 0 accepts it.
+    /// Another one refuses it: the server ends the connection, and the agent is of no use, since it would introduce itself so again. Let it
+    /// go.
+    Credential {
+        place: usize,
+        code: i32,
+    },
     /// A call is answered: by its reply, or by why there is none.
     Answer {
         ticket: u64,

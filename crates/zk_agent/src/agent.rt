@@ -4,6 +4,7 @@ ghost use Rattle.std.specs.Prelude.{◌≡◌, ◌<ℤ◌, pos};
 
 use crate::action::{Action, push, push_due};
 use crate::asker::Asker;
+use crate::credentials::Credentials;
 use crate::growing::note_all;
 use crate::input::{AgentInput, heard_moment};
 use crate::moments::{first_of, first_of_five, is_closed};
@@ -34,6 +35,7 @@ pub struct Agent<A: Allocator + Copy = Global> {
     pub(crate) asker: Asker<A>,
     pub(crate) waits: Waits<A>,
     pub(crate) trees: Trees<A>,
+    pub(crate) credentials: Credentials<A>,
     latest: u64,
     heard_at: Option<u64>,
     ghost asks: { pos 0 <ℤ timeout_ms },
@@ -59,6 +61,8 @@ impl<A: Allocator + Copy> Agent<A> {
     ghost use Rattle.zk_dialler.specs.Dialling.{has_come};
     ghost use Rattle.zk_agent.specs.Agents.{ends_of};
     ghost use Rattle.zk_agent.specs.Agents.{bytes_at, given_of, heard_after, how_many_asked, how_many_ended, is_closed, opened_at, over_at};
+    ghost use Rattle.zk_agent.specs.Agents.{moves_of, papers_in, Presents};
+    ghost use Rattle.zk_agent.specs.Credentials.{all_written, no_papers, papers_of, unwritten, with_credential};
     ghost use Rattle.zk_agent.specs.Agents.{trail_of, Addressed, Asks, Comes, Follows, Hears, IsAnswered, IsBroken, IsDecided, IsLed};
     ghost use Rattle.zk_agent.specs.Agents.{NothingAt, NothingOpen, Unfollows};
     ghost use Rattle.zk_agent.specs.Calls.{endings, how_many, IsInTime, IsServed};
@@ -79,6 +83,7 @@ impl<A: Allocator + Copy> Agent<A> {
         ensures waits { IfOk result (λ agent. waited_of agent.waits ≡ nothing_waits) }
         ensures trees { IfOk result (λ agent. agent.trees.all.items ≡ []) }
         ensures next { IfOk result (λ agent. agent.trees.next ≡ 2 ^ 63) }
+        ensures credentials { IfOk result (λ agent. papers_of agent.credentials ≡ no_papers) }
         ensures phase { IfOk result (λ agent. agent.dialler.phase ≡ Waiting) }
         ensures order { IfOk result
             (λ agent. agent.dialler.ring.order.items ≡ shuffled settings.seed settings.addresses (numbers settings.addresses)) }
@@ -103,6 +108,7 @@ impl<A: Allocator + Copy> Agent<A> {
             asker: Asker::new(alloc, client),
             waits: Waits::new(alloc),
             trees: Trees::new(alloc),
+            credentials: Credentials::new(alloc),
             latest: 0,
             heard_at: None,
         })
@@ -160,6 +166,7 @@ impl<A: Allocator + Copy> Agent<A> {
         ensures heard { self.new.heard_at ≡ self.old.heard_at }
         ensures trees { self.new.trees ≡ self.old.trees }
         ensures waits { self.new.waits ≡ self.old.waits }
+        ensures credentials { self.new.credentials ≡ self.old.credentials }
     {
         self.asker.forget_stale();
     }
@@ -202,7 +209,8 @@ impl<A: Allocator + Copy> Agent<A> {
         input: AgentInput<A>,
     ) -> Result<Vec<Action<A>, A>, FollowerStop>
         ensures comes { IfOk result (λ actions. Comes (max self.old.latest now)
-            (given_of self.old.dialler.phase (max self.old.latest now) input) (trail_of self.old []) (trail_of self.new actions.items)) }
+            (moves_of (is_open self.new.dialler.phase) (max self.old.latest now) input self.old) (trail_of self.old [])
+            (trail_of self.new actions.items)) }
         ensures followed { OnOk result
             (All (IsFollowed self.new.latest (view_of self.new.asker.follower.client)) self.new.asker.follower.subjects.items) }
         ensures calls { IfOk result (λ actions. (ticket : ℕ) → how_many ticket self.new.asker.line.entries.items + how_many_ended ticket
@@ -219,30 +227,44 @@ impl<A: Allocator + Copy> Agent<A> {
         ensures heard { OnOk result
             (self.new.heard_at ≡ heard_after (is_open self.old.dialler.phase) (max self.old.latest now) input self.old.heard_at) }
         ensures trees { IfOk result (λ actions. GoesOn (max self.old.latest now) input self.old self.new actions.items) }
+        ensures credentials { OnOk result
+            (papers_of self.new.credentials ≡ all_written (is_open self.new.dialler.phase) (papers_in input self.old)) }
         ensures broke { OnErr result (IsBroken self.old self.new) }
     {
         let now = self.latest.max(now);
         let heard_at = heard_moment(self.dialler.is_open(), now, &input, self.heard_at);
         let mut actions = Vec::new(self.alloc);
         let mut trees = std::mem::replace(&mut self.trees, Trees::new(self.alloc));
+        let mut credentials = std::mem::replace(
+            &mut self.credentials,
+            Credentials::new(self.alloc),
+        );
+        let judged = self.judge(&input, &mut credentials)?;
         self.grow(now, &input, &mut trees, &mut actions)?;
-        self.take(now, input, &mut actions)?;
+        let told = judged.as_slice();
+        self.take(now, input, &mut credentials, told, &mut actions)?;
         note_all(&mut trees, actions.as_slice());
         self.trees = trees;
+        self.credentials = credentials;
         self.latest = now;
         self.heard_at = heard_at;
         Ok(actions)
     }
 
-    /// Takes what has happened, and does what is due then.
+    /// Takes what has happened, and does what is due then. The credentials are the agent's, which a step takes out.
     fn take(
         &mut self,
         now: u64,
         input: AgentInput<A>,
+        credentials: &mut Credentials<A>,
+        judged: &[(usize, i32)],
         actions: &mut Vec<Action<A>, A>,
     ) -> Result<(), FollowerStop>
-        ensures comes { OnOk result (Comes now (given_of self.old.dialler.phase now input) (trail_of self.old actions.old.items)
-            (trail_of self.new actions.new.items)) }
+        ensures comes { OnOk result (Comes now (given_of self.old.dialler.phase now input
+            ++ Presents judged.now (unwritten (is_open self.new.dialler.phase) (with_credential input (papers_of credentials.old))) ∷ [])
+            (trail_of self.old actions.old.items) (trail_of self.new actions.new.items)) }
+        ensures papers { OnOk result (papers_of credentials.new
+            ≡ all_written (is_open self.new.dialler.phase) (with_credential input (papers_of credentials.old))) }
         ensures followed { OnOk result
             (All (IsFollowed now (view_of self.new.asker.follower.client)) self.new.asker.follower.subjects.items) }
         ensures served { OnOk result (All (IsServed (view_of self.new.asker.follower.client)) self.new.asker.line.entries.items) }
@@ -255,12 +277,12 @@ impl<A: Allocator + Copy> Agent<A> {
         ensures answers { OnOk result (has_come now (ends_of (trail_of self.new actions.new.items)) ≡ false) }
         ensures broke { OnErr result (IsBroken self.old self.new) }
     {
-        self.apply_happening(now, input, actions)?;
+        self.apply_happening(now, input, credentials, actions)?;
         self.renew(actions)?;
         self.give_up(now, actions)?;
         self.send(now, actions)?;
         self.tire(now, actions)?;
-        self.dial(now, actions)?;
+        self.settle(now, credentials, judged, actions)?;
         Ok(())
     }
 
@@ -269,10 +291,12 @@ impl<A: Allocator + Copy> Agent<A> {
         &mut self,
         now: u64,
         input: AgentInput<A>,
+        credentials: &mut Credentials<A>,
         actions: &mut Vec<Action<A>, A>,
     ) -> Result<(), FollowerStop>
         ensures comes { OnOk result (Comes now (given_of self.old.dialler.phase now input) (trail_of self.old actions.old.items)
             (trail_of self.new actions.new.items)) }
+        ensures papers { OnOk result (papers_of credentials.new ≡ with_credential input (papers_of credentials.old)) }
         ensures followed { OnOk result
             (All (IsFollowed now (view_of self.new.asker.follower.client)) self.new.asker.follower.subjects.items) }
         ensures broke { OnErr result (IsBroken self.old self.new) }
@@ -289,6 +313,7 @@ impl<A: Allocator + Copy> Agent<A> {
                 call,
                 until,
             } => self.ask(now, ticket, call, until, actions),
+            AgentInput::Credential(credential) => self.keep(now, credential, credentials, actions),
             AgentInput::Follow { ticket, side, path } => self.follow(
                 now, ticket, side, path, actions,
             ),
@@ -476,10 +501,15 @@ impl<A: Allocator + Copy> Agent<A> {
     }
 
     /// Asks for a connection, or gives an attempt up, where its moment has come, and not after a close.
-    fn dial(&mut self, now: u64, actions: &mut Vec<Action<A>, A>) -> Result<(), AllocError>
+    pub(crate) fn dial(
+        &mut self,
+        now: u64,
+        actions: &mut Vec<Action<A>, A>,
+    ) -> Result<(), AllocError>
         ensures comes { OnOk result (Comes now [] (trail_of self.old actions.old.items) (trail_of self.new actions.new.items)) }
         ensures dials { (view_of self.new.asker.follower.client).standing.state ≢ Closed
             → OnOk result (IsDecided now (trail_of self.new actions.new.items)) }
+        ensures open { is_open self.new.dialler.phase ≡ is_open self.old.dialler.phase }
         ensures asker { self.new.asker ≡ self.old.asker }
         ensures waits { self.new.waits ≡ self.old.waits }
     {

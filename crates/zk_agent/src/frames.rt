@@ -1,7 +1,8 @@
 //! Frames in a stream of bytes, each by its xid.
 
-ghost use Rattle.std.specs.Prelude.{◌≡◌, ◌<◌, ◌-◌};
-ghost use Rattle.zk_agent.specs.Waits.{at_first, ends_with, headed, is_of_call, is_of_ping, is_whole, place_after};
+ghost use Rattle.std.specs.Prelude.{◌≡◌, ◌<◌, ◌-◌, if◌then◌else◌};
+ghost use Rattle.zk_agent.specs.Credentials.{is_answer};
+ghost use Rattle.zk_agent.specs.Waits.{at_first, ends_with, headed, is_of_call, is_of_ping, is_whole, next_place, place_after};
 
 /// How many bytes the length and the xid of a frame have.
 const HEAD: u32 = 8;
@@ -14,6 +15,12 @@ const NEGATIVE: u64 = 2_147_483_648;
 
 /// The xid of a ping and of its answer, which is -2, as the number of its four bytes.
 const PING: u64 = 4_294_967_294;
+
+/// The xid of an answer to a credential, which is -4, in the same way.
+const AUTH: u64 = 4_294_967_292;
+
+/// How many bytes the header of a reply has: xid, zxid and code.
+const HEADER: u64 = 16;
 
 /// Where a stream of frames is: how many bytes of the length and the xid of a frame came, the last eight of these as a number, and how
 /// many bytes of the frame are left after them.
@@ -53,21 +60,48 @@ impl Frames {
         self.held == HEAD && self.left == 0
     }
 
-    /// Takes the next byte. The xid of the frame that ends with it, if one does.
-    pub(crate) fn read_byte(&mut self, byte: u8) -> Option<u64>
-        ensures place { self.new ≡ place_after byte self.old }
-        ensures xid { result ≡ ends_with byte self.old }
+    /// Takes the next byte. A frame that ends with it has come whole then.
+    pub(crate) fn take_byte(&mut self, byte: u8)
+        ensures { self.new ≡ next_place byte self.old }
     {
         if self.held < HEAD {
             self.take_head(byte);
         } else {
             self.left = self.left.saturating_sub(1);
         }
-        if !self.is_whole() {
-            return None;
+    }
+
+    /// Goes on to the next frame, if one has come whole. Whether it has.
+    pub(crate) fn pass_end(&mut self) -> bool
+        ensures place { self.new ≡ (if is_whole self.old then record self.old { held = 0 } else self.old) }
+        ensures whole { result ≡ is_whole self.old }
+    {
+        if self.is_whole() {
+            self.held = 0;
+            return true;
         }
-        self.held = 0;
-        Some(self.head % WORD)
+        false
+    }
+
+    /// Takes the next byte. The xid of the frame that ends with it, if one does.
+    pub(crate) fn read_byte(&mut self, byte: u8) -> Option<u64>
+        ensures place { self.new ≡ place_after byte self.old }
+        ensures xid { result ≡ ends_with byte self.old }
+    {
+        self.take_byte(byte);
+        if self.pass_end() {
+            return Some(self.head % WORD);
+        }
+        None
+    }
+
+    /// Whether the byte that was taken last ends the header of an answer to a credential.
+    pub(crate) fn is_answer(&self) -> bool
+        ensures { result ≡ is_answer self.now }
+    {
+        self.held == HEAD
+            && self.head % WORD == AUTH
+            && (self.head / WORD).saturating_sub(self.left) == HEADER
     }
 
     /// Passes over bytes of a frame, of so many that came, but not over the last of these, nor over the last one of the frame. How many it

@@ -3,6 +3,7 @@
 ghost use Rattle.std.specs.Prelude.{◌≡◌};
 ghost use Rattle.zk_agent.specs.Agents.{heard_after};
 
+use crate::credential::Credential;
 use std::alloc::{Allocator, Global};
 use zk_client::{Call, Path, Side};
 
@@ -30,6 +31,9 @@ pub enum AgentInput<A: Allocator + Copy = Global> {
         call: Call<A>,
         until: Option<u64>,
     },
+    /// This credential introduces the session from now on, and each later one: it is written at once where a connection is there, and on
+    /// each later connection right after the request that opens it, and after those that were handed in before.
+    Credential(Credential<A>),
     /// This subject is followed: the data of the node, or the names of its children. No other call or subject has or had the ticket.
     Follow {
         ticket: u64,

@@ -14,6 +14,8 @@
 //!
 //! After a close nothing is asked for and nothing is due: a call is answered at once that the session is closed.
 //!
+//! Credentials that are handed in introduce the session on each connection, before watches are set again and calls are sent.
+//!
 //! A tree is followed as a subject is: of all nodes at and below its root, within a bound, the data and the names below. [`Action::Tree`]
 //! tells which sides of nodes are followed for it, and when nothing is lacking of it.
 #![tactic(auto)]
@@ -21,12 +23,16 @@
 mod action;
 mod advancing;
 mod agent;
+mod answering;
 mod asker;
 mod calls;
+mod credential;
+mod credentials;
 mod frames;
 mod growing;
 mod hearing;
 mod input;
+mod introducing;
 mod moments;
 mod renewal;
 mod replies;
@@ -37,5 +43,6 @@ mod waits;
 
 pub use action::Action;
 pub use agent::{Agent, Settings};
+pub use credential::Credential;
 pub use input::AgentInput;
 pub use renewal::admits_nothing_older;

@@ -4,6 +4,7 @@ ghost use Rattle.std.specs.Prelude.{◌≡◌};
 ghost use Rattle.zk_dialler.specs.Dialling.{has_come};
 ghost use Rattle.zk_follow.specs.Following.{first_of};
 ghost use Rattle.zk_agent.specs.Agents.{is_closed, is_connected};
+ghost use Rattle.zk_agent.specs.Credentials.{is_connecting};
 ghost use Rattle.zk_agent.specs.Waits.{is_there};
 
 use zk_client::State;
@@ -50,6 +51,13 @@ pub(crate) fn is_connected(state: State) -> bool
     ensures { result ≡ is_connected state }
 {
     matches!(state, State::Connected)
+}
+
+/// Whether a connection is there on which no server has answered for the session.
+pub(crate) fn is_connecting(state: State) -> bool
+    ensures { result ≡ is_connecting state }
+{
+    matches!(state, State::Connecting)
 }
 
 /// Whether a connection is there.

@@ -11,9 +11,10 @@ use Rattle.zk_agent.specs.declared.action.Action.{Action}
 use Rattle.zk_agent.specs.declared.agent.Agent.{Agent}
 use Rattle.zk_agent.specs.declared.input.AgentInput.{AgentInput}
 use Rattle.zk_agent.specs.declared.input.AgentInput.TheVariants as happens
-use Rattle.zk_agent.specs.Agents.{given_of, heard_after, how_many_asked, how_many_ended, trail_of, Comes, IsAnswered, IsDecided, IsLed}
-use Rattle.zk_agent.specs.Agents.{IsShut, NothingAt}
+use Rattle.zk_agent.specs.Agents.{heard_after, how_many_asked, how_many_ended, moves_of, papers_in, trail_of, Comes, IsAnswered, IsDecided}
+use Rattle.zk_agent.specs.Agents.{IsLed, IsShut, NothingAt}
 use Rattle.zk_agent.specs.Calls.{how_many, IsInTime, IsServed}
+use Rattle.zk_agent.specs.Credentials.{all_written, papers_of}
 use Rattle.zk_agent.specs.Telling.{Told, Says, Dials, HangsUp, action_view, told_by}
 use Rattle.zk_agent.specs.Trees.{GoesOn}
 use Rattle.zk_link.specs.Written.{IsLeftOf}
@@ -41,7 +42,8 @@ opened = record { is_open = true; attempt = None; unsent = []; looked = None }
 abbrev pub closed : ChannelView
 closed = record { is_open = false; attempt = None; unsent = []; looked = None }
 
--- What a driver does itself: it dials, hangs up and sends. All else is for the program.
+-- What a driver does itself: it dials, hangs up and sends. All else is for the program. Nobody hands it a credential, so its agent has none
+-- to write.
 abbrev pub is_passed : Told → Bool
 is_passed (Dials place within) = false
 is_passed HangsUp = false
@@ -133,8 +135,8 @@ IsPatient now _ course = course.channel.is_open ≡ true → 0 < now → Nothing
 pub record Takes {A : Type 0} (now : ℕ) (input : AgentInput A) (old new : Course A) : Type 0 where
   pub patient : IsPatient now input old
   pub actions : List (Action A)
-  pub comes : Comes (max old.agent.latest now) (given_of old.agent.dialler.phase (max old.agent.latest now) input) (trail_of old.agent [])
-      (trail_of new.agent actions)
+  pub comes : Comes (max old.agent.latest now) (moves_of (is_open new.agent.dialler.phase) (max old.agent.latest now) input old.agent)
+      (trail_of old.agent []) (trail_of new.agent actions)
   pub followed : AreFollowed new.agent
   pub calls : (ticket : ℕ) → how_many ticket new.agent.asker.line.entries.items + how_many_ended ticket (told_by actions)
       ≡ how_many ticket old.agent.asker.line.entries.items + how_many_asked ticket input
@@ -148,6 +150,7 @@ pub record Takes {A : Type 0} (now : ℕ) (input : AgentInput A) (old new : Cour
   pub latest : new.agent.latest ≡ max old.agent.latest now
   pub heard : new.agent.heard_at ≡ heard_after (is_open old.agent.dialler.phase) (max old.agent.latest now) input old.agent.heard_at
   pub trees : GoesOn (max old.agent.latest now) input old.agent new.agent actions
+  pub credentials : papers_of new.agent.credentials ≡ all_written (is_open new.agent.dialler.phase) (papers_in input old.agent)
   pub channel : new.channel ≡ fold carried old.channel (told_by actions)
   pub told : new.told ≡ old.told ++ filter is_passed (told_by actions)
 

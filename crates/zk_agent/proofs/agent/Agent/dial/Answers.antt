@@ -5,7 +5,7 @@ use Rattle.zk_dialler.specs.Dialling.{DialsWell}
 use Rattle.zk_agent.specs.Agents.{trail_of}
 use Rattle.zk_agent.specs.Telling.{told_by}
 use Rattle.zk_agent.proofs.Closing.{is_shut, not_closed}
-use Rattle.zk_agent.proofs.Moves.{decided, nothing, trail_eq}
+use Rattle.zk_agent.proofs.Moves.{decided, decides_none, nothing, trail_eq}
 use Rattle.zk_agent.proofs.Saying.{on_ok}
 use Rattle.zk_agent.proofs.agent.Agent.dial.Goals as goal
 
@@ -20,6 +20,11 @@ returns-clause-comes g c =
 
 pub returns-then-is_closed-clause-comes : goal.returns-then-is_closed-clause-comes
 returns-then-is_closed-clause-comes g c = nothing c.args.now (trail_of c.args.self.now c.args.actions.now.items)
+
+pub returns-clause-open : goal.returns-clause-open
+returns-clause-open g c =
+    decides_none c.timeout_ms-timeout_ms.result c.args.now c.args.self.now.dialler c.due-due.new.self c.due-due.result
+    c.due-due.ensures.well
 
 pub returns-clause-dials : goal.returns-clause-dials
 returns-clause-dials g c = λ goes_on.

@@ -1,16 +1,17 @@
--- It is six parts in a row, of which the first alone comes from outside (`in_turn`). Each other clause is what one part ensures, carried
--- through those after it.
-use Rattle.std.proofs.Common.{◌≡◌, [], refl, sym, ap, subst, ◌∙◌}
+-- It is six parts in a row, of which the first and the last alone are given (`in_turn`). Each other clause is what one part ensures,
+-- carried through those after it.
+use Rattle.std.proofs.Common.{◌≡◌, ◌++◌, [], ◌∷◌, refl, sym, ap, subst, ◌∙◌}
 use Rattle.std.specs.Prelude.{All}
 use Rattle.zk_session.specs.declared.states.State.TheVariants.{Connected, Expired, Closed}
 use Rattle.zk_client.specs.Clients.{view_of}
 use Rattle.zk_follow.specs.declared.follower.Follower.{Follower}
 use Rattle.zk_follow.specs.Following.{IsFollowed}
-use Rattle.zk_dialler.specs.Dialling.{has_come}
+use Rattle.zk_dialler.specs.Dialling.{has_come, is_open}
 use Rattle.zk_agent.specs.declared.asker.Asker.{Asker}
 use Rattle.zk_agent.specs.declared.waits.Waits.{Waits}
-use Rattle.zk_agent.specs.Agents.{given_of, trail_of}
+use Rattle.zk_agent.specs.Agents.{given_of, trail_of, Comes, Presents}
 use Rattle.zk_agent.specs.Calls.{IsInTime}
+use Rattle.zk_agent.specs.Credentials.{all_written, unwritten, Papers}
 use Rattle.zk_agent.specs.inner.Calls.{IsDone}
 use Rattle.zk_agent.specs.Waits.{ends_at, waited_of}
 use Rattle.zk_agent.proofs.Lines.{all_served}
@@ -24,12 +25,18 @@ returns-clause-comes g c =
     let given = given_of c.args.self.now.dialler.phase now c.args.input in
     let first = trail_of c.apply_happening.new.self c.apply_happening.new.actions.items in
     let old = trail_of c.args.self.now c.args.actions.now.items in
-    let new = trail_of c.dial.new.self c.dial.new.actions.items in
-    in_turn now given old first (trail_of c.renew.new.self c.renew.new.actions.items)
+    let new = trail_of c.settle.new.self c.settle.new.actions.items in
+    let more = λ (papers : Papers). Presents c.args.judged.now (unwritten (is_open c.settle.new.self.dialler.phase) papers) ∷ [] in
+    subst (λ papers. Comes now (given ++ more papers) old new) c.in_ok-apply_happening.ensures.papers
+    (in_turn now given _ old first (trail_of c.renew.new.self c.renew.new.actions.items)
     (trail_of c.give_up.new.self c.give_up.new.actions.items)
     (trail_of c.send.new.self c.send.new.actions.items) (trail_of c.tire.new.self c.tire.new.actions.items) new
     c.in_ok-apply_happening.ensures.comes (c.in_ok-renew.ensures.comes now)
-    c.in_ok-give_up.ensures.comes c.in_ok-send.ensures.comes c.in_ok-tire.ensures.tired.comes c.in_ok-dial.ensures.comes
+    c.in_ok-give_up.ensures.comes c.in_ok-send.ensures.comes c.in_ok-tire.ensures.tired.comes c.in_ok-settle.ensures.comes)
+
+pub returns-clause-papers : goal.returns-clause-papers
+returns-clause-papers g c =
+    c.in_ok-settle.ensures.papers ∙ ap (all_written (is_open c.settle.new.self.dialler.phase)) c.in_ok-apply_happening.ensures.papers
 
 pub returns-clause-followed : goal.returns-clause-followed
 returns-clause-followed g c =
@@ -38,18 +45,18 @@ returns-clause-followed g c =
     let given_up = subst (λ (f : Follower g.row.A.Denot). All (IsFollowed now (view_of f.client)) f.subjects.items)
     (sym c.give_up.ensures.follower) renewed in
     subst (λ (a : Asker g.row.A.Denot). All (IsFollowed now (view_of a.follower.client)) a.follower.subjects.items)
-    (sym c.dial.ensures.asker) (c.in_ok-tire.ensures.followed (c.in_ok-send.ensures.followed given_up))
+    (sym c.settle.ensures.asker) (c.in_ok-tire.ensures.followed (c.in_ok-send.ensures.followed given_up))
 
 pub returns-clause-served : goal.returns-clause-served
 returns-clause-served g c =
-    let asker = c.dial.new.self.asker in
+    let asker = c.settle.new.self.asker in
     all_served (view_of asker.follower.client) asker.line.entries.items asker.asked
-    (subst (λ (a : Asker g.row.A.Denot). IsDone (view_of a.follower.client) a.line.entries.items) (sym c.dial.ensures.asker)
+    (subst (λ (a : Asker g.row.A.Denot). IsDone (view_of a.follower.client) a.line.entries.items) (sym c.settle.ensures.asker)
     (c.in_ok-tire.ensures.tired.done c.in_ok-send.ensures.done))
 
 pub returns-clause-limits : goal.returns-clause-limits
 returns-clause-limits g c =
-    subst (λ (a : Asker g.row.A.Denot). All (IsInTime c.args.now) a.line.entries.items) (sym c.dial.ensures.asker)
+    subst (λ (a : Asker g.row.A.Denot). All (IsInTime c.args.now) a.line.entries.items) (sym c.settle.ensures.asker)
     (c.in_ok-tire.ensures.tired.limits (c.in_ok-send.ensures.limits c.in_ok-give_up.ensures.limits))
 
 pub returns-clause-closed : goal.returns-clause-closed
@@ -57,31 +64,31 @@ returns-clause-closed g c = λ closed.
     let state = λ (a : Asker g.row.A.Denot). (view_of a.follower.client).standing.state in
     let line = λ (a : Asker g.row.A.Denot). a.line.entries.items in
     let sent : state c.send.new.self.asker ≡ Closed =
-    c.in_ok-tire.ensures.tired.ends Closed refl (sym (ap state c.dial.ensures.asker) ∙ closed) in
+    c.in_ok-tire.ensures.tired.ends Closed refl (sym (ap state c.settle.ensures.asker) ∙ closed) in
     let given_up : state c.give_up.new.self.asker ≡ Closed = c.in_ok-send.ensures.ends Closed refl sent in
     let renewed = sym (ap (λ (f : Follower g.row.A.Denot). (view_of f.client).standing.state) c.give_up.ensures.follower) ∙ given_up in
     let same = c.send.ensures.same (λ connected. let f : Closed ≡ Connected = sym given_up ∙ connected in cc) in
-    ap line c.dial.ensures.asker ∙ c.in_ok-tire.ensures.tired.none (ap line same ∙ c.in_ok-give_up.ensures.closed renewed)
+    ap line c.settle.ensures.asker ∙ c.in_ok-tire.ensures.tired.none (ap line same ∙ c.in_ok-give_up.ensures.closed renewed)
 
 pub returns-clause-renewed : goal.returns-clause-renewed
 returns-clause-renewed g c = λ expired.
     let sent = c.in_ok-tire.ensures.tired.ends Expired refl
-    (sym (ap (λ (a : Asker g.row.A.Denot). (view_of a.follower.client).standing.state) c.dial.ensures.asker) ∙ expired) in
+    (sym (ap (λ (a : Asker g.row.A.Denot). (view_of a.follower.client).standing.state) c.settle.ensures.asker) ∙ expired) in
     let given_up = c.in_ok-send.ensures.ends Expired refl sent in
     c.in_ok-renew.ensures.renewed
     (sym (ap (λ (f : Follower g.row.A.Denot). (view_of f.client).standing.state) c.give_up.ensures.follower) ∙ given_up)
 
 pub returns-clause-dials : goal.returns-clause-dials
-returns-clause-dials g c = c.in_ok-dial.ensures.dials
+returns-clause-dials g c = c.in_ok-settle.ensures.dials
 
 pub returns-clause-answers : goal.returns-clause-answers
 returns-clause-answers g c =
     let now = c.args.now in
-    let new = c.dial.new.self in
+    let new = c.settle.new.self in
     ap (λ (a : Asker g.row.A.Denot). has_come now (ends_at (view_of a.follower.client).saved.session.timeout (waited_of new.waits)))
-    c.dial.ensures.asker
+    c.settle.ensures.asker
     ∙ ap (λ (w : Waits g.row.A.Denot).
-    has_come now (ends_at (view_of c.tire.new.self.asker.follower.client).saved.session.timeout (waited_of w))) c.dial.ensures.waits
+    has_come now (ends_at (view_of c.tire.new.self.asker.follower.client).saved.session.timeout (waited_of w))) c.settle.ensures.waits
     ∙ c.in_ok-tire.ensures.tired.answers
 
 pub returns-in_err-renew-clause-broke : goal.returns-in_err-renew-clause-broke
@@ -137,20 +144,20 @@ returns-in_err-tire-clause-broke g c =
     (after_comes now [] renewed left new c.in_ok-give_up.ensures.comes
     (after_comes now [] left sent new c.in_ok-send.ensures.comes c.in_err-tire.ensures.broke))))
 
-pub returns-in_err-dial-clause-broke : goal.returns-in_err-dial-clause-broke
-returns-in_err-dial-clause-broke g c =
+pub returns-in_err-settle-clause-broke : goal.returns-in_err-settle-clause-broke
+returns-in_err-settle-clause-broke g c =
     let now = c.args.now in
     let given = given_of c.args.self.now.dialler.phase now c.args.input in
     let old = trail_of c.args.self.now c.args.actions.now.items in
     let happened = trail_of c.apply_happening.new.self c.apply_happening.new.actions.items in
     let first = c.in_ok-apply_happening.ensures.comes in
-    let new = view_of c.dial.new.self.asker.follower.client in
+    let new = view_of c.settle.new.self.asker.follower.client in
     let renewed = trail_of c.renew.new.self c.renew.new.actions.items in
     let left = trail_of c.give_up.new.self c.give_up.new.actions.items in
     let sent = trail_of c.send.new.self c.send.new.actions.items in
     let tired = trail_of c.tire.new.self c.tire.new.actions.items in
-    err_always c.from_residual-in_err-dial.result
+    err_always c.from_residual-in_err-settle.result
     (after_comes now given old happened new first (after_comes now [] happened renewed new (c.in_ok-renew.ensures.comes now)
     (after_comes now [] renewed left new c.in_ok-give_up.ensures.comes
     (after_comes now [] left sent new c.in_ok-send.ensures.comes (after_comes now [] sent tired new c.in_ok-tire.ensures.tired.comes
-    (beside tired.timeout tired.view new (ap (λ (a : Asker g.row.A.Denot). view_of a.follower.client) c.dial.ensures.asker)))))))
+    (beside tired.timeout tired.view new (ap (λ (a : Asker g.row.A.Denot). view_of a.follower.client) c.settle.ensures.asker)))))))

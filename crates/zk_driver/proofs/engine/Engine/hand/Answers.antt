@@ -30,6 +30,7 @@ returns-clause-hands g c = record {
     latest = c.in-Ok.ensures.latest;
     heard = c.in-Ok.ensures.heard;
     trees = c.in-Ok.ensures.trees;
+    credentials = c.in-Ok.ensures.credentials;
     channel = c.in-Ok-carry_all.ensures.channel;
     told = c.in-Ok-carry_all.ensures.waiting;
   };
