@@ -4,7 +4,7 @@ use mathlib.Core.Path.{refl}
 use Rattle.std.specs.Prelude.{ℕ, ℤ, negsuc}
 use Rattle.ffi_device.specs.declared.refusal.DeviceRefusal.{DeviceRefusal}
 use Rattle.ffi_device.specs.declared.refusal.DeviceRefusal.TheVariants.{Halted, Memory, NotText, NotPath, BadTimeout, NoSuchMode, NotSaved}
-use Rattle.ffi_device.specs.declared.refusal.DeviceRefusal.TheVariants.{NotWhole, TooMany, NotTexts, NoSuchOperation}
+use Rattle.ffi_device.specs.declared.refusal.DeviceRefusal.TheVariants.{NotWhole, TooMany, NotTexts, NoSuchOperation, CredentialTooLarge}
 use Rattle.ffi_device.specs.Codes.{refusal_code}
 use Rattle.ffi_agent_device.specs.declared.device.AgentDevice.{AgentDevice}
 use Rattle.ffi_agent_device.specs.Happenings.{Happening}
@@ -23,3 +23,4 @@ refuses Refuses now what device NotWhole is goes_on = (is, refl)
 refuses Refuses now what device TooMany is goes_on = (is, refl)
 refuses Refuses now what device NotTexts is goes_on = (is, refl)
 refuses Refuses now what device NoSuchOperation is goes_on = (is, refl)
+refuses Refuses now what device CredentialTooLarge is goes_on = (is, refl)

@@ -36,6 +36,8 @@ news_text _ = []
 -- An action as numbers. Those that a client says too have the numbers of its outputs.
 abbrev pub action_flat : {A : Type 0} → Action A → Flat
 action_flat (action.Send bytes) = record (plain (pos 1) (pos 0)) { length = length bytes.items }
+action_flat (action.Introduce credential) = record (plain (pos 1) (pos 0)) { length = length credential.frame.items }
+action_flat (action.Credential place code) = record (plain (pos 16) (pos 0)) { code = code; names = place }
 action_flat (action.Answer ticket outcome) = record (outcome_flat outcome) { ticket = ticket }
 action_flat (action.Report path side event) =
     record (plain (pos 3) (event_number event)) { result = side_number side; length = length (string_bytes path) }
@@ -52,6 +54,7 @@ action_flat (action.Tree told) = news_flat told
 -- the text of an action: a frame, data, a path or the code of a fault, and else nothing
 abbrev pub action_text : {A : Type 0} → Action A → List ℕ
 action_text (action.Send bytes) = bytes.items
+action_text (action.Introduce credential) = credential.frame.items
 action_text (action.Answer ticket outcome) = outcome_text outcome
 action_text (action.Report path side event) = string_bytes path
 action_text (action.GivenUp fault) = fault_code (fault_view fault)

@@ -13,6 +13,7 @@ pub data Happening : Type 0 where
   Bytes : List ℕ → Happening
   Addressed : (count : ℕ) → Happening
   Calls : (ticket : ℕ) → Call → (until : Option ℕ) → Happening
+  Introduces : (frame : List ℕ) → Happening
   Follows : (ticket : ℕ) → Side → Text → Happening
   Unfollows : (ticket : ℕ) → Happening
   FollowsTree : (ticket : ℕ) → Text → (most : ℕ) → Happening
@@ -26,6 +27,7 @@ happening input.Cut = Cut
 happening input.Moment = Moment
 happening (input.Addresses count) = Addressed count
 happening (input.Call ticket call until) = Calls ticket (call_view call) until
+happening (input.Credential credential) = Introduces credential.frame.items
 happening (input.Follow ticket side path) = Follows ticket side path
 happening (input.Unfollow ticket) = Unfollows ticket
 happening (input.FollowTree ticket root most) = FollowsTree ticket root most

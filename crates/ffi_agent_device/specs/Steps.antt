@@ -15,13 +15,14 @@ use Rattle.zk_dialler.specs.declared.dialler.Dialler.{Dialler}
 use Rattle.zk_dialler.specs.declared.dialler.Phase.TheVariants.{Waiting}
 use Rattle.zk_agent.specs.declared.input.AgentInput.{AgentInput}
 use Rattle.zk_agent.specs.Agents.{IsBroken, IsLed}
+use Rattle.zk_agent.specs.Credentials.{no_papers, papers_of}
 use Rattle.zk_agent.specs.Telling.{told_by}
 use Rattle.zk_conclusions.specs.Revisions.{raised}
 use Rattle.ffi_device.specs.Codes.{refusal_code}
 use Rattle.ffi_device.specs.Refused.{RefusesMemory}
 use Rattle.ffi_device.specs.declared.refusal.DeviceRefusal.{DeviceRefusal}
-pub use Rattle.ffi_agent_device.specs.Happenings.{Happening, Opened, Failed, Cut, Moment, Bytes, Addressed, Calls, Follows, Unfollows}
-pub use Rattle.ffi_agent_device.specs.Happenings.{FollowsTree, UnfollowsTree}
+pub use Rattle.ffi_agent_device.specs.Happenings.{Happening, Opened, Failed, Cut, Moment, Bytes, Addressed, Calls, Introduces, Follows}
+pub use Rattle.ffi_agent_device.specs.Happenings.{Unfollows, FollowsTree, UnfollowsTree}
 pub use Rattle.ffi_agent_device.specs.Happenings.{happening, is_bytes, limit_of}
 pub use Rattle.ffi_agent_device.specs.Taking.{AgentTook, AreFollowed}
 use Rattle.ffi_agent_device.specs.Revisions.{revised}
@@ -82,6 +83,7 @@ pub record Forgot (before after : AgentDevice) : Type 0 where
   pub latest : after.agent.latest ≡ before.agent.latest
   pub heard : after.agent.heard_at ≡ before.agent.heard_at
   pub trees : after.agent.trees ≡ before.agent.trees
+  pub credentials : after.agent.credentials ≡ before.agent.credentials
   pub said : after.said ≡ before.said
   pub read : after.read ≡ before.read
   pub over : after.is_over ≡ before.is_over
@@ -94,6 +96,7 @@ pub record BeginsWith (view : View) (device : AgentDevice) : Type 0 where
   pub calls : device.agent.asker.line.entries.items ≡ []
   pub latest : device.agent.latest ≡ 0
   pub heard : device.agent.heard_at ≡ None
+  pub credentials : papers_of device.agent.credentials ≡ no_papers
   pub phase : device.agent.dialler.phase ≡ Waiting
   pub silent : device.said.items ≡ []
   pub trees : device.agent.trees.all.items ≡ []

@@ -8,7 +8,8 @@ use Rattle.zk_follow.specs.Following.{IsFollowed}
 use Rattle.zk_agent.specs.declared.action.Action.{Action}
 use Rattle.zk_agent.specs.declared.agent.Agent.{Agent}
 use Rattle.zk_agent.specs.declared.input.AgentInput.{AgentInput}
-use Rattle.zk_agent.specs.Agents.{given_of, heard_after, how_many_asked, how_many_ended, trail_of, Comes, IsAnswered, IsDecided}
+use Rattle.zk_agent.specs.Agents.{heard_after, how_many_asked, how_many_ended, moves_of, papers_in, trail_of, Comes, IsAnswered, IsDecided}
+use Rattle.zk_agent.specs.Credentials.{all_written, papers_of}
 use Rattle.zk_agent.specs.Calls.{how_many, IsInTime, IsServed}
 use Rattle.zk_agent.specs.Telling.{told_by}
 use Rattle.zk_agent.specs.Trees.{GoesOn}
@@ -19,7 +20,7 @@ AreFollowed agent = All (IsFollowed agent.latest (view_of agent.asker.follower.c
 
 -- The agent took an input that was noticed at a moment, by all that a step of it promises, and said this.
 pub record AgentTook (now : ℕ) (given : AgentInput Global) (before after : Agent Global) (said : List (Action Global)) : Type 0 where
-  pub comes : Comes (max before.latest now) (given_of before.dialler.phase (max before.latest now) given)
+  pub comes : Comes (max before.latest now) (moves_of (is_open after.dialler.phase) (max before.latest now) given before)
       (trail_of before []) (trail_of after said)
   pub followed : AreFollowed after
   pub calls : (ticket : ℕ) → how_many ticket after.asker.line.entries.items + how_many_ended ticket (told_by said)
@@ -33,3 +34,4 @@ pub record AgentTook (now : ℕ) (given : AgentInput Global) (before after : Age
   pub latest : after.latest ≡ max before.latest now
   pub heard : after.heard_at ≡ heard_after (is_open before.dialler.phase) (max before.latest now) given before.heard_at
   pub trees : GoesOn (max before.latest now) given before after said
+  pub credentials : papers_of after.credentials ≡ all_written (is_open after.dialler.phase) (papers_in given before)

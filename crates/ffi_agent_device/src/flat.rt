@@ -108,6 +108,16 @@ fn news_text(news: &TreeNews<Global>) -> &[u8]
     }
 }
 
+// The answer to a credential.
+fn judged_flat(at: usize, code: i32) -> Flat
+    ensures { result ≡ record (plain (pos 16) (pos 0)) { code = code; names = at } }
+{
+    let mut flat = plain(16, 0);
+    flat.names = at;
+    flat.code = code;
+    flat
+}
+
 /// An action, as numbers.
 pub(crate) fn action_flat(action: &Action<Global>) -> Flat
     ensures { result ≡ action_flat action.now }
@@ -116,6 +126,8 @@ pub(crate) fn action_flat(action: &Action<Global>) -> Flat
         Action::Dial { place, within_ms } => dial_flat(*place, *within_ms),
         Action::HangUp => plain(7, 0),
         Action::Send(bytes) => send_flat(bytes.as_slice()),
+        Action::Introduce(credential) => send_flat(credential.as_bytes()),
+        Action::Credential { place, code } => judged_flat(*place, *code),
         Action::Answer { ticket, outcome } => answer_flat(*ticket, outcome),
         Action::TimedOut { ticket, was_sent } => {
             let mut flat = about(plain(8, 0), *ticket);
@@ -138,6 +150,7 @@ pub(crate) fn action_text(action: &Action<Global>) -> &[u8]
 {
     match action {
         Action::Send(bytes) => bytes.as_slice(),
+        Action::Introduce(credential) => credential.as_bytes(),
         Action::Answer { outcome, .. } => outcome_text(outcome),
         Action::Report { path, .. } => path.as_bytes(),
         Action::GivenUp(fault) => fault.code().as_bytes(),

@@ -5,6 +5,7 @@
 
 mod at_once;
 mod calls;
+mod credentials;
 mod device;
 mod flat;
 mod outputs;

@@ -10,6 +10,7 @@ use Rattle.zk_agent.specs.Calls.{IsInTime, IsServed}
 use Rattle.ffi_device.specs.Refused.{RefusesMemory, RefusesNothing, RefusesPath, RefusesTimeout}
 use Rattle.ffi_device.specs.Sessions.{put_start}
 use Rattle.ffi_device.specs.declared.flat.Flat.{Flat}
+use Rattle.ffi_agent_device.specs.Credentials.{RefusesCredential}
 use Rattle.ffi_agent_device.specs.Happenings as happens
 use Rattle.ffi_agent_device.specs.Happenings.{Happening}
 use Rattle.ffi_agent_device.specs.Steps as step
@@ -35,6 +36,7 @@ pub data Use : Type 0 where
 abbrev pub RefusesHappening : Happening → ℤ → Type 0
 RefusesHappening (happens.Bytes bytes) = RefusesMemory
 RefusesHappening (happens.Calls ticket asked until) = RefusesCall asked
+RefusesHappening (happens.Introduces frame) = λ code. (scheme secret : List ℕ) × RefusesCredential scheme secret code
 RefusesHappening (happens.Follows ticket side path) = RefusesPath path
 RefusesHappening (happens.FollowsTree ticket root most) = RefusesPath root
 RefusesHappening _ = RefusesNothing

@@ -2,6 +2,7 @@
 
 mod calls;
 mod conclusions;
+mod credentials;
 mod handle;
 mod kept;
 mod making;

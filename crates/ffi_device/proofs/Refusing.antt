@@ -7,7 +7,7 @@ use Rattle.zk_turns.specs.View.{Cache}
 use Rattle.ffi_device.specs.declared.device.Device.{Device}
 use Rattle.ffi_device.specs.declared.refusal.DeviceRefusal.{DeviceRefusal}
 use Rattle.ffi_device.specs.declared.refusal.DeviceRefusal.TheVariants.{Halted, Memory, NotText, NotPath, BadTimeout, NoSuchMode, NotSaved}
-use Rattle.ffi_device.specs.declared.refusal.DeviceRefusal.TheVariants.{NotWhole, TooMany, NotTexts, NoSuchOperation}
+use Rattle.ffi_device.specs.declared.refusal.DeviceRefusal.TheVariants.{NotWhole, TooMany, NotTexts, NoSuchOperation, CredentialTooLarge}
 use Rattle.ffi_device.specs.Codes.{refusal_code, refusal_of}
 use Rattle.ffi_device.specs.Refused.{RefusesPath, RefusesCreate, RefusesNodes}
 use Rattle.zk_nodes.specs.PathFault.{IsPath}
@@ -32,6 +32,7 @@ refuses Refuses moment input device NotWhole is goes_on = (is, refl)
 refuses Refuses moment input device TooMany is goes_on = (is, refl)
 refuses Refuses moment input device NotTexts is goes_on = (is, refl)
 refuses Refuses moment input device NoSuchOperation is goes_on = (is, refl)
+refuses Refuses moment input device CredentialTooLarge is goes_on = (is, refl)
 
 pub refuses_create : (path : List ℕ) (mode : ℕ) (refusal : DeviceRefusal) → RefusesPath path (refusal_code refusal)
     → RefusesCreate path mode (refusal_code refusal)
@@ -46,6 +47,7 @@ refuses_create path mode NotWhole is = is
 refuses_create path mode TooMany is = is
 refuses_create path mode NotTexts is = is
 refuses_create path mode NoSuchOperation is = is
+refuses_create path mode CredentialTooLarge is = is
 
 -- the same of a path for all nodes at and below it
 pub refuses_path : (lacking many : Type 0) (path : List ℕ) (refusal : DeviceRefusal) → RefusesPath path (refusal_code refusal)
@@ -61,6 +63,7 @@ refuses_path lacking many path NotWhole is = absurd is
 refuses_path lacking many path TooMany is = absurd is
 refuses_path lacking many path NotTexts is = is
 refuses_path lacking many path NoSuchOperation is = is
+refuses_path lacking many path CredentialTooLarge is = is
 
 -- what a refusal of them says, by its number
 pub refuses_nodes : (lacking many : Type 0) (path : List ℕ) (why : NoSubtree)
@@ -91,6 +94,7 @@ refuses_markers directory name names markers NotWhole is = absurd is
 refuses_markers directory name names markers TooMany is = absurd is
 refuses_markers directory name names markers NotTexts is = inr (λ own against are. is (own ∷ against) are)
 refuses_markers directory name names markers NoSuchOperation is = absurd is
+refuses_markers directory name names markers CredentialTooLarge is = absurd is
 
 -- what spells no nodes of a snapshot
 pub refuses_first : (cache : Cache) (nodes parents : List ℕ) (refusal : DeviceRefusal) → RefusesPaths nodes (refusal_code refusal)
@@ -106,6 +110,7 @@ refuses_first cache nodes parents NotWhole is = absurd is
 refuses_first cache nodes parents TooMany is = absurd is
 refuses_first cache nodes parents NotTexts is = inl is
 refuses_first cache nodes parents NoSuchOperation is = absurd is
+refuses_first cache nodes parents CredentialTooLarge is = absurd is
 
 -- what spells no parents
 pub refuses_second : (cache : Cache) (nodes parents : List ℕ) (refusal : DeviceRefusal) → RefusesPaths parents (refusal_code refusal)
@@ -121,6 +126,7 @@ refuses_second cache nodes parents NotWhole is = absurd is
 refuses_second cache nodes parents TooMany is = absurd is
 refuses_second cache nodes parents NotTexts is = inr is
 refuses_second cache nodes parents NoSuchOperation is = absurd is
+refuses_second cache nodes parents CredentialTooLarge is = absurd is
 
 -- what is so of a refusal is so of what is handed on
 pub on_refused : {T : Type 0} (r : Result T DeviceRefusal) (refusal : DeviceRefusal) (P : DeviceRefusal → Type 0)

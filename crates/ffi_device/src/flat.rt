@@ -32,7 +32,8 @@ pub struct FlatStat {
 #[repr(C)]
 #[derive(Clone, Copy, Debug, PartialEq, Eq)]
 pub struct Flat {
-    /// 1 send, 2 answer, 3 report, 4 state, 5 drop; of a session alone 6 dial, 7 hang up, 8 timed out, 9 renewed, 10 shown, 11 refused.
+    /// 1 send, 2 answer, 3 report, 4 state, 5 drop; of a session alone 6 dial, 7 hang up, 8 timed out, 9 renewed, 10 shown, 11 refused,
+    /// 12 taken on, 13 let go, 14 bounded, 15 whole, 16 answer to a credential.
     pub kind: i32,
     /// Of an answer 0 for a reply, and 1 to 7 for K1 to K7; of a report the event, 1 to 4; of a state 0 to 4; of a drop 1 frame,
     /// 2 payload, 3 silence, 4 after, 5 setWatches; of a refused read 1 code, 2 too many watches, 3 too large, 4 closed.
@@ -40,7 +41,7 @@ pub struct Flat {
     /// Of a reply 1 code, 2 stat, 3 data, 4 names, 5 created, 6 done, 7 what the caller has spelled; of a report 1 for the data and 2 for
     /// the children.
     pub result: i32,
-    /// The code of a reply, of a refused setWatches, and of a refused read.
+    /// The code of a reply, of a refused setWatches, of a refused read, and of an answer to a credential.
     pub code: i32,
     /// The ticket of an answer, and of a call or a subject; of a dial, for how many milliseconds it is tried.
     pub ticket: u64,
@@ -48,7 +49,7 @@ pub struct Flat {
     pub zxid: i64,
     /// How many bytes its text has.
     pub length: usize,
-    /// How many names a listing has; of a dial the place of the address.
+    /// How many names a listing has; of a dial the place of the address, and of an answer to a credential the place of that.
     pub names: usize,
     /// Of a reply with data, whether these are null; of a call that has timed out, whether it was sent.
     pub is_null: bool,

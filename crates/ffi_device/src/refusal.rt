@@ -32,6 +32,8 @@ pub enum DeviceRefusal {
     NotTexts,
     /// No operation that a caller may spell has this number.
     NoSuchOperation,
+    /// The payload that introduces a session by this credential has more bytes than a server takes.
+    CredentialTooLarge,
 }
 
 impl DeviceRefusal {
@@ -51,6 +53,7 @@ impl DeviceRefusal {
             DeviceRefusal::TooMany => -10,
             DeviceRefusal::NotTexts => -11,
             DeviceRefusal::NoSuchOperation => -12,
+            DeviceRefusal::CredentialTooLarge => -13,
         }
     }
 }

@@ -21,6 +21,7 @@ returns g =
       latest = gone.latest;
       heard = gone.heard;
       trees = gone.trees;
+      credentials = gone.credentials;
       said = refl;
       read = refl;
       over = refl;
