@@ -574,7 +574,7 @@ enum dw_result dw_session_raw(dw_session *handle, uint64_t now_ms, uint64_t tick
                               const uint8_t *bytes, size_t length);
 
 /* Introduces the session by a credential, of a scheme as "digest" and a secret as "user:password": a frame with xid -4, type 100 and an AuthPacket
- * of zookeeper.jute, which DW_KIND_SEND gives. It is written at once where a connection is there, and on each later one right behind the request that opens
+ * of zookeeper.jute, which DW_KIND_SEND gives. It is written at once where a connection is there, and on each later one right after the request that opens
  * it, before watches are set again and calls are sent, after those that were handed in before; a session that is renewed has it too. Each is kept until the
  * handle is freed, opened or resumed, and its bytes are overwritten then; what is copied out of the handle is the caller's. DW_OK, DW_NO_MEMORY,
  * DW_NOT_TEXT for the scheme, or DW_CREDENTIAL_TOO_LARGE where the payload, 20 bytes with both, would have more than 1,048,575: no step was made. */
