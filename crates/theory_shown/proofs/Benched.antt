@@ -100,6 +100,7 @@ module _ {A : Type 0} {far : FarEnd} (By : List ℕ → List ℕ → Flow A far 
   befalls_done (Made (Noted now (happens.Follow ticket side path))) old new before after meets = same_shown before after meets
   befalls_done (Made (Noted now (happens.Unfollow ticket))) old new before after meets = same_shown before after meets
   befalls_done (Made (Noted now (happens.FollowTree ticket root most))) old new before after meets = same_shown before after meets
+  befalls_done (Made (Noted now (happens.Credential credential))) old new before after meets = same_shown before after meets
   befalls_done (Made (Noted now (happens.UnfollowTree ticket))) old new before after meets = same_shown before after meets
   befalls_done (Asked now input) old new before after meets = same_shown before after meets
 

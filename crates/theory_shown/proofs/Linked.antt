@@ -258,6 +258,7 @@ module _ (A : Type 0) (past : HistoryView) where
   noted now (happens.Follow ticket side path) old new before carries beside = absurd carries.0.1
   noted now (happens.Unfollow ticket) old new before carries beside = absurd carries.0.1
   noted now (happens.FollowTree ticket root most) old new before carries beside = absurd carries.0.1
+  noted now (happens.Credential credential) old new before carries beside = absurd carries.0.1
   noted now (happens.UnfollowTree ticket) old new before carries beside = absurd carries.0.1
 
   befallen : (deed : Deed A) (old new : Linked) (before : Served) → Carries old deed new → Beside old before → Befallen old deed new before

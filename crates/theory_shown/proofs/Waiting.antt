@@ -151,6 +151,9 @@ module _ {A : Type 0} {far : FarEnd} where
   waits (Some (Made (Noted now (happens.FollowTree ticket root most))) ∷ steps) old new passes quiet before ready =
       let rest = waits steps passes.0 new passes.2 quiet before ready in
       record { after = rest.after; meets = (before, refl, rest.meets); history = rest.history }
+  waits (Some (Made (Noted now (happens.Credential credential))) ∷ steps) old new passes quiet before ready =
+      let rest = waits steps passes.0 new passes.2 quiet before ready in
+      record { after = rest.after; meets = (before, refl, rest.meets); history = rest.history }
   waits (Some (Made (Noted now (happens.UnfollowTree ticket))) ∷ steps) old new passes quiet before ready =
       let rest = waits steps passes.0 new passes.2 quiet before ready in
       record { after = rest.after; meets = (before, refl, rest.meets); history = rest.history }

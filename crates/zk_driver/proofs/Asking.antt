@@ -14,6 +14,7 @@ asked_patiently now (happens.Unfollow ticket) course asked quiet = quiet
 asked_patiently now (happens.FollowTree ticket root most) course asked quiet = quiet
 asked_patiently now (happens.UnfollowTree ticket) course asked quiet = quiet
 asked_patiently now (happens.Addresses count) course asked quiet = quiet
+asked_patiently now (happens.Credential credential) course asked quiet = absurd asked
 asked_patiently now happens.Opened course asked quiet = absurd asked
 asked_patiently now happens.Failed course asked quiet = absurd asked
 asked_patiently now happens.Cut course asked quiet = absurd asked
