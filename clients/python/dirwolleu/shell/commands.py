@@ -111,7 +111,7 @@ def _whole_tree(asking: Asking, chosen: argparse.Namespace) -> Iterator[str]:
             yield json_line({"path": path, **data_fields(node.data)}) if chosen.json else f"{name_line(path)} {quoted_data(node.data)}"
 
 
-def set_data(asking: Asking, chosen: argparse.Namespace) -> Printed:
+def set_value(asking: Asking, chosen: argparse.Namespace) -> Printed:
     asking.client.set(chosen.path, chosen.data, chosen.version, timeout=asking.left())
     yield from ()
 
@@ -177,7 +177,7 @@ RUNS: dict[str, Callable[[Asking, argparse.Namespace], Printed]] = {
     "ls": ls,
     "stat": stat,
     "tree": tree,
-    "set": set_data,
+    "set": set_value,
     "create": create,
     "delete": delete,
     "deleteall": deleteall,
