@@ -22,12 +22,18 @@ from dirwolleu.shell.faults import of_call
 from dirwolleu.shell.words import COMMANDS, general_help
 
 
+def patient(words: tuple[str, ...]) -> list[str]:
+    """Words that wait for answers as long as a busy machine takes, unless they say how long."""
+    waits = bool(words) and words[0] in COMMANDS and "wait" in COMMANDS[words[0]].options and "--wait" not in words
+    return [*words[:1], *(["--wait", str(int(WAIT))] if waits else []), *words[1:]]
+
+
 class ShellTest(PartnerCase):
     is_long = True
 
     def begin(self, partner: Union[Partner, RawServer], *words: str) -> subprocess.Popen[str]:
         environment = {**os.environ, "PYTHONPATH": str(CLIENTS / "python"), "DIRWOLLEU_HOSTS": partner.host}
-        command = [sys.executable, "-m", "dirwolleu", *words]
+        command = [sys.executable, "-m", "dirwolleu", *patient(words)]
         return subprocess.Popen(command, stdout=subprocess.PIPE, stderr=subprocess.PIPE, text=True, env=environment)
 
     def run_words(self, partner: Partner, *words: str) -> tuple[int, str, str]:
@@ -36,7 +42,7 @@ class ShellTest(PartnerCase):
         with contextlib.redirect_stdout(printed), contextlib.redirect_stderr(said):
             with mock.patch.dict(os.environ, {"DIRWOLLEU_HOSTS": partner.host}):
                 try:
-                    status = main(list(words))
+                    status = main(patient(words))
                 except SystemExit as end:
                     status = int(end.code or 0)
         return status, printed.getvalue(), said.getvalue()
@@ -111,7 +117,7 @@ class ShellTest(PartnerCase):
         status, printed, said = self.run_words(partner, "set", "/", "--from", "/none")
         self.assertEqual((status, printed, said), (10, "", "unread: /none: there is no such file\n"))
         partner.do("down")
-        status, printed, said = self.run_words(partner, "get", "/", "--wait", "1")
+        status, printed, said = self.run_words(partner, "get", "/", "--wait", "3")
         self.assertEqual((status, printed), (7, ""))
         self.assertEqual(said, f"not connected: /: no server has answered in time\n{partner.host}: connection refused\n")
 
@@ -155,7 +161,7 @@ class ShellTest(PartnerCase):
         data = bytes(range(256))
 
         def piped(*words: str, given: bytes = b"") -> bytes:
-            command = [sys.executable, "-m", "dirwolleu", *words, "--wait", str(int(WAIT))]
+            command = [sys.executable, "-m", "dirwolleu", *patient(words)]
             return subprocess.run(command, input=given, stdout=subprocess.PIPE, env=environment, check=True, timeout=3 * WAIT).stdout
 
         self.assertEqual(piped("create", "/a", "--from", "-", given=data), b"/a\n")
@@ -172,7 +178,7 @@ class ShellTest(PartnerCase):
             (("tree", "/"), unwritten), (("stat", "/x", "--json"), unwritten),
             (("watch", "--data", "/x"), unwritten),
         ):  # fmt: skip
-            command = [sys.executable, "-m", "dirwolleu", *words]
+            command = [sys.executable, "-m", "dirwolleu", *patient(words)]
             with open("/dev/full", "wb") as full:
                 done = subprocess.run(command, stdout=full, stderr=subprocess.PIPE, text=True, env=environment, timeout=3 * WAIT)
             self.assertEqual((done.returncode, done.stderr), (4, said))
@@ -181,7 +187,7 @@ class ShellTest(PartnerCase):
     @unittest.skipUnless(os.path.exists("/dev/full"), "there is no /dev/full")
     def test_what_is_left_to_write_at_the_end_is_no_other_fault(self) -> None:
         """The interpreter tries once more at its end, and ends with 120 where that fails."""
-        program = "import sys; sys.stdout = open(1, 'w', closefd=False); from dirwolleu.__main__ import main; sys.exit(main(['stat', '/']))"
+        program = "import sys; sys.stdout = open(1, 'w', closefd=False); from dirwolleu.__main__ import main; sys.exit(main(['stat', '/', '--wait', '60']))"
         environment = {**os.environ, "PYTHONPATH": str(CLIENTS / "python"), "DIRWOLLEU_HOSTS": self.partner().host}
         with open("/dev/full", "wb") as full:
             done = subprocess.run(
@@ -203,20 +209,22 @@ class ShellTest(PartnerCase):
         self.assertEqual(self.printed(partner, "tree", "/esc", "--text"), '/esc "\\tA\\nBé"\n/esc/a\\xe2\\x80\\xaeb\\xe2\\x80\\x8f ""\n')
         self.assertEqual(self.printed(partner, "ls", "/esc"), "a\\xe2\\x80\\xaeb\\xe2\\x80\\x8f\n")
         self.assertEqual(json.loads(self.printed(partner, "ls", "/esc", "--json")), {"name": "a\u202eb\u200f"})
+        process = self.begin(partner, "watch", "--data", "/esc", "--children", "/esc")
+        self.read_until(process, r"^\d+\.\d+ /esc names 1 a\\xe2\\x80\\xaeb\\xe2\\x80\\x8f \d+ good last \d+$")
         for data in (*(text.encode() for text in drives), b"zxid 99  good  forged\xff", b"hex:00"):
             client.set("/esc", data)
             self.assertEqual(self.printed(partner, "get", "/esc"), f"hex:{data.hex()}\n")
             shown = '"hex:00"' if data == b"hex:00" else data.hex()
             self.assertEqual(self.printed(partner, "tree", "/esc", "--text").splitlines()[0], f"/esc {shown}")
-            printed = self.printed(partner, "watch", "--data", "/esc", "--children", "/esc", "--for", "1")
-            self.assertRegex(printed, rf"(?m)^\d\.\d+ /esc data full {data.hex()} .* good last \d+$")
-            self.assertRegex(printed, r"(?m)^\d\.\d+ /esc names 1 a\\xe2\\x80\\xaeb\\xe2\\x80\\x8f \d+ good last \d+$")
+            self.read_until(process, rf"^\d+\.\d+ /esc data full {data.hex()} .* good last \d+$")
+        process.send_signal(signal.SIGINT)
+        process.communicate(timeout=3 * WAIT)
 
     def test_whoever_reads_no_more_ends_it_quietly(self) -> None:
         partner = self.partner()
         process = self.begin(partner, "watch", "--children", "/")
         assert process.stdout is not None and process.stderr is not None
-        self.read_until(process, r"^\d\.\d+ / names 0 0 good last 0$")
+        self.read_until(process, r"^\d+\.\d+ / names 0 0 good last 0$")
         process.stdout.close()
         partner.do("create /a")
         self.assertEqual(process.wait(3 * WAIT), 4)
@@ -242,7 +250,7 @@ class ShellTest(PartnerCase):
             printed, said = process.communicate(timeout=WAIT)
         finally:
             process.kill()
-        self.assertRegex(printed, r'(?m)^\d\.\d+ /a data full "one" .* good last 5$')
+        self.assertRegex(printed, r'(?m)^\d+\.\d+ /a data full "one" .* good last 5$')
         self.assertIn(" state Idle\n", printed)
         self.assertEqual(said, "refused: /a: the server refuses the credentials of the scheme digest (-115)\n")
         self.assertEqual(process.returncode, 6)
@@ -252,9 +260,9 @@ class ShellTest(PartnerCase):
         partner.do("create /a one")
         process = self.begin(partner, "watch", "--data", "/a", "--text")
         assert process.stdout is not None
-        self.read_until(process, r'^\d\.\d+ /a data full "one" .* good last \d+$')
+        self.read_until(process, r'^\d+\.\d+ /a data full "one" .* good last \d+$')
         partner.do("set /a two")
-        self.read_until(process, r'^\d\.\d+ /a data full "two" .* good last \d+$')
+        self.read_until(process, r'^\d+\.\d+ /a data full "two" .* good last \d+$')
         partner.do("down", "delete /a", "up")
         lines = self.read_until(process, r"^\d+\.\d+ /a does not exist last \d+$")
         self.assertIn(" state Idle\n", "".join(lines))

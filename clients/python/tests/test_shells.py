@@ -58,7 +58,9 @@ LINES: list[list[str]] = [
 
 
 def with_hosts(hosts: str, words: list[str]) -> list[str]:
-    return [*words[:1], *([hosts] if words and hosts else []), *words[1:]]
+    """Words with the servers, that wait as long as a busy machine takes unless they say how long."""
+    waits = words[:1] and words[0] in BOTH[:-1] and hosts and "--wait" not in words and "--wai" not in words
+    return [*words[:1], *(["--wait", "60"] if waits else []), *([hosts] if words and hosts else []), *words[1:]]
 
 
 def masked(text: str) -> str:
@@ -153,9 +155,9 @@ class ShellsTest(unittest.TestCase):
             for hosts, *words in (
                 (f"{server.hosts}/a", "get", "/b"), (f"{server.hosts}/a", "get", "/"), (f"{server.hosts}/a", "create", "/c", "x"),
                 (f"{server.hosts}/a", "tree", "/"), (f"{server.hosts}/none", "get", "/b"), (f"{server.hosts}/", "get", "/a"),
-                (f"127.0.0.1:1,{server.hosts}", "get", "/a"), ("127.0.0.1:1", "get", "/a", "--wait", "1"), ("a:x", "get", "/a"),
+                (f"127.0.0.1:1,{server.hosts}", "get", "/a"), ("127.0.0.1:1", "get", "/a", "--wait", "3"), ("a:x", "get", "/a"),
                 ("127.0.0.1:99999", "get", "/a"), (f"{server.hosts}//a", "get", "/a"), (f"{server.hosts},", "get", "/a"),
-                ("host.invalid:1", "get", "/a", "--wait", "1"), (f"{server.hosts}/a", "delete", "/c"),
+                ("host.invalid:1", "get", "/a", "--wait", "3"), (f"{server.hosts}/a", "delete", "/c"),
             ):  # fmt: skip
                 zk = self.run_zk(hosts, words)
                 if words[0] == "create":
@@ -166,7 +168,7 @@ class ShellsTest(unittest.TestCase):
 
     def test_a_server_that_accepts_no_session(self) -> None:
         with socket.create_server(("127.0.0.1", 0)) as listener:
-            hosts, words = f"127.0.0.1:{listener.getsockname()[1]}", ["get", "/a", "--wait", "1"]
+            hosts, words = f"127.0.0.1:{listener.getsockname()[1]}", ["get", "/a", "--wait", "3"]
             zk = self.run_zk(hosts, words)
             self.assertEqual(zk, self.run_python(hosts, words))
             self.assertIn("connected, but no session was accepted", zk[2])
@@ -216,15 +218,21 @@ class ShellsTest(unittest.TestCase):
 
     def test_the_end_of_a_watch(self) -> None:
         with Server() as server:
-            words = ["watch", "--data", "/", "--children", "/none", "--for", "2"]
-            ends = [run(server.hosts, words) for run in (self.run_zk, self.run_python)]
+            for seconds in ("2", "10", "40"):  # a busy machine takes longer
+                words = ["watch", "--data", "/", "--children", "/none", "--for", seconds]
+                ends = [run(server.hosts, words) for run in (self.run_zk, self.run_python)]
+                if all("/none does not exist" in printed for _, printed, _ in ends):
+                    break
         self.assertEqual([(status, said) for status, _, said in ends], [(0, ""), (0, "")])
         lines = [[plain(line) for line in printed.splitlines() if is_of_both(line)] for _, printed, _ in ends]
         self.assertEqual(lines[0], lines[1])
         self.assertEqual(lines[0][-3:], ["state Closed", "/ data none last 0", "/none names none last 0"])
 
     def test_a_watch_that_never_connects(self) -> None:
-        ends = [run("127.0.0.1:1", ["watch", "--data", "/a", "--for", "1"]) for run in (self.run_zk, self.run_python)]
+        for seconds in ("1", "10", "40"):
+            ends = [run("127.0.0.1:1", ["watch", "--data", "/a", "--for", seconds]) for run in (self.run_zk, self.run_python)]
+            if all("failed" in printed for _, printed, _ in ends):
+                break
         self.assertEqual([(status, said) for status, _, said in ends], [(9, ""), (9, "")])
         kinds = [set(re.sub(r"(?m)^\d+\.\d+ ", "", printed).splitlines()) for _, printed, _ in ends]
         self.assertEqual(kinds[0], kinds[1])
