@@ -14,7 +14,8 @@ MODULES = "usr/lib/python3/dist-packages"
 # The session for C over the header, and what goes over it.
 SESSION = ("session.h", "jute.h", "requests.h", "lock.h", "tls.h")
 BENCH = TOP / "clients/bench/x86_64-linux/libdirwolleu_bench.so"
-SHELL = TOP / "crates" / PROGRAM / "out" / PROGRAM
+SHELL = PREBUILT / PROGRAM
+MANUAL = TOP / "docs/zk_shell.1"
 MAINTAINER = "Dirwolleu maintainers <maintainers@users.noreply.dirwolleu.example>"
 ABOUT = """\
  Dirwolleu is the client side of the ZooKeeper protocol with a cache that its
@@ -184,22 +185,14 @@ def make_development(build: Build) -> None:
     write(package, build)
 
 
-def manual(build: Build) -> bytes:
-    """The page of the manual: what the program says of itself, as it says it."""
-    said = subprocess.run([SHELL, "--help"], check=True, capture_output=True, text=True).stdout
-    shown = "\n".join("\\&" + line for line in said.replace("\\", "\\e").splitlines()).replace("-", "\\-")
-    head = f'.TH ZK_SHELL 1 "{build.written("+%F")}" "dirwolleu {VERSION}"\n.SH NAME\nzk_shell \\- client of ZooKeeper driven by scripts\n'
-    return f"{head}.SH DESCRIPTION\n.nf\n{shown}\n.fi\n".encode()
-
-
 def make_shell(build: Build) -> None:
     package = Package(
         "zk-shell",
-        "client of ZooKeeper driven by scripts",
+        "proved client of ZooKeeper for a shell",
         {"Section": "utils", "Depends": libc_of(SHELL)},
         {
-            "usr/bin/zk_shell": stripped(SHELL, build, "--strip-all"),
-            "usr/share/man/man1/zk_shell.1.gz": packed(manual(build)),
+            "usr/bin/zk_shell": SHELL.read_bytes(),
+            "usr/share/man/man1/zk_shell.1.gz": packed(MANUAL.read_bytes()),
         },
         programs=("usr/bin/zk_shell",),
     )

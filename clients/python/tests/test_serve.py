@@ -19,7 +19,8 @@ from unittest import mock
 from support import CLIENTS, TIMEOUT, WAIT
 
 from dirwolleu import Client, Retry, serve
-from dirwolleu.__main__ import SERVE_EPILOG, main
+from dirwolleu.__main__ import main
+from dirwolleu.shell.words import SERVE_EPILOG
 from dirwolleu.testing import Server
 
 ENVIRONMENT = {**os.environ, "PYTHONPATH": str(CLIENTS / "python")}
@@ -104,15 +105,15 @@ class ServeTest(unittest.TestCase):
 
     def test_what_is_wrong_has_its_place(self) -> None:
         for text, status, wanted in [
-            ("create /a\nfly\n", 2, r"script:2: unknown command: fly; there are create,"),
-            ("create\n", 2, r"script:1: create: a path is wanted"),
-            ("create /a/b\n", 2, r"script:1: create: no node: /a"),
-            ("create a\n", 2, r"script:1: create: a is no path"),
-            ("delete /a x\n", 2, r"script:1: delete: one path is wanted"),
-            ("drop 1\n", 2, r"script:1: drop: nothing comes after this word, and not 1"),
-            ("wait\n", 2, r"script:1: wait: a number of seconds is wanted, and not nothing"),
-            ("wait nan\n", 2, r"script:1: wait: a number of seconds is wanted, and not nan"),
-            (None, 2, r"script: No such file or directory"),
+            ("create /a\nfly\n", 1, r"script:2: unknown command: fly; there are create,"),
+            ("create\n", 1, r"script:1: create: a path is wanted"),
+            ("create /a/b\n", 1, r"script:1: create: no node: /a"),
+            ("create a\n", 1, r"script:1: create: a is no path"),
+            ("delete /a x\n", 1, r"script:1: delete: one path is wanted"),
+            ("drop 1\n", 1, r"script:1: drop: nothing comes after this word, and not 1"),
+            ("wait\n", 1, r"script:1: wait: a number of seconds is wanted, and not nothing"),
+            ("wait nan\n", 1, r"script:1: wait: a number of seconds is wanted, and not nan"),
+            (None, 1, r"script: No such file or directory"),
         ]:
             self.script.unlink(missing_ok=True)
             if text is not None:
@@ -131,9 +132,9 @@ class ServeTest(unittest.TestCase):
 
     def test_a_port_that_is_taken_is_named_with_what_to_do(self) -> None:
         with Server() as server:
-            said = self.refused(3, "--port", str(server.port))
+            said = self.refused(1, "--port", str(server.port))
             self.assertEqual(said, f"serve: {server.hosts}: Address already in use; --port 0 takes a free port\n")
-        self.assertIn("invalid port value: '65536'", self.refused(2, "--port", "65536"))
+        self.assertIn('"65536" is no port: a number from 0 to 65535', self.refused(2, "--port", "65536"))
 
     def test_the_help_names_the_lines_that_there_are(self) -> None:
         self.assertEqual(re.findall(r"^  ([a-z]+)", SERVE_EPILOG, re.M), list(serve.READS))

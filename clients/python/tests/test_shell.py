@@ -17,7 +17,15 @@ from unittest import mock
 from support import CLIENTS, WAIT, Asked, Partner, PartnerCase, Peer, RawServer, data_reply, reply
 
 import dirwolleu
-from dirwolleu.__main__ import EPILOG, _status_of, main
+from dirwolleu.__main__ import main
+from dirwolleu.shell.faults import of_call
+from dirwolleu.shell.words import COMMANDS, general_help
+
+
+def patient(words: tuple[str, ...]) -> list[str]:
+    """Words that wait for answers as long as a busy machine takes, unless they say how long."""
+    waits = bool(words) and words[0] in COMMANDS and "wait" in COMMANDS[words[0]].options and "--wait" not in words
+    return [*words[:1], *(["--wait", str(int(WAIT))] if waits else []), *words[1:]]
 
 
 class ShellTest(PartnerCase):
@@ -25,7 +33,7 @@ class ShellTest(PartnerCase):
 
     def begin(self, partner: Union[Partner, RawServer], *words: str) -> subprocess.Popen[str]:
         environment = {**os.environ, "PYTHONPATH": str(CLIENTS / "python"), "DIRWOLLEU_HOSTS": partner.host}
-        command = [sys.executable, "-m", "dirwolleu", "--timeout", str(WAIT), *words]
+        command = [sys.executable, "-m", "dirwolleu", *patient(words)]
         return subprocess.Popen(command, stdout=subprocess.PIPE, stderr=subprocess.PIPE, text=True, env=environment)
 
     def run_words(self, partner: Partner, *words: str) -> tuple[int, str, str]:
@@ -34,7 +42,7 @@ class ShellTest(PartnerCase):
         with contextlib.redirect_stdout(printed), contextlib.redirect_stderr(said):
             with mock.patch.dict(os.environ, {"DIRWOLLEU_HOSTS": partner.host}):
                 try:
-                    status = main(list(words))
+                    status = main(patient(words))
                 except SystemExit as end:
                     status = int(end.code or 0)
         return status, printed.getvalue(), said.getvalue()
@@ -46,7 +54,7 @@ class ShellTest(PartnerCase):
 
     def test_the_session_of_the_help(self) -> None:
         partner = self.partner()
-        for shown in re.findall(r"^  \$ python3 -m dirwolleu (.*)\n((?:  [^$\n].*\n)*)", EPILOG, re.M):
+        for shown in re.findall(r"^  \$ python3 -m dirwolleu (.*)\n((?:  [^$\n].*\n)*)", general_help(), re.M):
             words, expected = shown[0].split(), re.sub("^  ", "", shown[1], flags=re.M)
             if words[0] != "watch":
                 printed = self.printed(partner, *words)
@@ -63,56 +71,89 @@ class ShellTest(PartnerCase):
         partner.do("create /a one", "create /a/b", "create /a/c three")
         self.assertEqual(self.printed(partner, "ls", "/a"), "b\nc\n")
         self.assertEqual(self.printed(partner, "get", "/a"), "one\n")
-        self.assertEqual(self.printed(partner, "set", "/a", "two"), "version 1\n")
-        self.assertEqual(self.printed(partner, "tree", "/a"), "/a  two\n  b\n  c  three\n")
-        self.assertEqual(self.printed(partner, "create", "/a/n-", "--sequence"), "/a/n-0000000002\n")
-        self.assertRegex(self.printed(partner, "stat", "/a"), r"(?m)^version +1$")
-        self.assertEqual(self.printed(partner, "delete", "/a", "--recursive"), "")
-        self.assertEqual(self.printed(partner, "--hosts", partner.host + "/x", "create", "/"), "/\n")
+        self.assertEqual(self.printed(partner, "set", "/a", "two"), "")
+        self.assertEqual(self.printed(partner, "tree", "/a"), "/a\n/a/b\n/a/c\n")
+        self.assertEqual(self.printed(partner, "tree", "/a", "--text"), '/a "two"\n/a/b ""\n/a/c "three"\n')
+        self.assertEqual(self.printed(partner, "create", "/a/n-", "", "--sequential"), "/a/n-0000000002\n")
+        self.assertRegex(self.printed(partner, "stat", "/a"), r"(?m)^version 1$")
+        self.assertEqual(self.printed(partner, "deleteall", "/a"), "")
+        self.assertEqual(self.printed(partner, "create", partner.host + "/x", "/", "--null"), "/\n")
         self.assertEqual(self.printed(partner, "ls", "/"), "x\n")
 
     def test_json(self) -> None:
         partner = self.partner()
         partner.do("create /a one", "create /a/b")
 
-        def told(*words: str) -> Any:
-            return json.loads(self.printed(partner, "--json", *words))
+        def told(*words: str) -> list[Any]:
+            return [json.loads(line) for line in self.printed(partner, *words, "--json").splitlines()]
 
-        self.assertEqual(told("ls", "/a"), ["b"])
-        self.assertEqual({**told("get", "/a"), "ctime": 0, "mtime": 0}["data"], "one")
-        self.assertEqual(told("stat", "/a")["num_children"], 1)
-        tree = told("tree", "/a")
-        self.assertEqual(len({node.pop("zxid") for node in tree}), 1)
-        self.assertEqual(tree, [{"path": "/a", "data": "one"}, {"path": "/a/b", "data": ""}])
-        self.assertEqual(told("create", "/a/c"), {"path": "/a/c"})
+        self.assertEqual(told("ls", "/a"), [{"name": "b"}])
+        self.assertEqual(told("get", "/a")[0]["data"], "one")
+        self.assertEqual(told("stat", "/a")[0]["numChildren"], 1)
+        self.assertEqual(told("tree", "/a"), [{"path": "/a"}, {"path": "/a/b"}])
+        self.assertEqual(told("tree", "/a", "--text"), [{"path": "/a", "data": "one"}, {"path": "/a/b", "data": ""}])
+        self.assertEqual(told("create", "/a/c", "x"), [{"path": "/a/c"}])
 
     def test_exit_statuses(self) -> None:
         partner = self.partner()
-        for words in (("get", "/none"), ("stat", "/none"), ("create", "/"), ("set", "/", "x", "--version", "7")):
+        for words, due in (
+            (("get", "/none"), 5), (("stat", "/none"), 5), (("create", "/", "x"), 6), (("set", "/", "x", "--version", "7"), 6),
+            (("deleteall", "/none"), 5), (("getacl", "/none"), 5), (("setacl", "/none", "world:anyone:r"), 5), (("sync", "/none"), 0),
+        ):  # fmt: skip
             status, printed, said = self.run_words(partner, *words)
-            self.assertEqual((status, printed, said.count("\n")), (1, "", 1))
+            self.assertEqual((status, printed, said.count("\n")), (due, "", 1 if due else 0), words)
         for wrong in (
-            ("nonsense", "/"), ("get",), ("get", "no-path"), ("--hosts", "a:x", "get", "/"), ("set", "/"),
-            ("set", "/", "--file", "/none"), ("--ca", "/none", "get", "/"), ("set", "/", "x", "--version", "4294967296"),
+            ("nonsense", "/"), ("get",), ("get", "no-path"), ("get", "a:x", "/"), ("set", "/"), ("get", "/", "--nope"), ("get", "/", "x"),
+            ("set", "/", "x", "--version", "4294967296"), ("setacl", "/", "world:anyone:x"), ("setacl", "/"), (), ("get", "/", "--wait"),
         ):  # fmt: skip
             status, printed, said = self.run_words(partner, *wrong)
-            self.assertEqual((status, printed, bool(said)), (2, "", True))
-        for wrong, begins in (
-            (("--ca", "/none"), "get: /none: No such file or directory"), (("--ca", __file__), f"get: {__file__}: "),
-            (("--key", "/none"), "get: the key /none wants its certificate"), (("--cert", "/none"), "get: /none: No such file or directory"),
+            self.assertEqual((status, printed, said[:7]), (2, "", "error: "), wrong)
+        for wrong, due, begins in (
+            (("--ca", "/none"), 10, "unread: /none: No such file or directory"), (("--ca", __file__), 10, f"unread: {__file__}: "),
+            (("--key", "/none"), 2, "error: the key /none wants its certificate"), (("--cert", "/none"), 10, "unread: /none: No such file or directory"),
         ):  # fmt: skip
-            status, printed, said = self.run_words(partner, *wrong, "get", "/")
-            self.assertEqual((status, printed, said[: len(begins)], said.count("\n")), (2, "", begins, 1))
+            status, printed, said = self.run_words(partner, "get", "/", *wrong)
+            self.assertEqual((status, printed, said[: len(begins)], said.count("\n")), (due, "", begins, 1))
+        status, printed, said = self.run_words(partner, "set", "/", "--from", "/none")
+        self.assertEqual((status, printed, said), (10, "", "unread: /none: there is no such file\n"))
         partner.do("down")
-        status, printed, said = self.run_words(partner, "--timeout", "0.5", "get", "/")
-        self.assertEqual((status, printed), (3, ""))
+        status, printed, said = self.run_words(partner, "get", "/", "--wait", "3")
+        self.assertEqual((status, printed), (7, ""))
+        self.assertEqual(said, f"not connected: /: no server has answered in time\n{partner.host}: connection refused\n")
 
     def test_what_is_refused_and_what_has_no_answer(self) -> None:
-        for error, status in (
-            (dirwolleu.NoAuthError(), 1), (dirwolleu.TooLargeError(), 1), (dirwolleu.ConnectionLoss(), 3),
-            (dirwolleu.SessionExpiredError(), 3), (dirwolleu.CallTimeoutError(), 3), (TimeoutError(), 3), (ValueError(), 2),
-        ):  # fmt: skip
-            self.assertEqual(_status_of(error), status, error)
+        for error, status, told in (
+            (dirwolleu.NoAuthError(), 6, "refused: /a: the ACL does not admit it (-102)"),
+            (dirwolleu.TooLargeError(), 6, "refused: /a: the payload has more than 1,048,575 bytes"),
+            (dirwolleu.ConnectionLoss(), 8, "no answer: /a: the connection was lost: the call may or may not have happened"),
+            (dirwolleu.SessionExpiredError(), 8, "no answer: /a: the session is over"),
+            (dirwolleu.CallTimeoutError(), 8, "no answer: /a: its time is over, and it was not sent"),
+            (dirwolleu.NotConnectedError(), 8, "no answer: /a: its time is over, and it was not sent"),
+            (dirwolleu.AuthFailedError(), 6, "refused: /a: the server does not take these credentials (-115)"),
+        ):
+            ending = of_call(error, "/a", False)
+            self.assertEqual((ending.status, ending.told), (status, told), error)
+        late = of_call(dirwolleu.CallTimeoutError(), "/a", True)
+        self.assertEqual((late.status, late.told), (8, "no answer: /a: its time is over, and it may or may not have happened"))
+
+    def test_access_control(self) -> None:
+        partner = self.partner()
+        self.printed(partner, "create", "/a", "one")
+        self.assertEqual(self.printed(partner, "getacl", "/a"), "world:anyone:cdrwa\n")
+        self.assertEqual(self.printed(partner, "setacl", "/a", "world:anyone:r,digest:bob:AbC=:cdrwa", "--version", "0"), "")
+        self.assertEqual(self.printed(partner, "getacl", "/a"), "world:anyone:r\ndigest:bob:AbC=:cdrwa\n")
+        told = [json.loads(line) for line in self.printed(partner, "getacl", "/a", "--json").splitlines()]
+        self.assertEqual(told[1], {"scheme": "digest", "id": "bob:AbC=", "perms": "cdrwa"})
+        status, _, said = self.run_words(partner, "setacl", "/a", "world:anyone:r", "--version", "0")
+        self.assertEqual((status, said), (6, "refused: /a: the node has another version (-103)\n"))
+
+    def test_help_is_80_columns_wide(self) -> None:
+        partner = self.partner()
+        for name in ("", *COMMANDS):
+            printed = self.printed(partner, *filter(None, [name]), "--help")
+            self.assertLessEqual(max(map(len, printed.splitlines())), 80, printed)
+            self.assertEqual(printed, self.printed(partner, "help", *filter(None, [name])))
+        self.assertEqual(self.printed(partner, "--version"), f"dirwolleu {dirwolleu.__version__}\n")
 
     def test_data_of_any_bytes(self) -> None:
         partner = self.partner()
@@ -120,63 +161,62 @@ class ShellTest(PartnerCase):
         data = bytes(range(256))
 
         def piped(*words: str, given: bytes = b"") -> bytes:
-            command = [sys.executable, "-m", "dirwolleu", "--timeout", str(WAIT), *words]
+            command = [sys.executable, "-m", "dirwolleu", *patient(words)]
             return subprocess.run(command, input=given, stdout=subprocess.PIPE, env=environment, check=True, timeout=3 * WAIT).stdout
 
-        self.assertEqual(piped("create", "/a", "--file", "-", given=data), b"/a\n")
-        self.assertEqual(piped("get", "--raw", "/a"), data)
-        self.assertEqual(json.loads(self.printed(partner, "--json", "get", "/a"))["data_hex"], data.hex())
+        self.assertEqual(piped("create", "/a", "--from", "-", given=data), b"/a\n")
+        self.assertEqual(piped("get", "/a", "--raw"), data)
+        self.assertEqual(json.loads(self.printed(partner, "get", "/a", "--json"))["hex"], data.hex())
 
     @unittest.skipUnless(os.path.exists("/dev/full"), "there is no /dev/full")
     def test_what_cannot_be_written_is_told(self) -> None:
         partner = self.partner()
         environment = {**os.environ, "PYTHONPATH": str(CLIENTS / "python"), "DIRWOLLEU_HOSTS": partner.host}
-        unwritten = "what it tells can't be written: No space left on device\n"
+        unwritten = "error: standard output: no storage space\n"
         for words, said in (
-            (("create", "/x", "a"), f"create: it is done, but {unwritten}"), (("set", "/x", "b"), f"set: it is done, but {unwritten}"),
-            (("get", "/x"), f"get: {unwritten}"), (("get", "--raw", "/x"), f"get: {unwritten}"), (("tree", "/"), f"tree: {unwritten}"),
-            (("watch", "/x"), f"watch: {unwritten}"), (("--json", "stat", "/x"), f"stat: {unwritten}"),
+            (("create", "/x", "a"), f"{unwritten}done: /x\n"), (("get", "/x"), unwritten), (("get", "/x", "--raw"), unwritten),
+            (("tree", "/"), unwritten), (("stat", "/x", "--json"), unwritten),
+            (("watch", "--data", "/x"), unwritten),
         ):  # fmt: skip
-            command = [sys.executable, "-m", "dirwolleu", "--timeout", str(WAIT), *words]
+            command = [sys.executable, "-m", "dirwolleu", *patient(words)]
             with open("/dev/full", "wb") as full:
                 done = subprocess.run(command, stdout=full, stderr=subprocess.PIPE, text=True, env=environment, timeout=3 * WAIT)
             self.assertEqual((done.returncode, done.stderr), (4, said))
-        self.assertEqual(self.printed(partner, "get", "/x"), "b\n")
+        self.assertEqual(self.printed(partner, "get", "/x"), "a\n")
 
     @unittest.skipUnless(os.path.exists("/dev/full"), "there is no /dev/full")
     def test_what_is_left_to_write_at_the_end_is_no_other_fault(self) -> None:
         """The interpreter tries once more at its end, and ends with 120 where that fails."""
-        program = "import sys; sys.stdout = open(1, 'w', closefd=False); from dirwolleu.__main__ import main; sys.exit(main(['stat', '/']))"
+        program = "import sys; sys.stdout = open(1, 'w', closefd=False); from dirwolleu.__main__ import main; sys.exit(main(['stat', '/', '--wait', '60']))"
         environment = {**os.environ, "PYTHONPATH": str(CLIENTS / "python"), "DIRWOLLEU_HOSTS": self.partner().host}
         with open("/dev/full", "wb") as full:
             done = subprocess.run(
                 [sys.executable, "-c", program], stdout=full, stderr=subprocess.PIPE, text=True, env=environment, timeout=3 * WAIT
             )
-        self.assertEqual((done.returncode, done.stderr), (4, "stat: what it tells can't be written: No space left on device\n"))
+        self.assertEqual((done.returncode, done.stderr), (4, "error: standard output: no storage space\n"))
 
-    def test_what_drives_a_terminal_is_shown_with_backslashes(self) -> None:
+    def test_what_drives_a_terminal_is_not_shown_as_it_is(self) -> None:
+        """Data are in hex then, and names as a word, with their bytes. `zk_shell` does so too, except for what changes directions."""
         partner = self.partner()
         client = dirwolleu.Client(partner.host, 60.0)
         self.addCleanup(client.close)
         self.addCleanup(client.stop)
         client.start(WAIT)
-        data = "\x1b]0;owned\x07\x1b[2J\tRED\r\nzxid 99  good  forged\x7f\x9b\u202eabc\u2066é".encode() + b"\xff"
-        client.create("/esc", data)
+        drives = "\x1b]0;owned\x07", "\x1b[2J", "\x7f", "\x9b", "\u202eabc", "\u2066é", "RED\r"
+        client.create("/esc", b"\tA\nB\xc3\xa9")
         client.create("/esc/a\u202eb\u200f")
-        shown = r"\x1b]0;owned\x07\x1b[2J{}RED\r{}zxid 99  good  forged\x7f\x9b\u202eabc\u2066é\xff"
-        as_lines, as_line = shown.format("\t", "\n"), shown.format(r"\t", r"\n")
-        self.assertEqual(self.printed(partner, "get", "/esc"), f"{as_lines}\n")
-        self.assertEqual(self.printed(partner, "tree", "/esc"), f"/esc  {as_line}\n  a\\u202eb\\u200f\n")
-        self.assertEqual(self.printed(partner, "ls", "/esc"), "a\\u202eb\\u200f\n")
-        self.assertEqual(json.loads(self.printed(partner, "--json", "ls", "/esc")), ["a\u202eb\u200f"])
-        process = self.begin(partner, "watch", "/esc")
-        assert process.stdout is not None
-        self.assertRegex(process.stdout.readline(), rf"^zxid \d+  good  {re.escape(as_line)}$")
-        process.send_signal(signal.SIGINT)
-        process.communicate(timeout=3 * WAIT)
-        process = self.begin(partner, "watch", "--children", "/esc")
-        assert process.stdout is not None
-        self.assertRegex(process.stdout.readline(), r"^zxid \d+  good  a\\u202eb\\u200f$")
+        self.assertEqual(self.printed(partner, "get", "/esc"), "\tA\nBé\n")
+        self.assertEqual(self.printed(partner, "tree", "/esc", "--text"), '/esc "\\tA\\nBé"\n/esc/a\\xe2\\x80\\xaeb\\xe2\\x80\\x8f ""\n')
+        self.assertEqual(self.printed(partner, "ls", "/esc"), "a\\xe2\\x80\\xaeb\\xe2\\x80\\x8f\n")
+        self.assertEqual(json.loads(self.printed(partner, "ls", "/esc", "--json")), {"name": "a\u202eb\u200f"})
+        process = self.begin(partner, "watch", "--data", "/esc", "--children", "/esc")
+        self.read_until(process, r"^\d+\.\d+ /esc names 1 a\\xe2\\x80\\xaeb\\xe2\\x80\\x8f \d+ good last \d+$")
+        for data in (*(text.encode() for text in drives), b"zxid 99  good  forged\xff", b"hex:00"):
+            client.set("/esc", data)
+            self.assertEqual(self.printed(partner, "get", "/esc"), f"hex:{data.hex()}\n")
+            shown = '"hex:00"' if data == b"hex:00" else data.hex()
+            self.assertEqual(self.printed(partner, "tree", "/esc", "--text").splitlines()[0], f"/esc {shown}")
+            self.read_until(process, rf"^\d+\.\d+ /esc data full {data.hex()} .* good last \d+$")
         process.send_signal(signal.SIGINT)
         process.communicate(timeout=3 * WAIT)
 
@@ -184,10 +224,10 @@ class ShellTest(PartnerCase):
         partner = self.partner()
         process = self.begin(partner, "watch", "--children", "/")
         assert process.stdout is not None and process.stderr is not None
-        self.assertRegex(process.stdout.readline(), r"^zxid \d+  good  $")
+        self.read_until(process, r"^\d+\.\d+ / names 0 0 good last 0$")
         process.stdout.close()
         partner.do("create /a")
-        self.assertEqual(process.wait(3 * WAIT), 141)
+        self.assertEqual(process.wait(3 * WAIT), 4)
         self.assertEqual(process.stderr.read(), "")
         process.stderr.close()
 
@@ -205,29 +245,40 @@ class ShellTest(PartnerCase):
             else:
                 peer.finish()
 
-        process = self.begin(self.raw_server(serve), "--auth", "digest:bob:secret", "watch", "/a")
+        process = self.begin(self.raw_server(serve), "watch", "--data", "/a", "--text", "--auth", "digest:bob:secret")
         try:
             printed, said = process.communicate(timeout=WAIT)
         finally:
             process.kill()
-        self.assertEqual((printed, process.returncode), ("zxid 5  good  one\n", 1))
-        words = "the connection is lost", "connected", "the session is over", "the server refuses the credentials of the scheme digest"
-        self.assertEqual(said.splitlines(), [f"watch: {line}" for line in words])
+        self.assertRegex(printed, r'(?m)^\d+\.\d+ /a data full "one" .* good last 5$')
+        self.assertIn(" state Idle\n", printed)
+        self.assertEqual(said, "refused: /a: the server refuses the credentials of the scheme digest (-115)\n")
+        self.assertEqual(process.returncode, 6)
 
     def test_a_node_is_watched_until_it_is_interrupted(self) -> None:
         partner = self.partner()
         partner.do("create /a one")
-        process = self.begin(partner, "watch", "/a")
+        process = self.begin(partner, "watch", "--data", "/a", "--text")
         assert process.stdout is not None
-        self.assertRegex(process.stdout.readline(), r"^zxid \d+  good  one$")
+        self.read_until(process, r'^\d+\.\d+ /a data full "one" .* good last \d+$')
         partner.do("set /a two")
-        self.assertRegex(process.stdout.readline(), r"^zxid \d+  good  two$")
+        self.read_until(process, r'^\d+\.\d+ /a data full "two" .* good last \d+$')
         partner.do("down", "delete /a", "up")
-        self.assertRegex(process.stdout.readline(), r"^zxid \d+  good  \(no node\)$")
+        lines = self.read_until(process, r"^\d+\.\d+ /a does not exist last \d+$")
+        self.assertIn(" state Idle\n", "".join(lines))
         process.send_signal(signal.SIGINT)
         _, said = process.communicate(timeout=3 * WAIT)
-        self.assertEqual(said, "watch: the connection is lost\nwatch: connected\n")
+        self.assertEqual(said, "")
         self.assertEqual(process.returncode, 130)
+
+    def read_until(self, process: subprocess.Popen[str], wanted: str) -> list[str]:
+        """The lines that a command prints, up to the first that is so."""
+        assert process.stdout is not None
+        lines = [process.stdout.readline()]
+        while lines[-1] and not re.search(wanted, lines[-1]):
+            lines.append(process.stdout.readline())
+        self.assertRegex(lines[-1], wanted)
+        return lines
 
 
 if __name__ == "__main__":

@@ -1,0 +1,104 @@
+"""What a client says of its connections, in the words of `zk_shell`."""
+
+from __future__ import annotations
+
+import logging
+import re
+from typing import Any, Callable, NamedTuple, Optional
+
+from dirwolleu.shell.faults import Dialled
+
+NO_SESSION = "connected, but no session was accepted"
+
+_WORDS = {
+    "connected, and it has not accepted the session": NO_SESSION,
+    "connection reset by peer": "connection reset",
+    "connection timed out": "timed out",
+    "network is unreachable": "network unreachable",
+    "no connection in time": "timed out",
+    "no route to host": "host unreachable",
+    "the server has closed it": "end of stream",
+}
+
+
+class Said(NamedTuple):
+    """Something that the client says of a connection: which, to which address, and why."""
+
+    kind: str
+    """dial, failed, ended, connected, expired or closed."""
+
+    address: str = ""
+    reason: str = ""
+    session: int = 0
+    timeout_ms: int = 0
+
+
+class Connections(logging.Handler):
+    """Hears what the client's logger says, which names each connection and each session, and hands it on."""
+
+    def __init__(self, hosts: str, tell: Callable[[Said], object]) -> None:
+        super().__init__()
+        self._servers = hosts.partition("/")[0].split(",")
+        self._tell = tell
+        self._readers: dict[str, Callable[..., Said]] = {
+            "dials %s": lambda place: Said("dial", self._address(str(place))),
+            "no connection to %s": self._failed,
+            "the connection to %s is over: %s": lambda place, why: Said("ended", self._address(place), _WORDS.get(why, why)),
+            "connected to %s: session %#x with a timeout of %s seconds": self._connected,
+            "the session %#x has expired: a new one begins": lambda _: Said("expired"),
+            "the session %#x is closed": lambda _: Said("closed"),
+        }
+
+    def __enter__(self) -> Connections:
+        logger = logging.getLogger("dirwolleu.connection")
+        logger.setLevel(logging.DEBUG)
+        logger.propagate = False
+        logger.addHandler(self)
+        return self
+
+    def __exit__(self, *_: object) -> None:
+        logging.getLogger("dirwolleu.connection").removeHandler(self)
+
+    def emit(self, record: logging.LogRecord) -> None:
+        read = self._readers.get(str(record.msg))
+        arguments: Any = record.args or ()
+        if read is not None:
+            self._tell(read(*arguments))
+
+    def _address(self, place: str) -> str:
+        """The server as the words name it: of a name that was looked up, without the address."""
+        address = re.sub(r" \(.*\)$", "", place)
+        return next((server for server in self._servers if server in (address, address.removesuffix(":2181"))), address)
+
+    def failed(self, trouble: str) -> Optional[Dialled]:
+        """Which address it is whose last attempt has failed, and why."""
+        address, colon, why = trouble.partition(": ")
+        if not colon:
+            return None
+        unknown = [server for server in self._servers if server == address or server.startswith(f"{address}:")]
+        if unknown and not re.search(r":\d+$", address):
+            return Dialled(unknown[0], "host not found")
+        return Dialled(self._address(address), _WORDS.get(why, why))
+
+    def _failed(self, trouble: str) -> Said:
+        dialled = self.failed(str(trouble))
+        return Said("failed", *dialled) if dialled is not None else Said("failed", "", str(trouble))
+
+    def _connected(self, place: str, session: int, seconds: float) -> Said:
+        return Said("connected", self._address(str(place)), "", session, round(1000 * seconds))
+
+
+class Attempts:
+    """What came of each address that was dialled, in the order in which they were dialled first."""
+
+    def __init__(self) -> None:
+        self._last: dict[str, str] = {}
+
+    def note(self, said: Said) -> None:
+        if said.kind == "dial":
+            self._last[said.address] = NO_SESSION
+        elif said.kind in ("failed", "ended"):
+            self._last[said.address] = said.reason
+
+    def all(self) -> list[Dialled]:
+        return [Dialled(address, reason) for address, reason in self._last.items()]

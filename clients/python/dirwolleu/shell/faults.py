@@ -1,0 +1,131 @@
+"""How commands end, and what they say of it: the statuses and sentences of `zk_shell`."""
+
+from __future__ import annotations
+
+import errno
+import os
+from typing import NamedTuple, Optional
+
+from dirwolleu._paths import why_no_path
+from dirwolleu.exceptions import (
+    CallTimeoutError,
+    ConnectionClosedError,
+    ConnectionLoss,
+    NoNodeError,
+    NotConnectedError,
+    SessionExpiredError,
+    SessionMovedError,
+    TooLargeError,
+    TooManyWatchesError,
+    ZookeeperError,
+)
+from dirwolleu.security import AuthFailedError
+from dirwolleu.shell.printing import quoted
+
+DONE, FAULT, USAGE, STREAM, NO_NODE, REFUSED = 0, 1, 2, 4, 5, 6
+UNCONNECTED, UNANSWERED, NEVER_CONNECTED, UNREAD, MORE, INTERRUPTED = 7, 8, 9, 10, 11, 130
+"""The exit statuses. Only `zk_shell` has 3, that memory ran out; 1 is a fault in a script."""
+
+_CODES = {
+    -4: "the server has lost its connection",
+    -6: "the server does not know the request",
+    -8: "the path, the flags or the data are refused",
+    -102: "the ACL does not admit it",
+    -103: "the node has another version",
+    -108: "the parent is ephemeral",
+    -110: "the node is there",
+    -111: "the node has children",
+    -112: "the session is over",
+    -114: "the open ACL is refused",
+    -115: "the server does not take these credentials",
+    -118: "the session was taken up over another connection",
+}
+_PATHS = {
+    "it is empty": "the path is empty",
+    "more than 4096 bytes": "the path has more than 4,096 bytes",
+    "no slash at its beginning": "the path does not begin with a slash",
+    "a character that paths do not have": "the path has a character that no path may have",
+    "an empty name": "the path has an empty name: two slashes follow one another, or it ends with a slash",
+    "a name that is . or ..": "the path has a name of one dot or of two",
+}
+_REASONS = {
+    errno.ENOSPC: "no storage space",
+    errno.ENOENT: "there is no such file",
+    errno.EACCES: "the system does not let it be read",
+}
+_UNANSWERED = (ConnectionLoss, SessionExpiredError, SessionMovedError, ConnectionClosedError)
+_CLIENTS_OWN = {
+    TooManyWatchesError: "65,536 paths of the side are watched, pending reads counted",
+    TooLargeError: "the payload has more than 1,048,575 bytes",
+}
+
+
+class Ending(Exception):
+    """How a command ends: its status, and what it says."""
+
+    def __init__(self, status: int, told: str = "") -> None:
+        super().__init__(told)
+        self.status, self.told = status, told
+
+
+def usage(words: str) -> Ending:
+    """The command line has a fault."""
+    return Ending(USAGE, f"error: {words}")
+
+
+def path_fault(path: str) -> Optional[Ending]:
+    """Why a word of the command line is no path of a node, or None if it is one."""
+    why = why_no_path(path)
+    return None if why is None else usage(f"{quoted(path)}: {_PATHS[why]}")
+
+
+def unread(name: str, error: OSError) -> Ending:
+    """A file that the words name gives no data."""
+    return Ending(UNREAD, f"unread: {name}: {_REASONS.get(error.errno or 0, 'a read failed')}")
+
+
+def unwritten(error: Exception, done: str) -> Ending:
+    """Standard output failed. Of a change that was made by then, `done` says so; whoever has closed the output wants to hear nothing."""
+    if isinstance(error, BrokenPipeError):
+        return Ending(STREAM)
+    number = error.errno if isinstance(error, OSError) else None
+    why = _REASONS.get(number, os.strerror(number).lower()) if number is not None else str(error)
+    return Ending(STREAM, f"error: standard output: {why}" + (f"\n{done}" if done else ""))
+
+
+def _late(path: str, was_sent: bool) -> Ending:
+    why = "it may or may not have happened" if was_sent else "it was not sent"
+    return Ending(UNANSWERED, f"no answer: {path}: its time is over, and {why}")
+
+
+def of_call(error: ZookeeperError, path: str, is_connected: bool) -> Ending:
+    """How a command ends whose call has met this. `is_connected` says whether the client has a server now."""
+    if isinstance(error, NoNodeError):
+        return Ending(NO_NODE, f"no node: {path}")
+    if isinstance(error, CallTimeoutError):
+        return _late(path, error.may_have_happened or is_connected)
+    if isinstance(error, NotConnectedError):
+        return _late(path, False)
+    if isinstance(error, ConnectionLoss):
+        return Ending(UNANSWERED, f"no answer: {path}: the connection was lost: the call may or may not have happened")
+    if isinstance(error, _UNANSWERED):
+        return Ending(UNANSWERED, f"no answer: {path}: {_CODES.get(error.code or 0, 'the session is closed or is being closed')}")
+    own = _CLIENTS_OWN.get(type(error)) or (str(error) if error.code is None else None)
+    if own is not None:
+        return Ending(REFUSED, f"refused: {path}: {own}")
+    words = _CODES.get(error.code or 0, "the server refuses it")
+    if isinstance(error, AuthFailedError) and error.args:
+        words = error.args[0]
+    return Ending(REFUSED, f"refused: {path}: {words} ({error.code})")
+
+
+class Dialled(NamedTuple):
+    """What came of an address when it was dialled last."""
+
+    address: str
+    reason: str
+
+
+def unconnected(path: str, dialled: list[Dialled]) -> Ending:
+    lines = [f"not connected: {path}: no server has answered in time"]
+    return Ending(UNCONNECTED, "\n".join([*lines, *(f"{address}: {reason}" for address, reason in dialled)]))

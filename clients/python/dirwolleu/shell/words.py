@@ -1,0 +1,355 @@
+"""The words of the command line: which commands there are, what each takes, and what its help says."""
+
+from __future__ import annotations
+
+import argparse
+import os
+from collections.abc import Sequence
+from typing import Any, NamedTuple, NoReturn, Optional
+
+from dirwolleu._hosts import hosts_of
+from dirwolleu.shell.commands import read_acl
+from dirwolleu.shell.faults import path_fault, unread, usage
+from dirwolleu.shell.printing import quoted
+
+PROGRAM = "python3 -m dirwolleu"
+WIDTH = 80
+MOST_SECONDS, MOST_MS, MOST_NODES, MOST_VERSION = 4_294_967, 2_147_483_647, 4_294_967_295, 2_147_483_647
+
+DESCRIPTION = "Shows and changes the nodes of ZooKeeper, and watches them.\nIf you have no ZooKeeper: demo, and serve."
+EPILOG = """\
+The names, options, exit statuses, sentences and keys of JSON are those of
+zk_shell. `{program} COMMAND --help` says more of each.
+
+a session:
+  $ export DIRWOLLEU_HOSTS=127.0.0.1:2181
+  $ {program} create --makepath /app/config one
+  /app/config
+  $ {program} get /app/config
+  one
+  $ {program} set /app/config two --version 0
+  $ {program} tree /app --text
+  /app ""
+  /app/config "two"
+  $ {program} stat /app/config --json
+  {{"czxid":4,"mzxid":5,...}}
+  $ {program} watch --data /app/config --text
+  0.000 dial 127.0.0.1:2181
+  ...
+"""
+NODE_EPILOG = """\
+SERVERS is one word: hosts with commas between them, as zk1:2181,zk2:2181. After
+them may stand a path, as in zk1:2181/app: then PATH is below it. Without
+SERVERS they are those of DIRWOLLEU_HOSTS, or 127.0.0.1:2181.
+
+exit status: 0 done; 2 a fault of the command line; 4 standard output failed;
+5 no node; 6 refused; 7 no server has answered in time; 8 no answer to the call,
+which may be done or not; 10 FILE is not read; 11 there are more nodes than
+--most; 130 interrupted. After 5, 6, 7 and 10 nothing was changed. A line on
+standard error says why it is not done.
+"""
+WATCH_EPILOG = """\
+SERVERS are as in `{program} get --help`. --data,
+--children and --tree may be used several times. With none, it prints lines of
+connections and the session alone.
+
+printed, each line with the seconds since the watch began before it:
+  dial ADDRESS             this host is tried
+  failed ADDRESS REASON    it could not be connected to
+  ended ADDRESS REASON     the connection has ended
+  state NAME               Idle, Expired or Closed; and Connected, with the
+                           address, the session and its timeout
+  session new              after state Expired: nothing is kept any more
+  PATH data full DATA SEVEN good last ZXID
+                           SEVEN is czxid mzxid ctime mtime version
+                           ephemeralOwner dataLength
+  PATH names N NAME.. PZXID good last ZXID
+  PATH does not exist last ZXID
+  PATH data none last ZXID, PATH names none last ZXID
+                           nothing is kept
+  PATH refused code N WORDS
+                           a read was refused, and is tried again
+  bound N WORDS            a tree has more nodes than --most, and is not watched
+Each answer is good when it is printed: the servers' history says so at ZXID.
+zk_shell also prints when an answer is stale, and a tree node by node; here a
+tree is printed when all of it is known, of one moment. Data are in hex, \\e for
+no bytes and \\0 for null; with --text in quotes if they are text.
+
+exit status: 0 the time of --for is over; 2 a fault of the command line; 4
+standard output failed, or was closed; 6 the credentials are refused; 9 the time
+is over, and no server has ever accepted the session; 130 interrupted.
+"""
+SERVE_EPILOG = """\
+It prints its address on one line, and serves until it is interrupted, also in
+the background and without standard input. Whatever it holds ends with it.
+
+the lines of a script, of which those before the first `wait` are done before
+the address is printed:
+  create PATH [TEXT]   makes a node, as another client does; so do the next two
+  set PATH [TEXT]      writes a node
+  delete PATH          deletes a node
+  drop                 closes all connections; sessions and nodes stay
+  expire               ends all sessions, with their ephemeral nodes
+  stop                 closes all connections and listens no more
+  restart              listens again, with all nodes and sessions
+  wait SECONDS         does nothing for so long
+  # ...                is a comment
+
+exit status: 1 a line of the script is refused, or it can't listen at the port;
+2 a fault of the command line; 130 interrupted.
+"""
+
+
+class Option(NamedTuple):
+    """An option: what its value is called, if it takes one, what help says of it, and how it is taken."""
+
+    value: Optional[str]
+    about: str
+    how: dict[str, Any] = {}
+
+
+OPTIONS = {
+    "wait": Option("SECONDS", "how long to wait for all answers (default: 10)", {"default": "10"}),
+    "json": Option(None, "print JSON, an object a line"),
+    "hex": Option(None, "data are hex, \\e for no bytes, \\0 for null"),
+    "raw": Option(None, "print the bytes as they are, and nothing else"),
+    "null": Option(None, "the data are null, with no DATA"),
+    "from": Option("FILE", "the data are the bytes of a file; - is standard input", {"dest": "file"}),
+    "version": Option("N", "the version that the node is to have; else any"),
+    "sequential": Option(None, "end the name with a number that the server gives"),
+    "makepath": Option(None, "make the nodes above it too"),
+    "depth": Option("N", "how many levels below PATH; else all"),
+    "most": Option("N", "how many nodes at most (default: 10000)", {"default": "10000"}),
+    "text": Option(None, "print data in quotes if they are text"),
+    "data": Option("PATH", "a node whose data to watch", {"action": "append", "default": []}),
+    "children": Option("PATH", "a node below which to watch the names", {"action": "append", "default": []}),
+    "tree": Option("PATH", "a node to watch with all below it", {"action": "append", "default": []}),
+    "timeout": Option("MS", "the session timeout to ask for (default: 30000)", {"default": "30000"}),
+    "for": Option("SECONDS", "how long to watch; else until it is interrupted", {"dest": "duration"}),
+    "auth": Option("SCHEME:TEXT", "credentials, as digest:bob:secret", {"action": "append", "default": []}),
+    "ca": Option("FILE", "speak TLS, and trust these certificates"),
+    "cert": Option("FILE", "the client's own certificate, for TLS"),
+    "key": Option("FILE", "the key of that certificate"),
+    "port": Option("PORT", "0 is any free one (default: 2181)", {"default": "2181"}),
+    "script": Option("FILE", "do the lines of this file; - is standard input"),
+    "seed": Option("N", "the history follows of it (default: a new one)"),
+    "slow": Option(None, "at a pace to read along"),
+}
+OPTIONS_OF_WATCH = {"most": Option("N", "how many nodes of one tree at most (default: 1000)", {"default": "1000"})}
+CONNECTING = ("auth", "ca", "cert", "key")
+
+
+class Command(NamedTuple):
+    """A command: its words besides options, what it does, and its options."""
+
+    words: str
+    about: str
+    options: tuple[str, ...]
+    epilog: str = NODE_EPILOG
+
+
+_NODE = "[SERVERS] PATH"
+COMMANDS = {
+    "get": Command(_NODE, "the data of a node", ("wait", "json", "hex", "raw")),
+    "ls": Command(_NODE, "the names below a node, a line each", ("wait", "json")),
+    "stat": Command(_NODE, "what is known of a node, a line for each field", ("wait", "json")),
+    "tree": Command(
+        _NODE,
+        "the path of a node and of each one below it,\nand with --text their data, all of it of one moment",
+        ("wait", "json", "depth", "most", "text"),
+    ),
+    "set": Command(f"{_NODE} [DATA]", "sets the data of a node", ("wait", "hex", "null", "from", "version")),
+    "create": Command(
+        f"{_NODE} [DATA]",
+        "makes a node that stays, and prints its path",
+        ("wait", "hex", "null", "from", "sequential", "makepath", "json"),
+    ),
+    "delete": Command(_NODE, "deletes a node that has no children", ("wait", "version")),
+    "deleteall": Command(_NODE, "deletes a node and all below it, one after the other", ("wait",)),
+    "watch": Command(
+        "[SERVERS]",
+        "a line at each change of the nodes that it watches",
+        ("data", "children", "tree", "most", "timeout", "for", "text", "json"),
+        WATCH_EPILOG,
+    ),
+    "getacl": Command(_NODE, "the ACL of a node, a line for each SCHEME:ID:PERMS", ("wait", "json")),
+    "setacl": Command(
+        f"{_NODE} ACL",
+        "sets the ACL of a node\n\nACL is SCHEME:ID:PERMS, several with commas between them, of the letters c, d,\nr, w and a, as world:anyone:cdrwa.",
+        ("wait", "version"),
+    ),
+    "sync": Command(_NODE, "has the server take in all that was done", ("wait",)),
+    "serve": Command("", "a ZooKeeper server in memory, at a port of 127.0.0.1", ("port", "script"), SERVE_EPILOG),
+    "demo": Command("", "shows in some seconds what a client knows, and at which zxid", ("seed", "slow"), ""),
+}
+
+
+class _Layout(argparse.RawDescriptionHelpFormatter):
+    """Lines of 80 columns at most, whatever the terminal has."""
+
+    def __init__(self, prog: str) -> None:
+        super().__init__(prog, max_help_position=26, width=WIDTH)
+
+
+class _Parser(argparse.ArgumentParser):
+    def error(self, message: str) -> NoReturn:
+        raise usage(f"{message}\n\nFor more information, try '--help'.")
+
+
+def _parser_of(name: str) -> _Parser:
+    """What reads the options of a command. Its other words are read by `_place`."""
+    command = COMMANDS[name]
+    connects = command.epilog in (NODE_EPILOG, WATCH_EPILOG)
+    options = [*command.options, *(CONNECTING if connects else ())]
+    parser = _Parser(
+        f"{PROGRAM} {name}",
+        usage=f"{PROGRAM} {name} {' '.join(filter(None, ['[OPTIONS]', command.words]))}",
+        description=command.about,
+        epilog=command.epilog.format(program=PROGRAM),
+        formatter_class=_Layout,
+        allow_abbrev=False,
+    )
+    for option in options:
+        value, about, how = (OPTIONS_OF_WATCH.get(option) if name == "watch" else None) or OPTIONS[option]
+        if value is None:
+            parser.add_argument(f"--{option}", action="store_true", help=about)
+        else:
+            parser.add_argument(f"--{option}", metavar=value, help=about, **how)
+    return parser
+
+
+def general_help() -> str:
+    """What help says without a command."""
+    width = max(map(len, COMMANDS)) + 2
+    rows = [f"  {name:<{width}}{command.about.splitlines()[0].rstrip(',')}" for name, command in COMMANDS.items()]
+    return "\n".join([
+        f"usage: {PROGRAM} COMMAND [OPTIONS] [SERVERS] [PATH] [DATA]", "", DESCRIPTION, "", "commands:", *rows, "",
+        EPILOG.format(program=PROGRAM),
+    ])  # fmt: skip
+
+
+def _place(name: str, words: Sequence[str]) -> dict[str, str]:
+    """The words of a command that are no options, by what they are. A path begins with a slash, and servers don't."""
+    command, left, found = COMMANDS[name], list(words), dict[str, str]()
+    wanted = command.words.split()
+    if "[SERVERS]" in wanted:
+        if left and not left[0].startswith("/"):
+            found["SERVERS"] = left.pop(0)
+        wanted.remove("[SERVERS]")
+    for kind in wanted:
+        if left:
+            found[kind.strip("[]")] = left.pop(0)
+    lacking = [kind for kind in wanted if not kind.startswith("[") and kind not in found]
+    if lacking:
+        lines = "".join(f"\n  <{kind}>" for kind in lacking)
+        raise usage(f"the following required arguments were not provided:{lines}\n\nFor more information, try '--help'.")
+    if left:
+        raise usage(f"unexpected argument '{left[0]}' found\n\nFor more information, try '--help'.")
+    return found
+
+
+def _number(word: str, least: int, most: int, what: str) -> int:
+    if not word.isascii() or not word.isdigit() or word != str(int(word)) or not least <= int(word) <= most:
+        raise usage(f"{quoted(word)} is no {what} from {least} to {most}")
+    return int(word)
+
+
+def _read_numbers(chosen: argparse.Namespace) -> None:
+    given = vars(chosen)
+    for name, least, most, what in (
+        ("wait", 1, MOST_SECONDS, "time to wait: a number of seconds"),
+        ("duration", 1, MOST_SECONDS, "time to watch: a number of seconds"),
+        ("timeout", 1, MOST_MS, "timeout: a number of milliseconds"),
+        ("depth", 0, MOST_NODES, "depth: a number"),
+        ("most", 1, MOST_NODES, "number of nodes: a number"),
+        ("version", 0, MOST_VERSION, "version: a number"),
+        ("port", 0, 65_535, "port: a number"),
+    ):
+        if given.get(name) is not None:
+            given[name] = _number(given[name], least, most, what)
+    if "version" in given and chosen.version is None:
+        chosen.version = -1
+
+
+def _read_seed(chosen: argparse.Namespace) -> None:
+    if getattr(chosen, "seed", None) is not None:
+        try:
+            chosen.seed = int(chosen.seed)
+        except ValueError:
+            raise usage(f"{quoted(chosen.seed)} is no seed: a number") from None
+
+
+def _read_servers(chosen: argparse.Namespace, given: Optional[str]) -> None:
+    chosen.hosts = given if given is not None else os.environ.get("DIRWOLLEU_HOSTS") or "127.0.0.1:2181"
+    hosts, slash, below = chosen.hosts.partition("/")
+    for server in hosts.split(","):
+        try:
+            hosts_of(server)
+        except ValueError:
+            raise usage(f"{quoted(server)} is no server: HOST:PORT, as zk1:2181 or [::1]:2181") from None
+    chosen.chroot = slash + below if below else ""
+    _check_path(chosen.chroot or "/", "")
+
+
+def _check_path(path: str, chroot: str) -> None:
+    """Raises `Ending` if this is no path, or is none below the servers' one."""
+    fault = path_fault(path) or path_fault(chroot + path if path != "/" else chroot or "/")
+    if fault is not None:
+        raise fault
+
+
+def _read_data(chosen: argparse.Namespace, word: Optional[str]) -> None:
+    """The data of `set` and `create`. A file is read later, by `read_file`."""
+    chosen.data = None
+    beside = word if word is not None else chosen.file
+    if chosen.file is not None and (word is not None or chosen.null or chosen.hex) or word is not None and chosen.null:
+        raise usage(f"{quoted(beside or '')}: give DATA, with --hex where it is hex, or --null, or --from FILE")
+    if chosen.file is None and word is None and not chosen.null:
+        raise usage("DATA is missing: give it, or --from FILE, or --null for null data")
+    if word is not None:
+        chosen.data = _bytes_of(word) if chosen.hex else os.fsencode(word)
+
+
+def _bytes_of(word: str) -> Optional[bytes]:
+    if word in ("\\0", "\\e"):
+        return None if word == "\\0" else b""
+    try:
+        if word.isalnum() and word.isascii():
+            return bytes.fromhex(word)
+    except ValueError:
+        pass
+    raise usage(f"{quoted(word)} is no hex: two digits for each byte, \\e for no bytes, or \\0 for null")
+
+
+def read_file(chosen: argparse.Namespace) -> None:
+    """Reads the file that the words name, before a server is asked. Raises `Ending`."""
+    if getattr(chosen, "file", None) is None:
+        return
+    try:
+        with open(0 if chosen.file == "-" else chosen.file, "rb", closefd=chosen.file != "-") as file:
+            chosen.data = file.read()
+    except OSError as error:
+        raise unread(chosen.file, error) from error
+
+
+def read(name: str, words: Sequence[str]) -> argparse.Namespace:
+    """What the words after a command's name say. Raises `Ending`, and `SystemExit` after it has printed help."""
+    end = words.index("--") if "--" in words else len(words)
+    chosen, rest = _parser_of(name).parse_known_args(words[:end])
+    strange = next((word for word in rest if word.startswith("-") and word != "-"), None)
+    if strange is not None:
+        raise usage(f"unexpected argument '{strange}' found\n\nFor more information, try '--help'.")
+    found = _place(name, [*rest, *words[end + 1 :]])
+    _read_numbers(chosen)
+    _read_seed(chosen)
+    if "auth" in chosen:
+        _read_servers(chosen, found.get("SERVERS"))
+        for path in [*([found["PATH"]] if "PATH" in found else ()), *(chosen.data + chosen.children + chosen.tree if name == "watch" else ())]:
+            _check_path(path, chosen.chroot)
+    chosen.command, chosen.path = name, found.get("PATH", "")
+    if "null" in chosen:
+        _read_data(chosen, found.get("DATA"))
+    if "ACL" in found:
+        chosen.acl = found["ACL"]
+        read_acl(chosen)
+    return chosen

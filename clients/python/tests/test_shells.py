@@ -1,0 +1,251 @@
+"""`zk_shell` and `python3 -m dirwolleu` side by side over one server in memory: the same words give the same status, output and sentences.
+
+The program is the one of `prebuilt/`, or the one that DIRWOLLEU_SHELL names.
+"""
+
+from __future__ import annotations
+
+import contextlib
+import io
+import os
+import re
+import socket
+import subprocess
+import sys
+import threading
+import unittest
+from typing import Callable
+
+from support import CLIENTS, WAIT
+
+from dirwolleu.__main__ import main
+from dirwolleu.shell.words import COMMANDS
+from dirwolleu.testing import Server
+
+SHELL = os.environ.get("DIRWOLLEU_SHELL") or str(CLIENTS.parent / "prebuilt/x86_64-linux/zk_shell")
+MANUAL = CLIENTS.parent / "docs/zk_shell.1"
+ENVIRONMENT = {**os.environ, "PYTHONPATH": str(CLIENTS / "python")}
+ONLY_HERE = {"auth", "ca", "cert", "key", "makepath", "text"}
+"""The options that `zk_shell` lacks: TLS, credentials, nodes above a node that is made, and `tree` with data."""
+BOTH = ("get", "ls", "stat", "tree", "set", "create", "delete", "watch")
+
+CHANGES: list[list[str]] = [
+    ["create", "/a", "é x"], ["create", "/a/null", "--null"], ["create", "/a/bytes", "--hex", "ff00"], ["create", "/a/empty", ""],
+    ["create", "/a/marked", "hex:1", "--json"], ["create", "/a/s-", "x", "--sequential"], ["create", "/a/é z", "a\tb\nc"],
+    ["create", "/a/esc", "--hex", "1b5b326a"], ["create", "/a/-1", "--", "-x"], ["create", "/", "x"], ["create", "/a", "x"],
+    ["create", "/x/y", "z"], ["create", "/a/none"], ["create", "/a/none", "x", "--null"], ["create", "/a/none", "zz", "--hex"],
+    ["create", "/a/none", "--hex", "abc"], ["create", "/a/none", "--from", "/none"], ["create", "/a/none", "x", "--from", "/none"],
+    ["set", "/a", "y", "--version", "0"], ["set", "/a", "z", "--version", "0"], ["set", "/a/null", "w", "--version", "x"],
+    ["set", "/none", "w"], ["set", "/a/bytes", "--hex", "\\e"], ["set", "/a/bytes", "--hex", "\\0"], ["set", "/a/bytes"],
+    ["set", "--version=1", "/a", "é x"], ["delete", "/a"], ["delete", "/none"], ["delete", "/a/empty", "--version", "3"], ["delete", "/a/empty"],
+]  # fmt: skip
+"""Each is done by both, each at a server of its own."""
+PATHS = ("/", "/a", "/none", "/a/null", "/a/bytes", "/a/é z")
+DATA = ("/a", "/a/esc", "/a/marked", "/a/null", "/a/bytes", "/a/-1")
+EACH = [[command, path] for command in ("get", "ls", "stat", "tree") for path in PATHS]
+READS: list[list[str]] = [
+    *EACH, *([*words, "--json"] for words in EACH), *(["get", path, how] for path in DATA for how in ("--hex", "--raw", "--json")),
+    ["get", "/a", "--json", "--raw"], ["get", "--hex", "/a", "--raw"], ["tree", "/", "--most", "3"], ["tree", "/", "--most", "3", "--json"],
+    ["tree", "/", "--depth", "0"], ["tree", "/", "--depth", "1"], ["tree", "/a", "--depth", "x"], ["tree", "/a", "--most", "0"],
+    ["get", "a"], ["get", "/a/"], ["get", "/a//b"], ["get", "/a/../b"], ["get", "/\x01"], ["get", "/" + "a" * 4096], ["get", ""], ["get", "/a", "--wait", "0"],
+    ["get", "/a", "--wait", "x"], ["get", "/a", "--wait", "4294968"], ["get", "/a/esc"], ["get", "/a/marked"], ["get", "/a/-1"],
+]  # fmt: skip
+LINES: list[list[str]] = [
+    [], ["nonsense"], ["get", "/a", "--nope"], ["get", "/a", "x"], ["get"], ["get", "/a", "--wait"], ["--json", "get", "/a"], ["watch", "--for", "0"],
+    ["get", "/a", "--wai", "3"], ["create", "/a", "-x"], ["watch", "--data", "a"], ["watch", "--timeout", "0"], ["watch", "--most", "x"],
+]  # fmt: skip
+"""Command lines that are refused in words of their own by whatever reads them."""
+
+
+def with_hosts(hosts: str, words: list[str]) -> list[str]:
+    """Words with the servers, that wait as long as a busy machine takes unless they say how long."""
+    waits = words[:1] and words[0] in BOTH[:-1] and hosts and "--wait" not in words and "--wai" not in words
+    return [*words[:1], *(["--wait", "60"] if waits else []), *([hosts] if words and hosts else []), *words[1:]]
+
+
+def masked(text: str) -> str:
+    """Without the moments, which differ between two servers."""
+    return re.sub(r'\b(ctime"?[ :]|mtime"?[ :])\d+', r"\1T", text)
+
+
+FORMS: list[list[str]] = [[], ["--text"], ["--json"]]
+
+
+def is_of_both(line: str) -> bool:
+    return not re.search(r"Connecting|\bstale\b", line)
+
+
+def plain(line: str) -> str:
+    """A line of a watch without its moment and its session."""
+    return re.sub(r'^\d+\.\d+ |,"ms":\d+', "", re.sub(r'session"?[ :]\d+', "session S", line.rstrip("\n")))
+
+
+class Watched:
+    """A watch that runs, and the lines that it has printed."""
+
+    def __init__(self, program: list[str], hosts: str, form: list[str]) -> None:
+        subjects = ["--data", "/a", "--children", "/a", "--children", "/none", "--data", "/later", "--tree", "/a/b"]
+        self._process = subprocess.Popen([*program, "watch", hosts, *subjects, *form], stdout=subprocess.PIPE, text=True, env=ENVIRONMENT)
+        self.lines = list[str]()
+        self._news = threading.Condition()
+        self._reader = threading.Thread(target=self._read)
+
+    def __enter__(self) -> Watched:
+        self._reader.start()
+        return self
+
+    def __exit__(self, *_: object) -> None:
+        self._process.kill()
+        self._reader.join(WAIT)
+        self._process.communicate()
+
+    def _read(self) -> None:
+        assert self._process.stdout is not None
+        for line in self._process.stdout:
+            if is_of_both(line):
+                with self._news:
+                    self.lines.append(plain(line))
+                    self._news.notify()
+
+    def wait(self, count: int) -> None:
+        """Waits until it has printed this number of lines."""
+        with self._news:
+            if not self._news.wait_for(lambda: len(self.lines) >= count, WAIT):
+                raise AssertionError(f"not {count} lines but {self.lines}")
+
+
+@unittest.skipUnless(os.access(SHELL, os.X_OK), "there is no zk_shell")
+class ShellsTest(unittest.TestCase):
+    is_long = True
+
+    def run_zk(self, hosts: str, words: list[str]) -> tuple[int, str, str]:
+        done = subprocess.run([SHELL, *with_hosts(hosts, words)], stdin=subprocess.DEVNULL, capture_output=True, timeout=3 * WAIT)
+        return done.returncode, masked(done.stdout.decode()), done.stderr.decode()
+
+    def run_python(self, hosts: str, words: list[str]) -> tuple[int, str, str]:
+        """In this process, whose start takes no time."""
+        spelled, said = io.BytesIO(), io.StringIO()
+        printed = io.TextIOWrapper(spelled, encoding="utf-8")
+        with contextlib.redirect_stdout(printed), contextlib.redirect_stderr(said):
+            try:
+                status = main(with_hosts(hosts, words))
+            except SystemExit as end:
+                status = int(end.code or 0)
+        printed.flush()
+        return status, masked(spelled.getvalue().decode()), said.getvalue()
+
+    def test_changes(self) -> None:
+        with Server() as one, Server() as other:
+            for words in CHANGES:
+                self.assertEqual(self.run_zk(one.hosts, words), self.run_python(other.hosts, words), words)
+            self.assertEqual(self.run_zk(one.hosts, ["tree", "/", "--json"]), self.run_python(other.hosts, ["tree", "/", "--json"]))
+
+    def test_reads(self) -> None:
+        with Server() as server:
+            for words in CHANGES:
+                self.run_python(server.hosts, words)
+            for words in READS:
+                self.assertEqual(self.run_zk(server.hosts, words), self.run_python(server.hosts, words), words)
+
+    def test_servers(self) -> None:
+        """Chroots, several hosts, and those that are none or away."""
+        with Server() as server:
+            server.create("/a", b"one")
+            server.create("/a/b", b"two")
+            for hosts, *words in (
+                (f"{server.hosts}/a", "get", "/b"), (f"{server.hosts}/a", "get", "/"), (f"{server.hosts}/a", "create", "/c", "x"),
+                (f"{server.hosts}/a", "tree", "/"), (f"{server.hosts}/none", "get", "/b"), (f"{server.hosts}/", "get", "/a"),
+                (f"127.0.0.1:1,{server.hosts}", "get", "/a"), ("127.0.0.1:1", "get", "/a", "--wait", "3"), ("a:x", "get", "/a"),
+                ("127.0.0.1:99999", "get", "/a"), (f"{server.hosts}//a", "get", "/a"), (f"{server.hosts},", "get", "/a"),
+                ("host.invalid:1", "get", "/a", "--wait", "3"), (f"{server.hosts}/a", "delete", "/c"),
+            ):  # fmt: skip
+                zk = self.run_zk(hosts, words)
+                if words[0] == "create":
+                    server.delete("/a/c")
+                if words[0] == "delete":
+                    server.create("/a/c")
+                self.assertEqual(zk, self.run_python(hosts, words), (hosts, words))
+
+    def test_a_server_that_accepts_no_session(self) -> None:
+        with socket.create_server(("127.0.0.1", 0)) as listener:
+            hosts, words = f"127.0.0.1:{listener.getsockname()[1]}", ["get", "/a", "--wait", "3"]
+            zk = self.run_zk(hosts, words)
+            self.assertEqual(zk, self.run_python(hosts, words))
+            self.assertIn("connected, but no session was accepted", zk[2])
+
+    def test_lines_that_ask_for_nothing(self) -> None:
+        for words in LINES:
+            zk, python = self.run_zk("127.0.0.1:1", words), self.run_python("127.0.0.1:1", words)
+            self.assertEqual((zk[:2], zk[2][:7]), (python[:2], python[2][:7]), words)
+
+    def test_output_that_fails(self) -> None:
+        with Server() as server:
+            for words in (["get", "/"], ["tree", "/"], ["watch", "--data", "/"]):
+                ends = []
+                for program in ([SHELL], [sys.executable, "-m", "dirwolleu"]):
+                    with open("/dev/full", "wb") as full:
+                        command = [*program, words[0], server.hosts, *words[1:]]
+                        done = subprocess.run(command, stdout=full, stderr=subprocess.PIPE, text=True, env=ENVIRONMENT, timeout=3 * WAIT)
+                    ends.append((done.returncode, done.stderr))
+                self.assertEqual(ends[0], ends[1], words)
+
+    def test_options_have_the_same_names(self) -> None:
+        for command in BOTH:
+            _, printed, _ = self.run_zk("", [command, "--help"])
+            theirs = set(re.findall(r"^      --([a-z]+)", printed, re.M))
+            ours = set(re.findall(r"^ +--([a-z]+)", self.run_python("", [command, "--help"])[1], re.M))
+            self.assertLessEqual(theirs, ours, command)
+            self.assertLessEqual(ours - theirs, ONLY_HERE, command)
+            self.assertIn(command, COMMANDS)
+
+    def test_watches_print_the_same_lines(self) -> None:
+        """Except those that zk_shell alone prints: that it connects, and that an answer is stale."""
+        for form in FORMS:
+            with Server() as server:
+                for path, data in (("/a", b"one"), ("/a/b", b"\xff"), ("/a/b/c", "é z".encode())):
+                    server.create(path, data)
+                changes: list[tuple[Callable[[], object], int]] = [
+                    (lambda: server.zxid, 10), (lambda: server.set("/a", b"two\tx"), 11), (lambda: server.create("/later", b""), 12),
+                    (lambda: server.create("/a/b/d", b"5"), 15), (lambda: server.set("/a/b/c", b""), 16),
+                    (lambda: server.delete("/a/b/d"), 19), (lambda: server.delete("/later"), 20), (server.expire, 43),
+                ]  # fmt: skip
+                with Watched([SHELL], server.hosts, form) as zk, Watched([sys.executable, "-m", "dirwolleu"], server.hosts, form) as python:
+                    for change, count in changes:
+                        change()
+                        for one in (zk, python):
+                            one.wait(count)
+                self.assertEqual(sorted(zk.lines), sorted(python.lines))
+
+    def test_the_end_of_a_watch(self) -> None:
+        with Server() as server:
+            for seconds in ("2", "10", "40"):  # a busy machine takes longer
+                words = ["watch", "--data", "/", "--children", "/none", "--for", seconds]
+                ends = [run(server.hosts, words) for run in (self.run_zk, self.run_python)]
+                if all("/none does not exist" in printed for _, printed, _ in ends):
+                    break
+        self.assertEqual([(status, said) for status, _, said in ends], [(0, ""), (0, "")])
+        lines = [[plain(line) for line in printed.splitlines() if is_of_both(line)] for _, printed, _ in ends]
+        self.assertEqual(lines[0], lines[1])
+        self.assertEqual(lines[0][-3:], ["state Closed", "/ data none last 0", "/none names none last 0"])
+
+    def test_a_watch_that_never_connects(self) -> None:
+        for seconds in ("1", "10", "40"):
+            ends = [run("127.0.0.1:1", ["watch", "--data", "/a", "--for", seconds]) for run in (self.run_zk, self.run_python)]
+            if all("failed" in printed for _, printed, _ in ends):
+                break
+        self.assertEqual([(status, said) for status, _, said in ends], [(9, ""), (9, "")])
+        kinds = [set(re.sub(r"(?m)^\d+\.\d+ ", "", printed).splitlines()) for _, printed, _ in ends]
+        self.assertEqual(kinds[0], kinds[1])
+
+    def test_the_manual_has_each_word_of_help(self) -> None:
+        manual = MANUAL.read_text(encoding="utf-8").replace("\\-", "-")
+        _, printed, _ = self.run_zk("", ["--help"])
+        for command in re.findall(r"^  (\w+) ", printed.split("Commands:")[1].split("  help ")[0], re.M):
+            self.assertRegex(manual, rf"(?m)^\.Cm .*\b{command}\b", command)
+            _, printed, _ = self.run_zk("", [command, "--help"])
+            for option in re.findall(r"^      --([a-z]+)", printed, re.M):
+                self.assertIn(f"-{option}", manual, (command, option))
+
+
+if __name__ == "__main__":
+    unittest.main()
