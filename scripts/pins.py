@@ -14,10 +14,9 @@ from collections import Counter
 from collections.abc import Iterable, Iterator, Mapping
 from dataclasses import dataclass, field
 from functools import cache, cached_property
-from pathlib import Path
 
-TOP = Path(__file__).resolve().parent.parent
-CRATES = TOP / "crates"
+from repository import CRATES, TOP
+
 # The crates of tests state nothing that a caller has.
 NOT_PINNED = ("test_layers/", "test_clients/", "test_scripts/", "test_links/", "test_callers/")
 
@@ -59,6 +58,10 @@ class Pin:
     @property
     def key(self) -> str:
         return f"{self.file} {self.name}"
+
+    @property
+    def crate(self) -> str:
+        return self.file.partition("/")[0]
 
 
 @dataclass(frozen=True)
@@ -407,7 +410,7 @@ def parts_of(pin: Pin) -> dict[str, str]:
 # STATEMENTS.lock
 
 LOCK = TOP / "STATEMENTS.lock"
-HEAD = "# What the crates state. scripts/statements writes this, and scripts/since says in words what changed\n"
+HEAD = "# What the crates state. scripts/statements writes this, and scripts/statements --since says in words what changed\n"
 
 
 def lock_of(pins: Mapping[str, Pin]) -> str:
