@@ -91,7 +91,8 @@ class Edit:
 
     def read(self) -> tuple[dict[str, str], str]:
         """The files as the edit leaves them, and why it cannot be applied, if it cannot."""
-        file, old, texts, pairs = "", "", {}, 0
+        texts: dict[str, str] = {}
+        file, old, pairs = "", "", 0
         for word, rest in self.fields:
             if word == "file":
                 file = rest.strip()
@@ -129,6 +130,12 @@ class Edit:
     def holder(self) -> Function | None:
         """The function whose body or clauses the edit changes, where it changes one function and nothing else."""
         return self.enclosing(lambda it: it.start)
+
+    @property
+    def body(self) -> Function:
+        """The function whose body it changes, where it does."""
+        assert self.within is not None
+        return self.within
 
     def enclosing(self, begin: Callable[[Function], int]) -> Function | None:
         """The innermost function that has all that the edit changes from this place of its own on."""
@@ -206,7 +213,7 @@ def owner_of(text: str, start: int, indent: int) -> tuple[str, bool]:
         return "", False
     kind, rest = heads[-1][1], re.split(r"\swhere\s", heads[-1][2])[0].strip()
     if kind.endswith("trait "):
-        return re.match(r"\w+", rest)[0], True
+        return re.split(r"\W", rest)[0], True
     given, rest = split_generics(rest)
     trait, _, kind_of = rest.rpartition(" for ")
     # (a check gives `drop` the name of a method of the type)
@@ -279,7 +286,7 @@ def all_definitions() -> list[Definition]:
 
 LIST = PAGES / "LIST.md"
 PAGE = TOP / "docs/WRONG_BODIES.md"
-HEAD = """[//]: # (made by scripts/wrong_bodies from the edits in crates/*/wrong_bodies and in crates/*/must-fail)
+HEAD_OF_LIST = """[//]: # (made by scripts/wrong_bodies from the edits in crates/*/wrong_bodies and in crates/*/must-fail)
 
 # All wrong bodies
 
@@ -317,7 +324,7 @@ def counts_of(found: dict[str, list[Edit]]) -> str:
 
 
 def list_of(found: dict[str, list[Edit]]) -> str:
-    parts = [HEAD, counts_of(found)]
+    parts: list[str] = [HEAD_OF_LIST, counts_of(found)]
     for crate, of_one in found.items():
         note = CRATES / crate / "wrong_bodies/README.md"
         if of_one:

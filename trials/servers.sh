@@ -84,11 +84,26 @@ start_server() {
     servers[$1]=$!
 }
 
+# Starts a server by itself under a name, with further settings, and sets `port` to its port.
+serve_alone() {
+    port=$(free_ports 1)
+    configure "$1" 1 "$port" "${2-}"
+    start_server "$1"
+    within 60 serves "$port" || fail "the server does not serve"
+}
+
 stop_server() {
     kill "${servers[$1]}"
     within 20 is_gone "${servers[$1]}" || kill -KILL "${servers[$1]}"
     wait "${servers[$1]}" 2>/dev/null || true
     unset "servers[$1]"
+}
+
+stop_servers() {
+    local name
+    for name in "${!servers[@]}"; do
+        stop_server "$name"
+    done
 }
 
 # Ends a server at once: it has no time to say or to write anything.
