@@ -863,7 +863,8 @@ contend_by_curator() {
     for jar in zookeeper-jute slf4j-api curator-client curator-framework curator-recipes guava netty-all; do
         classes+=:/usr/share/java/$jar.jar
     done
-    java -Xmx256m -cp "$classes" "$top/trials/CuratorContenders.java" "$1" "$2" "$folder/contest.out" >>"$folder/outside.log" 2>&1
+    java -Xmx256m -cp "$classes" "$top/clients/python/tests/CuratorContenders.java" "127.0.0.1:$1" /contest /contest-judge 10 "$2" lock \
+        "$folder/contest.out" >>"$folder/outside.log" 2>&1
 }
 
 has_curator() {
