@@ -19,7 +19,8 @@ from dataclasses import dataclass, field
 from functools import cache
 from typing import Union
 
-from pins import Part, Pin, pins_of, texts_here
+from pins import Part, Pin, lines_of_specs, pins_of, texts_here
+from pins import definitions as definitions_in
 from repository import CRATES, TOP, crates_below, crates_listed, static_libraries
 
 Key = tuple[str, str]
@@ -28,7 +29,6 @@ Group = list[Union[str, "Group"]]
 """Tokens, with what is in brackets as a group that begins with its bracket."""
 
 TOKEN = re.compile(r"[^\W\d][\w']*(?:\.\w+)*|\.\w+(?:\.\w+)*|\d+|[(){}\[\];]|[^\s\w(){}\[\];]+")
-HEAD = re.compile(r" *(?:(?:abbrev|unfoldable|opaque) (?:pub )?|(?:pub )?(data|record|module) )(\S+)")
 IMPORT = re.compile(r"^(?:pub |ghost )*use (?:Rattle\.)?([\w.]+?)(?:\.{([^}]*)}| as (\w+))?;?$", re.M)
 DECLARED = re.compile(r"^(?:pub(?:\(crate\))? )?(?:enum|struct|const|type) (\w+)\b(?:[^{;\n]*{.*?^}|[^;]*;)", re.M | re.S)
 MODEL = re.compile(r"^impl.*? Model for (\w+).*? {\n(.*?)^}", re.M | re.S)
@@ -101,42 +101,22 @@ def scope_of(text: str) -> Scope:
     return scope
 
 
-def whole_heads(text: str) -> list[str]:
-    """The lines of a file of specs/, each head of a type or a block on one of them, up to its `where`."""
-    lines: list[str] = []
-    is_open = False
-    for line in re.sub(r"(^|\s)-- .*", "", text).splitlines():
-        lines[-1:] = [f"{lines[-1]} {line.strip()}"] if is_open else lines[-1:] + [line.rstrip()]
-        found = HEAD.match(lines[-1])
-        is_open = bool(found and found[1] and re.match(r"(  )?\S", lines[-1]) and not lines[-1].endswith("where"))
-    return lines
-
-
 def read_specs(file: str, text: str) -> None:
-    """Takes in the definitions of a file of specs/, each with its lines and with the blocks that it is in."""
+    """Takes in the definitions of a file of specs/, each with its lines, of which a head of a type is one, and with the block that it is in."""
     module = file.removesuffix(".antt").replace("/", ".")
     scope = scopes[module] = scope_of(text)
-    block: list[Key] = []
-    current: Definition | None = None
-    name = ""
-    for line in whole_heads(text):
-        indent = len(line) - len(line.lstrip())
-        if not line or re.match(r"(pub )?(use|mod) |infix", line):
-            continue
-        block = block if indent else []
-        head = HEAD.match(line)
-        if head and indent == 2 * len(block):
-            name = line if head[1] == "module" else head[2]
-            current = Definition(file, [], scope, head[1] or "", indent, block)
-            block = [(module, line)] if head[1] == "module" else block
-            definitions[module, name], scope.names[name] = current, (module, name)
-        elif indent == 0 and re.match(r"(pub )?\S+ :", line):
-            current = None
-        if current:
-            current.lines.append(line)
-            shared = re.match(r" +(\S+(?: \S+)*?) : ", line) if current.kind == "data" else None
+    for one in definitions_in(lines_of_specs(text)):
+        block = [(module, line) for line in one.around]
+        definitions.update({key: Definition(file, [key[1]], scope, "module") for key in block})
+        if one.how:
+            end = one.end if one.kind else 1
+            lines = [" ".join([one.lines[0], *map(str.strip, one.lines[1:end])]), *one.lines[end:]]
+            definitions[module, one.name] = Definition(file, lines, scope, one.kind, one.indent, block)
+            scope.names[one.name] = (module, one.name)
+        for line in one.lines if one.kind == "data" else ():
+            shared = re.match(r" +(\S+(?: \S+)*?) : ", line)
             for constructor in shared[1].split() if shared else []:
-                constructors[module, constructor], scope.names[constructor] = (module, name), (module, constructor)
+                constructors[module, constructor], scope.names[constructor] = (module, one.name), (module, constructor)
 
 
 def read_source(file: str, text: str) -> None:
