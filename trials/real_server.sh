@@ -1,7 +1,8 @@
 #!/usr/bin/env bash
 # Runs `zk_shell live`, `zk_shell watch`, its commands that ask for one node and the examples `example_config_follower` and `example_conclusions`
 # against real ZooKeeper servers: one alone, ensembles of three of which one stops, and one that is cut off for a while. What is printed is
-# checked line by line, by tables of commands and of the lines that they lead to. All traffic stays on 127.0.0.1; servers and folders are gone at the end, however it ends.
+# checked line by line, by tables of commands and of the lines that they lead to. All traffic stays on 127.0.0.1; servers and folders are gone at
+# the end, however it ends.
 #
 # usage: trials/real_server.sh [ZK_SHELL CONFIG_FOLLOWER CONCLUSIONS_EXAMPLE]     the programs; without them, they are built first.
 # The last line is `passed`, or `skipped: ..` where there is no server to be had. Else the exit status is 1.
