@@ -1,22 +1,31 @@
-"""The wrong bodies of the repository: what each turns, where it applies, and the function that it is within.
+"""The edits that have to be refused: wrong bodies, what each turns, where it applies, and the function that it is within, with their page; and wrong
+definitions. `scripts/wrong_bodies` tries them, and compares the page.
 
-`scripts/wrong_bodies` tries them, and `scripts/wrong_bodies_page` writes their page. An edit is a file in the folder wrong_bodies of its crate, or in
-must-fail, which the toolchain tries by itself. It has lines:
+A wrong body is a file in the folder wrong_bodies of its crate, or in must-fail, which the toolchain tries by itself. It has lines:
 
   turns: what it turns, in words
   function: the function that has to fail, as a check names it below its crate; only where the edit lies in none
   file: src/lib.rt, or another file of the crate
   old: a text that is once in that file, as the pairs before leave it
   new: what is put in its place
+
+Wrong definitions are in the lists of the folder wrong_definitions, four lines each: what it turns, the file below crates/, the old text and the new
+one, where \\n is the end of a line.
 """
+
+from __future__ import annotations
+
 import re
-from collections.abc import Callable
+import sys
+from collections import Counter
+from collections.abc import Callable, Iterator
 from dataclasses import dataclass
 from functools import cache, cached_property
 from pathlib import Path
 
-TOP = Path(__file__).resolve().parent.parent
-CRATES, PAGES = TOP / "crates", TOP / "docs/wrong_bodies"
+from repository import CRATES, TOP, crates_listed, tracked
+
+PAGES = TOP / "docs/wrong_bodies"
 GATE = TOP / "scripts/gate_bodies.txt"
 FOLDERS = ("must-fail", "wrong_bodies")
 FIELDS = ("turns: ", "function: ", "file: ", "old: ", "new:")
@@ -50,7 +59,7 @@ class Function:
     def code(self) -> str:
         return self.text[self.body - self.start :]
 
-    def calls(self, other: "Function") -> bool:
+    def calls(self, other: Function) -> bool:
         """Whether the body calls the other by a name that can only be meant for it; a check's output tells the rest."""
         if other.owner and other.owner != self.owner:
             return False
@@ -82,7 +91,8 @@ class Edit:
 
     def read(self) -> tuple[dict[str, str], str]:
         """The files as the edit leaves them, and why it cannot be applied, if it cannot."""
-        file, old, texts, pairs = "", "", {}, 0
+        texts: dict[str, str] = {}
+        file, old, pairs = "", "", 0
         for word, rest in self.fields:
             if word == "file":
                 file = rest.strip()
@@ -121,6 +131,12 @@ class Edit:
         """The function whose body or clauses the edit changes, where it changes one function and nothing else."""
         return self.enclosing(lambda it: it.start)
 
+    @property
+    def body(self) -> Function:
+        """The function whose body it changes, where it does."""
+        assert self.within is not None
+        return self.within
+
     def enclosing(self, begin: Callable[[Function], int]) -> Function | None:
         """The innermost function that has all that the edit changes from this place of its own on."""
         if len(self.spans) != 1 or self.functions:
@@ -148,12 +164,6 @@ def gate_names() -> list[str]:
     """The edits that the gate tries, each as CRATE/NAME."""
     lines = GATE.read_text(encoding="utf-8").splitlines() if GATE.is_file() else []
     return [line.strip() for line in lines if line.strip() and not line.startswith("#")]
-
-
-def crates_listed() -> dict[str, list[str]]:
-    """Each crate of crates.txt, lowest first, with all that are in its line."""
-    lines = [line.split("#")[0] for line in (TOP / "crates.txt").read_text(encoding="utf-8").splitlines()]
-    return {line.split(":")[0].split()[0]: line.split(":")[1].split() for line in lines if line.strip()}
 
 
 def edits_of(crate: str) -> list[Edit]:
@@ -203,7 +213,7 @@ def owner_of(text: str, start: int, indent: int) -> tuple[str, bool]:
         return "", False
     kind, rest = heads[-1][1], re.split(r"\swhere\s", heads[-1][2])[0].strip()
     if kind.endswith("trait "):
-        return re.match(r"\w+", rest)[0], True
+        return re.split(r"\W", rest)[0], True
     given, rest = split_generics(rest)
     trait, _, kind_of = rest.rpartition(" for ")
     # (a check gives `drop` the name of a method of the type)
@@ -231,3 +241,140 @@ def spelled(kind: str, given: set[str]) -> str:
     last = head.split("::")[-1].strip()
     more = [it for it in re.findall(r"\w+", taken) if it not in given] if last in ("From", "TryFrom") else []
     return lent + "".join(it[:1].upper() + it[1:] for it in [last, *more])
+
+
+# Wrong definitions
+
+KINDS = ("narrower", "wrong")
+
+
+class Definition:
+    """An edit of a definition: its list, what it turns, where, and how often its old text is there."""
+
+    def __init__(self, kind: str, turns: str, file: str, old: str, new: str) -> None:
+        self.kind, self.name, self.old, self.new = kind, turns, old, new
+        self.crate, _, self.file = file.partition("/")
+        whole = text_of(self.crate, self.file)
+        self.count = whole.count(old)
+        # a field that is after a line is looked for from its last letter
+        self.definition = definition_at(whole, whole.index(old) + len(old) - len(old.lstrip())) if self.count == 1 else ""
+
+    def __str__(self) -> str:
+        return f"{self.kind}: {self.name} ({self.definition})"
+
+
+def definition_at(whole: str, place: int) -> str:
+    """The name of the definition in which a place of a file is; a function or a clause of one, in the code."""
+    heads = re.finditer(r"^ *(?:(?:abbrev|unfoldable) pub|pub (?:record|data|fn)) ([\w']+)", whole, re.M)
+    return [found[1] for found in heads if found.start() <= place][-1]
+
+
+def definitions_of(kind: str) -> list[Definition]:
+    """The edits of a list."""
+    text = (TOP / "wrong_definitions" / f"{kind}.txt").read_text(encoding="utf-8")
+    rows = re.findall(r"^turns: (.*)\nfile: (.*)\nold: (.*)\nnew: ?(.*)$", text, re.M)
+    if len(rows) != text.count("turns: "):
+        sys.exit(f"wrong_definitions/{kind}.txt has an edit that is not four lines: turns, file, old, new")
+    return [Definition(kind, *(it.replace("\\n", "\n") for it in row)) for row in rows]
+
+
+def all_definitions() -> list[Definition]:
+    return [edit for kind in KINDS for edit in definitions_of(kind)]
+
+
+# The pages of wrong bodies
+
+LIST = PAGES / "LIST.md"
+PAGE = TOP / "docs/WRONG_BODIES.md"
+HEAD_OF_LIST = """[//]: # (made by scripts/wrong_bodies from the edits in crates/*/wrong_bodies and in crates/*/must-fail)
+
+# All wrong bodies
+
+[WRONG_BODIES](../WRONG_BODIES.md) says what a wrong body is, and how it is tried."""
+MOST_IN_GATE = 60
+FEWEST_SAMPLES = 10
+# a name of the code, in what an edit turns
+NAME = re.compile(r"\b[A-Za-z]+(?:(?:::|_)[A-Za-z]+)+\b")
+
+
+def row_of(edit: Edit) -> str:
+    turns = NAME.sub(r"`\g<0>`", edit.turns)
+    files = ", ".join(f"`{file}`" for file in edit.files)
+    tried_by = "the gate" if edit.in_gate else "`scripts/wrong_bodies`"
+    return f"| {turns} | {files} | `{edit.path.name}` | {tried_by} |"
+
+
+def all_edits() -> dict[str, list[Edit]]:
+    """The edits of each crate, in the order of crates.txt and then of their names."""
+    return {crate: edits_of(crate) for crate in crates_listed()}
+
+
+def edits_elsewhere(found: dict[str, list[Edit]]) -> list[str]:
+    """The files of the repository that are named as edits are, and that are in no folder of edits."""
+    there = {str(edit.path.relative_to(TOP)) for of_one in found.values() for edit in of_one}
+    return [name for name in tracked() if name.endswith(".edit") and name not in there]
+
+
+def counts_of(found: dict[str, list[Edit]]) -> str:
+    """How many edits there are, how many of them the gate tries, and in which crates."""
+    every = [edit for of_one in found.values() for edit in of_one]
+    gate = [crate for crate, of_one in found.items() if any(edit.in_gate for edit in of_one)]
+    names = ", ".join(f"`{crate}`" for crate in gate)
+    return f"There are {len(every)}. The gate tries {sum(edit.in_gate for edit in every)} of them: in {names}."
+
+
+def list_of(found: dict[str, list[Edit]]) -> str:
+    parts: list[str] = [HEAD_OF_LIST, counts_of(found)]
+    for crate, of_one in found.items():
+        note = CRATES / crate / "wrong_bodies/README.md"
+        if of_one:
+            parts += [f"## {crate}"] + ([note.read_text(encoding="utf-8").strip()] if note.is_file() else [])
+            parts += ["\n".join(["| What it turns | In | Edit | Tried by |", "|---|---|---|---|", *(row_of(edit) for edit in of_one)])]
+    return "\n\n".join(parts) + "\n"
+
+
+def pages_of(found: dict[str, list[Edit]]) -> dict[Path, str]:
+    """The pages that are written: the list, and in must-fail of a crate where its edits are and what tries them."""
+    pages = {LIST: list_of(found)}
+    for crate, of_one in found.items():
+        if of_one and not any(edit.path.parent.name == "must-fail" for edit in of_one):
+            gate = "those that `scripts/gate_bodies.txt` names" if any(edit.in_gate for edit in of_one) else "none of them"
+            tried = f"`scripts/wrong_bodies {crate}` tries them, and the gate {gate}."
+            pages[CRATES / crate / "must-fail/README.md"] = f"The wrong bodies of this crate are in its folder `wrong_bodies`: {tried}\n"
+    return pages
+
+
+def faults_of_page(found: dict[str, list[Edit]], there: set[str]) -> Iterator[str]:
+    """What docs/WRONG_BODIES.md says that is not so."""
+    page = PAGE.read_text(encoding="utf-8") if PAGE.is_file() else ""
+    if counts_of(found) not in page:
+        yield f"docs/WRONG_BODIES.md is to say: {counts_of(found)}"
+    named = re.findall(r"`(\w+/\w+)\.edit`", page)
+    if len(named) < FEWEST_SAMPLES:
+        yield f"docs/WRONG_BODIES.md names {len(named)} edits, where {FEWEST_SAMPLES} are the fewest"
+    yield from (f"docs/WRONG_BODIES.md names {name}, which is not there" for name in named if name not in there)
+
+
+def write_pages() -> None:
+    for path, text in pages_of(all_edits()).items():
+        path.write_text(text, encoding="utf-8")
+
+
+def faults() -> Iterator[str]:
+    """What is wrong with the edits, the list of the gate, and the pages."""
+    found = all_edits()
+    every = [edit for of_one in found.values() for edit in of_one]
+    yield from (f"{edit.path.relative_to(TOP)}: {edit.fault}" for edit in every if edit.fault)
+    names = Counter((edit.crate, edit.path.name) for edit in every)
+    yield from (f"{crate} has two edits {name}" for (crate, name), count in names.items() if count > 1)
+    yield from (f"{name}: an edit is in {' or '.join(FOLDERS)} of a crate of crates.txt" for name in edits_elsewhere(found))
+    gate, there = Counter(gate_names()), {f"{edit.crate}/{edit.name}" for edit in every}
+    yield from (f"scripts/gate_bodies.txt names {name}, which is not there" for name in gate if name not in there)
+    yield from (f"scripts/gate_bodies.txt names {name} twice" for name, count in gate.items() if count > 1)
+    if gate.total() > MOST_IN_GATE:
+        yield f"the gate has {gate.total()} edits, where {MOST_IN_GATE} are the most"
+    for path, text in pages_of(found).items():
+        if not path.is_file() or path.read_text(encoding="utf-8") != text:
+            yield f"{path.relative_to(TOP)} is not what scripts/wrong_bodies --write makes"
+    yield from faults_of_page(found, there)
+    yield from (f"{it.name}: its old text stands {it.count} times in {it.crate}/{it.file}" for it in all_definitions() if it.count != 1)

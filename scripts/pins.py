@@ -14,12 +14,11 @@ from collections import Counter
 from collections.abc import Iterable, Iterator, Mapping
 from dataclasses import dataclass, field
 from functools import cache, cached_property
-from pathlib import Path
 
-TOP = Path(__file__).resolve().parent.parent
-CRATES = TOP / "crates"
+from repository import CRATES, TOP
+
 # The crates of tests state nothing that a caller has.
-NOT_PINNED = ("test_layers/", "test_clients/", "test_scripts/", "test_links/", "test_callers/")
+NOT_PINNED = ("test_layers/", "test_clients/", "test_scripts/", "test_links/")
 
 QUOTED = r"""'(?:[^'\\\n]|\\[^'\n]+)'|"(?:[^"\\]|\\.)*\""""
 QUOTES = re.compile(QUOTED, re.S)
@@ -59,6 +58,10 @@ class Pin:
     @property
     def key(self) -> str:
         return f"{self.file} {self.name}"
+
+    @property
+    def crate(self) -> str:
+        return self.file.partition("/")[0]
 
 
 @dataclass(frozen=True)
@@ -267,13 +270,27 @@ class Definition:
     around: list[str]
     lines: list[str]
 
+    @property
+    def indent(self) -> int:
+        return indent_of(self.lines[0])
+
+    @property
+    def end(self) -> int:
+        """How many lines are its head, or its type."""
+        deep = self.indent + (2 if self.kind else 0)
+        return next((at for at, line in enumerate(self.lines) if at and indent_of(line) <= deep), len(self.lines))
+
+    @property
+    def how(self) -> str:
+        """The word that it begins with, of a function that is not declared by its type alone."""
+        first = self.lines[0].split()[0]
+        return self.kind or (first if first in ("abbrev", "unfoldable", "opaque") else "")
+
     def parts(self, scope: Scope) -> Iterator[Part]:
         """The head, and each field or constructor; or the type, and the equations."""
-        indent = indent_of(self.lines[0])
-        end = next((at for at, line in enumerate(self.lines) if at and indent_of(line) <= indent + (2 if self.kind else 0)), len(self.lines))
+        indent, end = self.indent, self.end
         head = [*self.around, *(line[indent:] for line in self.lines[:end])]
-        first = self.lines[0].split()[0]
-        yield scope.part(self.kind or (first if first in ("abbrev", "unfoldable", "opaque") else "type"), "\n".join(head))
+        yield scope.part(self.how or "type", "\n".join(head))
         rest = [line[indent:] for line in self.lines[end:]]
         if self.kind:
             yield from (scope.part(flat(it[0]).removeprefix("pub ").partition(" :")[0].strip(), "\n".join(it)) for it in fields(rest))
@@ -326,10 +343,14 @@ def is_head(line: str) -> bool:
     return bool(re.match(r"(?:abbrev|unfoldable|opaque|pub|data|record|module|use|mod|infix\w*) |\S+ : ", line))
 
 
+def lines_of_specs(text: str) -> list[str]:
+    """The lines of a file of specs/, without comments and those that are empty then."""
+    return [line for line in map(str.rstrip, re.sub(r"(^|\s)--(?: .*|$)", "", text, flags=re.M).splitlines()) if line]
+
+
 def spec_pins(file: str, text: str) -> Iterator[Pin]:
     """The pins of a file of specs/: each definition, and what the file passes on or spells as an operator."""
-    lines = [line.rstrip() for line in re.sub(r"(^|\s)--(?: .*|$)", "", text, flags=re.M).splitlines() if line.strip()]
-    lines = [line for line in lines if line]
+    lines = lines_of_specs(text)
     scope = Scope().plus(line for line in lines if IMPORT.match(line))
     for one in definitions(lines):
         yield Pin(file, one.name, tuple(one.parts(scope)))
@@ -407,7 +428,7 @@ def parts_of(pin: Pin) -> dict[str, str]:
 # STATEMENTS.lock
 
 LOCK = TOP / "STATEMENTS.lock"
-HEAD = "# What the crates state. scripts/statements writes this, and scripts/since says in words what changed\n"
+HEAD = "# What the crates state. scripts/statements writes this, and scripts/statements --since says in words what changed\n"
 
 
 def lock_of(pins: Mapping[str, Pin]) -> str:

@@ -1,8 +1,13 @@
-"""What contracts reach: the definitions of specs/, with the types, constants and ghost views of the code, read from the texts of crates/.
+"""What contracts reach: the definitions of specs/, with the types, constants and ghost views of the code, read from the texts of crates/; and what of
+them a reader of the statements has to believe, which docs/DEFINITIONS.md counts.
 
 A definition is reached where a clause, a ghost field, a view or an invariant of a public function or type names it, or a definition that is
 reached does. A function is public where callers outside of its crate can name it. What the imports of a file take a name for, and what binds it
-nearer, is gone by. `scripts/definitions` goes by this.
+nearer, is gone by.
+
+What is believed are the definitions of specs/ of the crates of the library and of its theory, by their headings in crates.txt, except
+specs/inner/, which has what only contracts of private functions say; and types and constants of the code where they are declared. Lines are counted
+without comments, imports and blank ones. The client is zk_client with the crates below it that have nothing but laws and are no theory_.
 """
 
 from __future__ import annotations
@@ -12,14 +17,11 @@ from collections import Counter
 from collections.abc import Iterable, Iterator
 from dataclasses import dataclass, field
 from functools import cache
-from pathlib import Path
 from typing import Union
 
-from edits import crates_listed
-from pins import Part, Pin, pins_of, texts_here
-
-TOP = Path(__file__).resolve().parent.parent
-CRATES = TOP / "crates"
+from pins import Part, Pin, lines_of_specs, pins_of, texts_here
+from pins import definitions as definitions_in
+from repository import CRATES, TOP, crates_below, crates_listed, static_libraries
 
 Key = tuple[str, str]
 """The module of a definition and its name; of a type or a constant of the code its file and its name."""
@@ -27,7 +29,6 @@ Group = list[Union[str, "Group"]]
 """Tokens, with what is in brackets as a group that begins with its bracket."""
 
 TOKEN = re.compile(r"[^\W\d][\w']*(?:\.\w+)*|\.\w+(?:\.\w+)*|\d+|[(){}\[\];]|[^\s\w(){}\[\];]+")
-HEAD = re.compile(r" *(?:(?:abbrev|unfoldable|opaque) (?:pub )?|(?:pub )?(data|record|module) )(\S+)")
 IMPORT = re.compile(r"^(?:pub |ghost )*use (?:Rattle\.)?([\w.]+?)(?:\.{([^}]*)}| as (\w+))?;?$", re.M)
 DECLARED = re.compile(r"^(?:pub(?:\(crate\))? )?(?:enum|struct|const|type) (\w+)\b(?:[^{;\n]*{.*?^}|[^;]*;)", re.M | re.S)
 MODEL = re.compile(r"^impl.*? Model for (\w+).*? {\n(.*?)^}", re.M | re.S)
@@ -100,42 +101,22 @@ def scope_of(text: str) -> Scope:
     return scope
 
 
-def whole_heads(text: str) -> list[str]:
-    """The lines of a file of specs/, each head of a type or a block on one of them, up to its `where`."""
-    lines: list[str] = []
-    is_open = False
-    for line in re.sub(r"(^|\s)-- .*", "", text).splitlines():
-        lines[-1:] = [f"{lines[-1]} {line.strip()}"] if is_open else lines[-1:] + [line.rstrip()]
-        found = HEAD.match(lines[-1])
-        is_open = bool(found and found[1] and re.match(r"(  )?\S", lines[-1]) and not lines[-1].endswith("where"))
-    return lines
-
-
 def read_specs(file: str, text: str) -> None:
-    """Takes in the definitions of a file of specs/, each with its lines and with the blocks that it is in."""
+    """Takes in the definitions of a file of specs/, each with its lines, of which a head of a type is one, and with the block that it is in."""
     module = file.removesuffix(".antt").replace("/", ".")
     scope = scopes[module] = scope_of(text)
-    block: list[Key] = []
-    current: Definition | None = None
-    name = ""
-    for line in whole_heads(text):
-        indent = len(line) - len(line.lstrip())
-        if not line or re.match(r"(pub )?(use|mod) |infix", line):
-            continue
-        block = block if indent else []
-        head = HEAD.match(line)
-        if head and indent == 2 * len(block):
-            name = line if head[1] == "module" else head[2]
-            current = Definition(file, [], scope, head[1] or "", indent, block)
-            block = [(module, line)] if head[1] == "module" else block
-            definitions[module, name], scope.names[name] = current, (module, name)
-        elif indent == 0 and re.match(r"(pub )?\S+ :", line):
-            current = None
-        if current:
-            current.lines.append(line)
-            shared = re.match(r" +(\S+(?: \S+)*?) : ", line) if current.kind == "data" else None
+    for one in definitions_in(lines_of_specs(text)):
+        block = [(module, line) for line in one.around]
+        definitions.update({key: Definition(file, [key[1]], scope, "module") for key in block})
+        if one.how:
+            end = one.end if one.kind else 1
+            lines = [" ".join([one.lines[0], *map(str.strip, one.lines[1:end])]), *one.lines[end:]]
+            definitions[module, one.name] = Definition(file, lines, scope, one.kind, one.indent, block)
+            scope.names[one.name] = (module, one.name)
+        for line in one.lines if one.kind == "data" else ():
+            shared = re.match(r" +(\S+(?: \S+)*?) : ", line)
             for constructor in shared[1].split() if shared else []:
-                constructors[module, constructor], scope.names[constructor] = (module, name), (module, constructor)
+                constructors[module, constructor], scope.names[constructor] = (module, one.name), (module, constructor)
 
 
 def read_source(file: str, text: str) -> None:
@@ -298,13 +279,6 @@ def exported(crate: str) -> frozenset[str]:
     return frozenset(name for used in uses for name in re.findall(r"\w+", used))
 
 
-@cache
-def static_libraries() -> frozenset[str]:
-    """The crates whose functions C calls, wherever they are."""
-    text = (TOP / "crates.txt").read_text(encoding="utf-8")
-    return frozenset(re.findall(r"^(\w+) staticlib\b", text, re.M))
-
-
 def is_public(file: str, name: str) -> bool:
     crate, _, rest = file.partition("/")
     return crate in static_libraries() or rest in public_files(crate) or bool({*re.findall(r"\w+", name)} & exported(crate))
@@ -340,14 +314,8 @@ def crates_by_heading() -> dict[str, str]:
 @cache
 def has_laws_alone(crate: str) -> bool:
     """Whether each public function of a crate is a law."""
-    functions = [pin for pin in public_pins() if pin.file.split("/")[0] == crate and pin.parts[0].label == "fn"]
+    functions = [pin for pin in public_pins() if pin.crate == crate and pin.parts[0].label == "fn"]
     return bool(functions) and all(map(is_law, functions))
-
-
-def below(crate: str) -> set[str]:
-    """The crates that one is built on."""
-    listed = crates_listed()
-    return {lower for direct in listed[crate] if direct in listed for lower in {direct, *below(direct)}}
 
 
 # What contracts reach
@@ -380,7 +348,7 @@ def named_by_part(crate: str, part: Part) -> set[Key]:
 def reached_from(pins: Iterable[Pin]) -> set[Key]:
     """All that these contracts and types reach."""
     read_all()
-    found, rest = set[Key](), {key for pin in pins for part in pin.parts for key in named_by_part(pin.file.split("/")[0], part)}
+    found, rest = set[Key](), {key for pin in pins for part in pin.parts for key in named_by_part(pin.crate, part)}
     while rest:
         found |= rest
         rest = set[Key]().union(*map(named_in, rest)) - found
@@ -390,3 +358,118 @@ def reached_from(pins: Iterable[Pin]) -> set[Key]:
 def lines_of(keys: Iterable[Key]) -> Counter[str]:
     """How many lines these definitions have in each file, without comments, imports and blank lines, one that is broken as one."""
     return Counter(definitions[key].file for key in keys for _ in definitions[key].whole_lines())
+
+
+# What is believed, and its page
+
+CLIENT, THEORY = "zk_client", "theory_"
+# The headings of the crates whose contracts are believed, and the section of the page that has what a value of Rust is taken for.
+LIBRARY, VALUES = ("The library", "Its theory"), 16
+EVERYTHING = (*LIBRARY, "The workshop", "The workshop's theory")
+ROW = re.compile(r"^\| (\d+) \| (.*) \|$", re.M)
+COUNT = re.compile(r"`(\w+(?:/(?:specs|src)/\w+\.(?:antt|rt))?)`:([\d+]+)")
+LEMMAS = re.compile(r"laws of (.*?) are lemmas that callers can cite")
+TOTALS = re.compile(r"^[\d,]+ lines are of the client, .*", re.M)
+PAGE = TOP / "docs/DEFINITIONS.md"
+
+
+def believed() -> tuple[set[Key], set[Key], set[Key]]:
+    """What the client names, what that is with the crates theory_, and what it is with the rest of the library."""
+    pins = [pin for pin in public_pins() if crates_by_heading()[pin.crate] in LIBRARY]
+    laws = {crate for crate in crates_below()[CLIENT] if has_laws_alone(crate) and not crate.startswith(THEORY)}
+    client = [pin for pin in pins if pin.crate in {CLIENT, *laws}]
+    return reached_from(client), reached_from([*client, *(pin for pin in pins if pin.crate.startswith(THEORY))]), reached_from(pins)
+
+
+def wrong_places(library: set[Key]) -> Iterator[str]:
+    """The definitions of specs/ that nobody has to believe there, and those of specs/inner/ that somebody has to."""
+    everything = reached_from(pin for pin in public_pins() if crates_by_heading().get(pin.crate) in EVERYTHING)
+    for key, one in sorted(definitions.items(), key=lambda it: (it[1].file, it[0][1])):
+        if not one.is_of_specs or one.kind == "module":
+            continue
+        is_of_library = crates_by_heading().get(one.crate, "") in LIBRARY
+        is_reached = key in (library if is_of_library else everything)
+        if "/specs/inner/" in one.file and key in everything:
+            yield f"crates/{one.file}: {key[1]}: a contract of a public function reaches it, so it belongs in specs/"
+        elif "/specs/inner/" not in one.file and not is_reached:
+            whose = "of the library" if is_of_library else "of a public function"
+            yield f"crates/{one.file}: {key[1]}: no contract {whose} reaches it, so it belongs in specs/inner/, or in proofs/"
+
+
+def added(lines: list[Counter[str]]) -> list[Counter[str]]:
+    """What each of the three has more than the one before it, by file."""
+    return [one - before for one, before in zip(lines, [Counter[str](), *lines])]
+
+
+def by_file(lines: list[Counter[str]]) -> dict[str, str]:
+    """The lines of the client in each file, with those that the crates theory_ add."""
+    client, theory, _ = added(lines)
+    return {file: f"{client[file]}+{theory[file]}".removesuffix("+0") for file in client | theory}
+
+
+def by_crate(lines: list[Counter[str]]) -> dict[str, str]:
+    """The lines that the rest of the library adds in each crate."""
+    found = Counter[str]()
+    for file, count in added(lines)[-1].items():
+        found[file.split("/")[0]] += count
+    return {crate: str(count) for crate, count in found.items()}
+
+
+def totals(lines: list[Counter[str]], page: str) -> str:
+    """The sentence of the page that has the totals."""
+    client, theory, library = (one.total() for one in lines)
+    of_values = {place for section, row in ROW.findall(page) if int(section) == VALUES for place, _ in COUNT.findall(row)}
+    values = sum(count for file, count in lines[0].items() if file in of_values)
+    code = sum(count for file, count in lines[-1].items() if "/src/" in file)
+    return (
+        f"{client:,} lines are of the client, {values:,} of these in section {VALUES}; {theory:,} with those that the crates theory_ add; "
+        f"and {library:,} with those of the rest of the library, {code:,} of them types and constants, where the code declares them."
+    )
+
+
+def wrong_in_page(lines: list[Counter[str]]) -> Iterator[str]:
+    """What docs/DEFINITIONS.md is to say and does not."""
+    page = PAGE.read_text(encoding="utf-8")
+    there = by_file(lines) | by_crate(lines)
+    said = dict(COUNT.findall(page))
+    yield from (f"`{place}`:{there.get(place, 'none')}" for place in sorted({*said, *there}) if said.get(place) != there.get(place))
+    if (total := totals(lines, page)) not in page:
+        yield total
+    named = LEMMAS.search(page)
+    if {*re.findall(r"`(\w+)`", named[1] if named else "")} != (lemmas := crates_of_lemmas()):
+        yield f"laws of {' and '.join(f'`{crate}`' for crate in sorted(lemmas))} are lemmas that callers can cite"
+
+
+def write_page() -> None:
+    """Writes the numbers into the page. What it lacks or has too much of, the check says then."""
+    lines = [lines_of(keys) for keys in believed()]
+    there = by_file(lines) | by_crate(lines)
+    page = COUNT.sub(lambda found: f"`{found[1]}`:{there.get(found[1], found[2])}", PAGE.read_text(encoding="utf-8"))
+    PAGE.write_text(TOTALS.sub(totals(lines, page), page), encoding="utf-8")
+
+
+def wrong() -> Iterator[str]:
+    """What the page is to say, and the definitions that are in the wrong place."""
+    kinds = believed()
+    if said := [*wrong_in_page([lines_of(keys) for keys in kinds])]:
+        yield "\n".join(["docs/DEFINITIONS.md is to say:", *said])
+    yield from wrong_places(kinds[-1])
+
+
+def listed() -> Iterator[str]:
+    """A row a file: how many lines the client names, the crates theory_ add, and the rest of the library adds; and the names, those that are added
+    with one mark or two."""
+    client, theory, library = believed()
+    marks = {key: "" if key in client else "+" if key in theory else "++" for key in library}
+    counts = added([lines_of(keys) for keys in (client, theory, library)])
+    for file in sorted({definitions[key].file for key in library}):
+        names = sorted(f"{marks[key]}{key[1]}" for key in library if definitions[key].file == file and " " not in key[1])
+        yield f"{file} ({'+'.join(str(one[file]) for one in counts)}): {' '.join(names)}"
+
+
+def crates_of_lemmas() -> set[str]:
+    """The crates that name what is in proofs/ of ours, in clauses of public functions or in specs/."""
+    texts = [(path.relative_to(CRATES).parts[0], path.read_text(encoding="utf-8")) for path in CRATES.glob("*/specs/**/*.antt")]
+    texts += [(pin.crate, f"use {one.partition('=')[2]}") for pin in public_pins() for part in pin.parts for one in part.means]
+    named = [(crate, proofs) for crate, text in texts for proofs in re.findall(r"\buse Rattle\.(\w+)\.proofs\.", text)]
+    return {crate for crate, proofs in named if (CRATES / proofs).is_dir()}

@@ -1,7 +1,8 @@
 #!/usr/bin/env bash
 # Runs `zk_shell live`, `zk_shell watch`, its commands that ask for one node and the examples `example_config_follower` and `example_conclusions`
 # against real ZooKeeper servers: one alone, ensembles of three of which one stops, and one that is cut off for a while. What is printed is
-# checked line by line. All traffic stays on 127.0.0.1; servers and folders are gone at the end, however it ends.
+# checked line by line, by tables of commands and of the lines that they lead to. All traffic stays on 127.0.0.1; servers and folders are gone at
+# the end, however it ends.
 #
 # usage: trials/real_server.sh [ZK_SHELL CONFIG_FOLLOWER CONCLUSIONS_EXAMPLE]     the programs; without them, they are built first.
 # The last line is `passed`, or `skipped: ..` where there is no server to be had. Else the exit status is 1.
@@ -102,67 +103,74 @@ expect() {
     echo "$1: ${#got[@]} lines as wanted"
 }
 
+# Plays the table on standard input. `$ COMMAND` is run; each other line is the next one that NAME prints, which is waited for. `== NAME` says whose
+# lines come next. A command knows NAME as $name.
+play() {
+    local name=$1 line
+    while IFS= read -r line <&3; do
+        case $line in
+        '$ '*) eval "${line#??}" ;;
+        '== '*) name=${line#???} ;;
+        *) sees "$line" ;;
+        esac
+    done 3<&0 </dev/null
+}
+
 # Runs a command in the background. What it prints is in NAME.out; `sees` goes through it line by line.
 begin() {
-    local name=$1
-    shift
     seen[$name]=0
     : >"$folder/$name.out"
-    "$@" >>"$folder/$name.out" 2>"$folder/$name.err" &
+    "$@" >>"$folder/$name.out" 2>"$folder/$name.err" 3<&- &
     begun[$name]=$!
+}
+
+watch() {
+    begin "$program" watch "$@"
 }
 
 has_line() {
     (($(wc -l <"$folder/$1.out") > seen[$1]))
 }
 
-# Waits for the next lines that NAME prints, which are those on standard input in any order.
-sees_in_any_order() {
-    local name=$1 got at
-    local -a want
-    mapfile -t want
-    while ((${#want[@]} > 0)); do
-        within 40 has_line "$name" || fail "$name does not print one of '${want[*]}': $(cat "$folder/$name.err")"
-        seen[$name]=$((seen[$name] + 1))
-        got=$(sed -n "${seen[$name]}p" "$folder/$name.out")
-        for at in "${!want[@]}"; do
-            is_line "${want[at]}" "$got" || continue
-            unset "want[at]"
-            continue 2
-        done
-        fail "$name, line ${seen[$name]}: '$got' where one of '${want[*]}' is wanted"
-    done
+# Waits for the next line, which may be this one, and sets `got` to it.
+take_line() {
+    within 40 has_line "$name" || fail "$name does not print '$1': $(cat "$folder/$name.err")"
+    seen[$name]=$((seen[$name] + 1))
+    got=$(sed -n "${seen[$name]}p" "$folder/$name.out")
 }
 
-# Waits for the next lines that NAME prints, and checks them against those on standard input.
 sees() {
-    local name=$1 want got
-    while IFS= read -r want; do
-        within 40 has_line "$name" || fail "$name does not print '$want': $(cat "$folder/$name.err")"
-        seen[$name]=$((seen[$name] + 1))
-        got=$(sed -n "${seen[$name]}p" "$folder/$name.out")
-        is_line "$want" "$got" || fail "$name, line ${seen[$name]}: '$got' where '$want' is wanted"
-    done
+    local got
+    take_line "$1"
+    is_line "$1" "$got" || fail "$name, line ${seen[$name]}: '$got' where '$1' is wanted"
+}
+
+# The same of two lines in any order.
+sees_both() {
+    local got
+    take_line "$1"
+    if is_line "$1" "$got"; then
+        sees "$2"
+    else
+        is_line "$2" "$got" || fail "$name, line ${seen[$name]}: '$got' where one of '$1' and '$2' is wanted"
+        sees "$1"
+    fi
 }
 
 # Checks that a watch dials an address, the only one if it is named, and that a server accepts its session.
-sees_connected() {
-    within 40 has_line "$1" || fail "$1 dials nothing: $(cat "$folder/$1.err")"
-    local at=${2-$(sed -n "$((seen[$1] + 1))s/.* dial //p" "$folder/$1.out")}
-    sees "$1" <<EOF
-~ dial $at
-~ state Connecting
-~ state Connected $at session @ timeout @
-EOF
+connects() {
+    within 40 has_line "$name" || fail "$name dials nothing: $(cat "$folder/$name.err")"
+    local at=${1-$(sed -n "$((seen[$name] + 1))s/.* dial //p" "$folder/$name.out")}
+    sees "~ dial $at"
+    sees '~ state Connecting'
+    sees "~ state Connected $at session @ timeout @"
 }
 
 # Begins a watch of the data of /NAME, which are `one`, with further words of the command, and checks what it prints at first.
-begin_data() {
-    local name=$1
-    shift
-    begin "$name" "$program" watch "$@" --data "/$name"
-    sees_connected "$name"
-    sees "$name" <<<"~ /$name data full 6f6e65 @$name @$name @ @ 0 0 3 good last @"
+watch_data() {
+    watch "$@" --data "/$name"
+    connects
+    sees "~ /$name data full 6f6e65 @$name @$name @ @ 0 0 3 good last @"
 }
 
 # The port of the server that accepted the session of a watch last.
@@ -170,28 +178,36 @@ port_of() {
     sed -n 's/.* state Connected 127.0.0.1:\([0-9]*\) session .*/\1/p' "$folder/$1.out" | tail -n 1
 }
 
-# Checks that NAME has printed nothing further.
-is_quiet() {
-    ! has_line "$1" || fail "$1 prints more: '$(sed -n "$((seen[$1] + 1))p" "$folder/$1.out")'"
+# Checks that nothing further is printed.
+quiet() {
+    ! has_line "$name" || fail "$name prints more: '$(sed -n "$((seen[$name] + 1))p" "$folder/$name.out")'"
 }
 
-# Waits until NAME ends by itself, well, with nothing further printed.
+# Waits until it ends by itself, well, with nothing further printed.
 ends() {
     local status=0
-    wait "${begun[$1]}" || status=$?
-    unset "begun[$1]"
-    [[ $status == 0 && ! -s $folder/$1.err ]] || fail "$1 ends with $status: $(cat "$folder/$1.err")"
-    is_quiet "$1"
-    echo "$1: ${seen[$1]} lines as wanted"
+    wait "${begun[$name]}" || status=$?
+    [[ $status == 0 && ! -s $folder/$name.err ]] || fail "$name ends with $status: $(cat "$folder/$name.err")"
+    is_over
 }
 
-# Ends NAME.
-end_by_force() {
-    kill "${begun[$1]}"
-    wait "${begun[$1]}" 2>/dev/null || true
-    unset "begun[$1]"
-    is_quiet "$1"
-    echo "$1: ${seen[$1]} lines as wanted"
+# Ends it.
+stop() {
+    kill "${begun[$name]}"
+    wait "${begun[$name]}" 2>/dev/null || true
+    is_over
+}
+
+is_over() {
+    unset "begun[$name]"
+    quiet
+    echo "$name: ${seen[$name]} lines as wanted"
+}
+
+# Waits for a line that has this pattern, and passes over what is printed up to then, which is looked at as a whole.
+prints() {
+    within "${2-40}" grep -q -e "$1" "$folder/$name.out" || fail "$name prints nothing like '$1'"
+    seen[$name]=$(wc -l <"$folder/$name.out")
 }
 
 # Checks that numbers of these names rise.
@@ -205,9 +221,25 @@ rises() {
     done
 }
 
-# One server, and one session with every kind of call, with a cut during which others change what is watched.
-script_alone() {
-    cat <<'EOF'
+# A command of ZooKeeper's own client at the server at $port.
+other() {
+    outside "$port" "$@"
+}
+
+# What others change while the gate holds the session.
+change_at() {
+    within 60 test -e "$folder/$1.held" || fail "the session does not come to the gate"
+    other set /live three
+    other delete /live/a
+    other create /live/c c
+    touch "$folder/$1.go"
+}
+
+# One session with every kind of call, with a cut during which others change what is watched.
+run_calls() {
+    local client
+    start_gate hold
+    session alone "$at" "127.0.0.1:$(cat "$folder/hold.port")" <<'EOF' &
 # each call, and what its watches tell
 call 1 create /live 6f6e65 0
 call 2 exists /live 0
@@ -260,10 +292,10 @@ call 23 close
 peek data /live
 call 24 exists /live 0
 EOF
-}
-
-printed_alone() {
-    cat <<'EOF'
+    client=$!
+    change_at hold
+    wait "$client" || exit 1
+    expect alone <<'EOF'
 state Connecting
 state Connected
 answer 1 @create created /live
@@ -323,53 +355,12 @@ state Closed
 data none
 answer 24 - K3
 EOF
-}
-
-# What others change while the gate holds the session.
-change_at() {
-    within 60 test -e "$folder/$1.held" || fail "the session does not come to the gate"
-    outside "$2" set /live three
-    outside "$2" delete /live/a
-    outside "$2" create /live/c c
-    touch "$folder/$1.go"
-}
-
-run_alone() {
-    local port
-    port=$(free_ports 1)
-    known=()
-    configure one 1 "$port" ""
-    start_server one
-    within 60 serves "$port" || fail "the server does not serve"
-    start_gate hold
-    script_alone | session alone "127.0.0.1:$port" "127.0.0.1:$(cat "$folder/hold.port")" &
-    local client=$!
-    change_at hold "$port"
-    wait "$client" || exit 1
-    expect alone < <(printed_alone)
     rises @create @two @refused @b @queue @full @gone @a @again @three @c @write @closed
     rises @three @later @write
-    run_resumed "$port"
-    run_asks "$port"
-    run_operator "$port"
-    run_changes "$port"
-    run_objects "$port"
-    run_trees "$port"
-    run_unknown
-    run_idle "$port"
-    run_expired "$port"
-    run_closed "$port"
-    run_together "$port"
-    run_grove "$port" 1000 100
-    run_lock "$port"
-    run_contests "$port" 3
-    run_follower "$port"
-    stop_server one
 }
 
 # A session that another process takes up; a password that is wrong; and a server that is behind.
 run_resumed() {
-    local at=127.0.0.1:$1
     printf 'call 1 create /live/e 65 1\nsaved\n' | session left "$at"
     expect left <<'EOF'
 state Connecting
@@ -401,84 +392,50 @@ answer 1 - K2
 EOF
 }
 
-# Runs a command that asks for one node: what it prints and tells, and its status after `=`, come to asks.out.
+# Runs a command that asks for one node, which has to end with this status; what it prints and tells comes to asks.out.
 asks() {
     local status=0
-    timeout 60 "$program" "$@" >>"$folder/asks.out" 2>&1 || status=$?
-    echo "= $status" >>"$folder/asks.out"
+    timeout 60 "$program" "${@:2}" >>"$folder/asks.out" 2>&1 || status=$?
+    [[ $status == "$1" ]] || fail "zk_shell ${*:2} ends with $status where $1 is wanted: $(tail -n 1 "$folder/asks.out")"
 }
 
 # The commands that ask for one node: a text, null, no bytes and those of a file come back as they went, a version is compared, names and fields
 # and a tree are told, a path is below another, a server is named, and each way in which a call is not done has its words and its status.
 run_asks() {
-    local at=127.0.0.1:$1 nobody
+    local nobody
     nobody=127.0.0.1:$(free_ports 1)
     known=()
     : >"$folder/asks.out"
-    asks create "$at" /asks 'level = 1'
-    asks create "$at" /asks 'level = 1'
-    asks get "$at" /asks
-    asks get "$at" /asks --hex
-    asks set "$at" /asks 'level = 2' --version 0
-    asks set "$at" /asks 'level = 3' --version 0
-    asks create "$at/asks" /null --null
-    asks create "$at/asks" /empty --hex '\e'
-    asks create "$nobody,$at" /asks/bytes 00ff0a --hex
-    asks get "$at" /asks/null --hex
-    asks get "$at/asks" /empty --hex
-    asks get "$at" /asks/bytes
-    asks ls "$at" /asks
-    asks stat "$at" /asks
-    asks delete "$at" /asks
-    asks delete "$at" /asks/bytes --version 1
-    asks delete "$at" /asks/bytes --version 0
-    asks get "$at/asks" /bytes
-    printf '\0\377\n\n' >"$folder/bytes"
-    asks create "$at" /asks/file --from "$folder/bytes"
-    asks get "localhost:$1" /asks/file --hex
-    asks set "nobody.invalid,localhost:$1/asks" /file --from - --wait 30 <"$folder/bytes"
-    asks get "$at" /asks/file --hex
-    : >"$folder/bytes"
-    asks set "$at" /asks/file --from "$folder/bytes" --version 1
-    asks get "$at" /asks/file --hex
-    truncate -s 1048576 "$folder/bytes"
-    (cd "$folder" && asks set "$at" /asks/file --from bytes)
-    (cd "$folder" && asks set "$at" /asks/file --from none)
-    (cd "$folder" && asks set "$at" /asks/file --from .)
-    asks tree "$at" /asks
-    asks tree "$at/asks" / --json --depth 1 --most 2
-    asks tree "$at" /none
-    asks create "$at" /none/node x
-    asks set "$at" /none x
-    asks ls "$nobody" /asks --wait 1
-    expect asks <<'EOF'
+    seen[asks]=0
+    play asks <<'EOF'
+$ asks 0 create "$at" /asks 'level = 1'
 /asks
-= 0
+$ asks 6 create "$at" /asks 'level = 1'
 refused: /asks: the node is there (-110)
-= 6
+$ asks 0 get "$at" /asks
 level = 1
-= 0
+$ asks 0 get "$at" /asks --hex
 6c6576656c203d2031
-= 0
-= 0
+$ asks 0 set "$at" /asks 'level = 2' --version 0
+$ asks 6 set "$at" /asks 'level = 3' --version 0
 refused: /asks: the node has another version (-103)
-= 6
+$ asks 0 create "$at/asks" /null --null
 /null
-= 0
+$ asks 0 create "$at/asks" /empty --hex '\e'
 /empty
-= 0
+$ asks 0 create "$nobody,$at" /asks/bytes 00ff0a --hex
 /asks/bytes
-= 0
+$ asks 0 get "$at" /asks/null --hex
 \0
-= 0
+$ asks 0 get "$at/asks" /empty --hex
 \e
-= 0
+$ asks 0 get "$at" /asks/bytes
 hex:00ff0a
-= 0
+$ asks 0 ls "$at" /asks
 bytes
 empty
 null
-= 0
+$ asks 0 stat "$at" /asks
 czxid @made
 mzxid @set
 ctime @ctime
@@ -490,48 +447,51 @@ ephemeralOwner 0
 dataLength 9
 numChildren 3
 pzxid @last
-= 0
+$ asks 6 delete "$at" /asks
 refused: /asks: the node has children (-111)
-= 6
+$ asks 6 delete "$at" /asks/bytes --version 1
 refused: /asks/bytes: the node has another version (-103)
-= 6
-= 0
+$ asks 0 delete "$at" /asks/bytes --version 0
+$ asks 5 get "$at/asks" /bytes
 no node: /bytes
-= 5
+$ printf '\0\377\n\n' >"$folder/bytes"
+$ asks 0 create "$at" /asks/file --from "$folder/bytes"
 /asks/file
-= 0
+$ asks 0 get "localhost:$port" /asks/file --hex
 00ff0a0a
-= 0
-= 0
+$ asks 0 set "nobody.invalid,localhost:$port/asks" /file --from - --wait 30 <"$folder/bytes"
+$ asks 0 get "$at" /asks/file --hex
 00ff0a0a
-= 0
-= 0
+$ : >"$folder/bytes"
+$ asks 0 set "$at" /asks/file --from "$folder/bytes" --version 1
+$ asks 0 get "$at" /asks/file --hex
 \e
-= 0
+$ truncate -s 1048576 "$folder/bytes"
+$ (cd "$folder" && asks 10 set "$at" /asks/file --from bytes)
 unread: bytes: it has more than 1,048,575 bytes
-= 10
+$ (cd "$folder" && asks 10 set "$at" /asks/file --from none)
 unread: none: there is no such file
-= 10
+$ (cd "$folder" && asks 10 set "$at" /asks/file --from .)
 unread: .: a read failed
-= 10
+$ asks 0 tree "$at" /asks
 /asks
 /asks/empty
 /asks/file
 /asks/null
-= 0
+$ asks 11 tree "$at/asks" / --json --depth 1 --most 2
 {"path":"/"}
 {"path":"/empty"}
 cut off: /: 2 nodes are printed, and there are more
-= 11
+$ asks 5 tree "$at" /none
 no node: /none
-= 5
+$ asks 5 create "$at" /none/node x
 no node: /none/node
-= 5
+$ asks 5 set "$at" /none x
 no node: /none
-= 5
+$ asks 7 ls "$nobody" /asks --wait 1
 not connected: /asks: no server has answered in time
-@nobody connection refused
-= 7
+$ sees "$nobody: connection refused"
+$ is_over
 EOF
     rises @made @set @last
 }
@@ -543,8 +503,8 @@ without_numbers() {
 
 # The session of an operator that the cookbook shows: each command after a `$` prints the lines that follow it there.
 run_operator() {
-    local at=127.0.0.1:$1 line status=0
-    sed -n '/^## An operator/,/^- /p' "$top/docs/COOKBOOK.md" | sed -n '/^```sh$/,/^```$/p' | sed "1d;\$d;s/127\.0\.0\.1:2181/$at/g;s/localhost:2181/localhost:$1/g" >"$folder/page"
+    local line status=0
+    sed -n '/^## An operator/,/^- /p' "$top/docs/COOKBOOK.md" | sed -n '/^```sh$/,/^```$/p' | sed "1d;\$d;s/127\.0\.0\.1:2181/$at/g;s/localhost:2181/localhost:$port/g" >"$folder/page"
     zk_shell() { timeout 60 "$program" "$@"; }
     while IFS= read -r line; do
         [[ $line == '$ '* ]] || continue
@@ -557,66 +517,50 @@ run_operator() {
 
 # A watch of both sides of a node that is not there at first, that comes, changes, has a child, loses it, and goes.
 run_changes() {
-    local at=127.0.0.1:$1
-    known=()
-    begin changes "$program" watch "$at" --data /changes --children /changes --timeout 10000
-    sees_connected changes "$at"
-    sees changes <<'EOF'
+    play changes <<EOF
+$ watch $at --data /changes --children /changes --timeout 10000
+$ connects $at
 ~ /changes does not exist last @
 ~ /changes does not exist last @
-EOF
-    outside "$1" create /changes one
-    sees changes <<'EOF'
+$ other create /changes one
 ~ /changes data absent stale last @
 ~ /changes names none last @
 ~ /changes data full 6f6e65 @come @come @made @made 0 0 3 good last @
 ~ /changes names 0 @come good last @
-EOF
-    outside "$1" set /changes two
-    sees changes <<'EOF'
+$ other set /changes two
 ~ /changes data full 6f6e65 @come @come @made @made 0 0 3 stale last @
 ~ /changes data full 74776f @come @changed @made @reset 1 0 3 good last @
-EOF
-    outside "$1" create /changes/a x
-    sees changes <<'EOF'
+$ other create /changes/a x
 ~ /changes names 0 @come stale last @
 ~ /changes names 1 a @child good last @
-EOF
-    outside "$1" delete /changes/a
-    sees changes <<'EOF'
+$ other delete /changes/a
 ~ /changes names 1 a @child stale last @
 ~ /changes names 0 @gone good last @
-EOF
-    outside "$1" delete /changes
-    sees changes <<'EOF'
+$ other delete /changes
 ~ /changes data full 74776f @come @changed @made @reset 1 0 3 stale last @
 ~ /changes names 0 @gone stale last @
 ~ /changes does not exist last @
 ~ /changes does not exist last @
+$ stop
 EOF
-    end_by_force changes
     rises @come @changed @child @gone
-}
-
-has_word() {
-    grep -q "$2" "$folder/$1.out"
 }
 
 # A watch in objects of JSON, below a chroot of a server that is named, of a node that is not there at first, that comes, has a child and
 # changes.
 run_objects() {
-    local at=localhost:$1/objects
-    outside "$1" create /objects ''
-    begin objects "$program" watch "$at" --data /a --children /a --json --timeout 10000
-    within 40 has_word objects '"kind":"absent".*"side":"names"' || fail "objects does not tell that there is no node"
-    outside "$1" create /objects/a one
-    within 40 has_word objects '"kind":"names".*"names":\[\]' || fail "objects does not tell of a new node"
-    outside "$1" create /objects/a/b ''
-    within 40 has_word objects '"names":\["b"\]' || fail "objects does not tell of a child"
-    outside "$1" set /objects/a two
-    within 40 has_word objects '"data":"two"' || fail "objects does not tell of other data"
-    seen[objects]=$(wc -l <"$folder/objects.out")
-    end_by_force objects
+    other create /objects ''
+    play objects <<'EOF'
+$ watch localhost:$port/objects --data /a --children /a --json --timeout 10000
+$ prints '"kind":"absent".*"side":"names"'
+$ other create /objects/a one
+$ prints '"kind":"names".*"names":\[\]'
+$ other create /objects/a/b ''
+$ prints '"names":\["b"\]'
+$ other set /objects/a two
+$ prints '"data":"two"'
+$ stop
+EOF
     are_objects "$folder/objects.out" || fail "a line of objects is another one: $(cat "$folder/objects.out")"
 }
 
@@ -640,52 +584,38 @@ EOF
 
 # A watch of a tree of three nodes at most, beside another node: its root comes later, it grows past the bound, and shrinks.
 run_trees() {
-    local at=127.0.0.1:$1
-    known=()
-    outside "$1" create /beside one
-    begin trees "$program" watch "$at" --tree /trees --most 3 --data /beside --timeout 10000
-    sees_connected trees "$at"
-    sees trees <<'EOF'
+    other create /beside one
+    play trees <<'EOF'
+$ watch $at --tree /trees --most 3 --data /beside --timeout 10000
+$ connects $at
 ~ /beside data full 6f6e65 @beside @beside @ @ 0 0 3 good last @
 ~ /trees does not exist last @
 ~ /trees does not exist last @
-EOF
-    outside "$1" create /trees one
-    sees trees <<'EOF'
+$ other create /trees one
 ~ /trees data absent stale last @
 ~ /trees names none last @
 ~ /trees data full 6f6e65 @root @root @ @ 0 0 3 good last @
 ~ /trees names 0 @root good last @
-EOF
-    outside "$1" create /trees/a one
-    sees trees <<'EOF'
+$ other create /trees/a one
 ~ /trees names 0 @root stale last @
 ~ /trees names 1 a @child good last @
 ~ /trees/a data full 6f6e65 @child @child @ @ 0 0 3 good last @
 ~ /trees/a names 0 @child good last @
-EOF
-    outside "$1" create /trees/a/b one
-    sees trees <<'EOF'
+$ other create /trees/a/b one
 ~ /trees/a names 0 @child stale last @
 ~ /trees/a names 1 b @below good last @
 ~ /trees/a/b data full 6f6e65 @below @below @ @ 0 0 3 good last @
 ~ /trees/a/b names 0 @below good last @
-EOF
-    outside "$1" create /trees/c one
-    sees trees <<'EOF'
+$ other create /trees/c one
 ~ /trees names 1 a @child stale last @
+$ sees_both '~ bound 3 a tree has more nodes: no more of it are watched' '~ /trees names 2 a c @more good last @'
+$ other delete /trees/a/b
+$ prints '/trees/c names 0 .* good'
+$ [[ $(grep -c '/trees/a/b does not exist' "$folder/trees.out") == 2 ]] || fail "trees tells otherwise that a node is gone"
+$ other create /trees/a/b two
+$ prints '/trees/a names 1 b .* good'
+$ stop
 EOF
-    sees_in_any_order trees <<'EOF'
-~ bound 3 a tree has more nodes: no more of it are watched
-~ /trees names 2 a c @more good last @
-EOF
-    outside "$1" delete /trees/a/b
-    within 40 has_word trees '/trees/c names 0 .* good' || fail "trees does not take on a node that is below the bound again"
-    [[ $(grep -c '/trees/a/b does not exist' "$folder/trees.out") == 2 ]] || fail "trees tells otherwise that a node is gone"
-    outside "$1" create /trees/a/b two
-    within 40 has_word trees '/trees/a names 1 b .* good' || fail "trees does not tell of a name that is back"
-    seen[trees]=$(wc -l <"$folder/trees.out")
-    end_by_force trees
     rises @beside @root @child @below @more
     timeout 60 "$program" watch "$at" --tree /trees --most 3 --json --for 2 >"$folder/branches.out" || fail "branches ends with status $?"
     are_branches "$folder/branches.out" || fail "a line of branches is another one: $(cat "$folder/branches.out")"
@@ -718,36 +648,32 @@ EOF
 
 # A watch whose session is idle for three of its timeouts: it stays, and then a change is told. Its time is over, and it is closed.
 run_idle() {
-    local name=idle-$1 at=127.0.0.1:$1
-    outside "$1" create "/$name" one
-    begin "$name" "$program" watch "$at" --data "/$name" --timeout 4000 --for 25
-    sees_connected "$name" "$at"
-    sees "$name" <<EOF
-~ /$name data full 6f6e65 @made-$1 @made-$1 @ @ 0 0 3 good last @
-EOF
-    sleep 13
-    is_quiet "$name"
-    outside "$1" set "/$name" two
-    sees "$name" <<EOF
-~ /$name data full 6f6e65 @made-$1 @made-$1 @ @ 0 0 3 stale last @
-~ /$name data full 74776f @made-$1 @set-$1 @ @ 1 0 3 good last @
+    outside "$1" create "/idle-$1" one
+    play "idle-$1" <<EOF
+$ watch 127.0.0.1:$1 --data /idle-$1 --timeout 4000 --for 25
+$ connects 127.0.0.1:$1
+~ /idle-$1 data full 6f6e65 @made-$1 @made-$1 @ @ 0 0 3 good last @
+$ sleep 13
+$ quiet
+$ outside $1 set /idle-$1 two
+~ /idle-$1 data full 6f6e65 @made-$1 @made-$1 @ @ 0 0 3 stale last @
+~ /idle-$1 data full 74776f @made-$1 @set-$1 @ @ 1 0 3 good last @
 ~ state Closed
-~ /$name data none last @
+~ /idle-$1 data none last @
+$ ends
 EOF
-    ends "$name"
 }
 
 # A watch whose process is stopped until its session has expired: it reads that the server has ended the connection before it tells a late
 # moment, and a new session is begun.
 run_expired() {
-    local at=127.0.0.1:$1
-    outside "$1" create /expires one
-    begin_data expires "$at" --timeout 4000
-    kill -STOP "${begun[expires]}"
-    sleep 10
-    outside "$1" set /expires two
-    kill -CONT "${begun[expires]}"
-    sees expires <<EOF
+    other create /expires one
+    play expires <<EOF
+$ watch_data $at --timeout 4000
+$ kill -STOP "\${begun[expires]}"
+$ sleep 10
+$ other set /expires two
+$ kill -CONT "\${begun[expires]}"
 ~ ended $at end of stream
 ~ state Idle
 ~ dial $at
@@ -755,26 +681,24 @@ run_expired() {
 ~ state Expired
 ~ session new
 ~ /expires data none last @renewed
-EOF
-    sees_connected expires "$at"
-    sees expires <<'EOF'
+$ connects $at
 ~ /expires data full 74776f @expires @twice @ @ 1 0 3 good last @
+$ ((known[@renewed] >= known[@expires])) || fail "the new session has forgotten the last seen zxid"
+$ stop
 EOF
-    ((known[@renewed] >= known[@expires])) || fail "the new session has forgotten the last seen zxid"
-    end_by_force expires
 }
 
 # A watch whose standard output is closed: it ends at its next line, with the status of a write that failed.
 run_closed() {
-    outside "$1" create /closes one
+    other create /closes one
     (
         status=0
-        timeout 60 "$program" watch "127.0.0.1:$1" --data /closes --timeout 10000 2>"$folder/closes.err" || status=$?
+        timeout 60 "$program" watch "$at" --data /closes --timeout 10000 2>"$folder/closes.err" || status=$?
         echo "$status" >"$folder/closes.status"
     ) | sed 4q >"$folder/closes.out" &
     gates+=($!)
     within 20 test -s "$folder/closes.out" || fail "a watch does not print four lines"
-    outside "$1" set /closes two
+    other set /closes two
     within 20 test -s "$folder/closes.status" || fail "a watch goes on after the end of its output"
     [[ $(cat "$folder/closes.status") == 4 ]] || fail "a watch whose output is closed ends with $(cat "$folder/closes.status")"
     echo "closes: status 4 as wanted"
@@ -782,61 +706,23 @@ run_closed() {
 
 # The example over a driver: it follows a node through a server that is gone for a while, and through a minute in which nothing happens.
 run_follower() {
-    outside "$1" create /follow one
-    begin follow "$follower" /follow "127.0.0.1:$1"
-    sees follow <<<one
-    outside "$1" set /follow two
-    sees follow <<<two
-    stop_server one
-    start_server one
-    within 60 serves "$1" || fail "the server does not serve again"
-    outside "$1" set /follow three
-    sees follow <<<three
-    sleep 60
-    is_quiet follow
-    outside "$1" set /follow four
-    sees follow <<<four
-    end_by_force follow
-}
-
-# Sets three nodes below /together to the same number in one transaction, each number from the first to the last, by another client.
-set_together() {
-    /usr/bin/python3 - "$@" <<'EOF' >>"$folder/outside.log" 2>&1 || fail "another client's transactions"
-import sys, time
-from kazoo.client import KazooClient
-
-port, first, last = map(int, sys.argv[1:])
-client = KazooClient(hosts=f"127.0.0.1:{port}")
-client.start(timeout=20)
-paths = [f"/together/{name}" for name in "abc"]
-for path in paths:
-    client.ensure_path(path)
-for number in range(first, last + 1):
-    transaction = client.transaction()
-    for path in paths:
-        transaction.set_data(path, str(number).encode())
-    if not all(hasattr(one, "version") for one in transaction.commit()):
-        sys.exit(1)
-    time.sleep(0.002)
-client.stop()
+    other create /follow one
+    play follow <<'EOF'
+$ begin "$follower" /follow "$at"
+one
+$ other set /follow two
+two
+$ stop_server one
+$ start_server one
+$ within 60 serves "$port" || fail "the server does not serve again"
+$ other set /follow three
+three
+$ sleep 60
+$ quiet
+$ other set /follow four
+four
+$ stop
 EOF
-}
-
-# A configuration of three nodes while another client changes all of them in one transaction, 500 times: each line is of one transaction,
-# and later than the line before.
-run_together() {
-    set_together "$1" 0 0
-    begin together "$conclusions" tree 60 /together "127.0.0.1:$1"
-    sees together <<<'at @together /together= /together/a=0 /together/b=0 /together/c=0'
-    set_together "$1" 1 500
-    within 20 grep -q '/together/c=500$' "$folder/together.out" || fail "the last change is not told"
-    sed 's/=/ /g' "$folder/together.out" | awk 'BEGIN { value = -1 }
-        $1 != "at" || NF != 9 || $5 != $7 || $7 != $9 || $2 <= last || $5 <= value { wrong = 1; exit }
-        { last = $2; value = $5; count++ }
-        END { exit wrong || count < 10 }' ||
-        fail "not each line is of one transaction, and later: $(cat "$folder/together.out")"
-    seen[together]=$(wc -l <"$folder/together.out")
-    end_by_force together
 }
 
 # Makes a tree of 100 nodes below /grove, and then this many transactions, at about 100 a second. Each sets the root and three other nodes, and
@@ -891,41 +777,45 @@ EOF
 # A tree that another client changes in this many transactions: each line is a state of it, and later than the line before; and there are this many at least
 # lines.
 run_grove() {
-    begin grove "$conclusions" tree 900 /grove "127.0.0.1:$1"
-    sees grove <<<'at @ no node'
-    change_grove "$1" "$2"
-    within 20 grep -q " /grove=$2 " "$folder/grove.out" || fail "the last state of the tree is not told"
-    awk -v least="$3" 'FNR == NR { states[$0] = ++count; next }
+    play grove <<EOF
+$ begin "\$conclusions" tree 900 /grove $at
+at @ no node
+$ change_grove $port $1
+$ prints ' /grove=$1 ' 20
+$ stop
+EOF
+    awk -v least="$2" 'FNR == NR { states[$0] = ++count; next }
         FNR == 1 { next }
         { line = $0; sub(/^at [0-9]+/, "", line) }
         !(line in states) || $2 <= last || states[line] <= state { print "line " FNR ": " $0; wrong = 1; exit }
         { last = $2; state = states[line]; shown++ }
         END { print "grove: " shown " of " count " states shown"; exit wrong || shown < least }' \
         "$folder/grove.states" "$folder/grove.out" || fail "not each tree that is shown is a state of it, and later"
-    seen[grove]=$(wc -l <"$folder/grove.out")
-    end_by_force grove
 }
 
 # Two sessions that want one lock. The first is stopped until its session has expired and the second holds; it goes on, finds that out and
 # waits; and holds again once the second has left. The tokens rise.
 run_lock() {
-    local at=127.0.0.1:$1
-    outside "$1" create /lock x
-    begin first "$conclusions" lock 600000 first -lock- /lock "$at"
-    sees first <<<'first holds @token-1'
-    begin second "$conclusions" lock 20000 second -lock- /lock "$at"
-    sees second <<<'second waits'
-    kill -STOP "${begun[first]}"
-    sees second <<<'second holds @token-2'
-    kill -CONT "${begun[first]}"
-    sees first <<'EOF'
+    other create /lock x
+    play first <<'EOF'
+$ begin "$conclusions" lock 600000 first -lock- /lock "$at"
+first holds @token-1
+== second
+$ begin "$conclusions" lock 20000 second -lock- /lock "$at"
+second waits
+$ kill -STOP "${begun[first]}"
+second holds @token-2
+$ kill -CONT "${begun[first]}"
+== first
 first has lost its session
 first waits
 first holds @token-3
+== second
+second leaves
+$ ends
+== first
+$ stop
 EOF
-    sees second <<<'second leaves'
-    ends second
-    end_by_force first
     rises @token-1 @token-2 @token-3
 }
 
@@ -974,7 +864,8 @@ contend_by_curator() {
     for jar in zookeeper-jute slf4j-api curator-client curator-framework curator-recipes guava netty-all; do
         classes+=:/usr/share/java/$jar.jar
     done
-    java -Xmx256m -cp "$classes" "$top/trials/CuratorContenders.java" "$1" "$2" "$folder/contest.out" >>"$folder/outside.log" 2>&1
+    java -Xmx256m -cp "$classes" "$top/clients/python/tests/CuratorContenders.java" "127.0.0.1:$1" /contest /contest-judge 10 "$2" lock \
+        "$folder/contest.out" >>"$folder/outside.log" 2>&1
 }
 
 has_curator() {
@@ -1008,18 +899,47 @@ run_contest() {
 
 # With kazoo's, five of the example have Curator's names and five kazoo's. Curator's take no others for contenders than those of their own names.
 run_contests() {
-    outside "$1" create /contest x
-    run_contest "$1" "$2" -lock- __lock__ contend_by_kazoo
+    other create /contest x
+    run_contest "$port" "$1" -lock- __lock__ contend_by_kazoo
     if has_curator; then
-        run_contest "$1" "$2" -lock- -lock- contend_by_curator
+        run_contest "$port" "$1" -lock- -lock- contend_by_curator
     else
         echo "contend_by_curator: skipped, libcurator-recipes-java or a JDK is missing"
     fi
 }
 
+# A server stops while the gate holds the session; then others change what is watched, at another one.
+stop_and_change() {
+    local server=$1 other=$2
+    within 60 test -e "$folder/$server.held" || fail "the session does not come to the gate"
+    stop_server "$server"
+    within 60 serves "$other" || fail "no server serves once one has stopped"
+    outside "$other" set /live two
+    outside "$other" set /live three
+    outside "$other" create /live/c c
+    touch "$folder/$server.go"
+}
+
 # An ensemble of three: the server of the session stops, and the session goes on at the next address that connects.
-script_ensemble() {
-    cat <<'EOF'
+# The server that stops, whose session it is, has this mode: leader or follower.
+run_ensemble() {
+    local mode=$1 server='' number port first gate
+    local -a ports others=()
+    read -ra ports < <(free_ports 9)
+    known=()
+    start_three "$mode" "${ports[@]}"
+    for number in 1 2 3; do
+        port=127.0.0.1:${ports[number - 1]}
+        if [[ -z $server && $(mode_of "${port#*:}") == "$mode" ]]; then
+            server=$mode-$number first=$port
+        else
+            others+=("$port")
+        fi
+    done
+    [[ -n $server ]] || fail "no $mode"
+    start_gate "$server"
+    gate=127.0.0.1:$(cat "$folder/$server.port")
+    session "$mode" "$first" "$gate" "$first" "${others[@]}" <<'EOF' &
 call 1 create /live 6f6e65 0
 call 2 getdata /live 1
 call 3 getchildren /live 1
@@ -1036,10 +956,10 @@ call 6 getdata /live 1
 call 7 setdata /live 34 2
 call 8 close
 EOF
-}
-
-printed_ensemble() {
-    cat <<'EOF'
+    local client=$!
+    stop_and_change "$server" "${others[0]#*:}"
+    wait "$client" || exit 1
+    expect "$mode" <<'EOF'
 state Connecting
 state Connected
 answer 1 @create created /live
@@ -1066,48 +986,9 @@ answer 7 @four stat @create @four @made @again 3 1 0 0 1 1 @c
 answer 8 @closed done
 state Closed
 EOF
-}
-
-# A server stops while the gate holds the session; then others change what is watched, at another one.
-stop_and_change() {
-    local server=$1 other=$2
-    within 60 test -e "$folder/$server.held" || fail "the session does not come to the gate"
-    stop_server "$server"
-    within 60 serves "$other" || fail "no server serves once one has stopped"
-    outside "$other" set /live two
-    outside "$other" set /live three
-    outside "$other" create /live/c c
-    touch "$folder/$server.go"
-}
-
-# The server that stops, whose session it is, has this mode: leader or follower.
-run_ensemble() {
-    local mode=$1 server='' number port first gate
-    local -a ports others=()
-    read -ra ports < <(free_ports 9)
-    known=()
-    start_three "$mode" "${ports[@]}"
-    for number in 1 2 3; do
-        port=127.0.0.1:${ports[number - 1]}
-        if [[ -z $server && $(mode_of "${port#*:}") == "$mode" ]]; then
-            server=$mode-$number first=$port
-        else
-            others+=("$port")
-        fi
-    done
-    [[ -n $server ]] || fail "no $mode"
-    start_gate "$server"
-    gate=127.0.0.1:$(cat "$folder/$server.port")
-    script_ensemble | session "$mode" "$first" "$gate" "$first" "${others[@]}" &
-    local client=$!
-    stop_and_change "$server" "${others[0]#*:}"
-    wait "$client" || exit 1
-    expect "$mode" < <(printed_ensemble)
     rises @create @three @c @four @closed
     rises @three @later @four
-    for server in "${!servers[@]}"; do
-        stop_server "$server"
-    done
+    stop_servers
 }
 
 # Which of these ports is the first one, counted from 1.
@@ -1122,32 +1003,32 @@ number_at() {
 # An ensemble of three. The server of a watch is stopped so that nothing tells: it is left once nothing was heard for two thirds of the
 # timeout, and what was changed meanwhile is told by the next server. That one ends, and the third tells a further change.
 run_stopped() {
-    local number port since first second other=''
+    local name=stopped number port since first second
     local -a ports rest=()
     read -ra ports < <(free_ports 9)
     known=()
     start_three stopped "${ports[@]}"
     outside "${ports[0]}" create /stopped one
-    begin_data stopped "127.0.0.1:${ports[0]},127.0.0.1:${ports[1]},127.0.0.1:${ports[2]}" --timeout 30000
+    watch_data "127.0.0.1:${ports[0]},127.0.0.1:${ports[1]},127.0.0.1:${ports[2]}" --timeout 30000
     first=$(port_of stopped)
     for port in "${ports[@]:0:3}"; do
         [[ $port == "$first" ]] || rest+=("$port")
     done
-    other=${rest[1]}
+    port=${rest[1]}
     number=$(number_at "$first" "${ports[@]:0:3}")
     kill -STOP "${servers[stopped-$number]}"
     since=$SECONDS
     (within 40 has_line stopped && echo $((SECONDS - since)) >"$folder/stopped.left") &
     within 60 leads_one "${rest[@]}" || fail "no server leads once one is stopped"
-    within 60 serves "$other" || fail "no server serves once one is stopped"
-    outside "$other" set /stopped two
-    outside "$other" set /stopped three
-    sees stopped <<<"~ drop D1 127.0.0.1:$first nothing was heard for two thirds of the timeout"
+    within 60 serves "$port" || fail "no server serves once one is stopped"
+    other set /stopped two
+    other set /stopped three
+    sees "~ drop D1 127.0.0.1:$first nothing was heard for two thirds of the timeout"
     within 5 test -s "$folder/stopped.left"
     (($(cat "$folder/stopped.left") <= 22)) || fail "a silent server is left after $(cat "$folder/stopped.left") seconds"
-    sees stopped <<<'~ state Idle'
-    within 60 is_back stopped "$first" || fail "the watch does not leave the server that is stopped"
-    sees stopped <<'EOF'
+    play stopped <<EOF
+~ state Idle
+$ within 60 is_back stopped $first || fail "the watch does not leave the server that is stopped"
 ~ /stopped data full 6f6e65 @stopped @stopped @ @ 0 0 3 stale last @
 ~ /stopped data full 7468726565 @stopped @three @ @ 2 0 5 good last @
 EOF
@@ -1157,23 +1038,19 @@ EOF
     outside "$first" sync /stopped
     second=$(port_of stopped)
     stop_server "stopped-$(number_at "$second" "${ports[@]:0:3}")"
-    sees stopped <<EOF
+    play stopped <<EOF
 ~ ended 127.0.0.1:$second end of stream
 ~ state Idle
-EOF
-    within 60 is_back stopped "$second" || fail "the watch does not leave the server that has ended"
-    within 60 serves "$first" || fail "no server serves once one has ended"
-    outside "$first" set /stopped four
-    sees stopped <<'EOF'
+$ within 60 is_back stopped $second || fail "the watch does not leave the server that has ended"
+$ within 60 serves $first || fail "no server serves once one has ended"
+$ outside $first set /stopped four
 ~ /stopped data full 7468726565 @stopped @three @ @ 2 0 5 stale last @
 ~ /stopped data full 666f7572 @stopped @four @ @ 3 0 4 good last @
+$ stop
 EOF
-    end_by_force stopped
     rises @stopped @three @four
     run_idle "$first"
-    for number in "${!servers[@]}"; do
-        stop_server "$number"
-    done
+    stop_servers
 }
 
 # Whether a watch that has left the server at this port is connected elsewhere. What it prints till then, attempts that fail too, is passed
@@ -1195,17 +1072,15 @@ all_have() {
 # Six watches with sessions of ten seconds live through outages of 0.66, 0.75 and 0.9 of that, each of which begins when the server has just
 # heard them, and print what was changed after each.
 run_outages() {
-    local port number seconds before
+    local name port number seconds before
     local -a doors
-    port=$(free_ports 1)
-    configure outages 1 "$port" ""
-    start_server outages
-    within 60 serves "$port" || fail "the server does not serve"
-    outside "$port" create /outage begin
+    serve_alone outages
+    other create /outage begin
     start_doors "$port"
     read -ra doors <"$folder/doors.port"
     for number in 1 2 3 4 5 6; do
-        begin "outage$number" "$program" watch "127.0.0.1:${doors[number - 1]}" --timeout 10000 --data /outage
+        name=outage$number
+        watch "127.0.0.1:${doors[number - 1]}" --timeout 10000 --data /outage
     done
     within 40 has_six_sessions "$port" || fail "six watches have no six sessions of ten seconds"
     before=$(sessions_at "$port")
@@ -1213,16 +1088,42 @@ run_outages() {
         echo "$seconds" >"$folder/doors.new"
         mv "$folder/doors.new" "$folder/doors.close"
         within 30 doors_are_open || fail "the doors stay closed"
-        outside "$port" set /outage "$seconds"
+        other set /outage "$seconds"
         within 30 all_have " full $(printf %s "$seconds" | od -An -tx1 | tr -d ' ') " || fail "a watch does not print what was set after $seconds seconds"
         [[ $(sessions_at "$port") == "$before" ]] || fail "an outage of $seconds seconds has lost a session"
         echo "outage of $seconds seconds: six sessions of ten seconds live on"
     done
     for number in 1 2 3 4 5 6; do
-        seen[outage$number]=$(wc -l <"$folder/outage$number.out")
-        end_by_force "outage$number"
+        name=outage$number
+        seen[$name]=$(wc -l <"$folder/$name.out")
+        stop
     done
-    stop_server outages
+    stop_servers
+}
+
+run_alone() {
+    local port at
+    known=()
+    serve_alone one
+    at=127.0.0.1:$port
+    run_calls
+    run_resumed
+    run_asks
+    run_operator
+    known=()
+    run_changes
+    run_objects
+    known=()
+    run_trees
+    run_unknown
+    run_idle "$port"
+    run_expired
+    run_closed
+    run_grove 1000 100
+    run_lock
+    run_contests 3
+    run_follower
+    stop_servers
 }
 
 install_server || {

@@ -84,11 +84,26 @@ start_server() {
     servers[$1]=$!
 }
 
+# Starts a server by itself under a name, with further settings, and sets `port` to its port.
+serve_alone() {
+    port=$(free_ports 1)
+    configure "$1" 1 "$port" "${2-}"
+    start_server "$1"
+    within 60 serves "$port" || fail "the server does not serve"
+}
+
 stop_server() {
     kill "${servers[$1]}"
     within 20 is_gone "${servers[$1]}" || kill -KILL "${servers[$1]}"
     wait "${servers[$1]}" 2>/dev/null || true
     unset "servers[$1]"
+}
+
+stop_servers() {
+    local name
+    for name in "${!servers[@]}"; do
+        stop_server "$name"
+    done
 }
 
 # Ends a server at once: it has no time to say or to write anything.
@@ -175,30 +190,36 @@ start_three() {
     done
 }
 
-# Six doors to the server at a port; their ports are in doors.port. Where the file doors.close is there, each is closed for as many
-# seconds as that says, right after its client has sent something; and then the file is gone.
-start_doors() {
-    python3 - "$1" "$folder/doors" <<'EOF' &
+# This many ways to the server at a port, by a name; each is at this port, or at a free one. Their ports are in NAME.port. While the file NAME.hold is
+# there, they pass nothing on and end nothing, as where a cable is out. Where NAME.close is there, each is closed for as many seconds as that
+# says, right after its client has sent something; and then the file is gone.
+start_ways() {
+    python3 - "$folder/$1" "${@:2}" <<'EOF' &
 import asyncio, os, sys
 
-port, name = int(sys.argv[1]), sys.argv[2]
+name, target, count, own = sys.argv[1], *map(int, sys.argv[2:])
 
 
-class Door:
-    async def open(self, own=0):
+class Way:
+    async def open(self, own):
         self.listener = await asyncio.start_server(self.enter, "127.0.0.1", own)
         self.port = self.listener.sockets[0].getsockname()[1]
         self.connections = []
         self.is_heard = asyncio.Event()
 
     async def enter(self, reader, writer):
-        server_reader, server_writer = await asyncio.open_connection("127.0.0.1", port)
+        try:
+            server_reader, server_writer = await asyncio.open_connection("127.0.0.1", target)
+        except ConnectionError:
+            return writer.close()
         self.connections += [writer, server_writer]
         await asyncio.gather(self.pass_on(reader, server_writer, True), self.pass_on(server_reader, writer, False))
 
     async def pass_on(self, reader, writer, is_client):
         try:
             while data := await reader.read(65536):
+                while os.path.exists(name + ".hold"):
+                    await asyncio.sleep(0.05)
                 writer.write(data)
                 await writer.drain()
                 if is_client:
@@ -219,24 +240,34 @@ class Door:
 
 
 async def main():
-    doors = [Door() for _ in range(6)]
-    for door in doors:
-        await door.open()
+    ways = [Way() for _ in range(count)]
+    for way in ways:
+        await way.open(own)
     with open(name + ".new", "w") as file:
-        print(*(door.port for door in doors), file=file)
+        print(*(way.port for way in ways), file=file)
     os.rename(name + ".new", name + ".port")
     while True:
         await asyncio.sleep(0.1)
         if os.path.exists(name + ".close"):
             seconds = float(open(name + ".close").read())
-            await asyncio.gather(*(door.close(seconds) for door in doors))
+            await asyncio.gather(*(way.close(seconds) for way in ways))
             os.remove(name + ".close")
 
 
 asyncio.run(main())
 EOF
-    begun[doors]=$!
-    within 20 test -e "$folder/doors.port" || fail "no doors"
+    begun[$1]=$!
+    within 20 test -e "$folder/$1.port" || fail "no way $1"
+}
+
+# Six ways to the server at a port, the doors.
+start_doors() {
+    start_ways doors "$1" 6 0
+}
+
+# A way from a port to another one, by a name.
+start_way() {
+    start_ways "$1" "$3" 1 "$2"
 }
 
 # The sessions of ten seconds that have connections to the server at a port.
@@ -250,44 +281,4 @@ has_six_sessions() {
 
 doors_are_open() {
     [[ ! -e $folder/doors.close ]]
-}
-
-# A way from a port to another one, by a name. While the file NAME.hold is there, it passes nothing on and ends nothing, as where a cable is out.
-start_way() {
-    python3 - "$folder/$1" "$2" "$3" <<'EOF' &
-import asyncio, os, sys
-
-name, port, target = sys.argv[1], int(sys.argv[2]), int(sys.argv[3])
-
-
-async def pass_on(reader, writer):
-    try:
-        while data := await reader.read(65536):
-            while os.path.exists(name + ".hold"):
-                await asyncio.sleep(0.05)
-            writer.write(data)
-            await writer.drain()
-    except ConnectionError:
-        pass
-    writer.close()
-
-
-async def enter(reader, writer):
-    try:
-        other_reader, other_writer = await asyncio.open_connection("127.0.0.1", target)
-    except ConnectionError:
-        return writer.close()
-    await asyncio.gather(pass_on(reader, other_writer), pass_on(other_reader, writer))
-
-
-async def main():
-    server = await asyncio.start_server(enter, "127.0.0.1", port)
-    open(name + ".way", "w").close()
-    await server.serve_forever()
-
-
-asyncio.run(main())
-EOF
-    begun[$1]=$!
-    within 20 test -e "$folder/$1.way" || fail "no way $1"
 }

@@ -1,10 +1,14 @@
-// Contenders of Curator, for real_server.py:
+// Contenders of Curator, for real_server.py and trials/real_server.sh:
 //
-//   java -cp JARS CuratorContenders.java HOST:PORT/ROOT PATH JUDGE COUNT ROUNDS lock|readwrite
+//   java -cp JARS CuratorContenders.java HOST:PORT/ROOT PATH JUDGE COUNT ROUNDS lock|readwrite [FILE]
 //
 // COUNT threads, each with a client of its own, take the lock at PATH for ROUNDS rounds. Each holder of an exclusive lock makes the node
-// JUDGE and deletes it again: it fails where the node is there. The exit status says whether none has failed.
+// JUDGE and deletes it again: it fails where the node is there. The exit status says whether none has failed. A holder of a lock, which is not one
+// of a pair, adds lines to FILE: `NAME holds CZXID`, with the czxid of its node, when it holds, and `NAME leaves` before it leaves.
 
+import java.nio.file.Files;
+import java.nio.file.Path;
+import java.nio.file.StandardOpenOption;
 import java.util.concurrent.ExecutorService;
 import java.util.concurrent.Executors;
 import java.util.concurrent.Future;
@@ -23,6 +27,18 @@ public final class CuratorContenders {
     private final String judge;
     private final int rounds;
     private final boolean isShared;
+    private final Path file;
+
+    /** A lock that says which node its holder has. */
+    private static final class Mutex extends InterProcessMutex {
+        Mutex(CuratorFramework client, String path) {
+            super(client, path);
+        }
+
+        String node() {
+            return getLockPath();
+        }
+    }
 
     private CuratorContenders(String[] words) {
         hosts = words[0];
@@ -30,6 +46,7 @@ public final class CuratorContenders {
         judge = words[2];
         rounds = Integer.parseInt(words[4]);
         isShared = words[5].equals("readwrite");
+        file = words.length > 6 ? Path.of(words[6]) : null;
     }
 
     public static void main(String[] words) throws Exception {
@@ -58,7 +75,7 @@ public final class CuratorContenders {
             InterProcessReadWriteLock both = new InterProcessReadWriteLock(client, path);
             for (int round = 0; round < rounds; round++) {
                 boolean reads = isShared && round % 2 == 1;
-                hold(client, reads ? both.readLock() : isShared ? both.writeLock() : new InterProcessMutex(client, path), reads);
+                hold(client, reads ? both.readLock() : isShared ? both.writeLock() : new Mutex(client, path), reads);
             }
         }
         return null;
@@ -74,12 +91,22 @@ public final class CuratorContenders {
             } else {
                 client.create().forPath(judge);
             }
-            Thread.sleep(2);
+            if (file != null) {
+                tell("holds " + client.checkExists().forPath(((Mutex) lock).node()).getCzxid());
+            }
+            Thread.sleep(file != null ? 20 : 2);
+            if (file != null) {
+                tell("leaves");
+            }
             if (!reads) {
                 client.delete().forPath(judge);
             }
         } finally {
             lock.release();
         }
+    }
+
+    private void tell(String word) throws Exception {
+        Files.writeString(file, Thread.currentThread().getName() + " " + word + "\n", StandardOpenOption.APPEND);
     }
 }

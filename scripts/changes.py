@@ -1,14 +1,22 @@
-"""What went away, was added or reads otherwise between two lists of pins, in plain words."""
+"""What went away, was added or reads otherwise: of statements between two lists of pins, in plain words; and of tests, rows and edits, which are there
+no more.
+
+A message of a commit names a statement by the name of its definition or function (`IsFollowed`, `Client::step`); what a file gives its callers, by
+the file (`zk_client/src/lib.rt`); a test, by its name, its class or its file; rows, by their file (`test_scripts/stdout`, `cases.txt`); an edit, by
+its name or what it turns. A list of names will do. A new statement, and one that only moved to another file, needs no word.
+"""
 
 from __future__ import annotations
 
 import difflib
+import re
+import sys
 from collections import Counter
 from collections.abc import Iterable, Iterator, Mapping
 from dataclasses import dataclass
 from functools import cache
 
-import base
+import repository
 from pins import Part, Parts, Pin, is_pinned, numbered, parts_of, pins_of, stating, texts_here
 
 GONE, NEW, OTHERWISE, MOVED = "went away", "was added", "reads otherwise", "moved as it was"
@@ -95,7 +103,7 @@ def told(change: Change, before: Words, after: Words) -> Iterator[str]:
 
 def texts_at(commit: str) -> dict[str, str]:
     """The texts that are pinned, as a commit has them; none where there is no such commit."""
-    texts = {name.removeprefix("crates/"): text for name, text in base.texts_at(commit, "crates").items()}
+    texts = {name.removeprefix("crates/"): text for name, text in repository.texts_at(commit, "crates").items()}
     return stating({name: text for name, text in texts.items() if is_pinned(name)})
 
 
@@ -161,7 +169,7 @@ class Changed:
 
     @property
     def is_named(self) -> bool:
-        return base.is_named(*names_in(self.key))
+        return repository.is_named(*names_in(self.key))
 
     def __str__(self) -> str:
         return f"{self.key}: {'; '.join(self.meanings)}"
@@ -181,4 +189,110 @@ def changed_between(before: Mapping[str, Pin], after: Mapping[str, Pin]) -> list
 
 @cache
 def changed_since_base() -> list[Changed]:
-    return changed_between(pins_of(texts_at(base.base())), pins_of(texts_here()))
+    return changed_between(pins_of(texts_at(repository.base())), pins_of(texts_here()))
+
+
+# Tests, rows and edits
+
+FOLDERS = ("crates", "examples", "clients", "wrong_definitions")
+FUNCTION = re.compile(r"#\[test\]\n(?:\s*#.*\n)*\s*(?:pub )?fn (\w+)")
+METHOD = re.compile(r"^class (\w+)|^    (?:async )?def (test\w*)", re.M)
+MAIN = re.compile(r"^int main\(.*?\n\{\n(.*?)^\}", re.M | re.S)
+TABLE = re.compile(r"^( *)(?:pub )?(?:static|const) \w+: [^=]*\[[^=]*= &?\[\n(.*?)^\1\]", re.M | re.S)
+LINES = re.compile(r"/(?:stdin|stdout|args)$|^examples/|^clients/cases/\w+\.txt$")
+SHOWN = 3
+
+
+@dataclass(frozen=True)
+class Tried:
+    """A test, a row or an edit: the name or the text of it, and the words by which a message may name it."""
+
+    kind: str
+    text: str
+    file: str
+    names: tuple[str, ...]
+
+
+def tried_in(file: str, text: str) -> Iterator[tuple[str, str, tuple[str, ...]]]:
+    """The tests, rows and edits of a file: the kind, the name or text, and other names of each."""
+    if LINES.search(file):
+        yield from (("row", line, ()) for line in text.splitlines() if line.strip() and not line.startswith("#"))
+    elif file.endswith(".edit"):
+        yield "wrong body", file.removeprefix("crates/"), (file.rpartition("/")[2].removesuffix(".edit"),)
+    elif file.startswith("wrong_definitions/"):
+        yield from (("wrong definition", turns, (turns,)) for turns in re.findall(r"^turns: (.*)$", text, re.M))
+    elif file.endswith((".rt", ".rs")):
+        yield from (("test", name, (name,)) for name in FUNCTION.findall(text))
+        rows = [row for _, table in TABLE.findall(text) for row in table.split("\n")] if file.startswith("crates/test_") else []
+        yield from (("row", row.strip(), ()) for row in rows if re.search(r"\w", row) and not row.strip().startswith("//"))
+    elif re.search(r"/tests?[/_]\w*\.py$|/tests/.*\.py$", file):
+        owner = ""
+        for kind, name in METHOD.findall(text):
+            owner = kind or owner
+            if name:
+                yield "test", f"{owner}.{name}", (f"{owner}.{name}", name, owner)
+    elif re.search(r"/tests/\w+\.c$", file) and (main := MAIN.search(text)):
+        yield from (("test", f"{file.rpartition('/')[2]} {name}", (name,)) for name in re.findall(r"^    (?!printf|dw_)([a-z]\w+)\(", main[1], re.M))
+
+
+def tried(texts: Mapping[str, str]) -> list[Tried]:
+    def of_file(file: str) -> tuple[str, ...]:
+        return (file, file.removeprefix("crates/"), file.rpartition("/")[2] if file.startswith("clients/") else "")
+
+    return [Tried(kind, name, file, (*names, *of_file(file))) for file in sorted(texts) for kind, name, names in tried_in(file, texts[file])]
+
+
+def gone(old: list[Tried], new: list[Tried]) -> list[Tried]:
+    """What is there no more, in whichever file: the last ones of the old, where some of a text are left."""
+    left = Counter((it.kind, it.text) for it in old)
+    left.subtract((it.kind, it.text) for it in new)
+    found = []
+    for it in reversed(old):
+        if left[it.kind, it.text] > 0:
+            left[it.kind, it.text] -= 1
+            found.append(it)
+    return found[::-1]
+
+
+def told_gone(found: list[Tried]) -> Iterator[tuple[str, bool, str]]:
+    """What is gone: each test and edit, and together the rows of a file and what a file had that is gone itself; whether messages name it, and
+    by which word one would."""
+    together: dict[tuple[str, str], list[Tried]] = {}
+    for it in found:
+        if it.kind == "row" or not (repository.TOP / it.file).is_file():
+            together.setdefault((it.kind, it.file), []).append(it)
+        else:
+            yield f"gone: the {it.kind} {it.text}, of {it.file}", repository.is_named(*it.names), it.names[0]
+    for (kind, file), its in together.items():
+        shown = "; ".join(it.text for it in its[:SHOWN]) + (" .." if its[SHOWN:] else "")
+        yield f"gone: {len(its)} of the kind '{kind}' of {file}: {shown}", all(repository.is_named(*it.names) for it in its), file.removeprefix("crates/")
+
+
+def check() -> int:
+    """Says what changed since the base, and how much of it no message names."""
+    base = repository.base()
+    said = repository.git("log", "-1", "--format=%h, %as, %s", base).stdout.strip()
+    lines = [(str(one), one.is_named, names_in(one.key)[0]) for one in changed_since_base()]
+    lost = list(told_gone(gone(tried(repository.texts_at(base, *FOLDERS)), tried(repository.texts_of(*FOLDERS)))))
+    unnamed = [name for _, is_named, name in [*lines, *lost] if not is_named]
+    print(f"since the base ({said}) {len(lines)} statements are not as they were, and {len(lost)} tests, edits or files of rows have lost something")
+    print(*(f"{text}{'' if is_named else ' NOT NAMED'}" for text, is_named, _ in [*lines, *lost]), sep="\n", end="\n" if lines or lost else "")
+    if unnamed:
+        print("since: no message of a commit since the base names these: say in one what becomes of each, a list of them will do")
+        print(*dict.fromkeys(unnamed), sep="\n")
+    print(f"since: {len(unnamed)} not named")
+    return int(bool(unnamed))
+
+
+def compare(old: str, new: str | None = None) -> None:
+    """Says what changed between two commits, or from one to the work tree."""
+    before, after = pins_of(texts_at(old)), pins_of(texts_at(new) if new else texts_here())
+    if not before or not after:
+        sys.exit("since: there is no such commit, or it has no crates")
+    found = changes({key: parts_of(pin) for key, pin in before.items()}, {key: parts_of(pin) for key, pin in after.items()})
+    print(*(line for one in found for line in told(one, words_of(before), words_of(after))), sep="\n")
+    print(*changed_between(before, after), sep="\n")
+    now = repository.texts_at(new, *FOLDERS) if new else repository.texts_of(*FOLDERS)
+    lost = gone(tried(repository.texts_at(old, *FOLDERS)), tried(now))
+    print(*(f"gone: the {it.kind} {it.text}, of {it.file}" for it in lost), sep="\n")
+    print(counts(found))
