@@ -263,8 +263,9 @@ static inline dws_call *dws_create(dws_session *s, dws_call *call, const char *p
 static inline dws_call *dws_delete(dws_session *s, dws_call *call, const char *path, int32_t version);
 
 /* Tells the servers who the session is, in the words of a scheme, as `digest` and `user:password`: this connection at once, and each later one before
- * anything else. Where a server does not take that, DWS_BARRED is told, the session is over, and each call fails with the code -115. Credentials cross
- * the network as they are: use TLS. The copies of them here are overwritten before they are freed. False where memory ran out. */
+ * anything else. Where a server does not take that, DWS_BARRED is told, the session is over, and each call fails with the code -115; where the library
+ * does not, since both have more than 1,048,555 bytes or the scheme is no UTF-8, DWS_FAILED is told. Credentials cross the network as they are: use TLS.
+ * The copies of them here and in the library are overwritten before they are freed. False where memory ran out. */
 static inline bool dws_introduce(dws_session *s, const char *scheme, const char *bytes, size_t length);
 
 /* Waits for the answer of a call, and gives its `why`. */
@@ -344,20 +345,14 @@ static inline enum dw_result dws_saved(dws_session *s, uint8_t *room, size_t siz
 
 /* ---- What a session has. ---- */
 
-/* Who the session is, in one frame that each connection is told before all else. */
+/* Credentials, at their places in the library; those that it has not been handed yet are the last ones. They are kept for the machine that takes the
+ * session up where memory ran out. */
 struct dws_credentials {
-    uint8_t *frame;
+    char *text; /* the scheme, a 0, and the secret */
     size_t length;
+    bool is_handed;
     dws_call *call; /* that waits for the answer; NULL where none does */
     struct dws_credentials *next;
-};
-
-/* Where the stream of a connection is: the head of a frame, as far as it came, and how many bytes of the frame are left after it. */
-struct dws_heads {
-    uint8_t head[20];
-    size_t held, left;
-    bool is_begun; /* the answer to the ConnectRequest has come */
-    struct dws_credentials *asked; /* whose answer comes next */
 };
 
 struct dws_host {
@@ -399,7 +394,6 @@ struct dws_session {
     dw_session machine;
     dws_options options;
     struct dws_credentials *credentials;
-    struct dws_heads came;
     int32_t barred;                    /* the code of the server that does not take the credentials */
     char *hosts_text, *root;           /* the connection string, and the chroot in it: nothing where there is none */
     struct dws_host *hosts;
@@ -411,6 +405,7 @@ struct dws_session {
     bool is_dial_due, is_connecting, is_expired, is_closing, is_over, is_resumed;
     bool has_more, has_news;           /* bytes that poll does not tell of, and something that a program may wait for */
     bool must_look, must_follow;       /* marks may be others; subjects are new or gone */
+    bool must_introduce;               /* credentials are new */
     bool must_show, is_acting;         /* subjects have changed; what a step says is being taken */
     bool is_unread;                    /* a reply does not read */
     bool is_moment;                    /* what the library says is due, and no word of the server's */
@@ -950,7 +945,22 @@ static inline void dws_hang_up(dws_session *s)
     s->read_wants = s->write_wants = 0;
     dws_wipe(s->unsent.at, s->unsent.length);
     s->unsent.length = 0;
-    memset(&s->came, 0, sizeof s->came);
+}
+
+/* Makes room for so much that is to be written. What has become too small is overwritten: there may be credentials in it. */
+static inline bool dws_reserve_unsent(struct dws_bytes *unsent, size_t wanted)
+{
+    struct dws_bytes grown = {NULL, 0, 0};
+    if (wanted <= unsent->room) {
+        return true;
+    }
+    if (!dws_reserve_bytes(&grown, 2 * wanted) || !dws_put_bytes(&grown, unsent->at, unsent->length)) {
+        return false;
+    }
+    dws_wipe(unsent->at, unsent->length);
+    free(unsent->at);
+    *unsent = grown;
+    return true;
 }
 
 /* Keeps the frame of the action that was told last until it is written. One of a connection that is over is forgotten. */
@@ -959,7 +969,7 @@ static inline void dws_send_later(dws_session *s, size_t length)
     if (s->wire.socket < 0) {
         return;
     }
-    if (!dws_reserve_bytes(&s->unsent, s->unsent.length + length)) {
+    if (!dws_reserve_unsent(&s->unsent, s->unsent.length + length)) {
         dws_fail(s, DW_NO_MEMORY);
         return;
     }
@@ -1160,6 +1170,7 @@ static inline void dws_note_seen(dws_session *s, uint64_t ticket, int32_t why)
 
 static inline void dws_take_refusal(dws_session *s, const dw_output *refused);
 static inline void dws_take_of_tree(dws_session *s, const dw_output *told);
+static inline void dws_take_introduction(dws_session *s, size_t place, int32_t code);
 
 static inline void dws_take(dws_session *s, const dw_output *action)
 {
@@ -1185,6 +1196,7 @@ static inline void dws_take(dws_session *s, const dw_output *action)
     case DW_KIND_LET_GO:
     case DW_KIND_BOUNDED:
     case DW_KIND_WHOLE: dws_take_of_tree(s, action); break;
+    case DW_KIND_CREDENTIAL: dws_take_introduction(s, action->place, action->code); break;
     }
 }
 
@@ -1277,6 +1289,10 @@ static inline void dws_resume(dws_session *s)
         tree->ticket = 0;
         dws_free_members(&tree->members);
     }
+    for (struct dws_credentials *one = s->credentials; one != NULL; one = one->next) {
+        one->is_handed = false;
+        s->must_introduce = true;
+    }
     dws_lose_kept(s);
     struct dws_line rest = dws_ask_again(s, &s->sent);
     dws_hang_up(s);
@@ -1342,35 +1358,12 @@ static inline void dws_send_queued(dws_session *s)
     }
 }
 
-/* ---- Credentials: each connection is told them before all else, and answers them in their order, under an xid of their own. ---- */
-
-/* Makes the frame of credentials, an AuthPacket of zookeeper.jute. NULL where there is no memory. */
-static inline struct dws_credentials *dws_spell_credentials(const char *scheme, const char *bytes, size_t length)
-{
-    enum { AUTH_XID = -4, TYPE_AUTH = 100 };
-    size_t named = strlen(scheme);
-    struct dws_credentials *made = (struct dws_credentials *)calloc(1, sizeof *made);
-    uint8_t *at = made != NULL ? (uint8_t *)malloc(24 + named + length) : NULL;
-    if (at == NULL) {
-        free(made);
-        return NULL;
-    }
-    made->frame = at;
-    made->length = 24 + named + length;
-    const uint32_t numbers[] = {(uint32_t)(20 + named + length), (uint32_t)AUTH_XID, TYPE_AUTH, 0, (uint32_t)named};
-    for (size_t i = 0; i < 5; i++) {
-        dws_spell_int(at + 4 * i, numbers[i]);
-    }
-    memcpy(at + 20, scheme, named);
-    dws_spell_int(at + 20 + named, (uint32_t)length);
-    memcpy(at + 24 + named, bytes, length);
-    return made;
-}
+/* ---- Credentials: the library tells them each connection before all else. ---- */
 
 static inline void dws_free_credentials(struct dws_credentials *one)
 {
-    dws_wipe(one->frame, one->length);
-    free(one->frame);
+    dws_wipe(one->text, one->length);
+    free(one->text);
     free(one);
 }
 
@@ -1383,47 +1376,83 @@ static inline void dws_forget_credentials(dws_session *s)
     }
 }
 
-static inline void dws_write_credentials(dws_session *s, const struct dws_credentials *one)
+/* A copy of credentials; NULL where there is no memory. */
+static inline struct dws_credentials *dws_copy_credentials(const char *scheme, const char *secret, size_t length)
 {
-    if (!dws_put_bytes(&s->unsent, one->frame, one->length)) {
-        dws_fail(s, DW_NO_MEMORY);
+    size_t named = strlen(scheme) + 1;
+    struct dws_credentials *made = (struct dws_credentials *)calloc(1, sizeof *made);
+    char *text = made != NULL ? (char *)malloc(named + length + 1) : NULL;
+    if (text == NULL) {
+        free(made);
+        return NULL;
     }
+    memcpy(text, scheme, named);
+    memcpy(text + named, secret, length);
+    made->text = text;
+    made->length = named + length;
+    return made;
 }
 
-/* A connection begins: its ConnectRequest waits to be written. */
-static inline void dws_introduce_all(dws_session *s)
+/* Keeps credentials, which the library is handed at the next turn, since no step is made in a callback. What a server answers first is told to the call,
+ * if it is not NULL. */
+static inline enum dw_result dws_keep_credentials(dws_session *s, const char *scheme, const char *secret, size_t length, dws_call *call)
 {
-    for (struct dws_credentials *one = s->credentials; one != NULL && s->wire.socket >= 0; one = one->next) {
-        dws_write_credentials(s, one);
-    }
-    s->came.asked = s->wire.socket >= 0 ? s->credentials : NULL;
-}
-
-/* Keeps credentials, and writes them where a connection is there. What a server answers is told to the call, if it is not NULL. */
-static inline enum dw_result dws_keep_credentials(dws_session *s, const char *scheme, const char *bytes, size_t length, dws_call *call)
-{
-    struct dws_credentials *made = dws_spell_credentials(scheme, bytes, length), **last = &s->credentials;
+    struct dws_credentials *made = dws_copy_credentials(scheme, secret, length), **last = &s->credentials;
     if (made == NULL) {
         return DW_NO_MEMORY;
     }
     for (; *last != NULL; last = &(*last)->next) {
-        if ((*last)->call == NULL && call == NULL && (*last)->length == made->length && memcmp((*last)->frame, made->frame, made->length) == 0) {
+        if (call == NULL && (*last)->length == made->length && memcmp((*last)->text, made->text, made->length) == 0) {
             dws_free_credentials(made);
             return DW_OK;
         }
     }
     made->call = call;
     *last = made;
-    if (s->wire.socket >= 0 && !s->is_connecting) {
-        s->came.asked = s->came.asked != NULL ? s->came.asked : made;
-        dws_write_credentials(s, made);
-    }
+    s->must_introduce = true;
     return DW_OK;
 }
 
 static inline bool dws_introduce(dws_session *s, const char *scheme, const char *bytes, size_t length)
 {
     return dws_keep_credentials(s, scheme, bytes, length, NULL) == DW_OK;
+}
+
+/* Hands credentials to the library. Those that it does not take are forgotten. */
+static inline void dws_hand_credentials(dws_session *s, struct dws_credentials **at)
+{
+    struct dws_credentials *one = *at;
+    dws_call *call = one->call;
+    size_t named = strlen(one->text), length = one->length - named - 1;
+    enum dw_result result = dw_session_credential(&s->machine, dws_in_time(s), one->text, named, (const uint8_t *)one->text + named + 1, length);
+    one->is_handed = result == DW_OK || result == DW_HALTED || result == DW_CLOSED;
+    if (one->is_handed) {
+        dws_act(s, result);
+        return;
+    }
+    *at = one->next;
+    dws_free_credentials(one);
+    if (call != NULL) {
+        dws_finish(s, call, DWS_REFUSED - (int32_t)result);
+    } else {
+        dws_fail(s, result);
+    }
+}
+
+/* Hands all credentials that are new to the library. Callbacks may add others. */
+static inline void dws_introduce_new(dws_session *s)
+{
+    while (s->must_introduce && !s->is_over) {
+        struct dws_credentials **at = &s->credentials;
+        s->must_introduce = false;
+        while (*at != NULL && (*at)->is_handed) {
+            at = &(*at)->next;
+        }
+        if (*at != NULL) {
+            s->must_introduce = true;
+            dws_hand_credentials(s, at);
+        }
+    }
 }
 
 /* The first limit of a call that waits for the answer to credentials. */
@@ -1436,58 +1465,33 @@ static inline uint64_t dws_credentials_due(const dws_session *s)
     return first;
 }
 
-/* The servers do not take the credentials of the session: it is over. */
+/* The servers do not take the credentials of the session: it is over, and nothing of it stays. */
 static inline void dws_bar(dws_session *s, int32_t code)
 {
     char words[256];
     dws_write_code(words, sizeof words, code, NULL);
     s->barred = code;
     dws_be_over(s);
+    dws_finish_credentials(s, UINT64_MAX, code);
+    dws_forget_credentials(s);
     dws_cut(s, words);
     dws_tell(s, DWS_BARRED, words);
+    dw_session_free(&s->machine);
 }
 
-/* Credentials are answered. */
-static inline void dws_take_introduction(dws_session *s, int32_t code)
+/* A server has answered the credentials at this place: on each connection that they are told. */
+static inline void dws_take_introduction(dws_session *s, size_t place, int32_t code)
 {
-    struct dws_credentials *answered = s->came.asked;
-    if (answered == NULL) {
-        return;
+    struct dws_credentials *one = s->credentials;
+    for (size_t i = 0; i < place && one != NULL; i++) {
+        one = one->next;
     }
-    dws_call *call = answered->call;
-    s->came.asked = answered->next;
+    dws_call *call = one != NULL ? one->call : NULL;
     if (code != 0) {
         dws_bar(s, code);
     } else if (call != NULL) {
-        answered->call = NULL;
+        one->call = NULL;
         dws_finish(s, call, 0);
-    }
-}
-
-/* Looks for answers to credentials in what came, all of which the library was handed. */
-static inline void dws_watch_heads(dws_session *s, const uint8_t *bytes, size_t length)
-{
-    enum { AUTH_XID = -4, CODE = 16 };
-    struct dws_heads *came = &s->came;
-    for (size_t i = 0; i < length && s->wire.socket >= 0;) {
-        if (came->left > 0) {
-            size_t passed = (size_t)dws_least(came->left, length - i);
-            came->left -= passed;
-            i += passed;
-            continue;
-        }
-        came->head[came->held++] = bytes[i++];
-        uint64_t whole = came->held < 4 ? UINT64_MAX : 4 + (uint64_t)dws_read_int(came->head);
-        if (came->held < sizeof came->head && came->held < whole) {
-            continue;
-        }
-        bool is_reply = came->is_begun && came->held == sizeof came->head;
-        came->left = (size_t)(whole - came->held);
-        came->held = 0;
-        came->is_begun = true;
-        if (is_reply && (int32_t)dws_read_int(came->head + 4) == AUTH_XID) {
-            dws_take_introduction(s, (int32_t)dws_read_int(came->head + CODE));
-        }
     }
 }
 
@@ -1661,7 +1665,6 @@ static inline void dws_finish_connection(dws_session *s)
     s->write_wants = POLLOUT;
     snprintf(s->trouble, sizeof s->trouble, "connected, and it has not accepted the session");
     dws_act(s, dw_session_opened(&s->machine, s->now_ms));
-    dws_introduce_all(s);
 }
 
 static inline bool dws_is_passing(int error)
@@ -1724,7 +1727,6 @@ static inline void dws_receive(dws_session *s)
         ssize_t count = dws_read(s, piece, sizeof piece);
         if (count > 0) {
             dws_hear(s, came_ms, piece, (size_t)count);
-            dws_watch_heads(s, piece, (size_t)count);
             s->has_more = s->options.read != NULL || count == (ssize_t)sizeof piece || s->sent.count > 0; /* else poll tells of more */
         } else if (count == 0) {
             dws_cut(s, "the server has ended the connection");
@@ -2500,9 +2502,10 @@ static inline bool dws_is_late(dws_session *s)
     return dws_deadline(s) <= s->now_ms;
 }
 
-/* Follows what is new, shows what has changed, and asks what waits. */
+/* Hands over what is new, shows what has changed, and asks what waits. */
 static inline void dws_work(dws_session *s)
 {
+    dws_introduce_new(s);
     dws_follow_new(s);
     dws_mark(s);
     while (s->must_show && !s->is_over) {
@@ -2551,7 +2554,7 @@ static inline int dws_wanted(dws_session *s, struct pollfd *polled)
     polled->fd = s->is_over ? -1 : s->wire.socket;
     polled->events = (short)(POLLIN | (s->is_connecting ? POLLOUT : s->read_wants) | (s->unsent.length > 0 ? s->write_wants : 0));
     polled->revents = 0;
-    if (s->has_news || s->is_over || s->has_more || s->is_dial_due || s->must_look || s->must_show || s->must_follow) {
+    if (s->has_news || s->is_over || s->has_more || s->is_dial_due || s->must_look || s->must_show || s->must_follow || s->must_introduce) {
         return 0;
     }
     uint64_t first = dws_first_due(s);

@@ -482,10 +482,69 @@ static void wipe_credentials(void)
     for (size_t i = 0; i < 123; i++) { /* a ConnectRequest has 49 bytes, and both credentials that come after it 40 each */
         EXPECT(memcmp(session->unsent.at + i, "secret", 6) != 0);
     }
-    watch_secret(session->credentials->frame, session->credentials->length);
+    watch_secret((const uint8_t *)session->credentials->text, session->credentials->length);
     close_all();
     EXPECT(watched.wiped == watched.length);
     EXPECT(acl.request.call.why == DW_OUTCOME_CLOSED);
+    release_all();
+}
+
+static void introduce_when_connected(dws_session *s, enum dws_event event, const char *server, const char *words)
+{
+    (void)server;
+    (void)words;
+    if (event == DWS_CONNECTED) {
+        EXPECT(dws_introduce(s, "digest", "ann:secret", 10));
+    }
+}
+
+/* Credentials come before the watches that are set again, in another session too, and may be handed in by a callback. */
+static void introduce_first(void)
+{
+    struct bytes came;
+    open_session();
+    session->options.told = introduce_when_connected;
+    admit();
+    expect_credentials("ann:secret");
+    dws_get(session, named(&get.call, "get"), "/a", true);
+    hear_request(1, TYPE_GET, NULL);
+    came.length = 0;
+    add_data(&came, 1, 5, "one", &STAT);
+    answer_at_once(&came);
+    end_line();
+    admit();
+    expect_credentials("ann:secret");
+    hear_request(-8, TYPE_SET_WATCHES, NULL);
+    end_line();
+    accept_line(); /* the session has expired */
+    hear();
+    came.length = 0;
+    add_expired(&came);
+    answer_at_once(&came);
+    end_line();
+    admit();
+    expect_credentials("ann:secret");
+    expect_said("get 0\n");
+    close_all();
+    release_all();
+}
+
+/* What the library does not take is told to the call, or ends the session where there is none. */
+static void refuse_credentials(void)
+{
+    char *large = (char *)calloc(1, BIG);
+    open_session();
+    accept_line();
+    EXPECT_NUMBER(DWS_REFUSED - DW_CREDENTIAL_TOO_LARGE, dws_wait(session, dws_add_auth(session, &acl.request, "digest", large, 1048550)));
+    expect_words(&acl.request.call, "the scheme and the secret have more than 1048555 bytes");
+    dws_add_auth(session, &acl.request, "digest", large, 1048549);
+    EXPECT_NUMBER(DWS_REFUSED - DW_NOT_TEXT, dws_wait(session, dws_add_auth(session, &last.request, "\xff", "a", 1)));
+    EXPECT(!dws_is_over(session) && !acl.request.call.is_answered && dws_introduce(session, "digest", large, BIG));
+    turn(0);
+    EXPECT(dws_is_over(session) && strchr(events, '0' + DWS_FAILED) != NULL);
+    EXPECT_NUMBER(DWS_REFUSED - DW_CREDENTIAL_TOO_LARGE, acl.request.call.why);
+    free(large);
+    close_all();
     release_all();
 }
 
@@ -668,6 +727,8 @@ int main(int argc, char **argv)
     introduce();
     wait_in_vain();
     wipe_credentials();
+    introduce_first();
+    refuse_credentials();
     bar();
     leave_the_rest();
     leave_servers_behind();

@@ -575,6 +575,9 @@ static void find_no_path(void)
     close_all();
 }
 
+static bool introduces;    /* the session has credentials */
+static bool is_introduced; /* the last connection has told credentials before all else */
+
 /* Serves what the session asks, over any number of connections, as far as it has asked. */
 static void serve(void)
 {
@@ -586,7 +589,7 @@ static void serve(void)
         close(line);
         line = accepted;
         length = heard = told = 0;
-        is_admitted = false;
+        is_admitted = is_introduced = false;
     }
     ssize_t count = line >= 0 ? take(in + length, sizeof in - length) : -1;
     length += count > 0 ? (size_t)count : 0;
@@ -595,6 +598,8 @@ static void serve(void)
         size_t whole = 4 + dws_read_int(in);
         int32_t xid = (int32_t)dws_read_int(in + 4), type = is_admitted ? (int32_t)dws_read_int(in + 8) : TYPE_CONNECT;
         came.length = 0;
+        EXPECT(type == TYPE_CONNECT || type == TYPE_AUTH || is_introduced || !introduces);
+        is_introduced = is_introduced || type == TYPE_AUTH;
         switch (type) {
         case TYPE_CONNECT: add_connected(&came); break;
         case TYPE_GET: add_data(&came, xid, 6, "one", &STAT); break;
@@ -649,6 +654,7 @@ static bool run_short(long refused_at)
         EXPECT(was_refused());
         return false;
     }
+    introduces = dws_introduce(session, "digest", "ann:secret", 10);
     enum dw_result followed = dws_follow(session, &node, "/a", NULL), planted = dws_follow_tree(session, &tree, "/t", 0, NULL);
     dws_get(session, &get, "/a", false);
     dws_set(session, &set, "/a", "one", 3, -1);
@@ -668,6 +674,7 @@ static bool run_short(long refused_at)
     EXPECT(planted == DW_OK || planted == DW_NO_MEMORY);
     bool goes_on = !dws_is_over(session);
     EXPECT(goes_on != has_told(DWS_FAILED));
+    EXPECT(!goes_on || is_introduced == introduces);
     EXPECT(!goes_on || followed != DW_OK || strcmp(node.text, "one") == 0);
     EXPECT(goes_on || (!dws_is_good(&node) && !tree.is_good));
     EXPECT(!goes_on || planted != DW_OK || (tree.count == 1 && strcmp(tree.nodes[0].data, "one") == 0));
