@@ -164,6 +164,14 @@ pub enum Action<'a> {
         /// The number that the tree was given.
         tree: u64,
     },
+    /// The server has answered a credential, after all else of a step but frames of credentials and [`Dial`](Action::Dial). One that it
+    /// refuses ends the connection: let the machine go, since it would introduce itself so on each later one.
+    Credential {
+        /// Its place among those that were handed in, from 0 on.
+        place: usize,
+        /// 0 where the server accepts it.
+        code: Code,
+    },
 }
 
 /// Why a read of what is followed was refused.
@@ -245,6 +253,10 @@ impl<'a> Action<'a> {
                 is_bounded: flat.is_null,
             },
             kind::WHOLE => Action::Whole { tree: ticket },
+            kind::CREDENTIAL => Action::Credential {
+                place: flat.names,
+                code: Code(flat.code),
+            },
             _ => Action::from(Output::of(handle, flat)?),
         })
     }
@@ -318,6 +330,19 @@ mod tests {
             Action::of(&handle, &refused),
             Ok(Action::Refused { ticket: 9, reason: told }) if told == reason
         ));
+        let credential = ffi::Output {
+            kind: 16,
+            code: -115,
+            names: 2,
+            ..ffi::Output::default()
+        };
+        assert!(matches!(
+            Action::of(&handle, &credential),
+            Ok(Action::Credential {
+                place: 2,
+                code: Code::AUTH_FAILED
+            })
+        ));
     }
 
     #[test]
@@ -360,7 +385,7 @@ mod tests {
     #[test]
     fn a_number_that_nobody_knows_is_a_fault() {
         let handle = handle();
-        for (kind, detail, what) in [(0, 0, "output"), (16, 0, "output"), (11, 5, "refusal")] {
+        for (kind, detail, what) in [(0, 0, "output"), (17, 0, "output"), (11, 5, "refusal")] {
             let flat = ffi::Output {
                 kind,
                 detail,

@@ -11,13 +11,13 @@ mod trees;
 use crate::calls::Calls;
 use crate::chroot::Chroot;
 use crate::client::{Client, State};
+use crate::credentials::{Credential, Credentials};
 use crate::deletions::Deletions;
 use crate::error::{Error, ErrorKind, Search};
 use crate::fault::{Code, Fault, NoReply};
 use crate::followed::Followed;
 use crate::growing::Growing;
 use crate::hosts::{chance, Host, Hosts, Order, Places};
-use crate::introductions::{Credentials, Introductions};
 use crate::machine::Machine;
 use crate::moment::{Clock, Moment};
 use crate::outbox::Outbox;
@@ -89,7 +89,7 @@ pub(crate) struct Beginning {
     pub(crate) saved: Option<SavedSession>,
     pub(crate) renews: bool,
     pub(crate) limit: Option<Duration>,
-    pub(crate) credentials: Vec<Credentials>,
+    pub(crate) credentials: Vec<Credential>,
 }
 
 /// A machine, its connection, and the calls that wait.
@@ -120,7 +120,7 @@ pub(crate) struct Engine {
     reasons: Vec<String>,
     /// What there was no memory for, of what came from the server.
     inbox: Vec<u8>,
-    introductions: Introductions,
+    credentials: Credentials,
     deletions: Deletions,
     /// The call that is to end the session, where one was asked.
     closing: Option<u64>,
@@ -157,12 +157,16 @@ impl Engine {
             address: None,
             reasons: Vec::new(),
             inbox: Vec::new(),
-            introductions: Introductions::of(beginning.credentials),
+            credentials: Credentials::default(),
             deletions: Deletions::default(),
             closing: None,
             course: Course::GoesOn,
         };
         engine.note_hosts();
+        for credential in beginning.credentials {
+            engine.credentials.add(credential);
+        }
+        engine.introduce_again()?;
         Ok(engine)
     }
 
@@ -184,6 +188,7 @@ impl Engine {
         self.trees.values_mut().for_each(Growing::begin_again);
         if self.course != Course::Stopped {
             self.course = Course::GoesOn;
+            self.introduce_again()?;
             self.follow_again();
             self.plant_again();
         }
@@ -374,7 +379,7 @@ impl Engine {
 
     /// The first moment at which something is due, also of what the machine does not know.
     fn due(&self) -> Moment {
-        self.deadline().min(self.introductions.deadline())
+        self.deadline().min(self.credentials.deadline())
     }
 
     /// Whether something is due on the connection already.

@@ -88,6 +88,8 @@ pub enum Fault {
     NotWhole,
     /// The subtree has more nodes than were asked for.
     TooManyNodes,
+    /// The scheme and the secret of a credential have more than 1,048,555 bytes.
+    CredentialTooLarge,
     /// A node with a time to live cannot go with its session: it is persistent, or persistent and sequential.
     EphemeralWithTtl,
     /// The library that is linked is of another version than this crate.
@@ -132,6 +134,7 @@ impl Fault {
             Fault::NotSaved => result::NOT_SAVED,
             Fault::NotWhole => result::NOT_WHOLE,
             Fault::TooManyNodes => result::TOO_MANY,
+            Fault::CredentialTooLarge => result::CREDENTIAL_TOO_LARGE,
             Fault::OtherVersion { .. }
             | Fault::UnknownNumber(_)
             | Fault::Panicked
@@ -220,6 +223,7 @@ pub(crate) fn done_at(path: &str, code: i32) -> Result<(), Fault> {
         result::NOT_SAVED => Err(Fault::NotSaved),
         result::NOT_WHOLE => Err(Fault::NotWhole),
         result::TOO_MANY => Err(Fault::TooManyNodes),
+        result::CREDENTIAL_TOO_LARGE => Err(Fault::CredentialTooLarge),
         _ => Err(UnknownNumber::of("result", code).into()),
     }
 }
@@ -299,6 +303,7 @@ mod tests {
             (-5, Fault::not_path("/a")),
             (-9, Fault::NotWhole),
             (-10, Fault::TooManyNodes),
+            (-13, Fault::CredentialTooLarge),
         ] {
             assert_eq!(fault.number(), Some(number));
             assert_eq!(done_at("/a", number), Err(fault));

@@ -229,6 +229,23 @@ impl Machine {
         self.step(|handle| handle.unfollow_tree(now, ticket))
     }
 
+    /// Introduces the session by a credential, of a scheme as `digest` and a secret as `user:password`: at once where there is a connection, and
+    /// on each later one right after the request that opens it, in the order in which credentials were handed in. What a server says of it is
+    /// told by [`Action::Credential`]. Two equal ones are two. The machine keeps it for as long as it lives, and overwrites it then. The bytes of the
+    /// secret are in the frames that are said, too.
+    ///
+    /// # Errors
+    ///
+    /// [`Fault::CredentialTooLarge`] and [`Fault::NoMemory`]: then nothing has happened. [`Fault::Halted`] and [`Fault::UnknownNumber`].
+    pub fn credential(
+        &mut self,
+        now: Moment,
+        scheme: &str,
+        secret: &[u8],
+    ) -> Result<Actions<'_>, Fault> {
+        self.step(|handle| handle.credential(now, scheme, secret))
+    }
+
     /// Forgets all stale answers. What is kept is bounded by nothing but memory: who goes from path to path calls this now and then. It is
     /// no step, and what is followed is followed still.
     pub fn forget_stale(&mut self) {

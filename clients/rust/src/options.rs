@@ -1,10 +1,10 @@
 //! How a session is opened.
 
+use crate::credentials::Credential;
 use crate::engine::{Beginning, Engine};
 use crate::error::Error;
 use crate::fault::Fault;
 use crate::hosts::{Hosts, HostsFault, Order};
-use crate::introductions::Credentials;
 use crate::keeper::{Keeper, Shared};
 use crate::local::LocalSession;
 use crate::outbox::Writer;
@@ -107,7 +107,7 @@ pub struct SessionOptions {
     pub(crate) retry: Retry,
     pub(crate) limit: Option<Duration>,
     saved: Option<SavedSession>,
-    credentials: Vec<Credentials>,
+    credentials: Vec<Credential>,
     dial: Box<dyn Dial>,
     opens_within: Duration,
 }
@@ -169,7 +169,7 @@ impl SessionOptions {
     /// [`State::Closed`](crate::State::Closed), each call fails with [`Code::AUTH_FAILED`](crate::Code::AUTH_FAILED), it dials no more, and it
     /// forgets its credentials. Credentials cross the network as they are: use TLS.
     pub fn auth(mut self, scheme: &str, credentials: &[u8]) -> SessionOptions {
-        self.credentials.push(Credentials::new(scheme, credentials));
+        self.credentials.push(Credential::new(scheme, credentials));
         self
     }
 

@@ -2,9 +2,9 @@
 
 use crate::acl::{Acl, Id};
 use crate::action::Actions;
+use crate::credentials::Credential;
 use crate::error::Error;
 use crate::fault::{Code, Fault};
-use crate::introductions::Credentials;
 use crate::machine::Machine;
 use crate::moment::Moment;
 use crate::multi_read::{Read, ReadAnswer};
@@ -59,7 +59,7 @@ impl CoreCall {
 pub(crate) enum Call {
     Core(CoreCall),
     Raw(RawCall),
-    Auth(Credentials),
+    Auth(Credential),
 }
 
 impl Call {
@@ -370,7 +370,7 @@ impl Request<()> {
 
     /// Tells the server who the session is, now and on each later connection.
     pub fn auth(scheme: &str, credentials: &[u8]) -> Request<()> {
-        let call = Call::Auth(Credentials::new(scheme, credentials));
+        let call = Call::Auth(Credential::new(scheme, credentials));
         Request::new("/", call, |ending| ending.map(drop))
     }
 

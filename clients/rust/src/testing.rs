@@ -34,7 +34,7 @@ compile_error!("the feature `testing` wants libdirwolleu_bench.a beside libdirwo
 #[path = "testing/bench.rs"]
 mod bench;
 mod ensemble;
-mod lane;
+mod raw;
 mod records;
 
 use crate::error::{refused_of_create, Error};

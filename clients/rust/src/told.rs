@@ -141,6 +141,8 @@ pub(crate) struct News {
     pub(crate) dial: Option<(usize, Duration)>,
     /// The paths of which something that was good has ended, as the servers know them.
     pub(crate) reported: Vec<String>,
+    /// What a server has answered to credentials, by their places.
+    pub(crate) credentials: Vec<(usize, Code)>,
     /// What is told of subjects, and of nodes of trees, by their tickets.
     pub(crate) shown: Vec<(u64, Shows)>,
     /// What is told of trees, by their tickets, before all of that.
@@ -241,6 +243,7 @@ impl Told {
                 self.tell_tree(tree, TreeNews::Bounded { is_bounded });
             }
             Action::Whole { tree } => self.tell_tree(tree, TreeNews::Whole),
+            Action::Credential { place, code } => self.news.credentials.push((place, code)),
         }
     }
 

@@ -538,3 +538,56 @@ fn a_server_that_is_behind_a_raw_call_is_asked_for_more() {
     }
     assert_eq!(frames[0][8..16], 50_i64.to_be_bytes());
 }
+
+/// What is sent at this step.
+fn sent(mut actions: Actions<'_>) -> Vec<Vec<u8>> {
+    let mut frames = Vec::new();
+    while let Some(action) = actions.next().unwrap() {
+        if let Action::Send(frame) = action {
+            frames.push(frame.to_vec());
+        }
+    }
+    frames
+}
+
+#[test]
+fn credentials_go_first_on_each_connection_and_their_answers_are_told() {
+    let auth = |secret: &[u8]| {
+        let record = Record::new().int(-4).int(100).int(0);
+        record.text("digest").buffer(secret).framed()
+    };
+    let mut machine = connected();
+    let now = sent(machine.credential(START, "digest", b"ann:secret").unwrap());
+    assert_eq!(now, [auth(b"ann:secret")]);
+    let accepted = Record::reply(-4, 0, 0).framed();
+    let told = said(machine.bytes(START, &accepted).unwrap());
+    assert_eq!(told, ["Credential { place: 0, code: Code(0) }"]);
+    let _ = machine.cut(START).unwrap();
+    let later = sent(machine.credential(START, "digest", b"bob").unwrap());
+    assert!(later.is_empty(), "there is no connection");
+    let _ = machine.tick(after(9_000)).unwrap();
+    let begun = sent(machine.opened(after(9_000)).unwrap());
+    assert_eq!(begun[1..], [auth(b"ann:secret"), auth(b"bob")]);
+    let _ = machine.bytes(after(9_000), &Record::accepted(9_000, SESSION));
+    let refused = Record::reply(-4, 0, -115).framed();
+    let answers = [accepted, refused].concat();
+    let told = said(machine.bytes(after(9_000), &answers).unwrap());
+    assert_eq!(
+        told,
+        [
+            "Credential { place: 0, code: Code(0) }",
+            "Credential { place: 1, code: Code(-115) }"
+        ]
+    );
+}
+
+#[test]
+fn a_credential_is_as_long_as_it_may_be() {
+    let mut machine = connected();
+    let mut secret = vec![7; 1_048_575 - 20 - 6];
+    let frames = sent(machine.credential(START, "digest", &secret).unwrap());
+    assert_eq!(frames[0].len(), 4 + 1_048_575);
+    secret.push(7);
+    let refused = machine.credential(START, "digest", &secret).map(said);
+    assert_eq!(refused, Err(Fault::CredentialTooLarge));
+}

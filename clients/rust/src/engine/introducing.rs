@@ -1,10 +1,10 @@
 //! Who the session is, and what servers say to it.
 
 use super::{Course, Engine};
+use crate::credentials::Credential;
 use crate::error::ErrorKind;
-use crate::fault::{Code, NoReply};
+use crate::fault::{Code, Fault, NoReply};
 use crate::hosts::chance;
-use crate::introductions::{Credentials, Introductions};
 use crate::machine::Machine;
 use crate::moment::Moment;
 use crate::told::{Event, Found};
@@ -15,41 +15,52 @@ impl Engine {
         &mut self,
         ticket: u64,
         until: Moment,
-        credentials: Credentials,
+        credential: Credential,
     ) -> Result<(), ErrorKind> {
-        if !Introductions::fit(&credentials) {
-            return Err(NoReply::TooLarge.into());
-        }
-        let (place, is_new) = self.introductions.place_of(credentials);
-        if self.introductions.wait(place, ticket, until) {
+        let place = if let Some(place) = self.credentials.place_of(&credential) {
+            place
+        } else {
+            self.introduce(&credential)?;
+            self.credentials.add(credential)
+        };
+        if self.credentials.wait(place, ticket, until) {
             self.calls.end(ticket, Ok(Found::default()));
-        }
-        if is_new && self.is_open() {
-            let frame = self.introductions.frame(place);
-            self.write(&frame);
         }
         Ok(())
     }
 
-    /// A server has answered the credentials of this place.
+    fn introduce(&mut self, credential: &Credential) -> Result<(), Fault> {
+        let Credential { scheme, secret } = credential;
+        self.step(self.now(), |machine, now| {
+            machine.credential(now, scheme, secret)
+        })
+    }
+
+    /// Another machine is told who the session is.
+    pub(super) fn introduce_again(&mut self) -> Result<(), Fault> {
+        let mut all = self.credentials.all().into_iter();
+        all.try_for_each(|credential| self.introduce(&credential))
+    }
+
+    /// A server has answered the credential of this place.
     pub(super) fn hear_credential(&mut self, place: usize, code: Code) {
         if code != Code(0) {
             self.bar();
             return;
         }
-        for ticket in self.introductions.accept(place) {
+        for ticket in self.credentials.accept(place) {
             self.calls.end(ticket, Ok(Found::default()));
         }
     }
 
-    /// A server does not take the credentials: the session is over, nobody is dialled any more, and the credentials are forgotten.
+    /// A server does not take a credential: the session is over, nobody is dialled any more, and the credentials are forgotten.
     fn bar(&mut self) {
         if self.is_over() {
             return;
         }
         self.hang_up();
         self.course = Course::Barred;
-        self.introductions.clear();
+        self.credentials.clear();
         self.deletions.clear();
         let (timeout, count) = (self.asked_timeout, self.hosts.len());
         let saved = self.machine.saved();
@@ -58,7 +69,6 @@ impl Engine {
             self.machine = other; // the one before is freed, with what it knows of the session
         }
         self.told.tell(Event::CredentialsRefused);
-        self.calls.end_all(&ErrorKind::Server(Code::AUTH_FAILED));
     }
 
     /// Tells the calls whose limit has come, of which the machine does not know.
@@ -68,7 +78,7 @@ impl Engine {
         } else {
             NoReply::NotConnected.into()
         };
-        for ticket in self.introductions.take_late(now) {
+        for ticket in self.credentials.take_late(now) {
             self.calls.end(ticket, Err(late.clone()));
         }
     }

@@ -55,6 +55,9 @@ impl Engine {
         if self.end_answered() {
             self.end()?;
         }
+        for (place, code) in news.credentials {
+            self.hear_credential(place, code);
+        }
         if let Some(reason) = self.reason_of_end() {
             self.calls.end_all(&reason);
         }
@@ -196,18 +199,12 @@ impl Engine {
         ));
         self.line = Some(line);
         self.address = Some(address);
-        self.step(self.clock.now(), Machine::opened)?;
-        if self.is_open() {
-            let introductions = self.introductions.begin();
-            self.write(&introductions);
-        }
-        Ok(())
+        self.step(self.clock.now(), Machine::opened)
     }
 
     /// Hands in what came from the server, and before it what there was no memory for.
     pub(crate) fn hand_in(&mut self, bytes: &[u8]) -> Result<(), Fault> {
         let now = self.now();
-        let credentials = self.introductions.hear(bytes);
         self.inbox.extend(bytes);
         let actions = self.machine.bytes(now, &self.inbox);
         let taken = actions.and_then(|actions| self.told.take(actions));
@@ -216,11 +213,7 @@ impl Engine {
         if taken.is_ok() {
             self.inbox.clear();
         }
-        self.settle(now, taken)?;
-        for (place, code) in credentials {
-            self.hear_credential(place, code);
-        }
-        Ok(())
+        self.settle(now, taken)
     }
 
     /// Notes why a connection is given up whose session was accepted.

@@ -2,16 +2,17 @@
 
 use super::{
     bytes_of, check_version, dw_session_addresses, dw_session_bytes, dw_session_close,
-    dw_session_copy, dw_session_create, dw_session_cut, dw_session_deadline, dw_session_delete,
-    dw_session_exists, dw_session_failed, dw_session_follow_data, dw_session_follow_names,
-    dw_session_follow_tree, dw_session_forget, dw_session_free, dw_session_get_children,
-    dw_session_get_data, dw_session_heard_at, dw_session_holder, dw_session_lacking,
-    dw_session_last_zxid, dw_session_moment, dw_session_name, dw_session_names, dw_session_next,
-    dw_session_open, dw_session_opened, dw_session_peek_children, dw_session_peek_data,
-    dw_session_peek_names, dw_session_raw, dw_session_resume, dw_session_revision,
-    dw_session_saved, dw_session_set_data, dw_session_snapshot, dw_session_standing,
-    dw_session_state, dw_session_subtree, dw_session_timeout_ms, dw_session_unfollow,
-    dw_session_unfollow_tree, dw_session_words, Call, Functions, Handle, Raw, OK,
+    dw_session_copy, dw_session_create, dw_session_credential, dw_session_cut, dw_session_deadline,
+    dw_session_delete, dw_session_exists, dw_session_failed, dw_session_follow_data,
+    dw_session_follow_names, dw_session_follow_tree, dw_session_forget, dw_session_free,
+    dw_session_get_children, dw_session_get_data, dw_session_heard_at, dw_session_holder,
+    dw_session_lacking, dw_session_last_zxid, dw_session_moment, dw_session_name, dw_session_names,
+    dw_session_next, dw_session_open, dw_session_opened, dw_session_peek_children,
+    dw_session_peek_data, dw_session_peek_names, dw_session_raw, dw_session_resume,
+    dw_session_revision, dw_session_saved, dw_session_set_data, dw_session_snapshot,
+    dw_session_standing, dw_session_state, dw_session_subtree, dw_session_timeout_ms,
+    dw_session_unfollow, dw_session_unfollow_tree, dw_session_words, Call, Functions, Handle, Raw,
+    OK,
 };
 use crate::fault::{done, done_at, Fault};
 use crate::moment::Moment;
@@ -297,6 +298,22 @@ impl MachineHandle {
         let (bytes, length) = (body.as_ptr(), body.len());
         // SAFETY: as `Handle` says.
         done(unsafe { dw_session_raw(raw, now, ticket, limit, operation, bytes, length) })
+    }
+
+    /// Introduces the session.
+    pub(crate) fn credential(
+        &mut self,
+        now: Moment,
+        scheme: &str,
+        secret: &[u8],
+    ) -> Result<(), Fault> {
+        let (raw, now) = (self.pointer(), now.as_millis());
+        let (scheme, scheme_length) = (scheme.as_ptr(), scheme.len());
+        let (secret, secret_length) = (secret.as_ptr(), secret.len());
+        // SAFETY: as `Handle` says.
+        done(unsafe {
+            dw_session_credential(raw, now, scheme, scheme_length, secret, secret_length)
+        })
     }
 
     pub(crate) fn close_session(

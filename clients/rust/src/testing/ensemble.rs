@@ -2,7 +2,7 @@
 //! is proved. Whose session a connection takes up, when servers learn and when a session ends is here, and tested.
 
 use super::bench::{Bench, Change};
-use super::lane::{self, Asking, Listed, Stop};
+use super::raw::{self, Asking, Listed, Stop};
 use super::records::{buffer, number, password_in, put_reply, split, Reply};
 use crate::jute::{Reader, Writer};
 use std::collections::{BTreeMap, HashMap};
@@ -272,7 +272,7 @@ impl Ensemble {
         if kind == number::CLOSE_SESSION {
             self.end(&mut session);
         }
-        let goes_on = if lane::knows(kind) {
+        let goes_on = if raw::knows(kind) {
             self.answer_beside(&mut session, xid, kind, fields.rest())
         } else {
             self.answer(&mut session, kind, frame, fields.rest())
@@ -292,7 +292,7 @@ impl Ensemble {
     fn answer(&mut self, session: &mut Session, kind: i32, frame: &[u8], body: &[u8]) -> bool {
         let said = session.answer(frame);
         let reply = split(&said).last().and_then(|last| Reply::of(last));
-        if let Some(reply) = reply.filter(|reply| reply.code == lane::OK) {
+        if let Some(reply) = reply.filter(|reply| reply.code == raw::OK) {
             self.notes.note(session.number, kind, body, &reply.body);
         }
         self.send(session.link, said);
@@ -308,14 +308,14 @@ impl Ensemble {
             notices: Vec::new(),
         };
         let (body, code) = match asking.answer(kind, body, trial) {
-            Ok(body) => (body, lane::OK),
+            Ok(body) => (body, raw::OK),
             Err(Stop::Refused(code)) => (Vec::new(), code),
             Err(Stop::Malformed) => return false,
         };
         let mut said = asking.notices;
         said.extend(put_reply(xid, session.bench.zxid(), code, &body));
         self.send(session.link, said);
-        kind != number::AUTH || code == lane::OK
+        kind != number::AUTH || code == raw::OK
     }
 
     /// A session that knows what all know, of which nobody learns, to try changes on.

@@ -1,6 +1,6 @@
 //! Who a session is, and what servers say to it. At a server that does what each test says, frame by frame.
 
-use crate::jute::{Record, GET_CHILDREN_2, GET_DATA};
+use crate::jute::{Record, CLOSE_SESSION, GET_CHILDREN_2, GET_DATA};
 use crate::partner::Partner;
 use dirwolleu::{
     Code, Error, ErrorKind, Event, Mark, NoReply, Request, Session, SessionOptions, State,
@@ -173,4 +173,30 @@ fn a_call_whose_credentials_have_no_answer_ends_at_its_limit() {
     let limited = Request::auth("digest", b"ann:secret").within(Duration::from_secs(1));
     let late = nobody.unwrap().call(limited).unwrap_err();
     assert_eq!(late.no_reply(), Some(NoReply::NotConnected));
+}
+
+#[test]
+fn a_session_that_is_renewed_introduces_itself_again() {
+    let (sender, told) = mpsc::channel();
+    let partner = Partner::start(move |number, mut line| {
+        line.admit(10_000);
+        while let Some(request) = line.request() {
+            sender.send((number, request.kind)).unwrap();
+            match request.kind {
+                AUTH => line.refuse(AUTH_XID, 0),
+                CLOSE_SESSION => line.refuse(request.xid, 0),
+                _ => line.tell_data(request.xid),
+            };
+        }
+    });
+    let options = SessionOptions::new(TIMEOUT).auth("digest", b"ann:secret");
+    let session = options.open(partner.address).unwrap().shared();
+    assert_eq!(session.add_auth("digest", b"bob:secret"), Ok(()));
+    session.close().unwrap();
+    session.renew().unwrap();
+    assert!(session.call(Request::get("/a").within(PATIENCE)).is_ok());
+    let kinds: Vec<_> = told.try_iter().collect();
+    let first = [(0, AUTH), (0, AUTH), (0, CLOSE_SESSION)];
+    assert_eq!(kinds[..3], first);
+    assert_eq!(kinds[3..], [(1, AUTH), (1, AUTH), (1, GET_DATA)]);
 }
