@@ -71,7 +71,7 @@ enum dw_result DW_AS_INT32 {
                      is kept or watched. Its state, zxid and session can still be asked for: take dw_saved, and dw_resume. */
   DW_NO_MEMORY = -2, /* no memory for what was given */
   DW_CLOSED = -3, /* the handle holds no client */
-  DW_NOT_TEXT = -4, /* the path is no UTF-8 */
+  DW_NOT_TEXT = -4, /* the path, or the scheme of a credential, is no UTF-8 */
   DW_NOT_PATH = -5, /* the text is no path of a node */
   DW_BAD_TIMEOUT = -6, /* the timeout is not above 0 */
   DW_NO_SUCH_MODE = -7,
@@ -79,7 +79,8 @@ enum dw_result DW_AS_INT32 {
   DW_NOT_WHOLE = -9, /* some of what is asked for is not kept, or not good */
   DW_TOO_MANY = -10, /* the subtree has more nodes than were asked for */
   DW_NOT_TEXTS = -11, /* the bytes are no texts, each after its length */
-  DW_NO_SUCH_OPERATION = -12
+  DW_NO_SUCH_OPERATION = -12,
+  DW_CREDENTIAL_TOO_LARGE = -13
 };
 
 /* A handle: zeros before its first use, which are {0} in C and {} in C++. Its fields are the library's own. */
@@ -120,7 +121,8 @@ enum dw_kind DW_AS_INT32 {
   DW_KIND_TAKEN_ON = 12,
   DW_KIND_LET_GO = 13,
   DW_KIND_BOUNDED = 14,
-  DW_KIND_WHOLE = 15
+  DW_KIND_WHOLE = 15,
+  DW_KIND_CREDENTIAL = 16
 };
 enum dw_state DW_AS_INT32 {
   DW_STATE_IDLE = 0,
@@ -218,7 +220,11 @@ enum dw_code DW_AS_INT32 {
  *   DW_KIND_BOUNDED   whether the tree with this ticket has more nodes than its bound is another than before: is_bounded. While it has, no more of
  *                     it is taken on.
  *   DW_KIND_WHOLE     nothing is lacking of the tree with this ticket, and it may be another one than when that was told last: look it up by
- *                     dw_session_subtree, which judges whether it is of one moment. */
+ *                     dw_session_subtree, which judges whether it is of one moment.
+ * And this of credentials, after all else of a step but their frames and DW_KIND_DIAL:
+ *   DW_KIND_CREDENTIAL  the server has answered the credential at this place of those that were handed in, from 0 on, on this connection. Code 0
+ *                     accepts it. Another one refuses it, as -115 does, and the server ends the connection: take dw_session_free, since each
+ *                     later connection would be introduced so again. */
 typedef struct dw_output {
   enum dw_kind kind;
   union {
@@ -241,7 +247,7 @@ typedef struct dw_output {
   size_t length; /* of the text, which dw_copy gives */
   union {
     size_t names; /* how many there are: dw_name gives each */
-    size_t place; /* of a dial */
+    size_t place; /* of a dial, and of a credential */
     size_t tree; /* of a node of a tree */
   };
   union {
@@ -567,6 +573,14 @@ enum dw_operation DW_AS_INT32 {
 enum dw_result dw_session_raw(dw_session *handle, uint64_t now_ms, uint64_t ticket, uint64_t until_ms, int32_t operation,
                               const uint8_t *bytes, size_t length);
 
+/* Introduces the session by a credential, of a scheme as "digest" and a secret as "user:password": a frame with xid -4, type 100 and an AuthPacket
+ * of zookeeper.jute, which DW_KIND_SEND gives. It is written at once where a connection is there, and on each later one right behind the request that opens
+ * it, before watches are set again and calls are sent, after those that were handed in before; a session that is renewed has it too. Each is kept until the
+ * handle is freed, opened or resumed, and its bytes are overwritten then; what is copied out of the handle is the caller's. DW_OK, DW_NO_MEMORY,
+ * DW_NOT_TEXT for the scheme, or DW_CREDENTIAL_TOO_LARGE where the payload, 20 bytes with both, would have more than 1,048,575: no step was made. */
+enum dw_result dw_session_credential(dw_session *handle, uint64_t now_ms, const char *scheme, size_t scheme_length,
+                                     const uint8_t *secret, size_t secret_length);
+
 /* Ends the session of the servers. After DW_STATE_CLOSED it asks for nothing more, nothing is due, and each call is answered DW_OUTCOME_CLOSED at once. */
 enum dw_result dw_session_close(dw_session *handle, uint64_t now_ms, uint64_t ticket, uint64_t until_ms);
 
@@ -671,6 +685,7 @@ static inline const char *dw_result_words(enum dw_result result) {
   case DW_TOO_MANY: return "the subtree has more nodes than were asked for";
   case DW_NOT_TEXTS: return "the bytes are no texts, each after its length";
   case DW_NO_SUCH_OPERATION: return "the number is none of enum dw_operation";
+  case DW_CREDENTIAL_TOO_LARGE: return "the scheme and the secret have more than 1048555 bytes";
   }
   return "the library answers a number that its header does not have";
 }

@@ -453,6 +453,7 @@ static inline const char *dws_advice_of_result(enum dw_result result)
     case DW_TOO_MANY: return "ask for more, or for a path below";
     case DW_NOT_TEXTS: return "";
     case DW_NO_SUCH_OPERATION: return "";
+    case DW_CREDENTIAL_TOO_LARGE: return "";
     }
     return "take both of one version";
 }

@@ -35,6 +35,7 @@ NOT_WHOLE = -9
 TOO_MANY = -10
 NOT_TEXTS = -11
 NO_SUCH_OPERATION = -12
+CREDENTIAL_TOO_LARGE = -13
 
 SEND = 1
 ANSWER = 2
@@ -51,6 +52,7 @@ TAKEN_ON = 12
 LET_GO = 13
 BOUNDED = 14
 WHOLE = 15
+CREDENTIAL = 16
 
 IDLE = 0
 CONNECTING = 1
@@ -272,6 +274,7 @@ _FUNCTIONS: dict[str, tuple[Any, tuple[Any, ...]]] = {
     ),
     "dw_session_delete": (c_int32, (_HANDLE, c_uint64, c_uint64, c_uint64, c_char_p, c_size_t, c_int32)),
     "dw_session_raw": (c_int32, (_HANDLE, c_uint64, c_uint64, c_uint64, c_int32, c_char_p, c_size_t)),
+    "dw_session_credential": (c_int32, (_HANDLE, c_uint64, c_char_p, c_size_t, c_char_p, c_size_t)),
     "dw_session_close": (c_int32, (_HANDLE, c_uint64, c_uint64, c_uint64)),
     "dw_session_follow_data": (c_int32, (_HANDLE, c_uint64, c_uint64, c_char_p, c_size_t)),
     "dw_session_follow_names": (c_int32, (_HANDLE, c_uint64, c_uint64, c_char_p, c_size_t)),
@@ -334,6 +337,7 @@ _RESULT_WORDS = {
     TOO_MANY: "the subtree has more nodes than were asked for; ask for more, or for a path below",
     NOT_TEXTS: "the bytes are no texts, each after its length",
     NO_SUCH_OPERATION: "no operation that a caller may spell has the number",
+    CREDENTIAL_TOO_LARGE: "the scheme and the secret have more than 1048555 bytes",
 }
 # end of what is made
 

@@ -125,6 +125,7 @@ extern "C" {
     fn dw_session_create(handle: *mut Raw, now_ms: u64, ticket: u64, until_ms: u64, path: *const u8, path_length: usize, bytes: *const u8, length: usize, is_null: bool, mode: u32) -> i32;
     fn dw_session_delete(handle: *mut Raw, now_ms: u64, ticket: u64, until_ms: u64, path: *const u8, path_length: usize, version: i32) -> i32;
     fn dw_session_raw(handle: *mut Raw, now_ms: u64, ticket: u64, until_ms: u64, operation: i32, bytes: *const u8, length: usize) -> i32;
+    fn dw_session_credential(handle: *mut Raw, now_ms: u64, scheme: *const u8, scheme_length: usize, secret: *const u8, secret_length: usize) -> i32;
     fn dw_session_close(handle: *mut Raw, now_ms: u64, ticket: u64, until_ms: u64) -> i32;
     fn dw_session_follow_data(handle: *mut Raw, now_ms: u64, ticket: u64, path: *const u8, path_length: usize) -> i32;
     fn dw_session_follow_names(handle: *mut Raw, now_ms: u64, ticket: u64, path: *const u8, path_length: usize) -> i32;

@@ -22,6 +22,7 @@ pub(crate) mod result {
     pub(crate) const TOO_MANY: i32 = -10;
     pub(crate) const NOT_TEXTS: i32 = -11;
     pub(crate) const NO_SUCH_OPERATION: i32 = -12;
+    pub(crate) const CREDENTIAL_TOO_LARGE: i32 = -13;
 }
 
 pub(crate) mod kind {
@@ -40,6 +41,7 @@ pub(crate) mod kind {
     pub(crate) const LET_GO: i32 = 13;
     pub(crate) const BOUNDED: i32 = 14;
     pub(crate) const WHOLE: i32 = 15;
+    pub(crate) const CREDENTIAL: i32 = 16;
 }
 
 pub(crate) mod state {
@@ -491,6 +493,7 @@ pub(crate) mod words {
             -10 => "the subtree has more nodes than were asked for",
             -11 => "the bytes are no texts, each after its length",
             -12 => "no operation that a caller may spell has the number",
+            -13 => "the scheme and the secret have more than 1048555 bytes",
             _ => return None,
         })
     }
