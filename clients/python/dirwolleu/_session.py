@@ -14,10 +14,10 @@ from ctypes import byref, c_size_t, c_uint64
 from typing import Any, Callable, NamedTuple, Optional, Union
 
 from dirwolleu import _library as library
-from dirwolleu._auth_frames import AuthFrames, after_first
 from dirwolleu._handle import LookUps, made
 from dirwolleu._library import checked, functions, known
 from dirwolleu._root import Root
+from dirwolleu.exceptions import TooLargeError
 
 NO_LIMIT = 2**64 - 1
 """The limit of a call that has none."""
@@ -128,7 +128,6 @@ class Session(LookUps[Action]):
     ) -> None:
         super().__init__(root)
         self._count, self._take_all = c_size_t(), self._calls.outputs
-        self._auth = AuthFrames()
         self._place = self._found_place()
         if saved is None:
             checked(self._calls.open(self._handle, timeout_ms, addresses, seed))
@@ -142,8 +141,7 @@ class Session(LookUps[Action]):
 
     def opened(self, now: int) -> list[Action]:
         """The connection that was asked for is there."""
-        outputs = self._outputs(self._calls.opened(self._handle, now))
-        return after_first(outputs, list(map(_Send, self._auth.opened())))
+        return self._outputs(self._calls.opened(self._handle, now))
 
     def failed(self, now: int) -> list[Action]:
         """The connection that was asked for could not be made."""
@@ -151,7 +149,6 @@ class Session(LookUps[Action]):
 
     def cut(self, now: int) -> list[Action]:
         """The connection is over."""
-        self._auth.cut()
         return self._outputs(self._calls.cut(self._handle, now))
 
     def moment(self, now: int) -> list[Action]:
@@ -160,9 +157,7 @@ class Session(LookUps[Action]):
 
     def received(self, now: int, data: bytes) -> list[Action]:
         """Bytes came. Raises `NoMemory` where they can be handed in again."""
-        outputs = self._outputs(self._calls.bytes(self._handle, now, data, len(data)))
-        answers = self._auth.answers(data)
-        return outputs + [CredentialAnswer(*answer) for answer in answers] if answers else outputs
+        return self._outputs(self._calls.bytes(self._handle, now, data, len(data)))
 
     def addresses(self, now: int, count: int) -> list[Action]:
         """The list of addresses is another one, of this many."""
@@ -212,8 +207,15 @@ class Session(LookUps[Action]):
         return self._outputs(self._calls.raw(self._handle, now, ticket, until, operation, spelled, len(spelled)))
 
     def credential(self, now: int, scheme: str, secret: bytes) -> list[Action]:
-        """Has the session introduce itself by this too, on this connection and each later one, before all else. They have places, from 0 on."""
-        return list(map(_Send, self._auth.add(scheme, secret)))
+        """Has the session introduce itself by this too, on this connection and each later one, before all else. They have places, from 0 on.
+
+        Raises `TooLargeError` where both have more than 1,048,555 bytes.
+        """
+        spelled = scheme.encode()
+        code = self._calls.credential(self._handle, now, spelled, len(spelled), secret, len(secret))
+        if code == library.CREDENTIAL_TOO_LARGE:
+            raise TooLargeError
+        return self._outputs(code)
 
     def close_session(self, now: int, ticket: int, until: int) -> list[Action]:
         """Ends the session of the servers. After `SESSION_CLOSED` nothing more of it is to be done."""
@@ -307,4 +309,6 @@ class Session(LookUps[Action]):
             return Bounded(ticket, was_sent)
         if kind == library.WHOLE:
             return Whole(ticket)
+        if kind == library.CREDENTIAL:
+            return CredentialAnswer(place, code)
         return _SIGNS[known("output", kind, _SIGNS)]

@@ -458,9 +458,9 @@ class Client(Shown):
     def follow(self, path: str) -> Generator[Kept, None, None]:
         """Yields what a node holds, and again whenever that has changed, through reconnects and new sessions.
 
-        Each answer was good when it came. Where the node changes more than once between two of them, the last one is
-        told. Where there is no node, that is told too. The core keeps it good: it reads it again after each change, and
-        a second after a refusal. It ends when the client is stopped or closed, or its credentials are refused, and raises
+        Each answer was good when it came; one that a notice ended at once has the zxid of the node's last change. Where the
+        node changes more than once between two of them, the last one is told. Where there is no node, that is told too. The core
+        keeps it good: it reads it again after each change, and a second after a refusal. It ends when the client is stopped or closed, or its credentials are refused, and raises
         what `get` raises for other reasons than the connection, the session and the load of a server, such as
         `NoAuthError`. A code of a server that has no error of its own here is logged at WARNING, and the node is read again.
         """

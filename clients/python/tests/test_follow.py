@@ -4,6 +4,7 @@ from __future__ import annotations
 
 import asyncio
 import logging
+import struct
 import threading
 import time
 import unittest
@@ -15,6 +16,7 @@ import dirwolleu
 from dirwolleu import Kept, Mark, NoAuthError
 from dirwolleu.aio import Client as AioClient
 
+GET_CHILDREN_2 = 12
 REFUSALS = {-4: 0.8, -127: 0.8, -112: 0.28, -118: 0.28, -1: 0.8, -99: 0.8, -101: 0.28}
 """How many seconds there are for each read at least: there is one in a second, with a code that ends the connection one on each, and another
 one at once where there is no node and exists says that there is one."""
@@ -48,12 +50,14 @@ class Refusing:
 
 
 def overtakes(peer: Peer) -> None:
-    """Sends a notice with each answer to a read of data."""
+    """Sends a notice with each answer to a read of data, and of names."""
     peer.admit()
     while True:
         asked = peer.take()
         if asked.kind == GET_DATA:
             peer.send(data_reply(asked, b"one"), notice("/a"))
+        elif asked.kind == GET_CHILDREN_2:
+            peer.send(reply(asked, struct.pack(">ii", 1, 1) + b"b" + STAT, zxid=7), notice("/a", 4))
         else:
             peer.send(reply(asked))
 
@@ -122,6 +126,14 @@ class BlockingTest(PartnerCase):
         self.follow(self.raw_server(overtakes), told, [])
         within(lambda: told)
         self.assertEqual((told[0].mark, told[0].data, told[0].last_zxid), (Mark.GOOD, b"one", 5))
+
+    def test_names_that_a_notice_overtakes_are_told(self) -> None:
+        """With the zxid of their last change, at which the servers had them."""
+        client = dirwolleu.Client(self.raw_server(overtakes).host, 30.0)
+        self.addCleanup(client.close)
+        client.start(WAIT)
+        kept = next(client.follow_children("/a"))
+        self.assertEqual((kept.mark, kept.names, kept.last_zxid), (Mark.GOOD, ("b",), 5))
 
 
 class AioTest(unittest.IsolatedAsyncioTestCase, PartnerCase):

@@ -539,6 +539,21 @@ class AuthTest(RawCase):
         self.assertEqual((client.state, connections[-1]), (State.CONNECTED, []))
 
 
+    def test_a_credential_has_a_bound(self) -> None:
+        """With its scheme 1,048,555 bytes, so that its frame has 1,048,575 after its length."""
+        host, connections = self.server()
+        longest = "x" * (1_048_555 - len("digest"))
+        client = self.client(host, auth_data=[("digest", longest)])
+        self.assertEqual(len(connections[0][0].body), 1_048_575 - 8)
+        calls: list[Callable[[], Any]] = [
+            lambda: Client(host, auth_data=[("digest", longest + "x")]), lambda: client.add_auth("digest", longest + "x"),
+        ]  # fmt: skip
+        for call in calls:
+            with self.raises(TooLargeError, None):
+                call()
+        self.assertEqual(client.get("/a")[0], b"one")
+
+
 class RefusedTest(BothCase):
     """A server that refuses what a client introduces itself by, from some moment on."""
 
