@@ -1,4 +1,5 @@
-//! Runs drivers, and watches over drivers, against servers in memory, and prints what happens. What is to be printed is in the file `stdout`.
+//! Runs drivers, and watches over drivers, against servers in memory, and prints what happens. What is to be printed is in the file
+//! `stdout`.
 #![tactic(auto)]
 
 mod links;
