@@ -99,6 +99,15 @@ nothing_handed turns.Cut held mute = refl
 nothing_handed (turns.Now moment) held mute = refl
 nothing_handed (turns.Call ticket asked) held mute = refl
 
+-- nothing that is told of credentials concerns the connection
+judged_keep : (here : ChannelView) (judged : List (ℕ × ℤ)) → fold carried here (map judged_told judged) ≡ here
+judged_keep here [] = refl
+judged_keep here (one ∷ more) = judged_keep here more
+
+frames_keep : (here : ChannelView) (frames : List (List ℕ)) → fold carried here (map Introduces frames) ≡ here
+frames_keep here [] = refl
+frames_keep here (frame ∷ more) = frames_keep here more
+
 module _ {A : Type 0} (channel : ChannelView) (held : List ℕ) (shown : Shown) where
   abbrev Here : Trail A → Type 0
   Here trail = At channel held shown trail
@@ -112,15 +121,6 @@ module _ {A : Type 0} (channel : ChannelView) (held : List ℕ) (shown : Shown) 
   told_more : (old new : Trail A) (more : List Told)
       → new.told ≡ old.told ++ more → left_by channel new ≡ fold carried (left_by channel old) more
   told_more old new more is = ap (fold carried channel) is ∙ fold-append carried channel old.told more
-
-  -- nor is what is told of credentials
-  judged_keep : (here : ChannelView) (judged : List (ℕ × ℤ)) → fold carried here (map judged_told judged) ≡ here
-  judged_keep here [] = refl
-  judged_keep here (one ∷ more) = judged_keep here more
-
-  frames_keep : (here : ChannelView) (frames : List (List ℕ)) → fold carried here (map Introduces frames) ≡ here
-  frames_keep here [] = refl
-  frames_keep here (frame ∷ more) = frames_keep here more
 
   presents_none : (judged : List (ℕ × ℤ)) (frames : List (List ℕ)) (old new : Trail A) → Does old (Presents judged frames) new
       → left_by channel new ≡ left_by channel old

@@ -402,6 +402,7 @@ befalls_driver (Made (Noted now (happens.Bytes bytes))) old new before after car
 befalls_driver (Made (Noted now happens.Moment)) old new before after carries meets = meets
 befalls_driver (Made (Noted now (happens.Addresses count))) old new before after carries meets = meets
 befalls_driver (Made (Noted now (happens.Call ticket call until))) old new before after carries meets = meets
+befalls_driver (Made (Noted now (happens.Credential credential))) old new before after carries meets = meets
 befalls_driver (Made (Noted now (happens.Follow ticket side path))) old new before after carries meets = meets
 befalls_driver (Made (Noted now (happens.Unfollow ticket))) old new before after carries meets = meets
 befalls_driver (Made (Noted now (happens.FollowTree ticket root most))) old new before after carries meets = meets
