@@ -18,7 +18,7 @@ from functools import cache, cached_property
 from repository import CRATES, TOP
 
 # The crates of tests state nothing that a caller has.
-NOT_PINNED = ("test_layers/", "test_clients/", "test_scripts/", "test_links/")
+NOT_PINNED = ("test_layers/", "test_clients/", "test_scripts/", "test_links/", "test_callers/")
 
 QUOTED = r"""'(?:[^'\\\n]|\\[^'\n]+)'|"(?:[^"\\]|\\.)*\""""
 QUOTES = re.compile(QUOTED, re.S)
