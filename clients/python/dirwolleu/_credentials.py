@@ -83,6 +83,10 @@ class Introductions:
         credential = self._given[place]
         if credential not in self._kept:
             self._kept.append(credential)
+        return self.leave(place)
+
+    def leave(self, place: int) -> list[Asked]:
+        """Nobody waits any more for the answer to the one at this place. Tells who did."""
         found = [asked for waits, asked in self._waiting if waits == place]
         self._waiting = [one for one in self._waiting if one[0] != place]
         return found

@@ -605,15 +605,16 @@ class Engine(Keeping):
 
     def _hear_of_credential(self, answer: CredentialAnswer) -> None:
         if answer.code:
-            return self._bar(self._introductions.scheme(answer.place))
+            return self._bar(answer.place)
         for asked in self._introductions.take(answer.place):
             self.contact.answers += 1
             self.contact.answered(asked.sent_at, self._now)
             asked.settle(TAKEN)
         self._wake(None)
 
-    def _bar(self, scheme: str) -> None:
-        """A server refuses credentials of the client: the session is over, and no server is dialled any more."""
+    def _bar(self, place: int) -> None:
+        """A server refuses the credential at this place: the session is over, and no server is dialled any more."""
+        scheme, asked_for_it = self._introductions.scheme(place), self._introductions.leave(place)
         self.refused = self.trouble = self._why = f"the server refuses the credentials of the scheme {scheme}"
         logger.error("%s", self.refused)
         self._enter(State.LOST)  # who listens knows before those who follow find that it does not run
@@ -621,6 +622,8 @@ class Engine(Keeping):
         error = AuthFailedError(self.refused)
         error.may_have_happened = True  # what was sent after the credentials
         self._begin_anew(error)
+        for asked in asked_for_it:
+            asked.fail(AuthFailedError())
 
     def _count_loss(self, asked: Asked, error: ZookeeperError) -> None:
         self.contact.losses += 1

@@ -182,9 +182,9 @@ class KazooEngine(Engine):
         self._probed_at = None
         super()._leave_connection()
 
-    def _bar(self, scheme: str) -> None:
+    def _bar(self, place: int) -> None:
         self._on_refused()  # before the calls that wait are told
-        super()._bar(scheme)
+        super()._bar(place)
 
 
 class KazooPolicy:
