@@ -250,10 +250,12 @@ fn those_of_one_path_and_names_never_hold_together() {
             .iter()
             .flat_map(|one| kinds.map(|other| (*one, other)))
         {
-            let options = LockOptions::new().names(names).within(A_WHILE);
-            let held = options.sharing(one).acquire(&first, "/locks/a").unwrap();
-            let next = options.sharing(other).acquire(&second, "/locks/a");
             let is_shared = one == Sharing::Shared && other == Sharing::Shared;
+            let options = LockOptions::new().names(names).within(PATIENCE);
+            let held = options.sharing(one).acquire(&first, "/locks/a").unwrap();
+            let bound = if is_shared { PATIENCE } else { A_WHILE };
+            let next = options.sharing(other).within(bound);
+            let next = next.acquire(&second, "/locks/a");
             assert_eq!(next.is_ok(), is_shared, "{names:?} {one:?} {other:?}");
             next.map(|lock| lock.release().unwrap()).ok();
             held.release().unwrap();

@@ -82,8 +82,13 @@ fn a_connection_on_which_a_frame_is_not_written_in_time_is_left() {
     let asked = (0..MANY).map(|_| session.ask(Request::set("/a", &data, -1)));
     let asked: Vec<_> = asked.collect();
     partner.dial();
-    for ticket in asked {
-        let kind = ticket.wait_for(PATIENCE).unwrap_err().into_kind();
+    for (number, ticket) in asked.into_iter().enumerate() {
+        // A slow machine asks for some when the connection has been left: the next one answers them.
+        let Err(error) = ticket.wait_for(PATIENCE) else {
+            assert!(number > 0, "the first one was on its way");
+            continue;
+        };
+        let kind = error.into_kind();
         let is_lost = kind.may_have_happened() || kind == ErrorKind::QueueFull;
         assert!(is_lost, "each is told: {kind:?}");
     }
