@@ -489,9 +489,9 @@ class AuthTest(RawCase):
         connections: list[list[Asked]] = []
 
         def serve(peer: Peer) -> None:
-            peer.admit()
             asked: list[Asked] = []
             connections.append(asked)
+            peer.admit()
             while True:
                 asked.append(peer.take())
                 if asked[-1].kind == AUTH and refuses:
@@ -537,7 +537,6 @@ class AuthTest(RawCase):
                 call()
         client.start(WAIT)
         self.assertEqual((client.state, connections[-1]), (State.CONNECTED, []))
-
 
     def test_a_credential_has_a_bound(self) -> None:
         """With its scheme 1,048,555 bytes, so that its frame has 1,048,575 after its length."""
