@@ -1,5 +1,5 @@
-"""The edits that have to be refused: wrong bodies, what each turns, where it applies, and the function that it is within, with their page; and wrong
-definitions. `scripts/wrong_bodies` tries them, and compares the page.
+"""The edits that have to be refused: wrong bodies, what each turns, where it applies, and the function that it is within; and wrong definitions.
+`scripts/wrong_bodies` tries them.
 
 A wrong body is a file in the folder wrong_bodies of its crate, or in must-fail, which the toolchain tries by itself. It has lines:
 
@@ -25,7 +25,6 @@ from pathlib import Path
 
 from repository import CRATES, TOP, crates_listed, tracked
 
-PAGES = TOP / "docs/wrong_bodies"
 GATE = TOP / "scripts/gate_bodies.txt"
 FOLDERS = ("must-fail", "wrong_bodies")
 FIELDS = ("turns: ", "function: ", "file: ", "old: ", "new:")
@@ -282,26 +281,11 @@ def all_definitions() -> list[Definition]:
     return [edit for kind in KINDS for edit in definitions_of(kind)]
 
 
-# The pages of wrong bodies
+# What is wrong with them
 
-LIST = PAGES / "LIST.md"
 PAGE = TOP / "docs/WRONG_BODIES.md"
-HEAD_OF_LIST = """[//]: # (made by scripts/wrong_bodies from the edits in crates/*/wrong_bodies and in crates/*/must-fail)
-
-# All wrong bodies
-
-[WRONG_BODIES](../WRONG_BODIES.md) says what a wrong body is, and how it is tried."""
 MOST_IN_GATE = 60
 FEWEST_SAMPLES = 10
-# a name of the code, in what an edit turns
-NAME = re.compile(r"\b[A-Za-z]+(?:(?:::|_)[A-Za-z]+)+\b")
-
-
-def row_of(edit: Edit) -> str:
-    turns = NAME.sub(r"`\g<0>`", edit.turns)
-    files = ", ".join(f"`{file}`" for file in edit.files)
-    tried_by = "the gate" if edit.in_gate else "`scripts/wrong_bodies`"
-    return f"| {turns} | {files} | `{edit.path.name}` | {tried_by} |"
 
 
 def all_edits() -> dict[str, list[Edit]]:
@@ -315,53 +299,16 @@ def edits_elsewhere(found: dict[str, list[Edit]]) -> list[str]:
     return [name for name in tracked() if name.endswith(".edit") and name not in there]
 
 
-def counts_of(found: dict[str, list[Edit]]) -> str:
-    """How many edits there are, how many of them the gate tries, and in which crates."""
-    every = [edit for of_one in found.values() for edit in of_one]
-    gate = [crate for crate, of_one in found.items() if any(edit.in_gate for edit in of_one)]
-    names = ", ".join(f"`{crate}`" for crate in gate)
-    return f"There are {len(every)}. The gate tries {sum(edit.in_gate for edit in every)} of them: in {names}."
-
-
-def list_of(found: dict[str, list[Edit]]) -> str:
-    parts: list[str] = [HEAD_OF_LIST, counts_of(found)]
-    for crate, of_one in found.items():
-        note = CRATES / crate / "wrong_bodies/README.md"
-        if of_one:
-            parts += [f"## {crate}"] + ([note.read_text(encoding="utf-8").strip()] if note.is_file() else [])
-            parts += ["\n".join(["| What it turns | In | Edit | Tried by |", "|---|---|---|---|", *(row_of(edit) for edit in of_one)])]
-    return "\n\n".join(parts) + "\n"
-
-
-def pages_of(found: dict[str, list[Edit]]) -> dict[Path, str]:
-    """The pages that are written: the list, and in must-fail of a crate where its edits are and what tries them."""
-    pages = {LIST: list_of(found)}
-    for crate, of_one in found.items():
-        if of_one and not any(edit.path.parent.name == "must-fail" for edit in of_one):
-            gate = "those that `scripts/gate_bodies.txt` names" if any(edit.in_gate for edit in of_one) else "none of them"
-            tried = f"`scripts/wrong_bodies {crate}` tries them, and the gate {gate}."
-            pages[CRATES / crate / "must-fail/README.md"] = f"The wrong bodies of this crate are in its folder `wrong_bodies`: {tried}\n"
-    return pages
-
-
-def faults_of_page(found: dict[str, list[Edit]], there: set[str]) -> Iterator[str]:
+def faults_of_page(there: set[str]) -> Iterator[str]:
     """What docs/WRONG_BODIES.md says that is not so."""
-    page = PAGE.read_text(encoding="utf-8") if PAGE.is_file() else ""
-    if counts_of(found) not in page:
-        yield f"docs/WRONG_BODIES.md is to say: {counts_of(found)}"
-    named = re.findall(r"`(\w+/\w+)\.edit`", page)
+    named = re.findall(r"`(\w+/\w+)\.edit`", PAGE.read_text(encoding="utf-8"))
     if len(named) < FEWEST_SAMPLES:
         yield f"docs/WRONG_BODIES.md names {len(named)} edits, where {FEWEST_SAMPLES} are the fewest"
     yield from (f"docs/WRONG_BODIES.md names {name}, which is not there" for name in named if name not in there)
 
 
-def write_pages() -> None:
-    for path, text in pages_of(all_edits()).items():
-        path.write_text(text, encoding="utf-8")
-
-
 def faults() -> Iterator[str]:
-    """What is wrong with the edits, the list of the gate, and the pages."""
+    """What is wrong with the edits, the list of the gate, and the page."""
     found = all_edits()
     every = [edit for of_one in found.values() for edit in of_one]
     yield from (f"{edit.path.relative_to(TOP)}: {edit.fault}" for edit in every if edit.fault)
@@ -373,8 +320,5 @@ def faults() -> Iterator[str]:
     yield from (f"scripts/gate_bodies.txt names {name} twice" for name, count in gate.items() if count > 1)
     if gate.total() > MOST_IN_GATE:
         yield f"the gate has {gate.total()} edits, where {MOST_IN_GATE} are the most"
-    for path, text in pages_of(found).items():
-        if not path.is_file() or path.read_text(encoding="utf-8") != text:
-            yield f"{path.relative_to(TOP)} is not what scripts/wrong_bodies --write makes"
-    yield from faults_of_page(found, there)
+    yield from faults_of_page(there)
     yield from (f"{it.name}: its old text stands {it.count} times in {it.crate}/{it.file}" for it in all_definitions() if it.count != 1)

@@ -20,11 +20,12 @@ def program() -> str | None:
     return named or next((str(place) for place in PLACES if place.is_file()), None)
 
 
-def outcome(words: Sequence[str], given: bytes | int = b"", before: Callable[[], None] | None = None) -> str:
-    """Runs a command line over this standard input, bytes or a file, and answers `PRINTED|TOLD|STATUS`. `before` is called in the process."""
+def outcome(words: Sequence[str | bytes], given: bytes | int = b"", before: Callable[[], None] | None = None, out: int = PIPE) -> str:
+    """Runs a command line over this standard input, bytes or a file, and answers `PRINTED|TOLD|STATUS`, of which nothing is printed that goes to
+    a file. `before` is called in the process."""
     command = program()
     if command is None:
         raise FileNotFoundError(f"there is no {PLACES[0]}: build zk_shell, or name it by DIRWOLLEU_ZK_SHELL")
     source: dict[str, Any] = {"stdin": given} if isinstance(given, int) else {"input": given}
-    done = subprocess.run([command, *words], stdout=PIPE, stderr=PIPE, timeout=BOUND, preexec_fn=before, **source)
-    return f"{done.stdout.decode()}|{done.stderr.decode()}|{done.returncode}"
+    done = subprocess.run([command, *words], stdout=out, stderr=PIPE, timeout=BOUND, preexec_fn=before, **source)
+    return f"{(done.stdout or b'').decode()}|{done.stderr.decode()}|{done.returncode}"

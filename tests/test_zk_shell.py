@@ -12,7 +12,7 @@ import unittest
 from typing import Callable, NamedTuple
 
 from served import World, world
-from shell import outcome, program
+from shell import TOP, outcome, program
 from tables import HERE, Row, cases_of, numbered, repeated
 
 ADDRESS = "127.0.0.1:2181"
@@ -158,6 +158,15 @@ def loopback(_: Case) -> str:
     )
 
 
+FAILING: list[tuple[str, list[str | bytes]]] = [
+    ("|error: word 3 is not UTF-8: /a\\xff\\n\n|2", ["get", "127.0.0.1:1", b"/a\xff\n"]),
+    ("|not connected: /a: no server has answered in time\n127.0.0.1:1: connection refused\n|7", ["get", "127.0.0.1:1", "/a", "--wait", "1"]),
+    ("|error: standard output: no storage space\n|4", ["watch", "127.0.0.1:1", "--data", "/a", "--for", "60"]),
+    ("|error: standard output: no storage space\n|4", ["get", "--help"]),
+    ("|error: standard input: a read failed\n|4", ["history"]),
+]
+"""What a command tells and answers whose words, connections or streams fail: standard input is a folder, and standard output is full."""
+
 MOMENT = re.compile(r'(?m)^(\d+)\.(\d{3})(?= )|(?<="ms":)(\d+)')
 
 
@@ -219,6 +228,23 @@ class ShellTest(unittest.TestCase):
 
     def test_loopback(self) -> None:
         self._kind(loopback)
+
+    def test_examples(self) -> None:
+        for name in ("history", "replay", "rehearse"):
+            script, printed = ((TOP / f"examples/{name}.{part}").read_bytes() for part in ("script", "printed"))
+            self.assertEqual(f"{printed.decode()}||0", outcome([name], script), name)
+
+    def test_the_live_example_is_the_last_case_of_test_scripts(self) -> None:
+        for part, kind in (("stdin", "script"), ("stdout", "printed")):
+            played = (TOP / "crates/test_scripts" / part).read_text(encoding="utf-8").partition("\n== served: zk_shell live\n")[2]
+            self.assertEqual(played, (TOP / f"examples/live.{kind}").read_text(encoding="utf-8"), part)
+
+    def test_what_fails_is_told(self) -> None:
+        unread, full = os.open(HERE, os.O_RDONLY), os.open("/dev/full", os.O_WRONLY)
+        for wanted, words in FAILING:
+            self.assertEqual(wanted, outcome(words, unread, out=full), words)
+        os.close(unread)
+        os.close(full)
 
 
 if __name__ == "__main__":

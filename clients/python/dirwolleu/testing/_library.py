@@ -8,7 +8,7 @@ from ctypes import CDLL, POINTER, Structure, byref, c_bool, c_char, c_char_p, c_
 from ctypes import create_string_buffer, string_at
 from typing import Any
 
-# made by scripts/bench_interface from include/bench.toml
+# made by scripts/interface from include/bench.toml
 OK = 0
 NONE = 1
 NO_MEMORY = -2

@@ -1,5 +1,5 @@
 //! The C interface of the server in memory.
-// made by scripts/bench_interface from include/bench.toml
+// made by scripts/interface from include/bench.toml
 #![allow(dead_code)] // one table for all who take from it
 
 pub const OK: i32 = 0;

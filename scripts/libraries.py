@@ -1,4 +1,5 @@
-"""Libraries that `rt ci` has proved, for other commands of the toolchain.
+"""What was proved, and what is made of it: the libraries that `rt ci` has proved, for other commands of the toolchain, and the checksums that the
+prebuilt files and the packages are known by.
 
 What `rt ci` leaves in crates/*/out has no note of the text that it was made from, and each other command would prove a library again that has
 none. The notes are written here, by what texts and libraries hold and not by their times: of a library that is noted already, and of one that
@@ -13,14 +14,23 @@ import importlib.util
 import os
 import re
 import shutil
+import subprocess
 import sys
 from collections.abc import Iterable
 from pathlib import Path
 from types import ModuleType
 from typing import Any
 
-TOP = Path(__file__).resolve().parent.parent
+from repository import CRATES, TOP, crates_listed
+
 MEMORY = 3_700_000_000
+PREBUILT = TOP / "prebuilt/x86_64-linux"
+VERSION = (TOP / "VERSION").read_text(encoding="utf-8").strip()
+# the crates whose code is in the packages: the C interface, and the program
+LIBRARY, PROGRAM = "ffi_c", "zk_shell"
+
+
+# What was proved
 
 
 def lanes() -> int:
@@ -49,13 +59,13 @@ def toolchain() -> ModuleType:
 def libraries_below(rt: ModuleType, *names: str) -> list[Any]:
     """The libraries of the repository below these crates, lowest first."""
     known: dict[str, Any] = {}
-    crates = [rt.Crate(str(TOP / "crates" / name), str(TOP), known) for name in names]
+    crates = [rt.Crate(str(CRATES / name), str(TOP), known) for name in names]
     return list({it.name: it for crate in crates for it in crate.below()}.values())
 
 
 def sum_of_texts(libraries: Iterable[Any]) -> str:
     """A checksum of all that these libraries are made from."""
-    return hashlib.sha256(repr([it.stamp() for it in libraries]).encode()).hexdigest()
+    return sum_of(repr([it.stamp() for it in libraries]).encode())
 
 
 def note(library: Any) -> None:
@@ -78,3 +88,40 @@ def take(rt: ModuleType, libraries: list[Any]) -> list[str]:
             note(library)
         kept.is_built(library)
     return [it.name for it in libraries if it.name in others]
+
+
+# What is made of it
+
+
+def crates_with(*names: str, top: Path = TOP) -> list[str]:
+    """These crates of a checkout and those of it that they use, lowest first."""
+    listed, found = crates_listed(top), {*names}
+    for crate in reversed(listed):
+        found |= {*listed[crate]} if crate in found else set()
+    return [crate for crate in listed if crate in found]
+
+
+def sum_of(data: bytes) -> str:
+    return hashlib.sha256(data).hexdigest()
+
+
+def sum_of_sources(name: str) -> str:
+    """A checksum of all that an archive is made from: the sources, specifications and proofs of its crate and of the crates below it."""
+    summed = hashlib.sha256()
+    for crate in sorted(crates_with(name)):
+        for path in (path for part in ("src", "specs", "proofs") for path in sorted((CRATES / crate / part).glob("**/*")) if path.is_file()):
+            summed.update(f"{path.relative_to(TOP).as_posix()}\0{sum_of(path.read_bytes())}\n".encode())
+    return summed.hexdigest()
+
+
+def said_by(*words: str) -> str:
+    """The first line that a command prints, or none where the command is not there."""
+    if not shutil.which(words[0]):
+        return "none"
+    return subprocess.run(words, capture_output=True, text=True, check=True).stdout.splitlines()[0].strip()
+
+
+def fields_of(text: str) -> dict[str, str]:
+    """The fields of a file MADE, whose lines are `NAME: VALUE`."""
+    lines = [line.partition(": ") for line in text.splitlines()]
+    return {name: value for name, _, value in lines}
