@@ -208,6 +208,9 @@ class ShellTest(unittest.TestCase):
     def test_values(self) -> None:
         self._table("shell/values.txt")
 
+    def test_protocol(self) -> None:
+        self._table("shell/protocol.txt")
+
     def _kind(self, does: Callable[[Case], str]) -> None:
         for case in cases():
             if case.kind == does.__name__:
