@@ -158,6 +158,15 @@ def loopback(_: Case) -> str:
     )
 
 
+STREAM = f"0000002d{'0' * 24}00007530{'0' * 16}00000010{'0' * 34}0000000f0000000100000004000000022f610000000008fffffffe0000000b00"
+"""What a client sends: connect, a getData and a ping, and the first byte of another frame."""
+SHOWN = """\
+> 0 length 45 connect protocolVersion 0 lastZxidSeen 0 timeOut 30000 sessionId 0 readOnly 0
+> 49 length 15 xid 1 type 4 getData path /a watch 0
+> 68 length 8 xid -2 type 11 ping
+> 80 left 1 bytes
+||0"""
+
 FAILING: list[tuple[str, list[str | bytes]]] = [
     ("|error: word 3 is not UTF-8: /a\\xff\\n\n|2", ["get", "127.0.0.1:1", b"/a\xff\n"]),
     ("|not connected: /a: no server has answered in time\n127.0.0.1:1: connection refused\n|7", ["get", "127.0.0.1:1", "/a", "--wait", "1"]),
@@ -207,6 +216,14 @@ class ShellTest(unittest.TestCase):
 
     def test_values(self) -> None:
         self._table("shell/values.txt")
+
+    def test_protocol(self) -> None:
+        self._table("shell/protocol.txt")
+
+    def test_a_stream_is_cut_at_each_byte(self) -> None:
+        for cut in range(2, len(STREAM), 2):
+            pieces = f"> {STREAM[:cut]}\n> {STREAM[cut:]}\n".encode()
+            self.assertEqual(SHOWN, outcome(["show", "--stream"], pieces), f"cut after {cut // 2} bytes")
 
     def _kind(self, does: Callable[[Case], str]) -> None:
         for case in cases():

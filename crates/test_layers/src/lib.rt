@@ -1,6 +1,6 @@
-//! Tries what no contract of the words, the messages, the frames and the layers below the client says: the protocol's own
-//! rows, read and written again byte for byte, bounds as the specification has them, what faults say, and each request for
-//! memory refused in turn. It holds tests alone, so that the crates below are proved once.
+//! Tries what no contract of the words, the messages, the frames and the layers below the client says: bounds as the
+//! specification has them, what faults say, and each request for memory refused in turn. It holds tests alone, so that the
+//! crates below are proved once.
 #![tactic(auto)]
 
 #[cfg(test)]

@@ -8,7 +8,6 @@ mod frames;
 mod histories;
 mod kept_answers;
 mod paths;
-mod records;
 mod refused_memory;
 mod replies;
 mod requests;

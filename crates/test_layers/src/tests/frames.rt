@@ -1,12 +1,10 @@
-//! Frames: a stream cut anywhere, limits, and what is put.
+//! Frames where memory is refused: what is fed, adopted and put.
 
 use crate::tests::checks::holds;
 use crate::tests::refused_memory::{Steps, refuse_each};
 use std::alloc::{Allocator, Global};
-use std::process::Abort;
 use test_refusing::Refusing;
-use zk_frames::{FrameFault, FrameReader, PutFault, put_frame, seal_frame};
-use zk_limits::LONGEST_OUTGOING;
+use zk_frames::{FrameFault, FrameReader, PutFault, put_frame};
 
 // The frames of `hi`, of nothing and of `abc`, and the first byte of another.
 static STREAM: [u8; 18] = [
@@ -52,38 +50,6 @@ fn feed_both<A: Allocator>(
     Ok(refusals)
 }
 
-// Gives copies of two pieces of the stream to a reader that takes them over, and copies what is whole after each.
-fn adopt_both(
-    alloc: Global,
-    reader: &mut FrameReader<Global>,
-    cut: usize,
-    out: &mut Vec<u8>,
-) -> Result<(), FrameFault> {
-    for piece in cut_at(cut) {
-        reader.adopt(Vec::from_slice(alloc, piece)?)?;
-        take_whole(reader, out)?;
-    }
-    Ok(())
-}
-
-#[test]
-fn gives_the_frames_however_cut(rt: HostRuntime) {
-    let mut reader = FrameReader::new(rt.alloc());
-    let mut out = Vec::new(rt.alloc());
-    for cut in 0..=STREAM.len() {
-        let fed = feed_both(&mut reader, cut, &mut out);
-        holds(&rt, fed == Ok(0) && out.as_slice() == PAYLOADS, cut);
-        reader.reset();
-        out.clear();
-        let adopted = adopt_both(rt.alloc(), &mut reader, cut, &mut out);
-        holds(&rt, adopted == Ok(()) && out.as_slice() == PAYLOADS, cut);
-        reader.reset();
-        out.clear();
-    }
-    drop(reader);
-    drop(out);
-}
-
 // All payloads come, and a piece is refused exactly where a request is.
 struct Feeding;
 
@@ -118,69 +84,6 @@ fn adopts_without_memory(rt: HostRuntime) {
     holds(&rt, adopted == [Ok(()), Err(FrameFault::Memory)], "adopted");
     holds(&rt, fed == [Ok(()), Ok(())], "fed");
     holds(&rt, out.as_slice() == PAYLOADS, "the pieces");
-}
-
-// Lengths, and what is answered where they are fed.
-static LENGTHS: [([u8; 4], Result<(), FrameFault>); 5] = [
-    ([0, 0x40, 0, 0], Ok(())),
-    ([0, 0x40, 0, 1], Err(FrameFault::TooLong)),
-    ([0x7f, 0xff, 0xff, 0xff], Err(FrameFault::TooLong)),
-    ([0x80, 0, 0, 0], Err(FrameFault::Negative)),
-    ([0xff, 0xff, 0xff, 0xff], Err(FrameFault::Negative)),
-];
-
-// A reader that begins again answers so twice after a length, and when it is asked for frames.
-#[test]
-fn keeps_to_the_limits(rt: HostRuntime) {
-    let mut reader = FrameReader::new(rt.alloc());
-    for (length, want) in &LENGTHS {
-        reader.reset();
-        let came = [
-            reader.feed(length),
-            take_whole(&mut reader, &mut Vec::new(rt.alloc())),
-            reader.feed(b""),
-            reader.adopt(Vec::new(rt.alloc())),
-        ];
-        let is = came == [Ok(()), *want, *want, *want];
-        holds(&rt, is, i32::from_be_bytes(*length));
-    }
-    drop(reader);
-}
-
-#[test]
-fn puts_frames(rt: HostRuntime) {
-    let mut out = Vec::new(rt.alloc());
-    let put = [put_frame(b"hi", &mut out), put_frame(b"", &mut out)];
-    holds(&rt, put == [Ok(()), Ok(())], "two frames");
-    holds(&rt, out.as_slice() == &STREAM[..10], "their bytes");
-}
-
-#[test]
-fn seals_a_frame(rt: HostRuntime) {
-    let room = [9, 9, 9, 9, b'h', b'i'];
-    let mut sealed = Vec::from_array(rt.alloc(), room).expect(&rt, "memory");
-    seal_frame(&mut sealed);
-    holds(&rt, sealed.as_slice() == &STREAM[..6], "the frame of `hi`");
-}
-
-// Puts a payload of `count` zeros. A proof that saw the length would write the list out.
-fn put_zeros(
-    rt: &(impl Abort + AllocGlobal),
-    count: usize,
-    out: &mut Vec<u8>,
-) -> Result<(), PutFault> {
-    let payload = Vec::from_elem(rt.alloc(), 0, count).expect(rt, "memory");
-    put_frame(&payload, out)
-}
-
-#[test]
-fn puts_up_to_the_limit(rt: HostRuntime) {
-    let mut out = Vec::new(rt.alloc());
-    let large = put_zeros(&rt, LONGEST_OUTGOING + 1, &mut out);
-    let largest = put_zeros(&rt, LONGEST_OUTGOING, &mut out);
-    let put = (large, largest, out.len());
-    let want = (Err(PutFault::TooLarge), Ok(()), 4 + LONGEST_OUTGOING);
-    holds(&rt, put == want, "one above the limit, and at it");
 }
 
 static SEVENS: [u8; 300] = [7; 300];
