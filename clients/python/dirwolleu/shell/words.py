@@ -57,23 +57,26 @@ printed, each line with the seconds since the watch began before it:
   dial ADDRESS             this host is tried
   failed ADDRESS REASON    it could not be connected to
   ended ADDRESS REASON     the connection has ended
-  state NAME               Idle, Expired or Closed; and Connected, with the
-                           address, the session and its timeout
+  drop FAULT ADDRESS WORDS
+                           the connection is given up, by a fault of CODES
+  state NAME               Connecting, Idle, Expired or Closed; and Connected,
+                           with the address, the session and its timeout
   session new              after state Expired: nothing is kept any more
-  PATH data full DATA SEVEN good last ZXID
+  PATH data full DATA SEVEN MARK last ZXID
                            SEVEN is czxid mzxid ctime mtime version
                            ephemeralOwner dataLength
-  PATH names N NAME.. PZXID good last ZXID
+  PATH names N NAME.. PZXID MARK last ZXID
   PATH does not exist last ZXID
+  PATH data absent MARK last ZXID
   PATH data none last ZXID, PATH names none last ZXID
                            nothing is kept
   PATH refused code N WORDS
                            a read was refused, and is tried again
-  bound N WORDS            a tree has more nodes than --most, and is not watched
-Each answer is good when it is printed: the servers' history says so at ZXID.
-zk_shell also prints when an answer is stale, and a tree node by node; here a
-tree is printed when all of it is known, of one moment. Data are in hex, \\e for
-no bytes and \\0 for null; with --text in quotes if they are text.
+  bound N WORDS            a tree has more nodes than --most
+MARK is good if the servers' history says so at ZXID and no change is known, and
+stale if a change was told and the node is being read again. Each PATH is whole,
+with the path after the servers. Data are in hex, \\e for no bytes and \\0 for
+null; with --text in quotes if they are text.
 
 exit status: 0 the time of --for is over; 2 a fault of the command line; 4
 standard output failed, or was closed; 6 the credentials are refused; 9 the time
