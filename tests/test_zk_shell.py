@@ -1,4 +1,6 @@
-"""The built zk_shell by the rows of shell/: each line that a command prints and tells, and its status."""
+"""The built zk_shell by the rows of shell/: each line that a command prints and tells, and its status. The commands of nodes are those of
+`python3 -m dirwolleu` too.
+"""
 
 from __future__ import annotations
 
@@ -12,7 +14,7 @@ import unittest
 from typing import Callable, NamedTuple
 
 from served import World, world
-from shell import outcome, program
+from shell import outcome, outcome_of_python, program
 from tables import HERE, Row, cases_of, numbered, repeated
 
 ADDRESS = "127.0.0.1:2181"
@@ -99,15 +101,20 @@ def make_files(lines: list[str]) -> bytes:
     return given
 
 
-def asked(served: World, line: str, given: bytes) -> str:
-    """What a command line prints, tells and answers, with ADDRESS for the server's."""
+def asked(served: World, line: str, given: bytes, is_python: bool) -> str:
+    """What a command line prints, tells and answers, with ADDRESS for the server's. This process may read each file."""
     here = f"127.0.0.1:{served.port}"
     line = line.replace("[::1],zk2:2182/", f"{ADDRESS},{ADDRESS}/").replace(" zk1/", f" {ADDRESS}/")
     words = [re.sub(r"(127\.0\.0\.\d|localhost):2181", rf"\1:{served.port}", word) for word in line.split(" ")[1:]]
-    return outcome(words, given, refuse_reads).replace(here, ADDRESS)
+    is_here = is_python and "denied" not in words
+    return (outcome_of_python(words, given) if is_here else outcome(words, given, refuse_reads)).replace(here, ADDRESS)
 
 
-def asks(case: Case) -> str:
+def asks_python(case: Case) -> str:
+    return asks(case, True)
+
+
+def asks(case: Case, is_python: bool = False) -> str:
     """Command lines over one server, of which `part` cuts all off and which `join` lets in again."""
     printed, lines = "", case.script.splitlines()
     before = os.getcwd()
@@ -119,7 +126,7 @@ def asks(case: Case) -> str:
                 if line in ("part", "join"):
                     getattr(served, line)()
                 else:
-                    printed += asked(served, line, given) + "\n"
+                    printed += asked(served, line, given, is_python) + "\n"
         finally:
             os.chdir(before)
     return printed
@@ -199,9 +206,9 @@ class ShellTest(unittest.TestCase):
     def test_values(self) -> None:
         self._table("shell/values.txt")
 
-    def _kind(self, does: Callable[[Case], str]) -> None:
+    def _kind(self, does: Callable[[Case], str], kind: str = "") -> None:
         for case in cases():
-            if case.kind == does.__name__:
+            if case.kind == (kind or does.__name__):
                 with self.subTest(case.header):
                     self._is(case.header, case.wanted, does(case))
 
@@ -216,6 +223,9 @@ class ShellTest(unittest.TestCase):
 
     def test_asks(self) -> None:
         self._kind(asks)
+
+    def test_asks_python(self) -> None:
+        self._kind(asks_python, "asks")
 
     def test_loopback(self) -> None:
         self._kind(loopback)

@@ -31,7 +31,10 @@ _CODES = {
     -118: "the session was taken up over another connection",
     -127: "the server throttles",
 }
-_OWN = {TooManyWatchesError: ("K5", "too many paths are watched"), TooLargeError: ("K6", "the path is too long")}
+_OWN: dict[type[BaseException], tuple[str, str]] = {
+    TooManyWatchesError: ("K5", "too many paths are watched"),
+    TooLargeError: ("K6", "the path is too long"),
+}
 _SIDES = {"data": library.DATA_SIDE, "names": library.CHILDREN_SIDE}
 
 
@@ -89,7 +92,8 @@ class Side(NamedTuple):
         """That a read is refused: by a server, or by the client itself."""
         code, path = getattr(error, "code", None), self.whole()
         fault, why = _OWN.get(type(error), ("", _CODES.get(code or 0, "the server refuses it")))
-        fields = {"path": path, **({"fault": fault} if fault else {"code": code}), "reason": why}
+        cause: Fields = {"fault": fault} if fault else {"code": code}
+        fields = {"path": path, **cause, "reason": why}
         return Line(f"{word(path)} refused {fault or f'code {code}'} {why}", "refused", fields)
 
 

@@ -9,11 +9,12 @@ from typing import Any, NamedTuple, NoReturn, Optional
 
 from dirwolleu._hosts import hosts_of
 from dirwolleu.shell.commands import read_acl
-from dirwolleu.shell.faults import path_fault, unread, usage
+from dirwolleu.shell.faults import UNREAD, Ending, path_fault, unread, usage
 from dirwolleu.shell.printing import quoted
 
 PROGRAM = "python3 -m dirwolleu"
 WIDTH = 80
+LONGEST_FILE = 1_048_575
 MOST_SECONDS, MOST_MS, MOST_NODES, MOST_VERSION = 4_294_967, 2_147_483_647, 4_294_967_295, 2_147_483_647
 
 DESCRIPTION = "Shows and changes the nodes of ZooKeeper, and watches them.\nIf you have no ZooKeeper: demo, and serve."
@@ -287,6 +288,8 @@ def _read_servers(chosen: argparse.Namespace, given: Optional[str]) -> None:
     hosts, slash, below = chosen.hosts.partition("/")
     for server in hosts.split(","):
         try:
+            if server.count(":") > 1 and not server.startswith("["):
+                raise ValueError
             hosts_of(server)
         except ValueError:
             raise usage(f"{quoted(server)} is no server: HOST:PORT, as zk1:2181 or [::1]:2181") from None
@@ -330,9 +333,11 @@ def read_file(chosen: argparse.Namespace) -> None:
         return
     try:
         with open(0 if chosen.file == "-" else chosen.file, "rb", closefd=chosen.file != "-") as file:
-            chosen.data = file.read()
+            chosen.data = file.read(LONGEST_FILE + 1)
     except OSError as error:
         raise unread(chosen.file, error) from error
+    if len(chosen.data) > LONGEST_FILE:
+        raise Ending(UNREAD, f"unread: {chosen.file}: it has more than {LONGEST_FILE:,} bytes")
 
 
 def read(name: str, words: Sequence[str]) -> argparse.Namespace:
