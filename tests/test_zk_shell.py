@@ -1,4 +1,6 @@
-"""The built zk_shell by the rows of shell/: each line that a command prints and tells, and its status."""
+"""The built zk_shell by the rows of shell/: each line that a command prints and tells, and its status. The commands of nodes are those of
+`python3 -m dirwolleu` too.
+"""
 
 from __future__ import annotations
 
@@ -11,6 +13,7 @@ import time
 import unittest
 from typing import Callable, NamedTuple
 
+from python_shell import outcome_of_python
 from served import World, world
 from shell import TOP, outcome, program
 from tables import HERE, Row, cases_of, numbered, repeated
@@ -99,15 +102,16 @@ def make_files(lines: list[str]) -> bytes:
     return given
 
 
-def asked(served: World, line: str, given: bytes) -> str:
-    """What a command line prints, tells and answers, with ADDRESS for the server's."""
+def asked(served: World, line: str, given: bytes, is_python: bool) -> str:
+    """What a command line prints, tells and answers, with ADDRESS for the server's. This process may read each file."""
     here = f"127.0.0.1:{served.port}"
     line = line.replace("[::1],zk2:2182/", f"{ADDRESS},{ADDRESS}/").replace(" zk1/", f" {ADDRESS}/")
     words = [re.sub(r"(127\.0\.0\.\d|localhost):2181", rf"\1:{served.port}", word) for word in line.split(" ")[1:]]
-    return outcome(words, given, refuse_reads).replace(here, ADDRESS)
+    is_here = is_python and "denied" not in words
+    return (outcome_of_python(words, given) if is_here else outcome(words, given, refuse_reads)).replace(here, ADDRESS)
 
 
-def asks(case: Case) -> str:
+def asks(case: Case, is_python: bool = False) -> str:
     """Command lines over one server, of which `part` cuts all off and which `join` lets in again."""
     printed, lines = "", case.script.splitlines()
     before = os.getcwd()
@@ -119,7 +123,7 @@ def asks(case: Case) -> str:
                 if line in ("part", "join"):
                     getattr(served, line)()
                 else:
-                    printed += asked(served, line, given) + "\n"
+                    printed += asked(served, line, given, is_python) + "\n"
         finally:
             os.chdir(before)
     return printed
@@ -242,6 +246,12 @@ class ShellTest(unittest.TestCase):
 
     def test_asks(self) -> None:
         self._kind(asks)
+
+    def test_commands_of_python_by_the_same_rows(self) -> None:
+        for case in cases():
+            if case.kind == "asks":
+                with self.subTest(case.header):
+                    self._is(case.header, case.wanted, asks(case, True))
 
     def test_loopback(self) -> None:
         self._kind(loopback)

@@ -5,6 +5,7 @@ from __future__ import annotations
 import argparse
 import contextlib
 import os
+import re
 import sys
 from collections.abc import Sequence
 from typing import Any, Callable, Optional, Union
@@ -13,14 +14,13 @@ from dirwolleu.exceptions import ZookeeperError
 from dirwolleu.shell import faults
 from dirwolleu.shell.connections import Attempts, Connections, Said
 from dirwolleu.shell.faults import Ending
+from dirwolleu.shell.printing import escaped
 from dirwolleu.shell.words import COMMANDS, general_help, read, read_file
 
 Write = Callable[[Union[str, bytes]], None]
 
 LONGEST_TIMEOUT = 30.0
 """The longest timeout of a session that asks for one node, in seconds."""
-CHANGES = ("create",)
-"""The commands that change something and then print."""
 
 
 def _version() -> str:
@@ -115,7 +115,7 @@ def _run(chosen: argparse.Namespace) -> None:
                 print(line)
             sys.stdout.flush()
         except (OSError, UnicodeError) as error:
-            raise faults.unwritten(error, f"done: {chosen.path}" if chosen.command in CHANGES else "") from error
+            raise faults.unwritten(error) from error
 
     run = _watch if chosen.command == "watch" else OWN_SERVERS.get(chosen.command, _ask)
     run(chosen, write)
@@ -130,6 +130,9 @@ def _read(words: Sequence[str]) -> Optional[argparse.Namespace]:
     """What the words ask for, or None if that is help or the version, which is printed."""
     if not words:
         raise faults.usage("a command is wanted\n\nFor more information, try '--help'.")
+    for number, one in enumerate(words, 1):
+        if re.search("[\ud800-\udfff]", one):
+            raise faults.usage(f"word {number} is not UTF-8: {escaped(os.fsencode(one))}")
     first, *others = words
     if first in ("-h", "--help") or words == ["help"]:
         print(general_help(), end="")

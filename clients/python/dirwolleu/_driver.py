@@ -181,6 +181,7 @@ class Driver:
 
     def begin(self) -> None:
         """A connection stands."""
+        logger.debug("asks %s for a session", self._place)
         self._engine.opened(moment())
         self.act()
 

@@ -555,8 +555,8 @@ class Engine(Keeping):
 
     def _leave_connection(self) -> None:
         """Forgets what was of one connection."""
-        if self._is_admitted:
-            level = logging.WARNING if self.is_running else logging.INFO
+        if self._is_admitted or self._why not in ("", _LATE):
+            level = logging.DEBUG if not self._is_admitted else logging.WARNING if self.is_running else logging.INFO
             where, reason = self.place or "the server", self._why or "it was closed"
             logger.log(level, "the connection to %s is over: %s", where, reason)
         self._why = ""

@@ -62,7 +62,7 @@ class ServeTest(unittest.TestCase):
 
     def test_it_serves_in_the_background_of_a_shell_with_no_standard_input_at_all(self) -> None:
         line = f"{sys.executable} -m dirwolleu serve --port 0 <&- & echo $!"
-        shell = subprocess.Popen(["sh", "-c", line], stdout=subprocess.PIPE, text=True, env=ENVIRONMENT)
+        shell = subprocess.Popen(["/bin/sh", "-c", line], stdout=subprocess.PIPE, text=True, env=ENVIRONMENT)
         assert shell.stdout is not None
         process = int(shell.stdout.readline())
         self.addCleanup(shell.stdout.close)

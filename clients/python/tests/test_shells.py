@@ -37,6 +37,7 @@ CHANGES: list[list[str]] = [
     ["create", "/a/none", "--hex", "abc"], ["create", "/a/none", "--from", "/none"], ["create", "/a/none", "x", "--from", "/none"],
     ["set", "/a", "y", "--version", "0"], ["set", "/a", "z", "--version", "0"], ["set", "/a/null", "w", "--version", "x"],
     ["set", "/none", "w"], ["set", "/a/bytes", "--hex", "\\e"], ["set", "/a/bytes", "--hex", "\\0"], ["set", "/a/bytes"],
+    ["create", "/a/\u202eb", "a\u202eb\u2028c"], ["set", "/a", "caf\udce9 'x'"], ["create", "/\udcff", "x"],
     ["set", "--version=1", "/a", "é x"], ["delete", "/a"], ["delete", "/none"], ["delete", "/a/empty", "--version", "3"], ["delete", "/a/empty"],
 ]  # fmt: skip
 """Each is done by both, each at a server of its own."""
@@ -71,10 +72,6 @@ def masked(text: str) -> str:
 FORMS: list[list[str]] = [[], ["--text"], ["--json"]]
 
 
-def is_of_both(line: str) -> bool:
-    return not re.search(r"Connecting|\bstale\b", line)
-
-
 def plain(line: str) -> str:
     """A line of a watch without its moment and its session."""
     return re.sub(r'^\d+\.\d+ |,"ms":\d+', "", re.sub(r'session"?[ :]\d+', "session S", line.rstrip("\n")))
@@ -83,10 +80,9 @@ def plain(line: str) -> str:
 class Watched:
     """A watch that runs, and the lines that it has printed."""
 
-    def __init__(self, program: list[str], hosts: str, form: list[str]) -> None:
-        subjects = ["--data", "/a", "--children", "/a", "--children", "/none", "--data", "/later", "--tree", "/a/b"]
-        self._process = subprocess.Popen([*program, "watch", hosts, *subjects, *form], stdout=subprocess.PIPE, text=True, env=ENVIRONMENT)
-        self.lines = list[str]()
+    def __init__(self, program: list[str], hosts: str, words: list[str]) -> None:
+        self._process = subprocess.Popen([*program, "watch", hosts, *words], stdout=subprocess.PIPE, text=True, env=ENVIRONMENT)
+        self.lines, self.stale = list[str](), list[str]()
         self._news = threading.Condition()
         self._reader = threading.Thread(target=self._read)
 
@@ -102,13 +98,12 @@ class Watched:
     def _read(self) -> None:
         assert self._process.stdout is not None
         for line in self._process.stdout:
-            if is_of_both(line):
-                with self._news:
-                    self.lines.append(plain(line))
-                    self._news.notify()
+            with self._news:
+                (self.stale if re.search(r"\bstale\b", line) else self.lines).append(plain(line))
+                self._news.notify()
 
     def wait(self, count: int) -> None:
-        """Waits until it has printed this number of lines."""
+        """Waits until it has printed this number of lines, those that are stale left out."""
         with self._news:
             if not self._news.wait_for(lambda: len(self.lines) >= count, WAIT):
                 raise AssertionError(f"not {count} lines but {self.lines}")
@@ -180,7 +175,7 @@ class ShellsTest(unittest.TestCase):
 
     def test_output_that_fails(self) -> None:
         with Server() as server:
-            for words in (["get", "/"], ["tree", "/"], ["watch", "--data", "/"]):
+            for words in (["get", "/"], ["tree", "/"], ["create", "/x", "a", "--sequential"], ["watch", "--data", "/"]):
                 ends = []
                 for program in ([SHELL], [sys.executable, "-m", "dirwolleu"]):
                     with open("/dev/full", "wb") as full:
@@ -199,22 +194,42 @@ class ShellsTest(unittest.TestCase):
             self.assertIn(command, COMMANDS)
 
     def test_watches_print_the_same_lines(self) -> None:
-        """Except those that zk_shell alone prints: that it connects, and that an answer is stale."""
         for form in FORMS:
             with Server() as server:
                 for path, data in (("/a", b"one"), ("/a/b", b"\xff"), ("/a/b/c", "é z".encode())):
                     server.create(path, data)
                 changes: list[tuple[Callable[[], object], int]] = [
-                    (lambda: server.zxid, 10), (lambda: server.set("/a", b"two\tx"), 11), (lambda: server.create("/later", b""), 12),
-                    (lambda: server.create("/a/b/d", b"5"), 15), (lambda: server.set("/a/b/c", b""), 16),
-                    (lambda: server.delete("/a/b/d"), 19), (lambda: server.delete("/later"), 20), (server.expire, 43),
+                    (lambda: server.zxid, 11), (lambda: server.set("/a", b"two\tx"), 12), (lambda: server.create("/later", b""), 13),
+                    (lambda: server.create("/a/b/d", b"5"), 16), (lambda: server.set("/a/b/c", b""), 17),
+                    (lambda: server.delete("/a/b/d"), 20), (lambda: server.delete("/later"), 21), (server.expire, 46),
                 ]  # fmt: skip
-                with Watched([SHELL], server.hosts, form) as zk, Watched([sys.executable, "-m", "dirwolleu"], server.hosts, form) as python:
-                    for change, count in changes:
-                        change()
-                        for one in (zk, python):
-                            one.wait(count)
-                self.assertEqual(sorted(zk.lines), sorted(python.lines))
+                subjects = ["--data", "/a", "--children", "/a", "--children", "/none", "--data", "/later", "--tree", "/a/b"]
+                self._watch_both(server.hosts, [*subjects, *form], changes, 8)
+
+    def test_watches_of_trees_that_reach_their_bound_below_a_chroot(self) -> None:
+        for form in FORMS:
+            with Server() as server:
+                for path in ("/a", "/a/b", "/a/b/c"):
+                    server.create(path, b"")
+                changes: list[tuple[Callable[[], object], int]] = [
+                    (lambda: server.zxid, 11), (lambda: server.create("/a/d", b""), 13), (lambda: server.create("/a/e", b""), 15),
+                    (lambda: server.delete("/a/d"), 17), (lambda: server.create("/a/x", b""), 22), (server.drop, 27),
+                ]  # fmt: skip
+                subjects = ["--tree", "/", "--data", "/b", "--tree", "/x", "--most", "3"]
+                self._watch_both(f"{server.hosts}/a", [*subjects, *form], changes, 5)
+
+    def _watch_both(self, hosts: str, words: list[str], changes: list[tuple[Callable[[], object], int]], stale: int) -> None:
+        """Makes changes, and waits after each until both have printed this number of lines. zk_shell prints that an answer is stale unless
+        it has something else to tell before the node is read again.
+        """
+        with Watched([SHELL], hosts, words) as zk, Watched([sys.executable, "-m", "dirwolleu"], hosts, words) as python:
+            for change, count in changes:
+                change()
+                for one in (zk, python):
+                    one.wait(count)
+        self.assertEqual(sorted(zk.lines), sorted(python.lines))
+        self.assertLessEqual(set(zk.stale), set(python.stale))
+        self.assertEqual(len(python.stale), stale)
 
     def test_the_end_of_a_watch(self) -> None:
         with Server() as server:
@@ -224,18 +239,40 @@ class ShellsTest(unittest.TestCase):
                 if all("/none does not exist" in printed for _, printed, _ in ends):
                     break
         self.assertEqual([(status, said) for status, _, said in ends], [(0, ""), (0, "")])
-        lines = [[plain(line) for line in printed.splitlines() if is_of_both(line)] for _, printed, _ in ends]
+        lines = [[plain(line) for line in printed.splitlines()] for _, printed, _ in ends]
         self.assertEqual(lines[0], lines[1])
         self.assertEqual(lines[0][-3:], ["state Closed", "/ data none last 0", "/none names none last 0"])
 
     def test_a_watch_that_never_connects(self) -> None:
+        self._never_connect("127.0.0.1:1", "failed")
+
+    def test_a_watch_of_a_server_that_ends_the_connection(self) -> None:
+        def serve() -> None:
+            with contextlib.suppress(OSError):
+                while True:
+                    connection, _ = listener.accept()
+                    with connection:
+                        connection.recv(100)
+                        connection.sendall(b"\xff" * says)
+
+        for says, line in ((0, "ended"), (4, "drop F1")):
+            with socket.create_server(("127.0.0.1", 0)) as listener:
+                thread = threading.Thread(target=serve)
+                thread.start()
+                self._never_connect(f"127.0.0.1:{listener.getsockname()[1]}", line)
+                listener.shutdown(socket.SHUT_RDWR)
+                thread.join(WAIT)
+
+    def _never_connect(self, hosts: str, line: str) -> None:
+        """Both print the same lines, among them one that begins so."""
         for seconds in ("1", "10", "40"):
-            ends = [run("127.0.0.1:1", ["watch", "--data", "/a", "--for", seconds]) for run in (self.run_zk, self.run_python)]
-            if all("failed" in printed for _, printed, _ in ends):
+            ends = [run(hosts, ["watch", "--data", "/a", "--for", seconds]) for run in (self.run_zk, self.run_python)]
+            if all(line in printed for _, printed, _ in ends):
                 break
         self.assertEqual([(status, said) for status, _, said in ends], [(9, ""), (9, "")])
         kinds = [set(re.sub(r"(?m)^\d+\.\d+ ", "", printed).splitlines()) for _, printed, _ in ends]
         self.assertEqual(kinds[0], kinds[1])
+        self.assertIn(line, "\n".join(kinds[0]))
 
     def test_the_manual_has_each_word_of_help(self) -> None:
         manual = MANUAL.read_text(encoding="utf-8").replace("\\-", "-")

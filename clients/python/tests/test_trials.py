@@ -4,7 +4,6 @@ from __future__ import annotations
 
 import os
 import pathlib
-import shutil
 import subprocess
 import sys
 import tempfile
@@ -24,7 +23,7 @@ class TrialsTest(unittest.TestCase):
     def put(self, name: str, says: str = "") -> None:
         """Puts a tool into the path, which says this."""
         tool = self.tools / name
-        tool.write_text(f"#!{shutil.which('sh')}\necho '{says}'\n")
+        tool.write_text(f"#!/bin/sh\necho '{says}'\n")
         tool.chmod(0o755)
 
     def tried(self, *parts: str) -> tuple[int, str]:

@@ -25,12 +25,13 @@ class Said(NamedTuple):
     """Something that the client says of a connection: which, to which address, and why."""
 
     kind: str
-    """dial, failed, ended, connected, expired or closed."""
+    """dial, failed, connecting, ended, drop, connected, expired or closed."""
 
     address: str = ""
     reason: str = ""
     session: int = 0
     timeout_ms: int = 0
+    fault: str = ""
 
 
 class Connections(logging.Handler):
@@ -43,7 +44,8 @@ class Connections(logging.Handler):
         self._readers: dict[str, Callable[..., Said]] = {
             "dials %s": lambda place: Said("dial", self._address(str(place))),
             "no connection to %s": self._failed,
-            "the connection to %s is over: %s": lambda place, why: Said("ended", self._address(place), _WORDS.get(why, why)),
+            "asks %s for a session": lambda place: Said("connecting", self._address(str(place))),
+            "the connection to %s is over: %s": self._ended,
             "connected to %s: session %#x with a timeout of %s seconds": self._connected,
             "the session %#x has expired: a new one begins": lambda _: Said("expired"),
             "the session %#x is closed": lambda _: Said("closed"),
@@ -84,6 +86,13 @@ class Connections(logging.Handler):
         dialled = self.failed(str(trouble))
         return Said("failed", *dialled) if dialled is not None else Said("failed", "", str(trouble))
 
+    def _ended(self, place: object, why: str) -> Said:
+        address, fault = self._address(str(place)), re.fullmatch(r"([A-Z]\d) (.*)", why)
+        if fault is not None:
+            return Said("drop", address, fault[2], fault=fault[1])
+        why = re.sub(r"^\[Errno \d+\] ", "", why)
+        return Said("ended", address, _WORDS.get(why[:1].lower() + why[1:], why))
+
     def _connected(self, place: str, session: int, seconds: float) -> Said:
         return Said("connected", self._address(str(place)), "", session, round(1000 * seconds))
 
@@ -93,12 +102,14 @@ class Attempts:
 
     def __init__(self) -> None:
         self._last: dict[str, str] = {}
+        self._is_accepted = False
 
     def note(self, said: Said) -> None:
         if said.kind == "dial":
             self._last[said.address] = NO_SESSION
-        elif said.kind in ("failed", "ended"):
+        elif said.kind == "failed" or said.kind in ("ended", "drop") and self._is_accepted:
             self._last[said.address] = said.reason
+        self._is_accepted = said.kind == "connected"
 
     def all(self) -> list[Dialled]:
         return [Dialled(address, reason) for address, reason in self._last.items()]

@@ -84,13 +84,13 @@ def unread(name: str, error: OSError) -> Ending:
     return Ending(UNREAD, f"unread: {name}: {_REASONS.get(error.errno or 0, 'a read failed')}")
 
 
-def unwritten(error: Exception, done: str) -> Ending:
-    """Standard output failed. Of a change that was made by then, `done` says so; whoever has closed the output wants to hear nothing."""
+def unwritten(error: Exception) -> Ending:
+    """Standard output failed. Whoever has closed it wants to hear nothing."""
     if isinstance(error, BrokenPipeError):
         return Ending(STREAM)
     number = error.errno if isinstance(error, OSError) else None
     why = _REASONS.get(number, os.strerror(number).lower()) if number is not None else str(error)
-    return Ending(STREAM, f"error: standard output: {why}" + (f"\n{done}" if done else ""))
+    return Ending(STREAM, f"error: standard output: {why}")
 
 
 def _late(path: str, was_sent: bool) -> Ending:

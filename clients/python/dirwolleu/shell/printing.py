@@ -11,10 +11,8 @@ from dirwolleu.types import DataStat, Stat
 HEX_MARK = "hex:"
 """What stands before hex that is printed instead of a text."""
 
-_DIRECTIONS = "\u061c\u200e\u200f\u2028-\u202e\u2066-\u2069"
-"""The characters that change the direction of what follows, or end a line. `zk_shell` prints these as they are."""
-_CONTROL = re.compile(f"[\0-\x1f\x7f-\x9f{_DIRECTIONS}]")
-_HIDDEN = re.compile(f"[\0-\x08\x0b-\x1f\x7f-\x9f{_DIRECTIONS}]")
+_CONTROL = re.compile("[\0-\x1f\x7f-\x9f]")
+_HIDDEN = re.compile("[\0-\x08\x0b-\x1f\x7f-\x9f]")
 """The same without a tab and a line's end, which data may have."""
 _LETTERS = {"c": 4, "d": 8, "r": 1, "w": 2, "a": 16}
 """The letters of permissions, in ZooKeeper's order."""
@@ -28,6 +26,11 @@ def word(text: Union[str, bytes]) -> str:
     """A text or bytes as one word: all bytes but visible ASCII as a backslash, x and two digits."""
     spelled = text.encode(errors="surrogateescape") if isinstance(text, str) else text
     return "".join(chr(byte) if 0x21 <= byte <= 0x7E and byte != 0x5C else f"\\x{byte:02x}" for byte in spelled) or "\\e"
+
+
+def escaped(spelled: bytes) -> str:
+    """Bytes that are no UTF-8, as a refusal has them."""
+    return repr(b"\"'" + spelled)[5:-1].replace('"', '\\"')
 
 
 def quoted(text: str) -> str:

@@ -1,32 +1,41 @@
-"""`watch`: a line whenever what is known of a node, or of a connection, is another than that which was printed last."""
+"""`watch`: a line whenever what is kept of a node, or known of a connection, is another than what was printed last."""
 
 from __future__ import annotations
 
 import argparse
 import asyncio
-import logging
+import contextlib
 import time
-from collections.abc import Awaitable, Iterator
+from collections.abc import Iterator
 from typing import Any, Callable, NamedTuple, Optional, Union
 
+from dirwolleu import _library as library
 from dirwolleu import aio
-from dirwolleu._trees import AsyncTree
-from dirwolleu.exceptions import NoNodeError, ZookeeperError
-from dirwolleu.security import AuthFailedError
+from dirwolleu._growing import Growing, Host, TreeNews
+from dirwolleu._session import Bounded, LetGo, TakenOn
+from dirwolleu.exceptions import TooLargeError, TooManyWatchesError, ZookeeperError
 from dirwolleu.shell.connections import Connections, Said
 from dirwolleu.shell.faults import NEVER_CONNECTED, Ending, of_call
 from dirwolleu.shell.printing import data_fields, hex_word, json_line, quoted_data, stat_fields, word
-from dirwolleu.tree import TreeNode, TreeSnapshot
-from dirwolleu.types import DataStat, Kept, KeptChildren, State
+from dirwolleu.types import Kept, KeptChildren, Mark
 
 Write = Callable[[str], None]
 Fields = dict[str, Any]
 
-_STATES = {"connected": "Connected", "expired": "Expired", "closed": "Closed"}
+_STATES = {"connecting": "Connecting", "connected": "Connected", "expired": "Expired", "closed": "Closed"}
 _UNREACHABLE = ("host unreachable", "network unreachable")
-_CODES = {-102: "the ACL does not admit it", -127: "the server throttles"}
-_BETWEEN_REFUSED_READS = 1.0
-"""In seconds."""
+_CODES = {
+    -4: "the server has lost its connection",
+    -102: "the ACL does not admit it",
+    -112: "the session is over",
+    -118: "the session was taken up over another connection",
+    -127: "the server throttles",
+}
+_OWN: dict[type[BaseException], tuple[str, str]] = {
+    TooManyWatchesError: ("K5", "too many paths are watched"),
+    TooLargeError: ("K6", "the path is too long"),
+}
+_SIDES = {"data": library.DATA_SIDE, "names": library.CHILDREN_SIDE}
 
 
 class Line(NamedTuple):
@@ -38,68 +47,96 @@ class Line(NamedTuple):
 
 
 class Side(NamedTuple):
-    """What is watched of a node: its data, or the names below it."""
+    """What is watched of a node: its data, or the names below it. The path is below the one after the hosts, which is printed too."""
 
     path: str
     side: str
+    chroot: str
+
+    def whole(self) -> str:
+        return self.chroot + self.path if self.path != "/" else self.chroot or "/"
 
     def line(self, kind: str, words: str, last: int, **fields: Any) -> Line:
-        return Line(f"{word(self.path)} {words} last {last}", kind, {"path": self.path, "side": self.side, **fields, "last": last})
+        path = self.whole()
+        return Line(f"{word(path)} {words} last {last}", kind, {"path": path, "side": self.side, **fields, "last": last})
 
-    def absent(self, last: int) -> Line:
-        return self.line("absent", "does not exist", last, mark="good")
+    def look(self, client: aio.Client, is_text: bool) -> Line:
+        """What is kept of it now."""
+        node, last = client.kept(self.path), client.last_zxid
+        if node is not None and not node.exists and node.mark is Mark.GOOD:
+            return self.line("absent", "does not exist", last, mark="good")
+        if self.side == "data":
+            return self._none(last) if node is None else self._data(node, last, is_text)
+        names = client.kept_children(self.path)
+        return self._none(last) if names is None or not names.exists else self._names(names, last)
 
-    def none(self, last: int) -> Line:
+    def _none(self, last: int) -> Line:
         return self.line("none", f"{self.side} none", last)
 
-    def data(self, data: Optional[bytes], stat: DataStat, last: int, is_text: bool) -> Line:
-        shown = quoted_data(data) if is_text else hex_word(data)
-        words = " ".join(["data full", shown, *map(str, stat), "good"])
-        return self.line("data", words, last, **data_fields(data), **stat_fields(stat), mark="good")
+    def _data(self, kept: Kept, last: int, is_text: bool) -> Line:
+        mark = kept.mark.name.lower()
+        if kept.stat is None:
+            return self.line("absent", f"data absent {mark}", last, mark=mark)
+        seven, fields = " ".join(map(str, kept.stat)), stat_fields(kept.stat)
+        if not kept.has_data:
+            return self.line("known", f"data known {seven} {mark}", last, **fields, mark=mark)
+        shown = quoted_data(kept.data) if is_text else hex_word(kept.data)
+        return self.line("data", f"data full {shown} {seven} {mark}", last, **data_fields(kept.data), **fields, mark=mark)
 
-    def refused(self, code: Optional[int]) -> Line:
-        why = _CODES.get(code or 0, "the server refuses it")
-        fields = {"path": self.path, "code": code, "reason": why}
-        return Line(f"{word(self.path)} refused code {code} {why}", "refused", fields)
+    def _names(self, kept: KeptChildren, last: int) -> Line:
+        mark = kept.mark.name.lower()
+        words = " ".join([f"names {len(kept.names)}", *map(word, kept.names), str(kept.pzxid), mark])
+        return self.line("names", words, last, names=list(kept.names), pzxid=kept.pzxid, mark=mark)
 
-    def names(self, names: tuple[str, ...], pzxid: int, last: int) -> Line:
-        words = " ".join([f"names {len(names)}", *map(word, names), str(pzxid), "good"])
-        return self.line("names", words, last, names=list(names), pzxid=pzxid, mark="good")
+    def refused(self, error: BaseException) -> Line:
+        """That a read is refused: by a server, or by the client itself."""
+        code, path = getattr(error, "code", None), self.whole()
+        fault, why = _OWN.get(type(error), ("", _CODES.get(code or 0, "the server refuses it")))
+        cause: Fields = {"fault": fault} if fault else {"code": code}
+        fields = {"path": path, **cause, "reason": why}
+        return Line(f"{word(path)} refused {fault or f'code {code}'} {why}", "refused", fields)
 
 
-def _state_line(said: Said) -> Line:
-    name = _STATES[said.kind]
+def _state_line(state: str, said: Said) -> Line:
     if said.kind != "connected":
-        return Line(f"state {name}", "state", {"state": name})
-    words = f"state {name} {said.address} session {said.session} timeout {said.timeout_ms}"
+        return Line(f"state {state}", "state", {"state": state})
+    words = f"state {state} {said.address} session {said.session} timeout {said.timeout_ms}"
     fields = {"address": said.address, "session": said.session, "timeout": said.timeout_ms}
-    return Line(words, "state", {"state": name, **fields})
+    return Line(words, "state", {"state": state, **fields})
 
 
 def _connection_lines(said: Said) -> Iterator[Line]:
     """The lines of what the client says of a connection."""
     if said.kind in _STATES:
-        yield _state_line(said)
+        yield _state_line(_STATES[said.kind], said)
         if said.kind == "expired":
             yield Line("session new", "renewed", {})
         return
     why = "unreachable" if said.reason in _UNREACHABLE else said.reason
-    fields = {"address": said.address, **({"reason": why} if why else {})}
-    yield Line(" ".join(filter(None, [said.kind, said.address, why])), said.kind, fields)
+    fields = {"address": said.address, **({"fault": said.fault} if said.fault else {}), **({"reason": why} if why else {})}
+    yield Line(" ".join(filter(None, [said.kind, said.fault, said.address, why])), said.kind, fields)
+    if said.kind in ("ended", "drop"):
+        yield _state_line("Idle", said)
 
 
 class Watch:
     """Watches sides of nodes, and trees, with one client, and hands lines to whoever prints them."""
 
     def __init__(self, client: aio.Client, chosen: argparse.Namespace) -> None:
-        self._client, self._chosen = client, chosen
+        self._client, self._chosen, self._engine = client, chosen, client._engine
         self._began = time.monotonic()
         self.lines: asyncio.Queue[Union[str, BaseException]] = asyncio.Queue()
-        self.is_connected_once = self.is_ending = self._is_closed = False
+        self.is_connected_once = self.is_ending = False
+        self._said = ""
         self._shown: dict[Side, Fields] = {}
-        """What was printed last of each side of which something is kept, in the order in which they were printed first."""
-        self._is_over = asyncio.Event()
-        """Set when a session has expired."""
+        """What is watched, and what was printed last of it."""
+        self._refused: dict[Side, Line] = {}
+        """Which refusal was printed last of a side that is not good since."""
+        self._asked = [*(self.side(path, "data") for path in chosen.data), *(self.side(path, "names") for path in chosen.children)]
+        self._bounded = 0
+
+    def side(self, path: str, side: str) -> Side:
+        return Side(path, side, self._chosen.chroot)
 
     def tell(self, line: Line) -> None:
         ms = int(1000 * (time.monotonic() - self._began))
@@ -108,169 +145,125 @@ class Watch:
 
     def hear(self, said: Said) -> None:
         """The client has said something of a connection."""
-        if self._is_closed or self.is_ending and said.kind != "closed":
+        before, self._said = self._said, said.kind
+        if self.is_ending and said.kind != "closed" or before == "expired" and said.kind == "ended":
             return
+        if before == "connecting" and said.kind == "dial":  # the last server took too long
+            self.tell(_state_line("Idle", said))
         self.is_connected_once = self.is_connected_once or said.kind == "connected"
-        self._is_closed = said.kind == "closed"
         for line in _connection_lines(said):
             self.tell(line)
-        if said.kind in ("expired", "closed"):
-            self.forget()
-            self._is_over.set()
 
-    def suspended(self, state: State) -> None:
-        if state is State.SUSPENDED:
-            self.tell(Line("state Idle", "state", {"state": "Idle"}))
+    def look(self, *sides: Side) -> None:
+        """Prints what is kept of each of these that is watched, unless all but the last seen zxid is as before."""
+        for side in sides:
+            line = side.look(self._client, self._chosen.text)
+            kept = {**line.fields, "kind": line.kind, "last": 0}
+            if self._shown.get(side, kept) != kept:
+                self._shown[side] = kept
+                self.tell(line)
 
-    def forget(self) -> None:
-        """The session is over: nothing is kept any more."""
-        for side in list(self._shown):
-            self.tell(side.none(self._client.last_zxid))
-        self._shown.clear()
+    def look_at(self, path: str) -> None:
+        self.look(*(self.side(path, side) for side in _SIDES))
 
-    def keep(self, side: Side, line: Line) -> None:
-        """Prints what is kept of a side, unless all but the last seen zxid is as before."""
-        kept = {**line.fields, "kind": line.kind, "last": 0}
-        if self._shown.get(side) != kept:
-            self._shown[side] = kept
+    def look_at_all(self) -> None:
+        """The state is another one."""
+        self.look(*self._shown)
+        if not self._engine.is_running and not self.is_ending:
+            error = self._engine.why_over("the client has stopped")
+            error.path = next((side.path for side in self._shown), "/")
+            self.lines.put_nowait(error)
+
+    def take_on(self, side: Side) -> None:
+        self._shown.setdefault(side, {"path": side.whole(), "side": side.side, "kind": "none", "last": 0})
+
+    def let_go(self, side: Side) -> None:
+        """It is printed once more, and then watched no more, unless the words ask for it."""
+        self.look(side)
+        if side not in self._asked:
+            self._shown.pop(side, None)
+
+    def show(self, side: Side) -> None:
+        """What is kept of a side is good."""
+        self._refused.pop(side, None)
+        self.look(side)
+
+    def refuse(self, side: Side, error: BaseException) -> None:
+        """A read is refused, and made again after a second. Each reason is printed once."""
+        line = side.refused(error)
+        if self._refused.get(side) != line:
+            self._refused[side] = line
             self.tell(line)
 
-    def gone(self, path: str, last: int, is_root: bool) -> None:
-        """A node of a tree was deleted, or its root is not there. The root is watched all the same."""
-        for side in (Side(path, "data"), Side(path, "names")):
-            self.keep(side, side.absent(last))
-            if not is_root:
-                del self._shown[side]
+    def bound(self, is_bounded: bool) -> None:
+        """A tree has more nodes than its bound, or has them no more."""
+        if is_bounded and not self._bounded:
+            words = f"bound {self._chosen.most} a tree has more nodes: no more of it are watched"
+            self.tell(Line(words, "bound", {"nodes": self._chosen.most}))
+        self._bounded += 1 if is_bounded else -1
+
+    def _follow(self, side: Side, held: contextlib.ExitStack) -> None:
+        def woken() -> None:
+            refused, followed.refused = followed.refused, None
+            if refused is not None:
+                self.refuse(side, refused)
+            else:
+                self.show(side)
+
+        self.take_on(side)
+        held.enter_context(self._engine.news(lambda: self.look(side), side.path))
+        followed = held.enter_context(self._engine.following(side.path, _SIDES[side.side], woken))
+
+    @contextlib.contextmanager
+    def following(self) -> Iterator[None]:
+        """Within it, all that the words ask for is watched."""
+        with contextlib.ExitStack() as held:
+            for side in self._asked:
+                self._follow(side, held)
+            for root in self._chosen.tree:
+                self._engine.add_tree(WatchedTree(self, self._engine, root, self._chosen.most))
+            held.enter_context(self._engine.news(self.look_at_all))
+            yield
 
     async def run(self) -> None:
-        """Connects, for as long as that takes, and watches. What ends that before its time is handed on."""
+        """Connects, for as long as that takes. What ends that is handed on."""
         try:
             await self._client.start(None)
-            while True:
-                self._is_over.clear()
-                await self._follow_until_it_is_over()
         except Exception as error:
             self.lines.put_nowait(error)
 
-    async def _follow_until_it_is_over(self) -> None:
-        """Follows all, in one session: in the next one each is printed again."""
-        chosen = self._chosen
-        following = [
-            *(self._again(Side(path, "data"), self._follow_data) for path in chosen.data),
-            *(self._again(Side(path, "names"), self._follow_names) for path in chosen.children),
-            *(self._again(Side(path, "data"), TreeWatch(self, self._client, path, chosen.most).follow) for path in chosen.tree),
-        ]
-        tasks: list[asyncio.Future[Any]] = [asyncio.ensure_future(self._is_over.wait())]
-        tasks += [asyncio.ensure_future(one) for one in following]
-        try:
-            done, _ = await asyncio.wait(tasks, return_when=asyncio.FIRST_COMPLETED)
-            for task in done:
-                task.result()
-        finally:
-            for task in tasks:
-                task.cancel()
 
-    async def _again(self, side: Side, follow: Callable[[str], Awaitable[None]]) -> None:
-        """Follows, and again a second after a refusal. Each reason is printed once."""
-        told: Optional[int] = None
-        while True:
-            try:
-                await follow(side.path)
-                await self._client.exists(side.path)  # what has ended it, this raises
-            except AuthFailedError as error:
-                error.path = side.path
-                raise
-            except ZookeeperError as error:
-                if error.code is None:
-                    raise
-                if error.code != told:
-                    self.tell(side.refused(error.code))
-                told = error.code
-            await asyncio.sleep(_BETWEEN_REFUSED_READS)
+class WatchedTree(Growing):
+    """A tree of a watch: what the session takes on of it, and lets go, is watched node by node."""
 
-    def show_data(self, path: str, data: Optional[bytes], stat: DataStat, last: int) -> None:
-        side = Side(path, "data")
-        self.keep(side, side.data(data, stat, last, self._chosen.text))
+    def __init__(self, watch: Watch, host: Host, root: str, most: int) -> None:
+        super().__init__(host, root, most, lambda: None)
+        self._watch = watch
+        self._sides: dict[int, Side] = {}
 
-    async def _follow_data(self, path: str) -> None:
-        async for kept in self._client.follow(path):
-            self._show_node(kept)
+    def begin_again(self) -> None:
+        super().begin_again()
+        self._sides.clear()
 
-    def _show_node(self, kept: Kept) -> None:
-        if kept.stat is not None:
-            self.show_data(kept.path, kept.data, kept.stat, kept.last_zxid)
-        else:
-            side = Side(kept.path, "data")
-            self.keep(side, side.absent(kept.last_zxid))
+    def reported(self, path: str) -> None:
+        self._watch.look_at(path)
 
-    async def _follow_names(self, path: str) -> None:
-        async for kept in self._client.follow_children(path):
-            self._show_names(kept)
+    def hear(self, news: TreeNews) -> None:
+        if isinstance(news, TakenOn):
+            side = self._sides[news.ticket] = self._watch.side(news.path, "data" if news.side == library.DATA_SIDE else "names")
+            self._watch.take_on(side)
+        elif isinstance(news, LetGo) and news.ticket in self._sides:
+            self._watch.let_go(self._sides.pop(news.ticket))
+        elif isinstance(news, Bounded):
+            self._watch.bound(news.is_bounded)
 
-    def _show_names(self, kept: KeptChildren) -> None:
-        side, last = Side(kept.path, "names"), kept.last_zxid
-        self.keep(side, side.names(kept.names, kept.pzxid, last) if kept.exists else side.absent(last))
+    def show(self, ticket: int) -> None:
+        if ticket in self._sides:
+            self._watch.show(self._sides[ticket])
 
-
-class TreeWatch:
-    """A tree of a watch: of each of its nodes the data and the names. It is printed when it is whole, and then what differs."""
-
-    def __init__(self, watch: Watch, client: aio.Client, root: str, most: int) -> None:
-        self._watch, self._client, self._root, self._most = watch, client, root, most
-        self._known: dict[str, tuple[TreeNode, tuple[str, ...]]] = {}
-        self._is_there = asyncio.Event()
-
-    async def follow(self, root: str) -> None:
-        async with self._client.tree(root, most=self._most) as tree:
-            tasks = [asyncio.ensure_future(self._follow_root()), asyncio.ensure_future(self._follow_snapshots(tree))]
-            try:
-                await asyncio.gather(*tasks)
-            finally:
-                for task in tasks:
-                    task.cancel()
-
-    async def _follow_root(self) -> None:
-        """A tree without a root is none, so that this is seen by the root alone."""
-        async for kept in self._client.follow(self._root):
-            if kept.exists:
-                self._is_there.set()
-                continue
-            self._is_there.clear()
-            for path in [*self._known] or [self._root]:
-                self._watch.gone(path, kept.last_zxid, path == self._root)
-            self._known.clear()
-
-    async def _follow_snapshots(self, tree: AsyncTree) -> None:
-        is_bounded = False
-        while True:
-            await self._is_there.wait()
-            try:
-                async for snapshot in tree.snapshots():
-                    is_bounded = False
-                    self._show(snapshot)
-                return
-            except NoNodeError:
-                self._is_there.clear()
-            except ValueError:
-                if not is_bounded:
-                    words = f"bound {self._most} a tree has more nodes: it is not watched"
-                    self._watch.tell(Line(words, "bound", {"nodes": self._most}))
-                is_bounded = True
-                await asyncio.sleep(_BETWEEN_REFUSED_READS)
-
-    def _show(self, snapshot: TreeSnapshot) -> None:
-        for path, node in snapshot.items():
-            names = snapshot.children(path)
-            before = self._known.get(path)
-            if before is None or before[0][1:3] != node[1:3]:
-                self._watch.show_data(path, node.data, node.stat, snapshot.zxid)
-            if before is None or (before[0].pzxid, before[1]) != (node.pzxid, names):
-                side = Side(path, "names")
-                self._watch.keep(side, side.names(names, node.pzxid, snapshot.zxid))
-            self._known[path] = node, names
-        for path in [path for path in self._known if path not in snapshot]:
-            del self._known[path]
-            self._watch.gone(path, snapshot.zxid, False)
+    def refuse(self, ticket: int, error: ZookeeperError) -> None:
+        if ticket in self._sides:
+            self._watch.refuse(self._sides[ticket], error)
 
 
 async def _print(watch: Watch, until: Optional[float], write: Write) -> None:
@@ -293,20 +286,13 @@ def _print_rest(watch: Watch, write: Write) -> None:
             write(line)
 
 
-def _is_news(record: logging.LogRecord) -> bool:
-    """Whether the logger of trees says what is not printed: that there is no root is."""
-    return ": no node: " not in record.getMessage()
-
-
 async def run(client: aio.Client, chosen: argparse.Namespace, write: Write) -> None:
     """Watches until the time of the words is over. Raises `Ending` if no server has ever accepted the session by then, or
     credentials are refused.
     """
     watch = Watch(client, chosen)
     until = None if chosen.duration is None else time.monotonic() + chosen.duration
-    logging.getLogger("dirwolleu.tree").addFilter(_is_news)
-    with Connections(chosen.hosts, watch.hear):
-        client.add_listener(watch.suspended)
+    with Connections(chosen.hosts, watch.hear), watch.following():
         watching = asyncio.ensure_future(watch.run())
         try:
             await _print(watch, until, write)

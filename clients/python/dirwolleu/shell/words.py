@@ -9,11 +9,12 @@ from typing import Any, NamedTuple, NoReturn, Optional
 
 from dirwolleu._hosts import hosts_of
 from dirwolleu.shell.commands import read_acl
-from dirwolleu.shell.faults import path_fault, unread, usage
+from dirwolleu.shell.faults import UNREAD, Ending, path_fault, unread, usage
 from dirwolleu.shell.printing import quoted
 
 PROGRAM = "python3 -m dirwolleu"
 WIDTH = 80
+LONGEST_FILE = 1_048_575
 MOST_SECONDS, MOST_MS, MOST_NODES, MOST_VERSION = 4_294_967, 2_147_483_647, 4_294_967_295, 2_147_483_647
 
 DESCRIPTION = "Shows and changes the nodes of ZooKeeper, and watches them.\nIf you have no ZooKeeper: demo, and serve."
@@ -57,23 +58,26 @@ printed, each line with the seconds since the watch began before it:
   dial ADDRESS             this host is tried
   failed ADDRESS REASON    it could not be connected to
   ended ADDRESS REASON     the connection has ended
-  state NAME               Idle, Expired or Closed; and Connected, with the
-                           address, the session and its timeout
+  drop FAULT ADDRESS WORDS
+                           the connection is given up, by a fault of CODES
+  state NAME               Connecting, Idle, Expired or Closed; and Connected,
+                           with the address, the session and its timeout
   session new              after state Expired: nothing is kept any more
-  PATH data full DATA SEVEN good last ZXID
+  PATH data full DATA SEVEN MARK last ZXID
                            SEVEN is czxid mzxid ctime mtime version
                            ephemeralOwner dataLength
-  PATH names N NAME.. PZXID good last ZXID
+  PATH names N NAME.. PZXID MARK last ZXID
   PATH does not exist last ZXID
+  PATH data absent MARK last ZXID
   PATH data none last ZXID, PATH names none last ZXID
                            nothing is kept
   PATH refused code N WORDS
                            a read was refused, and is tried again
-  bound N WORDS            a tree has more nodes than --most, and is not watched
-Each answer is good when it is printed: the servers' history says so at ZXID.
-zk_shell also prints when an answer is stale, and a tree node by node; here a
-tree is printed when all of it is known, of one moment. Data are in hex, \\e for
-no bytes and \\0 for null; with --text in quotes if they are text.
+  bound N WORDS            a tree has more nodes than --most
+MARK is good if the servers' history says so at ZXID and no change is known, and
+stale if a change was told and the node is being read again. Each PATH is whole,
+with the path after the servers. Data are in hex, \\e for no bytes and \\0 for
+null; with --text in quotes if they are text.
 
 exit status: 0 the time of --for is over; 2 a fault of the command line; 4
 standard output failed, or was closed; 6 the credentials are refused; 9 the time
@@ -284,6 +288,8 @@ def _read_servers(chosen: argparse.Namespace, given: Optional[str]) -> None:
     hosts, slash, below = chosen.hosts.partition("/")
     for server in hosts.split(","):
         try:
+            if server.count(":") > 1 and not server.startswith("["):
+                raise ValueError
             hosts_of(server)
         except ValueError:
             raise usage(f"{quoted(server)} is no server: HOST:PORT, as zk1:2181 or [::1]:2181") from None
@@ -327,9 +333,11 @@ def read_file(chosen: argparse.Namespace) -> None:
         return
     try:
         with open(0 if chosen.file == "-" else chosen.file, "rb", closefd=chosen.file != "-") as file:
-            chosen.data = file.read()
+            chosen.data = file.read(LONGEST_FILE + 1)
     except OSError as error:
         raise unread(chosen.file, error) from error
+    if len(chosen.data) > LONGEST_FILE:
+        raise Ending(UNREAD, f"unread: {chosen.file}: it has more than {LONGEST_FILE:,} bytes")
 
 
 def read(name: str, words: Sequence[str]) -> argparse.Namespace:
