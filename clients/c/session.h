@@ -164,9 +164,11 @@ struct dws_subject {
     enum dw_side side;
     char *path;
     size_t room, names_room;
-    uint64_t ticket; /* 0 until the library follows it */
+    uint64_t keys[2];        /* a number of its path, and its ticket, which is 0 until the library follows it */
+    dws_subject *chained[2]; /* the next one with a like number, and with a like ticket */
     bool is_changed;
-    dws_subject *next;
+    struct dws_subjects *list; /* in which it is, between the next one and what leads to it */
+    dws_subject *next, **back;
 };
 
 /* A node of a tree. Both texts have a 0 after them. */
@@ -365,6 +367,17 @@ struct dws_line {
     size_t count;
 };
 
+/* How subjects are found. */
+enum { DWS_BY_PATH, DWS_BY_TICKET };
+
+/* Subjects that the library is to follow, that a step has named, that are to be shown, and all others. */
+enum { DWS_NEW, DWS_NAMED, DWS_CHANGED, DWS_RESTING, DWS_LISTS };
+
+/* Subjects, in the order in which they came here. */
+struct dws_subjects {
+    dws_subject *first, **last;
+};
+
 /* A subject or a tree that the library is to follow no more. */
 struct dws_gone {
     uint64_t ticket;
@@ -404,9 +417,8 @@ struct dws_session {
     short read_wants, write_wants;     /* what poll is to wait for besides, to read and to write */
     bool is_dial_due, is_connecting, is_expired, is_closing, is_over, is_resumed;
     bool has_more, has_news;           /* bytes that poll does not tell of, and something that a program may wait for */
-    bool must_look, must_follow;       /* marks may be others; subjects are new or gone */
-    bool must_introduce;               /* credentials are new */
-    bool must_show, is_acting;         /* subjects have changed; what a step says is being taken */
+    bool must_follow, must_introduce;  /* subjects or trees are new or gone; credentials are new */
+    bool is_acting;                    /* what a step says is being taken */
     bool is_unread;                    /* a reply does not read */
     bool is_moment;                    /* what the library says is due, and no word of the server's */
     bool is_due_known;                 /* no step was made since the library was asked when something is due */
@@ -418,7 +430,9 @@ struct dws_session {
     struct dws_line answered;          /* those that this step has answered, whose callbacks come when all that it says is taken */
     dws_call close;
     struct dws_errand *errands;
-    dws_subject *subjects;
+    struct dws_subjects subjects[DWS_LISTS];
+    dws_subject **chains;              /* of subjects, by their paths, and then as many by their tickets */
+    size_t chain_count, subject_count;
     dws_tree *trees;
     struct dws_gone *gone;
     struct dws_seen *seen;             /* at this step, where there are trees */
@@ -755,6 +769,127 @@ static inline bool dws_reserve_names(char ***names, size_t *room, size_t wanted)
     return is_there;
 }
 
+/* ---- Subjects: how they are kept and found. ---- */
+
+/* Takes a subject out of its list, if it is in one. */
+static inline void dws_take_out(dws_subject *one)
+{
+    if (one->list != NULL) {
+        *(one->next != NULL ? &one->next->back : &one->list->last) = one->back;
+        *one->back = one->next;
+        one->list = NULL;
+    }
+}
+
+/* Puts a subject at the end of a list. */
+static inline void dws_move(dws_session *s, dws_subject *one, int list)
+{
+    struct dws_subjects *to = &s->subjects[list];
+    dws_take_out(one);
+    one->list = to;
+    one->next = NULL;
+    one->back = to->last;
+    *to->last = one;
+    to->last = &one->next;
+}
+
+/* The subject after this one in all lists, or the first one after NULL. */
+static inline dws_subject *dws_next_subject(const dws_session *s, const dws_subject *before)
+{
+    dws_subject *next = before != NULL ? before->next : NULL;
+    for (const struct dws_subjects *list = before != NULL ? before->list + 1 : s->subjects; next == NULL && list < s->subjects + DWS_LISTS; list++) {
+        next = list->first;
+    }
+    return next;
+}
+
+/* Where the chain of subjects begins that have keys like this one. */
+static inline dws_subject **dws_chain_of(const dws_session *s, int by, uint64_t key)
+{
+    return &s->chains[(size_t)by * s->chain_count + (key & (s->chain_count - 1))];
+}
+
+static inline void dws_chain(dws_session *s, dws_subject *one, int by)
+{
+    dws_subject **chain = dws_chain_of(s, by, one->keys[by]);
+    one->chained[by] = *chain;
+    *chain = one;
+}
+
+static inline void dws_unchain(dws_session *s, dws_subject *one, int by)
+{
+    dws_subject **at = dws_chain_of(s, by, one->keys[by]);
+    while (*at != one) {
+        at = &(*at)->chained[by];
+    }
+    *at = one->chained[by];
+}
+
+/* The subject of this key after this one, or the first one after NULL. */
+static inline dws_subject *dws_find_subject(const dws_session *s, int by, uint64_t key, const dws_subject *before)
+{
+    dws_subject *one = before != NULL ? before->chained[by] : s->chain_count > 0 ? *dws_chain_of(s, by, key) : NULL;
+    while (one != NULL && one->keys[by] != key) {
+        one = one->chained[by];
+    }
+    return one;
+}
+
+/* Makes room for the chains of one more subject, so that they are short. */
+static inline bool dws_reserve_chains(dws_session *s)
+{
+    size_t count = s->chain_count > 0 ? 2 * s->chain_count : 16;
+    if (s->subject_count < s->chain_count) {
+        return true;
+    }
+    dws_subject **made = (dws_subject **)calloc(2 * count, sizeof *made);
+    if (made == NULL) {
+        return false;
+    }
+    free(s->chains);
+    s->chains = made;
+    s->chain_count = count;
+    for (dws_subject *one = dws_next_subject(s, NULL); one != NULL; one = dws_next_subject(s, one)) {
+        dws_chain(s, one, DWS_BY_PATH);
+        if (one->keys[DWS_BY_TICKET] != 0) {
+            dws_chain(s, one, DWS_BY_TICKET);
+        }
+    }
+    return true;
+}
+
+/* A number of a path, which few others have. */
+static inline uint64_t dws_number_of_path(const char *path)
+{
+    uint64_t number = 0xcbf29ce484222325;
+    for (; *path != 0; path++) {
+        number = (number ^ (unsigned char)*path) * 0x100000001b3;
+    }
+    return number;
+}
+
+/* Names the subjects of a path: what is kept of them may be another thing. The library is asked first for those that it does not follow yet. */
+static inline void dws_name_path(dws_session *s, const char *path)
+{
+    uint64_t key = s->subject_count > 0 ? dws_number_of_path(path) : 0;
+    for (dws_subject *one = NULL; s->subject_count > 0 && (one = dws_find_subject(s, DWS_BY_PATH, key, one)) != NULL;) {
+        if (one->keys[DWS_BY_TICKET] != 0) {
+            dws_move(s, one, DWS_NAMED);
+        }
+    }
+}
+
+/* Names all subjects that the library follows. */
+static inline void dws_name_all(dws_session *s)
+{
+    for (dws_subject *one = dws_next_subject(s, NULL), *next; one != NULL; one = next) {
+        next = dws_next_subject(s, one);
+        if (one->list > &s->subjects[DWS_NAMED]) {
+            dws_move(s, one, DWS_NAMED);
+        }
+    }
+}
+
 static inline void dws_mark(dws_session *s);
 
 static inline void dws_print_event(dws_session *s, enum dws_event event, const char *server, const char *words)
@@ -776,11 +911,9 @@ static inline void dws_wipe(void *at, size_t length)
     }
 }
 
-/* Events are few: before each one all marks are looked at. */
 static inline void dws_tell(dws_session *s, enum dws_event event, const char *words)
 {
     if (s->options.told != NULL) {
-        s->must_look = true;
         dws_mark(s);
         s->options.told(s, event, s->server, words);
     }
@@ -1054,6 +1187,9 @@ static inline void dws_take_answer(dws_session *s, const dw_output *answer)
     bool is_raw = is_reply && answer->reply == DW_REPLY_RAW;
     call->zxid = answer->zxid;
     call->stat = answer->stat;
+    if (call->watch && call->path != NULL) {
+        dws_name_path(s, call->path);
+    }
     if (is_raw || (is_reply && (answer->reply == DW_REPLY_DATA || answer->reply == DW_REPLY_CREATED))) {
         is_kept = dws_keep_text(s, call, answer);
     } else if (is_reply && answer->reply == DW_REPLY_NAMES) {
@@ -1099,7 +1235,8 @@ static inline void dws_take_admission(dws_session *s)
 
 static inline void dws_take_state(dws_session *s, enum dw_state state)
 {
-    s->must_look = s->has_news = true;
+    s->has_news = true;
+    dws_name_all(s);
     if (state == DW_STATE_CONNECTED) {
         dws_take_admission(s);
     } else if (state == DW_STATE_EXPIRED) {
@@ -1140,17 +1277,6 @@ static inline void dws_take_hang_up(dws_session *s)
     }
 }
 
-static inline void dws_hear_of_trees(dws_session *s);
-
-/* What is kept has become stale, which a subject shows. */
-static inline void dws_take_report(dws_session *s)
-{
-    s->must_look = s->has_news = true;
-    if (s->trees != NULL) {
-        dws_hear_of_trees(s);
-    }
-}
-
 /* Notes what is said of what is followed by a ticket, until a step has said all. */
 static inline void dws_note_seen(dws_session *s, uint64_t ticket, int32_t why)
 {
@@ -1168,6 +1294,17 @@ static inline void dws_note_seen(dws_session *s, uint64_t ticket, int32_t why)
     s->seen[s->seen_count++].why = why;
 }
 
+/* What is kept of what is followed by a ticket is good. */
+static inline void dws_take_shown(dws_session *s, uint64_t ticket)
+{
+    const dws_subject *shown = dws_find_subject(s, DWS_BY_TICKET, ticket, NULL);
+    if (shown != NULL) {
+        dws_name_path(s, shown->path);
+    }
+    dws_note_seen(s, ticket, 0);
+}
+
+static inline void dws_take_report(dws_session *s);
 static inline void dws_take_refusal(dws_session *s, const dw_output *refused);
 static inline void dws_take_of_tree(dws_session *s, const dw_output *told);
 static inline void dws_take_introduction(dws_session *s, size_t place, int32_t code);
@@ -1186,11 +1323,8 @@ static inline void dws_take(dws_session *s, const dw_output *action)
         break;
     case DW_KIND_HANG_UP: dws_take_hang_up(s); break;
     case DW_KIND_TIMED_OUT: dws_take_late(s, action); break;
-    case DW_KIND_RENEWED: s->must_look = true; break;
-    case DW_KIND_SHOWN:
-        s->must_look = true;
-        dws_note_seen(s, action->ticket, 0);
-        break;
+    case DW_KIND_RENEWED: dws_name_all(s); break;
+    case DW_KIND_SHOWN: dws_take_shown(s, action->ticket); break;
     case DW_KIND_REFUSED: dws_take_refusal(s, action); break;
     case DW_KIND_TAKEN_ON:
     case DW_KIND_LET_GO:
@@ -1279,11 +1413,17 @@ static inline void dws_resume(dws_session *s)
         dws_fail(s, result);
         return;
     }
-    s->is_resumed = s->must_look = s->must_follow = true;
+    s->is_resumed = s->must_follow = true;
     s->is_dial_due = s->is_due_known = false;
     s->gone_count = 0;
-    for (dws_subject *one = s->subjects; one != NULL; one = one->next) {
-        one->ticket = 0;
+    dws_lose_kept(s);
+    for (dws_subject *one = dws_next_subject(s, NULL), *next; one != NULL; one = next) {
+        next = dws_next_subject(s, one);
+        if (one->keys[DWS_BY_TICKET] != 0) {
+            dws_unchain(s, one, DWS_BY_TICKET);
+            one->keys[DWS_BY_TICKET] = 0;
+            dws_move(s, one, DWS_NEW);
+        }
     }
     for (dws_tree *tree = s->trees; tree != NULL; tree = tree->next) {
         tree->ticket = 0;
@@ -1293,7 +1433,6 @@ static inline void dws_resume(dws_session *s)
         one->is_handed = false;
         s->must_introduce = true;
     }
-    dws_lose_kept(s);
     struct dws_line rest = dws_ask_again(s, &s->sent);
     dws_hang_up(s);
     dws_tell(s, DWS_CUT, dw_result_words(DW_HALTED));
@@ -1861,40 +2000,36 @@ static inline bool dws_look_at_children(dws_session *s, dws_subject *subject, en
     return true;
 }
 
-/* Looks at all subjects, if their marks may be others, with no step between: those that are good are of one moment, that of the last zxid. So it is
- * before each callback. */
+/* Looks at the subjects that were named, with no step between: those that are good are of one moment, that of the last zxid. So it is before each
+ * callback. */
 static inline void dws_mark(dws_session *s)
 {
-    enum dw_result result = DW_OK;
-    if (!s->must_look || s->is_over) {
-        return;
-    }
-    s->must_look = false;
-    for (dws_subject *one = s->subjects; one != NULL && result == DW_OK; one = one->next) {
+    dws_subject *one;
+    while (!s->is_over && (one = s->subjects[DWS_NAMED].first) != NULL) {
+        enum dw_result result = DW_OK;
         bool is_changed = one->side == DW_SIDE_DATA ? dws_look_at_node(s, one, &result) : dws_look_at_children(s, one, &result);
         one->is_changed = one->is_changed || is_changed;
-        s->must_show = s->must_show || is_changed;
-    }
-    if (result != DW_OK) {
-        dws_fail(s, result);
+        dws_move(s, one, one->is_changed ? DWS_CHANGED : DWS_RESTING);
+        if (result != DW_OK) {
+            dws_fail(s, result);
+        }
     }
 }
 
 /* Shows a subject of which another thing is kept, where there is one. */
 static inline bool dws_show_next(dws_session *s)
 {
-    s->must_show = false;
-    for (dws_subject *one = s->subjects; one != NULL; one = one->next) {
-        if (one->is_changed) {
-            one->is_changed = false;
-            s->must_show = s->has_news = true;
-            if (one->changed != NULL) {
-                one->changed(s, one);
-            }
-            return true;
-        }
+    dws_subject *one = s->subjects[DWS_CHANGED].first;
+    if (one == NULL) {
+        return false;
     }
-    return false;
+    one->is_changed = false;
+    s->has_news = true;
+    dws_move(s, one, DWS_RESTING);
+    if (one->changed != NULL) {
+        one->changed(s, one);
+    }
+    return true;
 }
 
 static inline bool dws_is_good(const dws_subject *subject)
@@ -1924,10 +2059,7 @@ static inline void dws_take_refusal(dws_session *s, const dw_output *refused)
 {
     char line[DWS_LONGEST_LINE];
     int32_t why = dws_why_refused(refused);
-    const dws_subject *subject = s->subjects;
-    while (subject != NULL && subject->ticket != refused->ticket) {
-        subject = subject->next;
-    }
+    const dws_subject *subject = dws_find_subject(s, DWS_BY_TICKET, refused->ticket, NULL);
     if (refused->refusal == DW_REFUSAL_CLOSED) {
         return;
     }
@@ -1947,19 +2079,11 @@ static inline void dws_take_refusal(dws_session *s, const dw_output *refused)
 static inline void dws_begin_subject(dws_session *s, dws_subject *subject, uint64_t now_ms)
 {
     const char *path = subject->path;
-    uint64_t ticket = subject->ticket = ++s->last_ticket;
+    uint64_t ticket = subject->keys[DWS_BY_TICKET] = ++s->last_ticket;
+    dws_chain(s, subject, DWS_BY_TICKET);
+    dws_move(s, subject, DWS_NAMED);
     dws_act(s, subject->side == DW_SIDE_DATA ? dw_session_follow_data(&s->machine, now_ms, ticket, path, strlen(path))
                                              : dw_session_follow_names(&s->machine, now_ms, ticket, path, strlen(path)));
-}
-
-/* A subject that the library does not follow yet; NULL where there is none. */
-static inline dws_subject *dws_next_new(dws_session *s)
-{
-    dws_subject *one = s->subjects;
-    while (one != NULL && one->ticket != 0) {
-        one = one->next;
-    }
-    return one;
 }
 
 /* Has the library follow a tree that it does not follow yet. False where there is none. */
@@ -1988,12 +2112,11 @@ static inline void dws_unfollow_last(dws_session *s, uint64_t now_ms)
 /* Has the library follow what is to be followed, and no more what is not. Callbacks may change both. */
 static inline void dws_follow_new(dws_session *s)
 {
-    dws_subject *one;
     while (s->must_follow && !s->is_over) {
         uint64_t now_ms = dws_in_time(s);
         s->must_follow = false;
-        while (!s->is_over && (one = dws_next_new(s)) != NULL) {
-            dws_begin_subject(s, one, now_ms);
+        while (!s->is_over && s->subjects[DWS_NEW].first != NULL) {
+            dws_begin_subject(s, s->subjects[DWS_NEW].first, now_ms);
         }
         while (!s->is_over && dws_begin_tree(s, now_ms)) {
         }
@@ -2271,14 +2394,13 @@ static inline void dws_see_trees(dws_session *s)
 }
 
 /* What was good of a path has ended. A tree that has it is whole again only where that is said after this. */
-static inline void dws_hear_of_trees(dws_session *s)
+static inline void dws_take_report(dws_session *s)
 {
     char path[DWS_LONGEST_LINE];
     size_t length = dw_session_copy(&s->machine, 0, path, sizeof path - 1);
-    if (length >= sizeof path) {
-        return;
-    }
-    path[length] = 0;
+    path[dws_least(length, sizeof path - 1)] = 0;
+    s->has_news = true;
+    dws_name_path(s, path);
     for (dws_tree *tree = s->trees; tree != NULL; tree = tree->next) {
         if (strcmp(path, tree->path) == 0 || dws_is_below(path, tree->path)) {
             tree->is_good = tree->must_look = false;
@@ -2289,9 +2411,12 @@ static inline void dws_hear_of_trees(dws_session *s)
 /* Nothing is kept any more. Subjects of which something was are to be shown. */
 static inline void dws_lose_kept(dws_session *s)
 {
-    for (dws_subject *one = s->subjects; one != NULL; one = one->next) {
+    for (dws_subject *one = dws_next_subject(s, NULL), *next; one != NULL; one = next) {
+        next = dws_next_subject(s, one);
         one->is_changed = one->is_changed || one->mark != 0;
-        s->must_show = s->must_show || one->is_changed;
+        if (one->is_changed && one->list != &s->subjects[DWS_CHANGED] && (s->is_over || one->list != &s->subjects[DWS_NEW])) {
+            dws_move(s, one, DWS_CHANGED);
+        }
         one->mark = (enum dw_mark)0;
         one->kind = DW_KEPT_NOTHING;
         memset(&one->stat, 0, sizeof one->stat);
@@ -2466,7 +2591,7 @@ static inline void dws_unfollow_tree(dws_session *s, dws_tree *tree)
     if (*at != NULL) {
         *at = tree->next;
     }
-    if (tree->ticket != 0 && !s->is_over) {
+    if (tree->ticket != 0) {
         dws_let_go(s, tree->ticket, true);
     }
     dws_free_members(&tree->members);
@@ -2508,8 +2633,7 @@ static inline void dws_work(dws_session *s)
     dws_introduce_new(s);
     dws_follow_new(s);
     dws_mark(s);
-    while (s->must_show && !s->is_over) {
-        dws_show_next(s);
+    while (!s->is_over && dws_show_next(s)) {
     }
     dws_look_at_trees(s);
     dws_send_queued(s);
@@ -2554,7 +2678,8 @@ static inline int dws_wanted(dws_session *s, struct pollfd *polled)
     polled->fd = s->is_over ? -1 : s->wire.socket;
     polled->events = (short)(POLLIN | (s->is_connecting ? POLLOUT : s->read_wants) | (s->unsent.length > 0 ? s->write_wants : 0));
     polled->revents = 0;
-    if (s->has_news || s->is_over || s->has_more || s->is_dial_due || s->must_look || s->must_show || s->must_follow || s->must_introduce) {
+    if (s->has_news || s->is_over || s->has_more || s->is_dial_due || s->must_follow || s->must_introduce || s->subjects[DWS_NAMED].first != NULL
+        || s->subjects[DWS_CHANGED].first != NULL) {
         return 0;
     }
     uint64_t first = dws_first_due(s);
@@ -2760,15 +2885,19 @@ static inline enum dw_result dws_follow_side(dws_session *s, dws_subject *subjec
     if (result == DW_OK) {
         result = dw_session_peek_data(&s->machine, subject->path, strlen(subject->path), &kept, &none, 0);
     }
+    if (result == DW_OK && !dws_reserve_chains(s)) {
+        result = DW_NO_MEMORY;
+    }
     if (result != DW_OK) {
         free(subject->path);
         subject->path = NULL;
         return result;
     }
-    subject->ticket = 0;
-    subject->next = s->subjects;
-    s->subjects = subject;
-    s->must_follow = s->must_look = true;
+    subject->keys[DWS_BY_PATH] = dws_number_of_path(subject->path);
+    dws_chain(s, subject, DWS_BY_PATH);
+    dws_move(s, subject, DWS_NEW);
+    s->subject_count++;
+    s->must_follow = true;
     return DW_OK;
 }
 
@@ -2787,6 +2916,9 @@ static inline enum dw_result dws_follow_children(dws_session *s, dws_subject *su
 /* The library is to follow what has this ticket no more. */
 static inline void dws_let_go(dws_session *s, uint64_t ticket, bool is_tree)
 {
+    if (s->is_over) {
+        return;
+    }
     void *block = s->gone;
     bool is_there = dws_reserve(&block, &s->gone_room, (s->gone_count + 1) * sizeof s->gone[0]);
     s->gone = (struct dws_gone *)block;
@@ -2801,15 +2933,14 @@ static inline void dws_let_go(dws_session *s, uint64_t ticket, bool is_tree)
 
 static inline void dws_unfollow(dws_session *s, dws_subject *subject)
 {
-    dws_subject **at = &s->subjects;
-    while (*at != NULL && *at != subject) {
-        at = &(*at)->next;
+    if (subject->list != NULL) {
+        dws_take_out(subject);
+        dws_unchain(s, subject, DWS_BY_PATH);
+        s->subject_count--;
     }
-    if (*at != NULL) {
-        *at = subject->next;
-    }
-    if (subject->ticket != 0 && !s->is_over) {
-        dws_let_go(s, subject->ticket, false);
+    if (subject->keys[DWS_BY_TICKET] != 0) {
+        dws_unchain(s, subject, DWS_BY_TICKET);
+        dws_let_go(s, subject->keys[DWS_BY_TICKET], false);
     }
     free(subject->path);
     free(subject->text);
@@ -2845,8 +2976,8 @@ static inline void dws_free(dws_session *s)
         return;
     }
     s->is_over = true;
-    while (s->subjects != NULL) {
-        dws_unfollow(s, s->subjects);
+    while (dws_next_subject(s, NULL) != NULL) {
+        dws_unfollow(s, dws_next_subject(s, NULL));
     }
     while (s->trees != NULL) {
         dws_unfollow_tree(s, s->trees);
@@ -2858,6 +2989,7 @@ static inline void dws_free(dws_session *s)
     dws_forget_credentials(s);
     dw_session_free(&s->machine);
     dws_release(&s->close);
+    free(s->chains);
     free(s->unsent.at);
     free(s->gone);
     free(s->seen);
@@ -2875,6 +3007,9 @@ static inline dws_session *dws_open(const char *hosts, const dws_options *option
     enum dw_result result = DW_NO_MEMORY;
     if (s != NULL) {
         s->wire.socket = -1;
+        for (int i = 0; i < DWS_LISTS; i++) {
+            s->subjects[i].last = &s->subjects[i].first;
+        }
         if (options != NULL) {
             s->options = *options;
         }
@@ -2929,6 +3064,7 @@ static inline int64_t dws_last_zxid(dws_session *s)
 static inline void dws_forget(dws_session *s)
 {
     dw_session_forget(&s->machine);
+    dws_name_all(s);
 }
 
 static inline int64_t dws_heard_ms(dws_session *s)

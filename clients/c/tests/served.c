@@ -421,7 +421,7 @@ static void lose_all_at_expiry(bool ends)
     add_expired(&expired);
     answer_at_once(&expired);
     EXPECT(has_told(DWS_EXPIRED));
-    expect_nothing_owned("names 0\nnode 0\nlock 0\n");
+    expect_nothing_owned("lock 0\nnode 0\nnames 0\n");
 }
 
 /* After a close: by the server's word, without it after a second, and a second time at once. */
@@ -444,7 +444,7 @@ static void lose_all_at_close(bool is_answered, bool is_at_once)
     for (int i = 0; !dws_is_over(session); i++) {
         turn(i);
     }
-    expect_nothing_owned(is_answered ? "unread 0\nnames 0\nnode 0\nlock 0\n" : "names 0\nnode 0\nlock 0\n");
+    expect_nothing_owned(is_answered ? "lock 0\nnode 0\nnames 0\nunread 0\n" : "lock 0\nnode 0\nnames 0\n");
 }
 
 /* Bytes come in small pieces, of which one turn takes many. */
@@ -573,6 +573,68 @@ static void find_no_path(void)
     expect_said("some of what is asked for is not kept, or not good: /t; read what is lacking, with a watch\n");
     EXPECT(!tree.is_good && tree.count == 0);
     close_all();
+}
+
+enum { CROWD = 40 };
+
+static dws_subject crowd[CROWD], *unwanted;
+
+/* What is shown of one of many that are followed lets another one go. */
+static void see_of_crowd(dws_session *s, dws_subject *subject)
+{
+    say("%d mark %d %s\n", (int)(subject - crowd), (int)subject->mark, subject->text);
+    if (unwanted != NULL) {
+        dws_unfollow(s, unwanted);
+    }
+    unwanted = NULL;
+}
+
+/* Answers the next read, which is of data. */
+static void answer_next(const char *data, int64_t mzxid)
+{
+    struct bytes came;
+    dw_stat stat = STAT;
+    stat.mzxid = mzxid;
+    hear();
+    came.length = 0;
+    add_data(&came, (int32_t)dws_read_int(out.at), 9, data, &stat);
+    answer_at_once(&came);
+}
+
+/* Of many nodes that are followed, each by two, those are looked at that a step names: by a notice of its path, by what is read again, and by the answer
+ * to a call with a watch that nothing announced. One of them is let go before it is shown. */
+static void name_few_of_many(void)
+{
+    char path[16];
+    open_session();
+    admit();
+    for (int i = 0; i < CROWD; i++) {
+        snprintf(path, sizeof path, "/%d", i / 2);
+        EXPECT_NUMBER(DW_OK, dws_follow(session, &crowd[i], path, see_of_crowd));
+    }
+    for (int i = 0; i < CROWD; i++) {
+        answer_next("one", 5);
+    }
+    turn(0);
+    said[0] = 0;
+    notice(DW_EVENT_DATA_CHANGED, "/7");
+    turn(0);
+    expect_said("15 mark 2 one\n14 mark 2 one\n");
+    answer_next("two", 8);
+    answer_next("two", 8);
+    turn(0);
+    expect_said("15 mark 1 two\n14 mark 1 two\n");
+    dws_get(session, &get, "/9", true);
+    answer_next("three", 9);
+    turn(0);
+    expect_said("19 mark 1 three\n18 mark 1 three\n");
+    unwanted = &crowd[14];
+    notice(DW_EVENT_DATA_CHANGED, "/7");
+    turn(0);
+    expect_said("15 mark 2 two\n");
+    close_all();
+    memset(crowd, 0, sizeof crowd);
+    dws_release(&get);
 }
 
 static bool introduces;    /* the session has credentials */
@@ -724,6 +786,7 @@ int main(int argc, char **argv)
     refuse_nodes();
     unfollow_tree();
     find_no_path();
+    name_few_of_many();
     if (argc == 1) {
         watch_all();
     }
