@@ -251,7 +251,7 @@ static inline bool dws_lock_keep(dws_lock *lock, const dws_call *listed)
     names->length = 0;
     for (size_t i = 0; i < listed->count; i++) {
         size_t length = strlen(listed->names[i]);
-        if (!dws_reserve_bytes(names, names->length + 4 + length)) {
+        if (!dws_reserve(&names->at, &names->room, names->length + 4 + length)) {
             return false;
         }
         dws_spell_int(names->at + names->length, (uint32_t)length);

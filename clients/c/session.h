@@ -119,6 +119,7 @@ enum dws_kind { DWS_EXISTS, DWS_GET, DWS_CHILDREN, DWS_SET, DWS_CREATE, DWS_DELE
 struct dws_bytes {
     uint8_t *at;
     size_t length, room;
+    bool is_short; /* there was no memory for some that were to be added */
 };
 
 /* A question, and its answer. */
@@ -719,53 +720,44 @@ static inline uint64_t dws_chance(const dws_session *s)
     return number * 0x9e3779b97f4a7c15;
 }
 
-/* Makes room for this many bytes in all. */
-static inline bool dws_reserve(void **block, size_t *room, size_t wanted)
+/* Makes room for this many bytes in all in the block to which the pointer at this place leads, of whatever type. */
+static inline bool dws_reserve(void *place, size_t *room, size_t wanted)
 {
+    void *block;
     if (wanted <= *room) {
         return true;
     }
-    void *grown = realloc(*block, wanted < 2 * *room ? 2 * *room : wanted);
-    if (grown == NULL) {
+    wanted = (size_t)dws_most(wanted, 2 * *room);
+    memcpy(&block, place, sizeof block);
+    block = realloc(block, wanted);
+    if (block == NULL) {
         return false;
     }
-    *block = grown;
-    *room = wanted < 2 * *room ? 2 * *room : wanted;
+    memcpy(place, &block, sizeof block);
+    *room = wanted;
     return true;
 }
 
-static inline bool dws_reserve_bytes(struct dws_bytes *bytes, size_t wanted)
+/* A copy of a text, or NULL where there is no memory. */
+static inline char *dws_copy_of(const char *text)
 {
-    void *block = bytes->at;
-    bool is_there = dws_reserve(&block, &bytes->room, wanted);
-    bytes->at = (uint8_t *)block;
-    return is_there;
+    size_t size = strlen(text) + 1;
+    char *copy = (char *)malloc(size);
+    if (copy != NULL) {
+        memcpy(copy, text, size);
+    }
+    return copy;
 }
 
 /* Adds bytes, and has room for one more, so that there is a block where there are none. Whether there was memory for them. */
 static inline bool dws_put_bytes(struct dws_bytes *bytes, const void *added, size_t length)
 {
-    bool is_there = dws_reserve_bytes(bytes, bytes->length + length + 1);
+    bool is_there = dws_reserve(&bytes->at, &bytes->room, bytes->length + length + 1);
     if (is_there && length > 0) {
         memcpy(bytes->at + bytes->length, added, length);
         bytes->length += length;
     }
-    return is_there;
-}
-
-static inline bool dws_reserve_text(char **text, size_t *room, size_t wanted)
-{
-    void *block = *text;
-    bool is_there = dws_reserve(&block, room, wanted);
-    *text = (char *)block;
-    return is_there;
-}
-
-static inline bool dws_reserve_names(char ***names, size_t *room, size_t wanted)
-{
-    void *block = *names;
-    bool is_there = dws_reserve(&block, room, wanted);
-    *names = (char **)block;
+    bytes->is_short = bytes->is_short || !is_there;
     return is_there;
 }
 
@@ -1083,11 +1075,11 @@ static inline void dws_hang_up(dws_session *s)
 /* Makes room for so much that is to be written. What has become too small is overwritten: there may be credentials in it. */
 static inline bool dws_reserve_unsent(struct dws_bytes *unsent, size_t wanted)
 {
-    struct dws_bytes grown = {NULL, 0, 0};
+    struct dws_bytes grown = {NULL, 0, 0, false};
     if (wanted <= unsent->room) {
         return true;
     }
-    if (!dws_reserve_bytes(&grown, 2 * wanted) || !dws_put_bytes(&grown, unsent->at, unsent->length)) {
+    if (!dws_reserve(&grown.at, &grown.room, 2 * wanted) || !dws_put_bytes(&grown, unsent->at, unsent->length)) {
         return false;
     }
     dws_wipe(unsent->at, unsent->length);
@@ -1122,7 +1114,7 @@ static inline const char *dws_inner(const dws_session *s, const char *path)
 /* Copies the text of an answer: the data, or the path that was made. */
 static inline bool dws_keep_text(dws_session *s, dws_call *call, const dw_output *answer)
 {
-    if (!dws_reserve_text(&call->text, &call->room, answer->length + 1)) {
+    if (!dws_reserve(&call->text, &call->room, answer->length + 1)) {
         return false;
     }
     dw_session_copy(&s->machine, 0, call->text, answer->length);
@@ -1151,7 +1143,7 @@ static inline size_t dws_measure_names(dws_session *s, size_t count)
 static inline bool dws_keep_names(dws_session *s, dws_call *call, size_t count)
 {
     size_t total = dws_measure_names(s, count), table = count * sizeof(char *);
-    if (!dws_reserve_names(&call->names, &call->names_room, table + total + 1)) {
+    if (!dws_reserve(&call->names, &call->names_room, table + total + 1)) {
         return false;
     }
     char *at = (char *)call->names + table, *end = at + total;
@@ -1283,10 +1275,7 @@ static inline void dws_note_seen(dws_session *s, uint64_t ticket, int32_t why)
     if (s->trees == NULL) {
         return;
     }
-    void *block = s->seen;
-    bool is_there = dws_reserve(&block, &s->seen_room, (s->seen_count + 1) * sizeof s->seen[0]);
-    s->seen = (struct dws_seen *)block;
-    if (!is_there) {
+    if (!dws_reserve(&s->seen, &s->seen_room, (s->seen_count + 1) * sizeof s->seen[0])) {
         dws_fail(s, DW_NO_MEMORY);
         return;
     }
@@ -1690,12 +1679,11 @@ static inline bool dws_read_hosts(dws_session *s, size_t length, char *why, size
 static inline bool dws_read_string(dws_session *s, const char *text, char *why, size_t size)
 {
     size_t length = strcspn(text, "/");
-    s->hosts_text = (char *)malloc(strlen(text) + 1);
+    s->hosts_text = dws_copy_of(text);
     if (s->hosts_text == NULL) {
         snprintf(why, size, "%s", dw_result_words(DW_NO_MEMORY));
         return false;
     }
-    strcpy(s->hosts_text, text);
     s->root = s->hosts_text + length + (strcmp(text + length, "/") == 0);
     if (s->root[0] != 0 && dws_words_of_path(s->root) != NULL) {
         dws_write_result(why, size, DW_NOT_PATH, s->root);
@@ -1906,8 +1894,7 @@ static inline void dws_transmit(dws_session *s)
 static inline void dws_point_at_names(char **names, char *at, size_t count)
 {
     for (size_t i = 0; i < count; i++) {
-        const uint8_t *spelled = (const uint8_t *)at;
-        size_t length = (size_t)spelled[0] << 24 | (size_t)spelled[1] << 16 | (size_t)spelled[2] << 8 | spelled[3];
+        size_t length = dws_read_int((const uint8_t *)at);
         *at = 0;
         names[i] = at + 4;
         at += 4 + length;
@@ -1924,7 +1911,7 @@ static inline enum dw_result dws_look_at_names(dws_session *s, dws_subject *subj
     if (result != DW_OK) {
         return result;
     }
-    if (!dws_reserve_names(&subject->names, &subject->names_room, table + length + 1)) {
+    if (!dws_reserve(&subject->names, &subject->names_room, table + length + 1)) {
         return DW_NO_MEMORY;
     }
     char *block = (char *)subject->names + table;
@@ -1939,7 +1926,7 @@ static inline enum dw_result dws_look_at_names(dws_session *s, dws_subject *subj
 /* Copies the data that are kept of a subject. */
 static inline enum dw_result dws_look_at_data(dws_session *s, dws_subject *subject, dw_kept_data *kept)
 {
-    if (!dws_reserve_text(&subject->text, &subject->room, kept->length + 1)) {
+    if (!dws_reserve(&subject->text, &subject->room, kept->length + 1)) {
         return DW_NO_MEMORY;
     }
     subject->text[kept->length] = 0;
@@ -2215,12 +2202,11 @@ static inline void dws_trouble_tree(dws_session *s, dws_tree *tree, int32_t why,
     if (!is_news) {
         return;
     }
-    char *kept = (char *)malloc(strlen(path) + 1);
+    char *kept = dws_copy_of(path);
     if (kept == NULL) {
         dws_fail(s, DW_NO_MEMORY);
         return;
     }
-    strcpy(kept, path);
     free(tree->trouble);
     tree->trouble = kept;
     tree->why = why;
@@ -2269,9 +2255,7 @@ static inline void dws_close_up(struct dws_members *members)
 static inline void dws_take_on(dws_session *s, struct dws_members *members, const dw_output *told)
 {
     dws_close_up(members);
-    void *block = members->all;
-    bool is_there = dws_reserve(&block, &members->room, (members->count + 1) * sizeof members->all[0]);
-    members->all = (struct dws_member *)block;
+    bool is_there = dws_reserve(&members->all, &members->room, (members->count + 1) * sizeof members->all[0]);
     char *path = is_there ? (char *)malloc(told->length + 1) : NULL;
     if (path == NULL) {
         dws_fail(s, DW_NO_MEMORY);
@@ -2438,10 +2422,7 @@ static inline void dws_show_tree(dws_session *s, dws_tree *tree)
     dws_node node;
     tree->count = 0;
     while (dws_read_node(&at, end, &node)) {
-        void *block = tree->nodes;
-        bool is_there = dws_reserve(&block, &tree->nodes_room, (tree->count + 1) * sizeof node);
-        tree->nodes = (dws_node *)block;
-        if (!is_there) {
+        if (!dws_reserve(&tree->nodes, &tree->nodes_room, (tree->count + 1) * sizeof node)) {
             tree->count = 0;
             dws_fail(s, DW_NO_MEMORY);
             return;
@@ -2464,12 +2445,12 @@ static inline enum dw_result dws_collect(dws_session *s, dws_tree *tree)
     struct dws_bytes *text = &tree->text;
     size_t length = strlen(tree->path);
     text->length = 0;
-    if (!dws_reserve_bytes(text, 4096)) {
+    if (!dws_reserve(&text->at, &text->room, 4096)) {
         return DW_NO_MEMORY;
     }
     enum dw_result result = dw_session_subtree(&s->machine, tree->path, length, tree->most, text->at, text->room, &text->length);
     if (result == DW_OK && text->length > text->room) {
-        if (!dws_reserve_bytes(text, text->length + text->length / 8)) {
+        if (!dws_reserve(&text->at, &text->room, text->length + text->length / 8)) {
             return DW_NO_MEMORY;
         }
         result = dw_session_subtree(&s->machine, tree->path, length, tree->most, text->at, text->room, &text->length);
@@ -2919,10 +2900,7 @@ static inline void dws_let_go(dws_session *s, uint64_t ticket, bool is_tree)
     if (s->is_over) {
         return;
     }
-    void *block = s->gone;
-    bool is_there = dws_reserve(&block, &s->gone_room, (s->gone_count + 1) * sizeof s->gone[0]);
-    s->gone = (struct dws_gone *)block;
-    if (!is_there) {
+    if (!dws_reserve(&s->gone, &s->gone_room, (s->gone_count + 1) * sizeof s->gone[0])) {
         dws_fail(s, DW_NO_MEMORY);
         return;
     }

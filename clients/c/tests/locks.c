@@ -379,13 +379,10 @@ static void free_in_callbacks(bool is_at_loss)
     lock->context = is_at_loss ? lock : NULL;
     EXPECT(dws_lock_take(session, lock, "/l", DWS_EXCLUSIVE, "me", free_when_told));
     if (is_at_loss) {
-        struct bytes came;
         go_on_until(is_true, &lock->is_held);
         snprintf(path, sizeof path, "/l/%s", nodes[0].name);
         node_count = 0;
-        came.length = 0;
-        add_notice(&came, DW_EVENT_DELETED, path);
-        answer_at_once(&came);
+        ANSWER(add_notice, DW_EVENT_DELETED, path);
     }
     go_on_until(is_null, &session->errands);
     EXPECT(node_count == 0);
@@ -396,7 +393,6 @@ static void free_in_callbacks(bool is_at_loss)
 /* What a server refuses is told, with the place that is left, and is asked again: by the program, and at the next connection. */
 static void refuse_to_delete(void)
 {
-    struct bytes came;
     char why[DWS_LONGEST_LINE], wanted[400];
     static dws_lock lock;
     begin(BEFORE, SIZE_MAX);
@@ -405,9 +401,7 @@ static void refuse_to_delete(void)
     turn(0);
     const dws_call *gone = dws_lock_let_go(session, &lock);
     hear();
-    came.length = 0;
-    add_header(&came, (int32_t)dws_read_int(out.at), zxid, DW_CODE_NO_AUTH);
-    answer_at_once(&came);
+    ANSWER(add_header, (int32_t)dws_read_int(out.at), zxid, DW_CODE_NO_AUTH);
     EXPECT(gone->is_answered && gone->why == DW_CODE_NO_AUTH);
     dws_words(session, gone, why, sizeof why);
     snprintf(wanted, sizeof wanted, "the node's ACL does not admit this client: /l/%s", nodes[0].name);
@@ -500,8 +494,7 @@ static void wait_for_a_lock(void)
 {
     static dws_lock lock;
     char place[256], again[256];
-    open_session();
-    admit();
+    begin_session();
     EXPECT(dws_lock_take(session, &lock, "/l", DWS_EXCLUSIVE, "me", NULL));
     make_place(1, "0000000002", place, sizeof place);
     hear_about(2, TYPE_GET, place);
@@ -542,8 +535,7 @@ static void lose_a_lock(void)
     static dws_lock lock;
     char place[256], again[256];
     struct bytes expired;
-    open_session();
-    admit();
+    begin_session();
     EXPECT(dws_lock_take(session, &lock, "/l", DWS_EXCLUSIVE, "me", NULL));
     make_place(1, "0000000002", place, sizeof place);
     hear_about(2, TYPE_GET, place);
@@ -575,8 +567,7 @@ static void share_a_lock(void)
 {
     static dws_lock lock;
     char place[256];
-    open_session();
-    admit();
+    begin_session();
     EXPECT(dws_lock_take(session, &lock, "/l", DWS_SHARED, "me", NULL));
     hear_request(1, TYPE_CREATE, NULL);
     text_at(8, place, sizeof place);

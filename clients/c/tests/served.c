@@ -18,19 +18,13 @@ static bool has_told(enum dws_event event)
 
 static void answer_data(int32_t xid)
 {
-    struct bytes came;
-    came.length = 0;
-    add_data(&came, xid, 5, "one", &STAT);
-    answer_at_once(&came);
+    ANSWER(add_data, xid, 5, "one", &STAT);
 }
 
 /* A reply that brings nothing. */
 static void answer_nothing(int32_t xid, int64_t zxid)
 {
-    struct bytes came;
-    came.length = 0;
-    add_header(&came, xid, zxid, 0);
-    answer_at_once(&came);
+    ANSWER(add_header, xid, zxid, 0);
 }
 
 /* The first ping comes a third of the timeout that was granted after the session was admitted, and the session wants to be woken for it. */
@@ -65,8 +59,7 @@ static void be_suspended(void)
     enum { HOUR_MS = 3600000 };
     struct pollfd polled;
     struct bytes came;
-    open_session();
-    admit();
+    begin_session();
     turn(0);
     let_pass(100);
     suspended_ms += HOUR_MS;
@@ -92,8 +85,7 @@ static void be_suspended(void)
 /* Pings are answered and a call is not: the connection is left two thirds of the timeout after the call was asked. */
 static void answer_pings_alone(void)
 {
-    open_session();
-    admit();
+    begin_session();
     let_pass(100);
     uint64_t asked_ms = clock_ms;
     dws_set(session, &set, "/a", "one", 3, -1);
@@ -130,8 +122,7 @@ static void expect_new_connection(void)
 static void forget_unsent(void)
 {
     struct bytes connected;
-    open_session();
-    admit();
+    begin_session();
     is_blocked = true;
     dws_set(session, &set, "/a", "one", 3, -1);
     turn(0);
@@ -253,9 +244,7 @@ static void tell_mark(dws_session *s, dws_call *call)
  * of the whole step. */
 static void mark_before_callbacks(bool is_told_first)
 {
-    struct bytes came;
-    open_session();
-    admit();
+    begin_session();
     EXPECT_NUMBER(DW_OK, dws_follow(session, &node, "/a", NULL));
     hear_request(1, TYPE_GET, NULL);
     answer_data(1);
@@ -266,7 +255,6 @@ static void mark_before_callbacks(bool is_told_first)
     dws_get(session, &get, "/b", false);
     hear_request(2, TYPE_SET, NULL);
     hear_request(3, TYPE_GET, NULL);
-    came.length = 0;
     if (is_told_first) {
         add_notice(&came, DW_EVENT_DATA_CHANGED, "/a");
     }
@@ -275,7 +263,7 @@ static void mark_before_callbacks(bool is_told_first)
         add_notice(&came, DW_EVENT_DATA_CHANGED, "/a");
     }
     add_data(&came, 3, 8, "one", &STAT);
-    answer_at_once(&came);
+    answer_all();
     expect_said("set 0 mark 2 zxid 8\nget 0 mark 2 zxid 8\n");
     hear_request(4, TYPE_GET, NULL);
     close_all();
@@ -285,8 +273,7 @@ static void mark_before_callbacks(bool is_told_first)
 /* After the server's word that the session is closed nothing more is done. */
 static void close_once(void)
 {
-    open_session();
-    admit();
+    begin_session();
     dws_end(session);
     dws_get(session, &get, "/a", false);
     EXPECT(get.is_answered && get.why == DW_OUTCOME_CLOSED);
@@ -302,26 +289,17 @@ static void close_once(void)
 
 static void answer_node(int32_t xid)
 {
-    struct bytes came;
-    came.length = 0;
-    add_data(&came, xid, 6, "one", &STAT);
-    answer_at_once(&came);
+    ANSWER(add_data, xid, 6, "one", &STAT);
 }
 
 static void answer_no_names(int32_t xid)
 {
-    struct bytes came;
-    came.length = 0;
-    add_no_names(&came, xid, 6, &STAT);
-    answer_at_once(&came);
+    ANSWER(add_no_names, xid, 6, &STAT);
 }
 
 static void refuse(int32_t xid)
 {
-    struct bytes came;
-    came.length = 0;
-    add_header(&came, xid, 6, DW_CODE_NO_AUTH);
-    answer_at_once(&came);
+    ANSWER(add_header, xid, 6, DW_CODE_NO_AUTH);
 }
 
 /* What a session has at its end: a lock that is held, and a node and names that are good. Each is told that it is lost, once. */
@@ -457,11 +435,9 @@ static ssize_t read_few(dws_wire *wire, void *room, size_t size, void *context)
 static void close_before_a_lock(void)
 {
     char place[256];
-    struct bytes came;
     memset(&owned, 0, sizeof owned);
     owned.lock = (dws_lock *)calloc(1, sizeof *owned.lock);
-    open_session();
-    admit();
+    begin_session();
     EXPECT(dws_lock_take(session, owned.lock, "/l", DWS_EXCLUSIVE, "me", see_owned_lock));
     make_place(1, "0000000002", place, sizeof place);
     hear_about(2, TYPE_GET, place);
@@ -469,11 +445,10 @@ static void close_before_a_lock(void)
     dws_end(session);
     hear_request(4, -11, NULL);
     session->options.read = read_few;
-    came.length = 0;
     add_place(&came, 2, 6);
     add_names(&came, 3, 6, place + 3, "note", &STAT);
     add_header(&came, 4, 6, 0);
-    answer_at_once(&came);
+    answer_all();
     expect_said("");
     EXPECT(dws_is_over(session) && !owned.lock->is_held);
     close_all();
@@ -495,8 +470,7 @@ static void take_tree(dws_session *s, dws_tree *shown)
 /* Two nodes of a tree are refused: the first one is told, and the other one once that is read, though it was refused long before. */
 static void refuse_nodes(void)
 {
-    open_session();
-    admit();
+    begin_session();
     EXPECT_NUMBER(DW_OK, dws_follow_tree(session, &tree, "/t", 0, take_tree));
     hear_about(1, TYPE_GET, "/t");
     hear_about(2, TYPE_CHILDREN, "/t");
@@ -529,8 +503,7 @@ static void refuse_nodes(void)
 /* A tree that is followed no more while its nodes are read is told nothing, and what comes of it is nobody's. */
 static void unfollow_tree(void)
 {
-    open_session();
-    admit();
+    begin_session();
     EXPECT_NUMBER(DW_OK, dws_follow_tree(session, &tree, "/t", 0, take_tree));
     hear_about(1, TYPE_GET, "/t");
     hear_about(2, TYPE_CHILDREN, "/t");
@@ -562,8 +535,7 @@ static void unfollow_tree(void)
 /* Where a name makes no path no read makes the tree whole, and that is told. */
 static void find_no_path(void)
 {
-    open_session();
-    admit();
+    begin_session();
     EXPECT_NUMBER(DW_OK, dws_follow_tree(session, &tree, "/t", 0, take_tree));
     hear_about(1, TYPE_GET, "/t");
     hear_about(2, TYPE_CHILDREN, "/t");
@@ -592,13 +564,10 @@ static void see_of_crowd(dws_session *s, dws_subject *subject)
 /* Answers the next read, which is of data. */
 static void answer_next(const char *data, int64_t mzxid)
 {
-    struct bytes came;
     dw_stat stat = STAT;
     stat.mzxid = mzxid;
     hear();
-    came.length = 0;
-    add_data(&came, (int32_t)dws_read_int(out.at), 9, data, &stat);
-    answer_at_once(&came);
+    ANSWER(add_data, (int32_t)dws_read_int(out.at), 9, data, &stat);
 }
 
 /* Of many nodes that are followed, each by two, those are looked at that a step names: by a notice of its path, by what is read again, and by the answer
@@ -606,8 +575,7 @@ static void answer_next(const char *data, int64_t mzxid)
 static void name_few_of_many(void)
 {
     char path[16];
-    open_session();
-    admit();
+    begin_session();
     for (int i = 0; i < CROWD; i++) {
         snprintf(path, sizeof path, "/%d", i / 2);
         EXPECT_NUMBER(DW_OK, dws_follow(session, &crowd[i], path, see_of_crowd));
