@@ -225,25 +225,7 @@ static bool serve_request(int32_t type, const uint8_t *request)
 
 static void serve(void)
 {
-    static uint8_t in[1 << 12];
-    static size_t length;
-    static bool is_admitted;
-    int accepted = accept(listener, NULL, NULL);
-    if (accepted >= 0) {
-        close(line);
-        line = accepted;
-        length = heard = told = 0;
-        is_admitted = false;
-    }
-    ssize_t count = line >= 0 ? take(in + length, sizeof in - length) : -1;
-    length += count > 0 ? (size_t)count : 0;
-    while (line >= 0 && length >= 4 && length >= 4 + dws_read_int(in)) {
-        size_t whole = 4 + dws_read_int(in);
-        bool goes_on = serve_request(is_admitted ? (int32_t)dws_read_int(in + 8) : TYPE_CONNECT, in + 4);
-        is_admitted = true;
-        memmove(in, in + whole, length - whole);
-        length = goes_on ? length - whole : 0;
-    }
+    serve_by(serve_request);
 }
 
 static bool is_true(const void *flag)

@@ -608,43 +608,29 @@ static void name_few_of_many(void)
 static bool introduces;    /* the session has credentials */
 static bool is_introduced; /* the last connection has told credentials before all else */
 
-/* Serves what the session asks, over any number of connections, as far as it has asked. */
+static bool serve_request(int32_t type, const uint8_t *request)
+{
+    int32_t xid = (int32_t)dws_read_int(request);
+    EXPECT(type == TYPE_CONNECT || type == TYPE_AUTH || is_introduced || !introduces);
+    is_introduced = type != TYPE_CONNECT && (is_introduced || type == TYPE_AUTH);
+    switch (type) {
+    case TYPE_CONNECT: add_connected(&came); break;
+    case TYPE_GET: add_data(&came, xid, 6, "one", &STAT); break;
+    case TYPE_CHILDREN: add_no_names(&came, xid, 6, &STAT); break;
+    case TYPE_SET:
+    case TYPE_EXISTS: add_stat(&came, xid, 6, &STAT); break;
+    default: add_header(&came, xid, 6, 0); break;
+    }
+    ssize_t sent = send(line, came.at, came.length, MSG_NOSIGNAL);
+    EXPECT(sent != 0);
+    told += sent > 0 ? (size_t)sent : 0;
+    came.length = 0;
+    return true;
+}
+
 static void serve(void)
 {
-    static uint8_t in[1 << 12];
-    static size_t length;
-    static bool is_admitted;
-    int accepted = accept(listener, NULL, NULL);
-    if (accepted >= 0) {
-        close(line);
-        line = accepted;
-        length = heard = told = 0;
-        is_admitted = is_introduced = false;
-    }
-    ssize_t count = line >= 0 ? take(in + length, sizeof in - length) : -1;
-    length += count > 0 ? (size_t)count : 0;
-    while (length >= 4 && length >= 4 + dws_read_int(in)) {
-        struct bytes came;
-        size_t whole = 4 + dws_read_int(in);
-        int32_t xid = (int32_t)dws_read_int(in + 4), type = is_admitted ? (int32_t)dws_read_int(in + 8) : TYPE_CONNECT;
-        came.length = 0;
-        EXPECT(type == TYPE_CONNECT || type == TYPE_AUTH || is_introduced || !introduces);
-        is_introduced = is_introduced || type == TYPE_AUTH;
-        switch (type) {
-        case TYPE_CONNECT: add_connected(&came); break;
-        case TYPE_GET: add_data(&came, xid, 6, "one", &STAT); break;
-        case TYPE_CHILDREN: add_no_names(&came, xid, 6, &STAT); break;
-        case TYPE_SET:
-        case TYPE_EXISTS: add_stat(&came, xid, 6, &STAT); break;
-        default: add_header(&came, xid, 6, 0); break;
-        }
-        is_admitted = true;
-        memmove(in, in + whole, length - whole);
-        length -= whole;
-        ssize_t sent = send(line, came.at, came.length, MSG_NOSIGNAL);
-        EXPECT(sent != 0);
-        told += sent > 0 ? (size_t)sent : 0;
-    }
+    serve_by(serve_request);
 }
 
 /* As many paths are watched as may be. So the root of a tree is refused, which is said before the library says which node that is. */
