@@ -413,18 +413,13 @@ static inline bool dws_note_fault(dws_request *request, enum dw_result result)
  * slash, and has to be one when something stands after it. The call is about the path, or about the first one that is none. */
 static inline void dws_put_path(dws_session *s, dws_request *request, const char *path, bool is_about, bool may_be_beginning)
 {
-    dw_kept_data kept;
-    uint8_t none;
     size_t length = strlen(path);
     bool is_beginning = may_be_beginning && length > 0 && path[length - 1] == '/';
     char *whole = (char *)malloc(length + 2), *outer = NULL;
+    enum dw_result result = DW_NO_MEMORY;
     if (whole != NULL) {
         snprintf(whole, length + 2, "%s%s", path, is_beginning ? "0" : "");
-        outer = dws_outer(s, whole);
-    }
-    enum dw_result result = outer == NULL ? DW_NO_MEMORY : dws_words_of_path(whole) != NULL ? DW_NOT_PATH : DW_OK;
-    if (result == DW_OK) {
-        result = dw_session_peek_data(&s->machine, outer, strlen(outer), &kept, &none, 0);
+        result = dws_find_outer(s, whole, &outer);
     }
     if (outer != NULL) {
         outer[strlen(outer) - is_beginning] = 0;

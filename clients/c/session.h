@@ -59,8 +59,9 @@ enum {
     DWS_TIMEOUT_MS = 10000,  /* of a session, where options name none */
     DWS_CLOSE_MS = 1000,     /* the longest wait for the server's word that the session is closed */
     DWS_MOST_ASKED = 1024,   /* calls that the library has at once, as many as it sends before an answer comes; more of them wait here */
-    DWS_MOST_PIECES = 64,    /* that are read before the moment is told */
     DWS_PIECE = 65536,       /* the most bytes that are read at once */
+    DWS_LARGE_PIECE = 262144, /* the same over a connection that had more at once: a frame in one piece is copied once less */
+    DWS_MOST_READ = 4194304, /* the most bytes that are read before the moment is told */
     DWS_LONGEST_HOST = 256,  /* the most bytes of a host's name */
     DWS_LONGEST_SAVED = 256, /* the most bytes of a session that is taken up after memory ran out */
     DWS_LONGEST_LINE = 5120, /* the most bytes of a message with a path */
@@ -427,6 +428,7 @@ struct dws_session {
     uint64_t now_ms, last_ticket;
     int64_t suspended_ms, heard_suspended_ms; /* how long the system was suspended: before this wait, and before the last one that brought bytes */
     struct dws_bytes unsent;
+    uint8_t *large;                    /* room for a large piece, or NULL */
     struct dws_line queue, sent;       /* calls that are to be asked, and those that were, in the order of their tickets */
     struct dws_line answered;          /* those that this step has answered, whose callbacks come when all that it says is taken */
     dws_call close;
@@ -654,13 +656,30 @@ static inline void dws_write_code(char *room, size_t size, int32_t code, const c
     dws_write_words(room, size, reason, path, dws_advice_of_code(code));
 }
 
+/* Writes why something about a path has failed, by the `why` of a call. */
+static inline void dws_write_why(char *room, size_t size, int32_t why, const char *path)
+{
+    if (why > DWS_REFUSED) {
+        dws_write_result(room, size, (enum dw_result)(DWS_REFUSED - why), path);
+    } else if (why < 0) {
+        dws_write_code(room, size, why, path);
+    } else {
+        dws_write_outcome(room, size, (enum dw_outcome)why, path);
+    }
+}
+
 /* ---- Steps: what a step of the library's session says, and calls that are handed to it. ---- */
 
-static inline uint64_t dws_now_ms(void)
+static inline uint64_t dws_now_us(void)
 {
     struct timespec now;
     clock_gettime(CLOCK_MONOTONIC, &now);
-    return (uint64_t)now.tv_sec * 1000 + (uint64_t)now.tv_nsec / 1000000;
+    return (uint64_t)now.tv_sec * 1000000 + (uint64_t)now.tv_nsec / 1000;
+}
+
+static inline uint64_t dws_now_ms(void)
+{
+    return dws_now_us() / 1000;
 }
 
 /* The same with the time in which the system was suspended, if it has such a clock. */
@@ -714,9 +733,7 @@ static inline uint64_t dws_chance(const dws_session *s)
     if (count == (ssize_t)sizeof number) {
         return number;
     }
-    struct timespec now;
-    clock_gettime(CLOCK_MONOTONIC, &now);
-    number = (uint64_t)now.tv_nsec << 32 ^ (uint64_t)(uintptr_t)s ^ (uint64_t)getpid() << 16;
+    number = dws_now_us() << 32 ^ (uint64_t)(uintptr_t)s ^ (uint64_t)getpid() << 16;
     return number * 0x9e3779b97f4a7c15;
 }
 
@@ -1109,6 +1126,37 @@ static inline const char *dws_inner(const dws_session *s, const char *path)
         return path;
     }
     return path[length] == 0 ? "/" : path + length;
+}
+
+/* The path that the servers know, of one that the program knows. A text that is no path does not become one. */
+static inline char *dws_outer(const dws_session *s, const char *path)
+{
+    size_t root = path[0] == '/' ? strlen(s->root) : 0, length = strcmp(path, "/") == 0 && root > 0 ? 0 : strlen(path);
+    char *outer = (char *)malloc(root + length + 1);
+    if (outer != NULL) {
+        memcpy(outer, s->root, root);
+        memcpy(outer + root, path, length);
+        outer[root + length] = 0;
+    }
+    return outer;
+}
+
+/* What is kept of the data of a node, without them. It is DW_OK where the text is a path that the library takes. */
+static inline enum dw_result dws_peek(dws_session *s, const char *path, dw_kept_data *kept)
+{
+    uint8_t none;
+    return dw_session_peek_data(&s->machine, path, strlen(path), kept, &none, 0);
+}
+
+/* Has the path that the servers know written of one that the program knows, and says whether it is one. */
+static inline enum dw_result dws_find_outer(dws_session *s, const char *path, char **outer)
+{
+    dw_kept_data kept;
+    *outer = dws_outer(s, path);
+    if (*outer == NULL) {
+        return DW_NO_MEMORY;
+    }
+    return dws_words_of_path(path) != NULL ? DW_NOT_PATH : dws_peek(s, *outer, &kept);
 }
 
 /* Copies the text of an answer: the data, or the path that was made. */
@@ -1850,11 +1898,15 @@ static inline void dws_receive(dws_session *s)
     uint8_t piece[DWS_PIECE];
     uint64_t came_ms = dws_in_time(s);
     s->has_more = true;
-    for (int i = 0; i < DWS_MOST_PIECES && s->wire.socket >= 0 && s->has_more; i++) {
-        ssize_t count = dws_read(s, piece, sizeof piece);
+    for (size_t all = 0, size; all < DWS_MOST_READ && s->wire.socket >= 0 && s->has_more; all += size) {
+        uint8_t *room = s->large != NULL ? s->large : piece;
+        size = s->large != NULL ? (size_t)DWS_LARGE_PIECE : sizeof piece;
+        ssize_t count = dws_read(s, room, size);
         if (count > 0) {
-            dws_hear(s, came_ms, piece, (size_t)count);
-            s->has_more = s->options.read != NULL || count == (ssize_t)sizeof piece || s->sent.count > 0; /* else poll tells of more */
+            dws_hear(s, came_ms, room, (size_t)count);
+            bool is_full = count == (ssize_t)size;
+            s->has_more = s->options.read != NULL || is_full || s->sent.count > 0; /* else poll tells of more */
+            s->large = is_full && s->large == NULL ? (uint8_t *)malloc(DWS_LARGE_PIECE) : s->large;
         } else if (count == 0) {
             dws_cut(s, "the server has ended the connection");
         } else if (dws_is_passing(errno)) {
@@ -1940,8 +1992,7 @@ static inline enum dw_result dws_look_at_data(dws_session *s, dws_subject *subje
 static inline bool dws_look_at_node(dws_session *s, dws_subject *subject, enum dw_result *result)
 {
     dw_kept_data kept;
-    uint8_t none;
-    *result = dw_session_peek_data(&s->machine, subject->path, strlen(subject->path), &kept, &none, 0);
+    *result = dws_peek(s, subject->path, &kept);
     if (*result != DW_OK) {
         return false;
     }
@@ -1965,10 +2016,9 @@ static inline bool dws_look_at_children(dws_session *s, dws_subject *subject, en
 {
     dw_kept_names kept;
     dw_kept_data data;
-    uint8_t none;
     *result = dw_session_peek_children(&s->machine, subject->path, strlen(subject->path), &kept);
     if (*result == DW_OK) {
-        *result = dw_session_peek_data(&s->machine, subject->path, strlen(subject->path), &data, &none, 0);
+        *result = dws_peek(s, subject->path, &data);
     }
     if (*result != DW_OK) {
         return false;
@@ -2053,11 +2103,8 @@ static inline void dws_take_refusal(dws_session *s, const dw_output *refused)
     bool is_code = refused->refusal == DW_REFUSAL_CODE;
     if (subject == NULL) {
         dws_note_seen(s, refused->ticket, is_code && (dws_is_busy(why) || why == DW_CODE_NO_NODE) ? 0 : why);
-    } else if (is_code) {
-        dws_write_code(line, sizeof line, why, dws_inner(s, subject->path));
-        dws_tell(s, DWS_READ_REFUSED, line);
     } else {
-        dws_write_outcome(line, sizeof line, (enum dw_outcome)why, dws_inner(s, subject->path));
+        dws_write_why(line, sizeof line, why, dws_inner(s, subject->path));
         dws_tell(s, DWS_READ_REFUSED, line);
     }
 }
@@ -2216,23 +2263,14 @@ static inline void dws_trouble_tree(dws_session *s, dws_tree *tree, int32_t why,
 static inline void dws_tree_words(dws_session *s, const dws_tree *tree, char *room, size_t size)
 {
     const char *path = tree->trouble != NULL ? tree->trouble : tree->path;
-    const char *inner = path != NULL ? dws_inner(s, path) : "";
-    if (tree->why > DWS_REFUSED) {
-        dws_write_result(room, size, (enum dw_result)(DWS_REFUSED - tree->why), inner);
-    } else if (tree->why < 0) {
-        dws_write_code(room, size, tree->why, inner);
-    } else {
-        dws_write_outcome(room, size, (enum dw_outcome)tree->why, inner);
-    }
+    dws_write_why(room, size, tree->why, path != NULL ? dws_inner(s, path) : "");
 }
 
 /* Whether it is known that there is no root. */
 static inline bool dws_has_no_root(dws_session *s, const dws_tree *tree)
 {
     dw_kept_data kept;
-    uint8_t none;
-    enum dw_result result = dw_session_peek_data(&s->machine, tree->path, strlen(tree->path), &kept, &none, 0);
-    return result == DW_OK && kept.kind == DW_KEPT_ABSENT && kept.mark == DW_MARK_GOOD;
+    return dws_peek(s, tree->path, &kept) == DW_OK && kept.kind == DW_KEPT_ABSENT && kept.mark == DW_MARK_GOOD;
 }
 
 /* Leaves out the members that were let go, where they are the most. */
@@ -2475,8 +2513,7 @@ static inline enum dw_result dws_learn(dws_session *s, dws_tree *tree)
 /* Looks at a tree. After a look that took long, the next one waits. */
 static inline void dws_look_at_tree(dws_session *s, dws_tree *tree)
 {
-    struct timespec begun, ended;
-    clock_gettime(CLOCK_MONOTONIC, &begun);
+    uint64_t begun_us = dws_now_us();
     tree->must_look = false;
     enum dw_result result = dws_learn(s, tree);
     if (result == DW_NO_MEMORY || result == DW_CLOSED) {
@@ -2485,9 +2522,8 @@ static inline void dws_look_at_tree(dws_session *s, dws_tree *tree)
         tree->fault = result == DW_OK ? 0 : DWS_REFUSED - (int32_t)result;
         dws_weigh(s, tree);
     }
-    clock_gettime(CLOCK_MONOTONIC, &ended);
-    int64_t took_us = (int64_t)(ended.tv_sec - begun.tv_sec) * 1000000 + (ended.tv_nsec - begun.tv_nsec) / 1000;
-    tree->look_at_ms = dws_now_ms() + (uint64_t)took_us * DWS_SHARE / 1000;
+    uint64_t ended_us = dws_now_us();
+    tree->look_at_ms = (ended_us + (ended_us - begun_us) * DWS_SHARE) / 1000;
 }
 
 /* Shows a tree of which there is something to be told, where there is one. */
@@ -2536,18 +2572,10 @@ static inline uint64_t dws_first_look(dws_session *s)
     return first;
 }
 
-static inline char *dws_outer(const dws_session *s, const char *path);
-
 static inline enum dw_result dws_follow_tree(dws_session *s, dws_tree *tree, const char *path, size_t most,
                                              void (*shown)(dws_session *, dws_tree *))
 {
-    dw_kept_data kept;
-    uint8_t none;
-    tree->path = dws_outer(s, path);
-    enum dw_result result = tree->path == NULL ? DW_NO_MEMORY : dws_words_of_path(path) != NULL ? DW_NOT_PATH : DW_OK;
-    if (result == DW_OK) {
-        result = dw_session_peek_data(&s->machine, tree->path, strlen(tree->path), &kept, &none, 0);
-    }
+    enum dw_result result = dws_find_outer(s, path, &tree->path);
     if (result != DW_OK) {
         free(tree->path);
         tree->path = NULL;
@@ -2712,19 +2740,6 @@ static inline void dws_put(dws_session *s, dws_call *call)
     }
 }
 
-/* The path that the servers know, of one that the program knows. A text that is no path does not become one. */
-static inline char *dws_outer(const dws_session *s, const char *path)
-{
-    size_t root = path[0] == '/' ? strlen(s->root) : 0, length = strcmp(path, "/") == 0 && root > 0 ? 0 : strlen(path);
-    char *outer = (char *)malloc(root + length + 1);
-    if (outer != NULL) {
-        memcpy(outer, s->root, root);
-        memcpy(outer + root, path, length);
-        outer[root + length] = 0;
-    }
-    return outer;
-}
-
 /* Asks about a path, with these bytes where they are not NULL. */
 static inline dws_call *dws_ask(dws_session *s, dws_call *call, enum dws_kind kind, const char *path, const char *bytes, size_t length)
 {
@@ -2838,16 +2853,12 @@ static inline void dws_words(dws_session *s, const dws_call *call, char *room, s
     if (call->kind == DWS_RAW && call->record->write_words(call, room, size)) {
         return;
     }
-    if (call->why > DWS_REFUSED) {
-        dws_write_result(room, size, (enum dw_result)(DWS_REFUSED - call->why), path);
-    } else if (call->why == DWS_LATE || call->why == DW_OUTCOME_NOT_CONNECTED) {
+    if (call->why == DWS_LATE || call->why == DW_OUTCOME_NOT_CONNECTED) {
         dws_write_late(s, call, room, size, path);
-    } else if (call->why < 0) {
-        dws_write_code(room, size, call->why, path);
     } else if (call->why == DW_OUTCOME_EXPIRED && !s->is_over) {
         dws_write_words(room, size, dw_outcome_words(DW_OUTCOME_EXPIRED), path, "call again");
     } else {
-        dws_write_outcome(room, size, (enum dw_outcome)call->why, path);
+        dws_write_why(room, size, call->why, path);
     }
 }
 
@@ -2857,15 +2868,9 @@ static inline void dws_words(dws_session *s, const dws_call *call, char *room, s
 static inline enum dw_result dws_follow_side(dws_session *s, dws_subject *subject, const char *path, enum dw_side side,
                                              void (*changed)(dws_session *, dws_subject *))
 {
-    dw_kept_data kept;
-    uint8_t none;
-    subject->path = dws_outer(s, path);
     subject->side = side;
     subject->changed = changed;
-    enum dw_result result = subject->path == NULL ? DW_NO_MEMORY : dws_words_of_path(path) != NULL ? DW_NOT_PATH : DW_OK;
-    if (result == DW_OK) {
-        result = dw_session_peek_data(&s->machine, subject->path, strlen(subject->path), &kept, &none, 0);
-    }
+    enum dw_result result = dws_find_outer(s, path, &subject->path);
     if (result == DW_OK && !dws_reserve_chains(s)) {
         result = DW_NO_MEMORY;
     }
@@ -2969,6 +2974,7 @@ static inline void dws_free(dws_session *s)
     dws_release(&s->close);
     free(s->chains);
     free(s->unsent.at);
+    free(s->large);
     free(s->gone);
     free(s->seen);
     free(s->hosts);
