@@ -10,34 +10,34 @@ extern "C" {
 
 /* ---- How they are spelled. ---- */
 
-static inline bool dws_put_int(struct dws_bytes *bytes, int32_t number)
+static inline void dws_put_int(struct dws_bytes *bytes, int32_t number)
 {
     uint8_t spelled[4];
     dws_spell_int(spelled, (uint32_t)number);
-    return dws_put_bytes(bytes, spelled, sizeof spelled);
+    dws_put_bytes(bytes, spelled, sizeof spelled);
 }
 
-static inline bool dws_put_long(struct dws_bytes *bytes, int64_t number)
+static inline void dws_put_long(struct dws_bytes *bytes, int64_t number)
 {
-    return dws_put_int(bytes, (int32_t)((uint64_t)number >> 32)) && dws_put_int(bytes, (int32_t)(uint32_t)number);
+    dws_put_int(bytes, (int32_t)((uint64_t)number >> 32));
+    dws_put_int(bytes, (int32_t)(uint32_t)number);
 }
 
-static inline bool dws_put_bool(struct dws_bytes *bytes, bool is_so)
+static inline void dws_put_bool(struct dws_bytes *bytes, bool is_so)
 {
-    uint8_t spelled = is_so;
-    return dws_put_bytes(bytes, &spelled, 1);
+    dws_put_bytes(bytes, is_so ? "\1" : "\0", 1);
 }
 
 /* A buffer: NULL is null. One that is too long for a frame is refused with the frame. */
-static inline bool dws_put_buffer(struct dws_bytes *bytes, const void *buffer, size_t length)
+static inline void dws_put_buffer(struct dws_bytes *bytes, const void *buffer, size_t length)
 {
-    int32_t spelled = buffer == NULL ? -1 : length < INT32_MAX ? (int32_t)length : INT32_MAX;
-    return dws_put_int(bytes, spelled) && dws_put_bytes(bytes, buffer, buffer == NULL ? 0 : length);
+    dws_put_int(bytes, buffer == NULL ? -1 : (int32_t)dws_least(length, INT32_MAX));
+    dws_put_bytes(bytes, buffer, buffer == NULL ? 0 : length);
 }
 
-static inline bool dws_put_text(struct dws_bytes *bytes, const char *text)
+static inline void dws_put_text(struct dws_bytes *bytes, const char *text)
 {
-    return dws_put_buffer(bytes, text, strlen(text));
+    dws_put_buffer(bytes, text, strlen(text));
 }
 
 /* ---- How they are read, in the place where a reply is kept. ---- */

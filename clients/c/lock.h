@@ -249,18 +249,13 @@ static inline bool dws_lock_keep(dws_lock *lock, const dws_call *listed)
 {
     struct dws_bytes *names = &lock->listing;
     names->length = 0;
+    names->is_short = false;
     for (size_t i = 0; i < listed->count; i++) {
-        size_t length = strlen(listed->names[i]);
-        if (!dws_reserve_bytes(names, names->length + 4 + length)) {
-            return false;
-        }
-        dws_spell_int(names->at + names->length, (uint32_t)length);
-        memcpy(names->at + names->length + 4, listed->names[i], length);
-        names->length += 4 + length;
+        dws_put_text(names, listed->names[i]);
     }
     lock->listed = listed->zxid;
     lock->is_listed = true;
-    return true;
+    return !names->is_short;
 }
 
 /* ---- Places: how they are made, found and deleted. ---- */

@@ -160,27 +160,31 @@ enum {
 
 /* ---- How a record is spelled. ---- */
 
-static inline bool dws_put_acls(struct dws_bytes *bytes, const dws_acl *acls, size_t count)
+/* What follows the path of a node that is to be made, or whose ACL is to be set. */
+static inline void dws_put_acls(struct dws_bytes *bytes, const dws_acl *acls, size_t count)
 {
-    bool is_put = dws_put_int(bytes, (int32_t)count);
-    for (size_t i = 0; i < count && is_put; i++) {
-        is_put = dws_put_int(bytes, acls[i].permissions) && dws_put_text(bytes, acls[i].scheme) && dws_put_text(bytes, acls[i].id);
+    dws_put_int(bytes, (int32_t)count);
+    for (size_t i = 0; i < count; i++) {
+        dws_put_int(bytes, acls[i].permissions);
+        dws_put_text(bytes, acls[i].scheme);
+        dws_put_text(bytes, acls[i].id);
     }
-    return is_put;
 }
 
-/* What follows the path of a node that is to be made. */
-static inline bool dws_put_creation(struct dws_bytes *bytes, const char *data, size_t length, int flags, const dws_acl *acls, size_t count)
+static inline void dws_put_creation(struct dws_bytes *bytes, const char *data, size_t length, int flags, const dws_acl *acls, size_t count)
 {
     static const dws_acl open = {DWS_MAY_ALL, "world", "anyone"};
-    return dws_put_buffer(bytes, data, length) && dws_put_acls(bytes, acls != NULL ? acls : &open, acls != NULL ? count : 1)
-           && dws_put_int(bytes, flags);
+    dws_put_buffer(bytes, data, length);
+    dws_put_acls(bytes, acls != NULL ? acls : &open, acls != NULL ? count : 1);
+    dws_put_int(bytes, flags);
 }
 
 /* MultiHeader. */
-static inline bool dws_put_operation(struct dws_bytes *bytes, int32_t type, bool is_end)
+static inline void dws_put_operation(struct dws_bytes *bytes, int32_t type, bool is_end)
 {
-    return dws_put_int(bytes, type) && dws_put_bool(bytes, is_end) && dws_put_int(bytes, -1);
+    dws_put_int(bytes, type);
+    dws_put_bool(bytes, is_end);
+    dws_put_int(bytes, -1);
 }
 
 /* ---- How a reply is read, in the place where it is kept. ---- */
@@ -189,7 +193,7 @@ static inline bool dws_put_operation(struct dws_bytes *bytes, int32_t type, bool
 static inline bool dws_take_names(struct dws_cursor *cursor, dws_call *call)
 {
     size_t count = dws_take_count(cursor, 4);
-    if (!dws_reserve_names(&call->names, &call->names_room, (call->count + count) * sizeof(char *))) {
+    if (!dws_reserve(&call->names, &call->names_room, (call->count + count) * sizeof(char *))) {
         return false;
     }
     for (size_t i = 0; i < count; i++) {
@@ -390,20 +394,11 @@ static inline void dws_forget_question(dws_request *request)
     }
     request->change_count = request->acl_count = request->id_count = request->read_count = request->refused = 0;
     request->call.body.length = 0;
+    request->call.body.is_short = false;
     request->fault = 0;
     request->is_committed = false;
     free(request->call.path);
     request->call.path = NULL;
-}
-
-/* A copy of a text, or NULL where there is no memory. */
-static inline char *dws_copy_of(const char *text)
-{
-    char *copy = (char *)malloc(strlen(text) + 1);
-    if (copy != NULL) {
-        strcpy(copy, text);
-    }
-    return copy;
 }
 
 /* The first fault of a question counts. Whether it was this one. */
@@ -418,24 +413,19 @@ static inline bool dws_note_fault(dws_request *request, enum dw_result result)
  * slash, and has to be one when something stands after it. The call is about the path, or about the first one that is none. */
 static inline void dws_put_path(dws_session *s, dws_request *request, const char *path, bool is_about, bool may_be_beginning)
 {
-    dw_kept_data kept;
-    uint8_t none;
     size_t length = strlen(path);
     bool is_beginning = may_be_beginning && length > 0 && path[length - 1] == '/';
     char *whole = (char *)malloc(length + 2), *outer = NULL;
+    enum dw_result result = DW_NO_MEMORY;
     if (whole != NULL) {
         snprintf(whole, length + 2, "%s%s", path, is_beginning ? "0" : "");
-        outer = dws_outer(s, whole);
-    }
-    enum dw_result result = outer == NULL ? DW_NO_MEMORY : dws_words_of_path(whole) != NULL ? DW_NOT_PATH : DW_OK;
-    if (result == DW_OK) {
-        result = dw_session_peek_data(&s->machine, outer, strlen(outer), &kept, &none, 0);
+        result = dws_find_outer(s, whole, &outer);
     }
     if (outer != NULL) {
         outer[strlen(outer) - is_beginning] = 0;
     }
-    if (result == DW_OK && !dws_put_text(&request->call.body, outer)) {
-        result = DW_NO_MEMORY;
+    if (result == DW_OK) {
+        dws_put_text(&request->call.body, outer);
     }
     bool is_first_fault = result != DW_OK && dws_note_fault(request, result);
     if (is_about || is_first_fault) {
@@ -458,9 +448,9 @@ static inline void dws_begin_question(dws_request *request, int32_t operation)
 }
 
 /* Asks a question whose body is spelled, unless it has a fault. */
-static inline dws_call *dws_ask_question(dws_session *s, dws_request *request, bool is_put)
+static inline dws_call *dws_ask_question(dws_session *s, dws_request *request)
 {
-    if (!is_put) {
+    if (request->call.body.is_short) {
         dws_note_fault(request, DW_NO_MEMORY);
     }
     if (request->fault != 0) {
@@ -471,29 +461,32 @@ static inline dws_call *dws_ask_question(dws_session *s, dws_request *request, b
     return &request->call;
 }
 
-/* Begins a question about a path. */
-static inline void dws_begin_about(dws_session *s, dws_request *request, int32_t operation, const char *path)
+/* Begins a question about a path, and gives the body that may go on after it. */
+static inline struct dws_bytes *dws_begin_about(dws_session *s, dws_request *request, int32_t operation, const char *path)
 {
     dws_begin_question(request, operation);
     dws_put_path(s, request, path, true, false);
+    return &request->call.body;
 }
 
 static inline dws_call *dws_sync(dws_session *s, dws_request *request, const char *path)
 {
     dws_begin_about(s, request, DW_OPERATION_SYNC, path);
-    return dws_ask_question(s, request, true);
+    return dws_ask_question(s, request);
 }
 
 static inline dws_call *dws_get_acl(dws_session *s, dws_request *request, const char *path)
 {
     dws_begin_about(s, request, DW_OPERATION_GET_ACL, path);
-    return dws_ask_question(s, request, true);
+    return dws_ask_question(s, request);
 }
 
 static inline dws_call *dws_set_acl(dws_session *s, dws_request *request, const char *path, const dws_acl *acls, size_t count, int32_t version)
 {
-    dws_begin_about(s, request, DW_OPERATION_SET_ACL, path);
-    return dws_ask_question(s, request, dws_put_acls(&request->call.body, acls, count) && dws_put_int(&request->call.body, version));
+    struct dws_bytes *body = dws_begin_about(s, request, DW_OPERATION_SET_ACL, path);
+    dws_put_acls(body, acls, count);
+    dws_put_int(body, version);
+    return dws_ask_question(s, request);
 }
 
 /* Adds the path of a node that is to be made in this mode. */
@@ -510,7 +503,8 @@ static inline dws_call *dws_create2(dws_session *s, dws_request *request, const 
 {
     dws_begin_question(request, DW_OPERATION_CREATE2);
     dws_put_made(s, request, path, true, mode);
-    return dws_ask_question(s, request, dws_put_creation(&request->call.body, bytes, length, mode, acls, count));
+    dws_put_creation(&request->call.body, bytes, length, mode, acls, count);
+    return dws_ask_question(s, request);
 }
 
 static inline dws_call *dws_create_with_acl(dws_session *s, dws_request *request, const char *path, const char *bytes, size_t length, int mode,
@@ -522,8 +516,8 @@ static inline dws_call *dws_create_with_acl(dws_session *s, dws_request *request
 static inline dws_call *dws_create_container(dws_session *s, dws_request *request, const char *path, const char *bytes, size_t length,
                                              const dws_acl *acls, size_t count)
 {
-    dws_begin_about(s, request, DW_OPERATION_CREATE_CONTAINER, path);
-    return dws_ask_question(s, request, dws_put_creation(&request->call.body, bytes, length, DWS_FLAG_CONTAINER, acls, count));
+    dws_put_creation(dws_begin_about(s, request, DW_OPERATION_CREATE_CONTAINER, path), bytes, length, DWS_FLAG_CONTAINER, acls, count);
+    return dws_ask_question(s, request);
 }
 
 static inline dws_call *dws_create_with_ttl(dws_session *s, dws_request *request, const char *path, const char *bytes, size_t length, int mode,
@@ -535,41 +529,44 @@ static inline dws_call *dws_create_with_ttl(dws_session *s, dws_request *request
     if ((mode & DW_MODE_EPHEMERAL) != 0) {
         dws_note_fault(request, DW_NO_SUCH_MODE);
     }
-    bool is_put = dws_put_creation(&request->call.body, bytes, length, flags, acls, count);
-    return dws_ask_question(s, request, is_put && dws_put_long(&request->call.body, ttl_ms));
+    dws_put_creation(&request->call.body, bytes, length, flags, acls, count);
+    dws_put_long(&request->call.body, ttl_ms);
+    return dws_ask_question(s, request);
 }
 
 static inline dws_call *dws_multi_read(dws_session *s, dws_request *request, dws_node_read *reads, size_t count)
 {
-    bool is_put = true;
+    struct dws_bytes *body = &request->call.body;
     dws_begin_question(request, DW_OPERATION_MULTI_READ);
     request->reads = reads;
     request->read_count = count;
-    for (size_t i = 0; i < count && is_put; i++) {
-        is_put = dws_put_operation(&request->call.body, reads[i].side == DW_SIDE_DATA ? DWS_TYPE_GET_DATA : DWS_TYPE_GET_CHILDREN, false);
+    for (size_t i = 0; i < count; i++) {
+        dws_put_operation(body, reads[i].side == DW_SIDE_DATA ? DWS_TYPE_GET_DATA : DWS_TYPE_GET_CHILDREN, false);
         dws_put_path(s, request, reads[i].path, false, false);
-        is_put = is_put && dws_put_bool(&request->call.body, false);
+        dws_put_bool(body, false);
     }
-    return dws_ask_question(s, request, is_put && dws_put_operation(&request->call.body, DWS_END_OF_MULTI, true));
+    dws_put_operation(body, DWS_END_OF_MULTI, true);
+    return dws_ask_question(s, request);
 }
 
 static inline dws_call *dws_get_ephemerals(dws_session *s, dws_request *request, const char *prefix)
 {
     dws_begin_question(request, DW_OPERATION_GET_EPHEMERALS);
     dws_put_path(s, request, prefix, true, true);
-    return dws_ask_question(s, request, true);
+    return dws_ask_question(s, request);
 }
 
 static inline dws_call *dws_get_all_children_number(dws_session *s, dws_request *request, const char *path)
 {
     dws_begin_about(s, request, DW_OPERATION_GET_ALL_CHILDREN_NUMBER, path);
-    return dws_ask_question(s, request, true);
+    return dws_ask_question(s, request);
 }
 
 static inline dws_call *dws_who_am_i(dws_session *s, dws_request *request)
 {
     dws_begin_question(request, DW_OPERATION_WHO_AM_I);
-    return dws_ask_question(s, request, dws_put_bytes(&request->call.body, "", 0));
+    dws_put_bytes(&request->call.body, "", 0);
+    return dws_ask_question(s, request);
 }
 
 static inline dws_call *dws_add_auth(dws_session *s, dws_request *request, const char *scheme, const char *bytes, size_t length)
@@ -584,66 +581,64 @@ static inline dws_call *dws_add_auth(dws_session *s, dws_request *request, const
     return call;
 }
 
-/* Begins an operation of a transaction: its header and its path. */
-static inline void dws_begin_operation(dws_session *s, dws_request *request, enum dws_operation operation, const char *path, int mode)
+/* Begins the next transaction where the last one was committed, or there is none. */
+static inline void dws_begin_transaction(dws_request *request)
 {
     if (request->call.number != DW_OPERATION_MULTI || request->is_committed) {
         dws_begin_question(request, DW_OPERATION_MULTI);
     }
-    bool is_there = dws_reserve(&request->entries, &request->entries_room, (request->change_count + 1) * sizeof *request->changes);
-    request->changes = (dws_change *)request->entries;
+}
+
+/* Begins an operation of a transaction, its header and its path, and gives the body that goes on after it. */
+static inline struct dws_bytes *dws_begin_operation(dws_session *s, dws_request *request, enum dws_operation operation, const char *path, int mode)
+{
+    dws_begin_transaction(request);
     char *asked = dws_copy_of(path);
-    if (!is_there || asked == NULL || !dws_put_operation(&request->call.body, (int32_t)operation, false)) {
+    size_t count = request->change_count + 1;
+    if (asked == NULL || !dws_reserve(&request->entries, &request->entries_room, count * sizeof *request->changes)) {
         free(asked);
         dws_note_fault(request, DW_NO_MEMORY);
-        return;
+        return &request->call.body;
     }
+    request->changes = (dws_change *)request->entries;
     dws_change *change = &request->changes[request->change_count++];
     memset(change, 0, sizeof *change);
     change->operation = operation;
     change->path = change->asked = asked;
+    dws_put_operation(&request->call.body, (int32_t)operation, false);
     dws_put_made(s, request, path, false, mode);
-}
-
-static inline void dws_end_operation(dws_request *request, bool is_put)
-{
-    if (!is_put) {
-        dws_note_fault(request, DW_NO_MEMORY);
-    }
+    return &request->call.body;
 }
 
 static inline void dws_transaction_check(dws_session *s, dws_request *request, const char *path, int32_t version)
 {
-    dws_begin_operation(s, request, DWS_OF_CHECK, path, DW_MODE_PERSISTENT);
-    dws_end_operation(request, dws_put_int(&request->call.body, version));
+    dws_put_int(dws_begin_operation(s, request, DWS_OF_CHECK, path, DW_MODE_PERSISTENT), version);
 }
 
 static inline void dws_transaction_set(dws_session *s, dws_request *request, const char *path, const char *bytes, size_t length, int32_t version)
 {
-    dws_begin_operation(s, request, DWS_OF_SET, path, DW_MODE_PERSISTENT);
-    dws_end_operation(request, dws_put_buffer(&request->call.body, bytes, length) && dws_put_int(&request->call.body, version));
+    struct dws_bytes *body = dws_begin_operation(s, request, DWS_OF_SET, path, DW_MODE_PERSISTENT);
+    dws_put_buffer(body, bytes, length);
+    dws_put_int(body, version);
 }
 
 static inline void dws_transaction_create(dws_session *s, dws_request *request, const char *path, const char *bytes, size_t length, int mode,
                                           const dws_acl *acls, size_t count)
 {
-    dws_begin_operation(s, request, DWS_OF_CREATE, path, mode);
-    dws_end_operation(request, dws_put_creation(&request->call.body, bytes, length, mode, acls, count));
+    dws_put_creation(dws_begin_operation(s, request, DWS_OF_CREATE, path, mode), bytes, length, mode, acls, count);
 }
 
 static inline void dws_transaction_delete(dws_session *s, dws_request *request, const char *path, int32_t version)
 {
-    dws_begin_operation(s, request, DWS_OF_DELETE, path, DW_MODE_PERSISTENT);
-    dws_end_operation(request, dws_put_int(&request->call.body, version));
+    dws_put_int(dws_begin_operation(s, request, DWS_OF_DELETE, path, DW_MODE_PERSISTENT), version);
 }
 
 static inline dws_call *dws_commit(dws_session *s, dws_request *request)
 {
-    if (request->call.number != DW_OPERATION_MULTI || request->is_committed) {
-        dws_begin_question(request, DW_OPERATION_MULTI);
-    }
+    dws_begin_transaction(request);
     request->is_committed = true;
-    return dws_ask_question(s, request, dws_put_operation(&request->call.body, DWS_END_OF_MULTI, true));
+    dws_put_operation(&request->call.body, DWS_END_OF_MULTI, true);
+    return dws_ask_question(s, request);
 }
 
 static inline void dws_request_release(dws_request *request)

@@ -59,8 +59,9 @@ enum {
     DWS_TIMEOUT_MS = 10000,  /* of a session, where options name none */
     DWS_CLOSE_MS = 1000,     /* the longest wait for the server's word that the session is closed */
     DWS_MOST_ASKED = 1024,   /* calls that the library has at once, as many as it sends before an answer comes; more of them wait here */
-    DWS_MOST_PIECES = 64,    /* that are read before the moment is told */
     DWS_PIECE = 65536,       /* the most bytes that are read at once */
+    DWS_LARGE_PIECE = 262144, /* the same over a connection that had more at once: a frame in one piece is copied once less */
+    DWS_MOST_READ = 4194304, /* the most bytes that are read before the moment is told */
     DWS_LONGEST_HOST = 256,  /* the most bytes of a host's name */
     DWS_LONGEST_SAVED = 256, /* the most bytes of a session that is taken up after memory ran out */
     DWS_LONGEST_LINE = 5120, /* the most bytes of a message with a path */
@@ -119,6 +120,7 @@ enum dws_kind { DWS_EXISTS, DWS_GET, DWS_CHILDREN, DWS_SET, DWS_CREATE, DWS_DELE
 struct dws_bytes {
     uint8_t *at;
     size_t length, room;
+    bool is_short; /* there was no memory for some that were to be added */
 };
 
 /* A question, and its answer. */
@@ -164,9 +166,11 @@ struct dws_subject {
     enum dw_side side;
     char *path;
     size_t room, names_room;
-    uint64_t ticket; /* 0 until the library follows it */
+    uint64_t keys[2];        /* a number of its path, and its ticket, which is 0 until the library follows it */
+    dws_subject *chained[2]; /* the next one with a like number, and with a like ticket */
     bool is_changed;
-    dws_subject *next;
+    struct dws_subjects *list; /* in which it is, between the next one and what leads to it */
+    dws_subject *next, **back;
 };
 
 /* A node of a tree. Both texts have a 0 after them. */
@@ -365,6 +369,17 @@ struct dws_line {
     size_t count;
 };
 
+/* How subjects are found. */
+enum { DWS_BY_PATH, DWS_BY_TICKET };
+
+/* Subjects that the library is to follow, that a step has named, that are to be shown, and all others. */
+enum { DWS_NEW, DWS_NAMED, DWS_CHANGED, DWS_RESTING, DWS_LISTS };
+
+/* Subjects, in the order in which they came here. */
+struct dws_subjects {
+    dws_subject *first, **last;
+};
+
 /* A subject or a tree that the library is to follow no more. */
 struct dws_gone {
     uint64_t ticket;
@@ -404,9 +419,8 @@ struct dws_session {
     short read_wants, write_wants;     /* what poll is to wait for besides, to read and to write */
     bool is_dial_due, is_connecting, is_expired, is_closing, is_over, is_resumed;
     bool has_more, has_news;           /* bytes that poll does not tell of, and something that a program may wait for */
-    bool must_look, must_follow;       /* marks may be others; subjects are new or gone */
-    bool must_introduce;               /* credentials are new */
-    bool must_show, is_acting;         /* subjects have changed; what a step says is being taken */
+    bool must_follow, must_introduce;  /* subjects or trees are new or gone; credentials are new */
+    bool is_acting;                    /* what a step says is being taken */
     bool is_unread;                    /* a reply does not read */
     bool is_moment;                    /* what the library says is due, and no word of the server's */
     bool is_due_known;                 /* no step was made since the library was asked when something is due */
@@ -414,11 +428,14 @@ struct dws_session {
     uint64_t now_ms, last_ticket;
     int64_t suspended_ms, heard_suspended_ms; /* how long the system was suspended: before this wait, and before the last one that brought bytes */
     struct dws_bytes unsent;
+    uint8_t *large;                    /* room for a large piece, or NULL */
     struct dws_line queue, sent;       /* calls that are to be asked, and those that were, in the order of their tickets */
     struct dws_line answered;          /* those that this step has answered, whose callbacks come when all that it says is taken */
     dws_call close;
     struct dws_errand *errands;
-    dws_subject *subjects;
+    struct dws_subjects subjects[DWS_LISTS];
+    dws_subject **chains;              /* of subjects, by their paths, and then as many by their tickets */
+    size_t chain_count, subject_count;
     dws_tree *trees;
     struct dws_gone *gone;
     struct dws_seen *seen;             /* at this step, where there are trees */
@@ -639,13 +656,30 @@ static inline void dws_write_code(char *room, size_t size, int32_t code, const c
     dws_write_words(room, size, reason, path, dws_advice_of_code(code));
 }
 
+/* Writes why something about a path has failed, by the `why` of a call. */
+static inline void dws_write_why(char *room, size_t size, int32_t why, const char *path)
+{
+    if (why > DWS_REFUSED) {
+        dws_write_result(room, size, (enum dw_result)(DWS_REFUSED - why), path);
+    } else if (why < 0) {
+        dws_write_code(room, size, why, path);
+    } else {
+        dws_write_outcome(room, size, (enum dw_outcome)why, path);
+    }
+}
+
 /* ---- Steps: what a step of the library's session says, and calls that are handed to it. ---- */
 
-static inline uint64_t dws_now_ms(void)
+static inline uint64_t dws_now_us(void)
 {
     struct timespec now;
     clock_gettime(CLOCK_MONOTONIC, &now);
-    return (uint64_t)now.tv_sec * 1000 + (uint64_t)now.tv_nsec / 1000000;
+    return (uint64_t)now.tv_sec * 1000000 + (uint64_t)now.tv_nsec / 1000;
+}
+
+static inline uint64_t dws_now_ms(void)
+{
+    return dws_now_us() / 1000;
 }
 
 /* The same with the time in which the system was suspended, if it has such a clock. */
@@ -699,60 +733,170 @@ static inline uint64_t dws_chance(const dws_session *s)
     if (count == (ssize_t)sizeof number) {
         return number;
     }
-    struct timespec now;
-    clock_gettime(CLOCK_MONOTONIC, &now);
-    number = (uint64_t)now.tv_nsec << 32 ^ (uint64_t)(uintptr_t)s ^ (uint64_t)getpid() << 16;
+    number = dws_now_us() << 32 ^ (uint64_t)(uintptr_t)s ^ (uint64_t)getpid() << 16;
     return number * 0x9e3779b97f4a7c15;
 }
 
-/* Makes room for this many bytes in all. */
-static inline bool dws_reserve(void **block, size_t *room, size_t wanted)
+/* Makes room for this many bytes in all in the block to which the pointer at this place leads, of whatever type. */
+static inline bool dws_reserve(void *place, size_t *room, size_t wanted)
 {
+    void *block;
     if (wanted <= *room) {
         return true;
     }
-    void *grown = realloc(*block, wanted < 2 * *room ? 2 * *room : wanted);
-    if (grown == NULL) {
+    wanted = (size_t)dws_most(wanted, 2 * *room);
+    memcpy(&block, place, sizeof block);
+    block = realloc(block, wanted);
+    if (block == NULL) {
         return false;
     }
-    *block = grown;
-    *room = wanted < 2 * *room ? 2 * *room : wanted;
+    memcpy(place, &block, sizeof block);
+    *room = wanted;
     return true;
 }
 
-static inline bool dws_reserve_bytes(struct dws_bytes *bytes, size_t wanted)
+/* A copy of a text, or NULL where there is no memory. */
+static inline char *dws_copy_of(const char *text)
 {
-    void *block = bytes->at;
-    bool is_there = dws_reserve(&block, &bytes->room, wanted);
-    bytes->at = (uint8_t *)block;
-    return is_there;
+    size_t size = strlen(text) + 1;
+    char *copy = (char *)malloc(size);
+    if (copy != NULL) {
+        memcpy(copy, text, size);
+    }
+    return copy;
 }
 
 /* Adds bytes, and has room for one more, so that there is a block where there are none. Whether there was memory for them. */
 static inline bool dws_put_bytes(struct dws_bytes *bytes, const void *added, size_t length)
 {
-    bool is_there = dws_reserve_bytes(bytes, bytes->length + length + 1);
+    bool is_there = dws_reserve(&bytes->at, &bytes->room, bytes->length + length + 1);
     if (is_there && length > 0) {
         memcpy(bytes->at + bytes->length, added, length);
         bytes->length += length;
     }
+    bytes->is_short = bytes->is_short || !is_there;
     return is_there;
 }
 
-static inline bool dws_reserve_text(char **text, size_t *room, size_t wanted)
+/* ---- Subjects: how they are kept and found. ---- */
+
+/* Takes a subject out of its list, if it is in one. */
+static inline void dws_take_out(dws_subject *one)
 {
-    void *block = *text;
-    bool is_there = dws_reserve(&block, room, wanted);
-    *text = (char *)block;
-    return is_there;
+    if (one->list != NULL) {
+        *(one->next != NULL ? &one->next->back : &one->list->last) = one->back;
+        *one->back = one->next;
+        one->list = NULL;
+    }
 }
 
-static inline bool dws_reserve_names(char ***names, size_t *room, size_t wanted)
+/* Puts a subject at the end of a list. */
+static inline void dws_move(dws_session *s, dws_subject *one, int list)
 {
-    void *block = *names;
-    bool is_there = dws_reserve(&block, room, wanted);
-    *names = (char **)block;
-    return is_there;
+    struct dws_subjects *to = &s->subjects[list];
+    dws_take_out(one);
+    one->list = to;
+    one->next = NULL;
+    one->back = to->last;
+    *to->last = one;
+    to->last = &one->next;
+}
+
+/* The subject after this one in all lists, or the first one after NULL. */
+static inline dws_subject *dws_next_subject(const dws_session *s, const dws_subject *before)
+{
+    dws_subject *next = before != NULL ? before->next : NULL;
+    for (const struct dws_subjects *list = before != NULL ? before->list + 1 : s->subjects; next == NULL && list < s->subjects + DWS_LISTS; list++) {
+        next = list->first;
+    }
+    return next;
+}
+
+/* Where the chain of subjects begins that have keys like this one. */
+static inline dws_subject **dws_chain_of(const dws_session *s, int by, uint64_t key)
+{
+    return &s->chains[(size_t)by * s->chain_count + (key & (s->chain_count - 1))];
+}
+
+static inline void dws_chain(dws_session *s, dws_subject *one, int by)
+{
+    dws_subject **chain = dws_chain_of(s, by, one->keys[by]);
+    one->chained[by] = *chain;
+    *chain = one;
+}
+
+static inline void dws_unchain(dws_session *s, dws_subject *one, int by)
+{
+    dws_subject **at = dws_chain_of(s, by, one->keys[by]);
+    while (*at != one) {
+        at = &(*at)->chained[by];
+    }
+    *at = one->chained[by];
+}
+
+/* The subject of this key after this one, or the first one after NULL. */
+static inline dws_subject *dws_find_subject(const dws_session *s, int by, uint64_t key, const dws_subject *before)
+{
+    dws_subject *one = before != NULL ? before->chained[by] : s->chain_count > 0 ? *dws_chain_of(s, by, key) : NULL;
+    while (one != NULL && one->keys[by] != key) {
+        one = one->chained[by];
+    }
+    return one;
+}
+
+/* Makes room for the chains of one more subject, so that they are short. */
+static inline bool dws_reserve_chains(dws_session *s)
+{
+    size_t count = s->chain_count > 0 ? 2 * s->chain_count : 16;
+    if (s->subject_count < s->chain_count) {
+        return true;
+    }
+    dws_subject **made = (dws_subject **)calloc(2 * count, sizeof *made);
+    if (made == NULL) {
+        return false;
+    }
+    free(s->chains);
+    s->chains = made;
+    s->chain_count = count;
+    for (dws_subject *one = dws_next_subject(s, NULL); one != NULL; one = dws_next_subject(s, one)) {
+        dws_chain(s, one, DWS_BY_PATH);
+        if (one->keys[DWS_BY_TICKET] != 0) {
+            dws_chain(s, one, DWS_BY_TICKET);
+        }
+    }
+    return true;
+}
+
+/* A number of a path, which few others have. */
+static inline uint64_t dws_number_of_path(const char *path)
+{
+    uint64_t number = 0xcbf29ce484222325;
+    for (; *path != 0; path++) {
+        number = (number ^ (unsigned char)*path) * 0x100000001b3;
+    }
+    return number;
+}
+
+/* Names the subjects of a path: what is kept of them may be another thing. The library is asked first for those that it does not follow yet. */
+static inline void dws_name_path(dws_session *s, const char *path)
+{
+    uint64_t key = s->subject_count > 0 ? dws_number_of_path(path) : 0;
+    for (dws_subject *one = NULL; s->subject_count > 0 && (one = dws_find_subject(s, DWS_BY_PATH, key, one)) != NULL;) {
+        if (one->keys[DWS_BY_TICKET] != 0) {
+            dws_move(s, one, DWS_NAMED);
+        }
+    }
+}
+
+/* Names all subjects that the library follows. */
+static inline void dws_name_all(dws_session *s)
+{
+    for (dws_subject *one = dws_next_subject(s, NULL), *next; one != NULL; one = next) {
+        next = dws_next_subject(s, one);
+        if (one->list > &s->subjects[DWS_NAMED]) {
+            dws_move(s, one, DWS_NAMED);
+        }
+    }
 }
 
 static inline void dws_mark(dws_session *s);
@@ -776,11 +920,9 @@ static inline void dws_wipe(void *at, size_t length)
     }
 }
 
-/* Events are few: before each one all marks are looked at. */
 static inline void dws_tell(dws_session *s, enum dws_event event, const char *words)
 {
     if (s->options.told != NULL) {
-        s->must_look = true;
         dws_mark(s);
         s->options.told(s, event, s->server, words);
     }
@@ -950,11 +1092,11 @@ static inline void dws_hang_up(dws_session *s)
 /* Makes room for so much that is to be written. What has become too small is overwritten: there may be credentials in it. */
 static inline bool dws_reserve_unsent(struct dws_bytes *unsent, size_t wanted)
 {
-    struct dws_bytes grown = {NULL, 0, 0};
+    struct dws_bytes grown = {NULL, 0, 0, false};
     if (wanted <= unsent->room) {
         return true;
     }
-    if (!dws_reserve_bytes(&grown, 2 * wanted) || !dws_put_bytes(&grown, unsent->at, unsent->length)) {
+    if (!dws_reserve(&grown.at, &grown.room, 2 * wanted) || !dws_put_bytes(&grown, unsent->at, unsent->length)) {
         return false;
     }
     dws_wipe(unsent->at, unsent->length);
@@ -986,10 +1128,41 @@ static inline const char *dws_inner(const dws_session *s, const char *path)
     return path[length] == 0 ? "/" : path + length;
 }
 
+/* The path that the servers know, of one that the program knows. A text that is no path does not become one. */
+static inline char *dws_outer(const dws_session *s, const char *path)
+{
+    size_t root = path[0] == '/' ? strlen(s->root) : 0, length = strcmp(path, "/") == 0 && root > 0 ? 0 : strlen(path);
+    char *outer = (char *)malloc(root + length + 1);
+    if (outer != NULL) {
+        memcpy(outer, s->root, root);
+        memcpy(outer + root, path, length);
+        outer[root + length] = 0;
+    }
+    return outer;
+}
+
+/* What is kept of the data of a node, without them. It is DW_OK where the text is a path that the library takes. */
+static inline enum dw_result dws_peek(dws_session *s, const char *path, dw_kept_data *kept)
+{
+    uint8_t none;
+    return dw_session_peek_data(&s->machine, path, strlen(path), kept, &none, 0);
+}
+
+/* Has the path that the servers know written of one that the program knows, and says whether it is one. */
+static inline enum dw_result dws_find_outer(dws_session *s, const char *path, char **outer)
+{
+    dw_kept_data kept;
+    *outer = dws_outer(s, path);
+    if (*outer == NULL) {
+        return DW_NO_MEMORY;
+    }
+    return dws_words_of_path(path) != NULL ? DW_NOT_PATH : dws_peek(s, *outer, &kept);
+}
+
 /* Copies the text of an answer: the data, or the path that was made. */
 static inline bool dws_keep_text(dws_session *s, dws_call *call, const dw_output *answer)
 {
-    if (!dws_reserve_text(&call->text, &call->room, answer->length + 1)) {
+    if (!dws_reserve(&call->text, &call->room, answer->length + 1)) {
         return false;
     }
     dw_session_copy(&s->machine, 0, call->text, answer->length);
@@ -1018,7 +1191,7 @@ static inline size_t dws_measure_names(dws_session *s, size_t count)
 static inline bool dws_keep_names(dws_session *s, dws_call *call, size_t count)
 {
     size_t total = dws_measure_names(s, count), table = count * sizeof(char *);
-    if (!dws_reserve_names(&call->names, &call->names_room, table + total + 1)) {
+    if (!dws_reserve(&call->names, &call->names_room, table + total + 1)) {
         return false;
     }
     char *at = (char *)call->names + table, *end = at + total;
@@ -1054,6 +1227,9 @@ static inline void dws_take_answer(dws_session *s, const dw_output *answer)
     bool is_raw = is_reply && answer->reply == DW_REPLY_RAW;
     call->zxid = answer->zxid;
     call->stat = answer->stat;
+    if (call->watch && call->path != NULL) {
+        dws_name_path(s, call->path);
+    }
     if (is_raw || (is_reply && (answer->reply == DW_REPLY_DATA || answer->reply == DW_REPLY_CREATED))) {
         is_kept = dws_keep_text(s, call, answer);
     } else if (is_reply && answer->reply == DW_REPLY_NAMES) {
@@ -1099,7 +1275,8 @@ static inline void dws_take_admission(dws_session *s)
 
 static inline void dws_take_state(dws_session *s, enum dw_state state)
 {
-    s->must_look = s->has_news = true;
+    s->has_news = true;
+    dws_name_all(s);
     if (state == DW_STATE_CONNECTED) {
         dws_take_admission(s);
     } else if (state == DW_STATE_EXPIRED) {
@@ -1140,27 +1317,13 @@ static inline void dws_take_hang_up(dws_session *s)
     }
 }
 
-static inline void dws_hear_of_trees(dws_session *s);
-
-/* What is kept has become stale, which a subject shows. */
-static inline void dws_take_report(dws_session *s)
-{
-    s->must_look = s->has_news = true;
-    if (s->trees != NULL) {
-        dws_hear_of_trees(s);
-    }
-}
-
 /* Notes what is said of what is followed by a ticket, until a step has said all. */
 static inline void dws_note_seen(dws_session *s, uint64_t ticket, int32_t why)
 {
     if (s->trees == NULL) {
         return;
     }
-    void *block = s->seen;
-    bool is_there = dws_reserve(&block, &s->seen_room, (s->seen_count + 1) * sizeof s->seen[0]);
-    s->seen = (struct dws_seen *)block;
-    if (!is_there) {
+    if (!dws_reserve(&s->seen, &s->seen_room, (s->seen_count + 1) * sizeof s->seen[0])) {
         dws_fail(s, DW_NO_MEMORY);
         return;
     }
@@ -1168,6 +1331,17 @@ static inline void dws_note_seen(dws_session *s, uint64_t ticket, int32_t why)
     s->seen[s->seen_count++].why = why;
 }
 
+/* What is kept of what is followed by a ticket is good. */
+static inline void dws_take_shown(dws_session *s, uint64_t ticket)
+{
+    const dws_subject *shown = dws_find_subject(s, DWS_BY_TICKET, ticket, NULL);
+    if (shown != NULL) {
+        dws_name_path(s, shown->path);
+    }
+    dws_note_seen(s, ticket, 0);
+}
+
+static inline void dws_take_report(dws_session *s);
 static inline void dws_take_refusal(dws_session *s, const dw_output *refused);
 static inline void dws_take_of_tree(dws_session *s, const dw_output *told);
 static inline void dws_take_introduction(dws_session *s, size_t place, int32_t code);
@@ -1186,11 +1360,8 @@ static inline void dws_take(dws_session *s, const dw_output *action)
         break;
     case DW_KIND_HANG_UP: dws_take_hang_up(s); break;
     case DW_KIND_TIMED_OUT: dws_take_late(s, action); break;
-    case DW_KIND_RENEWED: s->must_look = true; break;
-    case DW_KIND_SHOWN:
-        s->must_look = true;
-        dws_note_seen(s, action->ticket, 0);
-        break;
+    case DW_KIND_RENEWED: dws_name_all(s); break;
+    case DW_KIND_SHOWN: dws_take_shown(s, action->ticket); break;
     case DW_KIND_REFUSED: dws_take_refusal(s, action); break;
     case DW_KIND_TAKEN_ON:
     case DW_KIND_LET_GO:
@@ -1279,11 +1450,17 @@ static inline void dws_resume(dws_session *s)
         dws_fail(s, result);
         return;
     }
-    s->is_resumed = s->must_look = s->must_follow = true;
+    s->is_resumed = s->must_follow = true;
     s->is_dial_due = s->is_due_known = false;
     s->gone_count = 0;
-    for (dws_subject *one = s->subjects; one != NULL; one = one->next) {
-        one->ticket = 0;
+    dws_lose_kept(s);
+    for (dws_subject *one = dws_next_subject(s, NULL), *next; one != NULL; one = next) {
+        next = dws_next_subject(s, one);
+        if (one->keys[DWS_BY_TICKET] != 0) {
+            dws_unchain(s, one, DWS_BY_TICKET);
+            one->keys[DWS_BY_TICKET] = 0;
+            dws_move(s, one, DWS_NEW);
+        }
     }
     for (dws_tree *tree = s->trees; tree != NULL; tree = tree->next) {
         tree->ticket = 0;
@@ -1293,7 +1470,6 @@ static inline void dws_resume(dws_session *s)
         one->is_handed = false;
         s->must_introduce = true;
     }
-    dws_lose_kept(s);
     struct dws_line rest = dws_ask_again(s, &s->sent);
     dws_hang_up(s);
     dws_tell(s, DWS_CUT, dw_result_words(DW_HALTED));
@@ -1551,12 +1727,11 @@ static inline bool dws_read_hosts(dws_session *s, size_t length, char *why, size
 static inline bool dws_read_string(dws_session *s, const char *text, char *why, size_t size)
 {
     size_t length = strcspn(text, "/");
-    s->hosts_text = (char *)malloc(strlen(text) + 1);
+    s->hosts_text = dws_copy_of(text);
     if (s->hosts_text == NULL) {
         snprintf(why, size, "%s", dw_result_words(DW_NO_MEMORY));
         return false;
     }
-    strcpy(s->hosts_text, text);
     s->root = s->hosts_text + length + (strcmp(text + length, "/") == 0);
     if (s->root[0] != 0 && dws_words_of_path(s->root) != NULL) {
         dws_write_result(why, size, DW_NOT_PATH, s->root);
@@ -1723,11 +1898,15 @@ static inline void dws_receive(dws_session *s)
     uint8_t piece[DWS_PIECE];
     uint64_t came_ms = dws_in_time(s);
     s->has_more = true;
-    for (int i = 0; i < DWS_MOST_PIECES && s->wire.socket >= 0 && s->has_more; i++) {
-        ssize_t count = dws_read(s, piece, sizeof piece);
+    for (size_t all = 0, size; all < DWS_MOST_READ && s->wire.socket >= 0 && s->has_more; all += size) {
+        uint8_t *room = s->large != NULL ? s->large : piece;
+        size = s->large != NULL ? (size_t)DWS_LARGE_PIECE : sizeof piece;
+        ssize_t count = dws_read(s, room, size);
         if (count > 0) {
-            dws_hear(s, came_ms, piece, (size_t)count);
-            s->has_more = s->options.read != NULL || count == (ssize_t)sizeof piece || s->sent.count > 0; /* else poll tells of more */
+            dws_hear(s, came_ms, room, (size_t)count);
+            bool is_full = count == (ssize_t)size;
+            s->has_more = s->options.read != NULL || is_full || s->sent.count > 0; /* else poll tells of more */
+            s->large = is_full && s->large == NULL ? (uint8_t *)malloc(DWS_LARGE_PIECE) : s->large;
         } else if (count == 0) {
             dws_cut(s, "the server has ended the connection");
         } else if (dws_is_passing(errno)) {
@@ -1767,8 +1946,7 @@ static inline void dws_transmit(dws_session *s)
 static inline void dws_point_at_names(char **names, char *at, size_t count)
 {
     for (size_t i = 0; i < count; i++) {
-        const uint8_t *spelled = (const uint8_t *)at;
-        size_t length = (size_t)spelled[0] << 24 | (size_t)spelled[1] << 16 | (size_t)spelled[2] << 8 | spelled[3];
+        size_t length = dws_read_int((const uint8_t *)at);
         *at = 0;
         names[i] = at + 4;
         at += 4 + length;
@@ -1785,7 +1963,7 @@ static inline enum dw_result dws_look_at_names(dws_session *s, dws_subject *subj
     if (result != DW_OK) {
         return result;
     }
-    if (!dws_reserve_names(&subject->names, &subject->names_room, table + length + 1)) {
+    if (!dws_reserve(&subject->names, &subject->names_room, table + length + 1)) {
         return DW_NO_MEMORY;
     }
     char *block = (char *)subject->names + table;
@@ -1800,7 +1978,7 @@ static inline enum dw_result dws_look_at_names(dws_session *s, dws_subject *subj
 /* Copies the data that are kept of a subject. */
 static inline enum dw_result dws_look_at_data(dws_session *s, dws_subject *subject, dw_kept_data *kept)
 {
-    if (!dws_reserve_text(&subject->text, &subject->room, kept->length + 1)) {
+    if (!dws_reserve(&subject->text, &subject->room, kept->length + 1)) {
         return DW_NO_MEMORY;
     }
     subject->text[kept->length] = 0;
@@ -1814,8 +1992,7 @@ static inline enum dw_result dws_look_at_data(dws_session *s, dws_subject *subje
 static inline bool dws_look_at_node(dws_session *s, dws_subject *subject, enum dw_result *result)
 {
     dw_kept_data kept;
-    uint8_t none;
-    *result = dw_session_peek_data(&s->machine, subject->path, strlen(subject->path), &kept, &none, 0);
+    *result = dws_peek(s, subject->path, &kept);
     if (*result != DW_OK) {
         return false;
     }
@@ -1839,10 +2016,9 @@ static inline bool dws_look_at_children(dws_session *s, dws_subject *subject, en
 {
     dw_kept_names kept;
     dw_kept_data data;
-    uint8_t none;
     *result = dw_session_peek_children(&s->machine, subject->path, strlen(subject->path), &kept);
     if (*result == DW_OK) {
-        *result = dw_session_peek_data(&s->machine, subject->path, strlen(subject->path), &data, &none, 0);
+        *result = dws_peek(s, subject->path, &data);
     }
     if (*result != DW_OK) {
         return false;
@@ -1861,40 +2037,36 @@ static inline bool dws_look_at_children(dws_session *s, dws_subject *subject, en
     return true;
 }
 
-/* Looks at all subjects, if their marks may be others, with no step between: those that are good are of one moment, that of the last zxid. So it is
- * before each callback. */
+/* Looks at the subjects that were named, with no step between: those that are good are of one moment, that of the last zxid. So it is before each
+ * callback. */
 static inline void dws_mark(dws_session *s)
 {
-    enum dw_result result = DW_OK;
-    if (!s->must_look || s->is_over) {
-        return;
-    }
-    s->must_look = false;
-    for (dws_subject *one = s->subjects; one != NULL && result == DW_OK; one = one->next) {
+    dws_subject *one;
+    while (!s->is_over && (one = s->subjects[DWS_NAMED].first) != NULL) {
+        enum dw_result result = DW_OK;
         bool is_changed = one->side == DW_SIDE_DATA ? dws_look_at_node(s, one, &result) : dws_look_at_children(s, one, &result);
         one->is_changed = one->is_changed || is_changed;
-        s->must_show = s->must_show || is_changed;
-    }
-    if (result != DW_OK) {
-        dws_fail(s, result);
+        dws_move(s, one, one->is_changed ? DWS_CHANGED : DWS_RESTING);
+        if (result != DW_OK) {
+            dws_fail(s, result);
+        }
     }
 }
 
 /* Shows a subject of which another thing is kept, where there is one. */
 static inline bool dws_show_next(dws_session *s)
 {
-    s->must_show = false;
-    for (dws_subject *one = s->subjects; one != NULL; one = one->next) {
-        if (one->is_changed) {
-            one->is_changed = false;
-            s->must_show = s->has_news = true;
-            if (one->changed != NULL) {
-                one->changed(s, one);
-            }
-            return true;
-        }
+    dws_subject *one = s->subjects[DWS_CHANGED].first;
+    if (one == NULL) {
+        return false;
     }
-    return false;
+    one->is_changed = false;
+    s->has_news = true;
+    dws_move(s, one, DWS_RESTING);
+    if (one->changed != NULL) {
+        one->changed(s, one);
+    }
+    return true;
 }
 
 static inline bool dws_is_good(const dws_subject *subject)
@@ -1924,21 +2096,15 @@ static inline void dws_take_refusal(dws_session *s, const dw_output *refused)
 {
     char line[DWS_LONGEST_LINE];
     int32_t why = dws_why_refused(refused);
-    const dws_subject *subject = s->subjects;
-    while (subject != NULL && subject->ticket != refused->ticket) {
-        subject = subject->next;
-    }
+    const dws_subject *subject = dws_find_subject(s, DWS_BY_TICKET, refused->ticket, NULL);
     if (refused->refusal == DW_REFUSAL_CLOSED) {
         return;
     }
     bool is_code = refused->refusal == DW_REFUSAL_CODE;
     if (subject == NULL) {
         dws_note_seen(s, refused->ticket, is_code && (dws_is_busy(why) || why == DW_CODE_NO_NODE) ? 0 : why);
-    } else if (is_code) {
-        dws_write_code(line, sizeof line, why, dws_inner(s, subject->path));
-        dws_tell(s, DWS_READ_REFUSED, line);
     } else {
-        dws_write_outcome(line, sizeof line, (enum dw_outcome)why, dws_inner(s, subject->path));
+        dws_write_why(line, sizeof line, why, dws_inner(s, subject->path));
         dws_tell(s, DWS_READ_REFUSED, line);
     }
 }
@@ -1947,19 +2113,11 @@ static inline void dws_take_refusal(dws_session *s, const dw_output *refused)
 static inline void dws_begin_subject(dws_session *s, dws_subject *subject, uint64_t now_ms)
 {
     const char *path = subject->path;
-    uint64_t ticket = subject->ticket = ++s->last_ticket;
+    uint64_t ticket = subject->keys[DWS_BY_TICKET] = ++s->last_ticket;
+    dws_chain(s, subject, DWS_BY_TICKET);
+    dws_move(s, subject, DWS_NAMED);
     dws_act(s, subject->side == DW_SIDE_DATA ? dw_session_follow_data(&s->machine, now_ms, ticket, path, strlen(path))
                                              : dw_session_follow_names(&s->machine, now_ms, ticket, path, strlen(path)));
-}
-
-/* A subject that the library does not follow yet; NULL where there is none. */
-static inline dws_subject *dws_next_new(dws_session *s)
-{
-    dws_subject *one = s->subjects;
-    while (one != NULL && one->ticket != 0) {
-        one = one->next;
-    }
-    return one;
 }
 
 /* Has the library follow a tree that it does not follow yet. False where there is none. */
@@ -1988,12 +2146,11 @@ static inline void dws_unfollow_last(dws_session *s, uint64_t now_ms)
 /* Has the library follow what is to be followed, and no more what is not. Callbacks may change both. */
 static inline void dws_follow_new(dws_session *s)
 {
-    dws_subject *one;
     while (s->must_follow && !s->is_over) {
         uint64_t now_ms = dws_in_time(s);
         s->must_follow = false;
-        while (!s->is_over && (one = dws_next_new(s)) != NULL) {
-            dws_begin_subject(s, one, now_ms);
+        while (!s->is_over && s->subjects[DWS_NEW].first != NULL) {
+            dws_begin_subject(s, s->subjects[DWS_NEW].first, now_ms);
         }
         while (!s->is_over && dws_begin_tree(s, now_ms)) {
         }
@@ -2092,12 +2249,11 @@ static inline void dws_trouble_tree(dws_session *s, dws_tree *tree, int32_t why,
     if (!is_news) {
         return;
     }
-    char *kept = (char *)malloc(strlen(path) + 1);
+    char *kept = dws_copy_of(path);
     if (kept == NULL) {
         dws_fail(s, DW_NO_MEMORY);
         return;
     }
-    strcpy(kept, path);
     free(tree->trouble);
     tree->trouble = kept;
     tree->why = why;
@@ -2107,23 +2263,14 @@ static inline void dws_trouble_tree(dws_session *s, dws_tree *tree, int32_t why,
 static inline void dws_tree_words(dws_session *s, const dws_tree *tree, char *room, size_t size)
 {
     const char *path = tree->trouble != NULL ? tree->trouble : tree->path;
-    const char *inner = path != NULL ? dws_inner(s, path) : "";
-    if (tree->why > DWS_REFUSED) {
-        dws_write_result(room, size, (enum dw_result)(DWS_REFUSED - tree->why), inner);
-    } else if (tree->why < 0) {
-        dws_write_code(room, size, tree->why, inner);
-    } else {
-        dws_write_outcome(room, size, (enum dw_outcome)tree->why, inner);
-    }
+    dws_write_why(room, size, tree->why, path != NULL ? dws_inner(s, path) : "");
 }
 
 /* Whether it is known that there is no root. */
 static inline bool dws_has_no_root(dws_session *s, const dws_tree *tree)
 {
     dw_kept_data kept;
-    uint8_t none;
-    enum dw_result result = dw_session_peek_data(&s->machine, tree->path, strlen(tree->path), &kept, &none, 0);
-    return result == DW_OK && kept.kind == DW_KEPT_ABSENT && kept.mark == DW_MARK_GOOD;
+    return dws_peek(s, tree->path, &kept) == DW_OK && kept.kind == DW_KEPT_ABSENT && kept.mark == DW_MARK_GOOD;
 }
 
 /* Leaves out the members that were let go, where they are the most. */
@@ -2146,9 +2293,7 @@ static inline void dws_close_up(struct dws_members *members)
 static inline void dws_take_on(dws_session *s, struct dws_members *members, const dw_output *told)
 {
     dws_close_up(members);
-    void *block = members->all;
-    bool is_there = dws_reserve(&block, &members->room, (members->count + 1) * sizeof members->all[0]);
-    members->all = (struct dws_member *)block;
+    bool is_there = dws_reserve(&members->all, &members->room, (members->count + 1) * sizeof members->all[0]);
     char *path = is_there ? (char *)malloc(told->length + 1) : NULL;
     if (path == NULL) {
         dws_fail(s, DW_NO_MEMORY);
@@ -2271,14 +2416,13 @@ static inline void dws_see_trees(dws_session *s)
 }
 
 /* What was good of a path has ended. A tree that has it is whole again only where that is said after this. */
-static inline void dws_hear_of_trees(dws_session *s)
+static inline void dws_take_report(dws_session *s)
 {
     char path[DWS_LONGEST_LINE];
     size_t length = dw_session_copy(&s->machine, 0, path, sizeof path - 1);
-    if (length >= sizeof path) {
-        return;
-    }
-    path[length] = 0;
+    path[dws_least(length, sizeof path - 1)] = 0;
+    s->has_news = true;
+    dws_name_path(s, path);
     for (dws_tree *tree = s->trees; tree != NULL; tree = tree->next) {
         if (strcmp(path, tree->path) == 0 || dws_is_below(path, tree->path)) {
             tree->is_good = tree->must_look = false;
@@ -2289,9 +2433,12 @@ static inline void dws_hear_of_trees(dws_session *s)
 /* Nothing is kept any more. Subjects of which something was are to be shown. */
 static inline void dws_lose_kept(dws_session *s)
 {
-    for (dws_subject *one = s->subjects; one != NULL; one = one->next) {
+    for (dws_subject *one = dws_next_subject(s, NULL), *next; one != NULL; one = next) {
+        next = dws_next_subject(s, one);
         one->is_changed = one->is_changed || one->mark != 0;
-        s->must_show = s->must_show || one->is_changed;
+        if (one->is_changed && one->list != &s->subjects[DWS_CHANGED] && (s->is_over || one->list != &s->subjects[DWS_NEW])) {
+            dws_move(s, one, DWS_CHANGED);
+        }
         one->mark = (enum dw_mark)0;
         one->kind = DW_KEPT_NOTHING;
         memset(&one->stat, 0, sizeof one->stat);
@@ -2313,10 +2460,7 @@ static inline void dws_show_tree(dws_session *s, dws_tree *tree)
     dws_node node;
     tree->count = 0;
     while (dws_read_node(&at, end, &node)) {
-        void *block = tree->nodes;
-        bool is_there = dws_reserve(&block, &tree->nodes_room, (tree->count + 1) * sizeof node);
-        tree->nodes = (dws_node *)block;
-        if (!is_there) {
+        if (!dws_reserve(&tree->nodes, &tree->nodes_room, (tree->count + 1) * sizeof node)) {
             tree->count = 0;
             dws_fail(s, DW_NO_MEMORY);
             return;
@@ -2339,12 +2483,12 @@ static inline enum dw_result dws_collect(dws_session *s, dws_tree *tree)
     struct dws_bytes *text = &tree->text;
     size_t length = strlen(tree->path);
     text->length = 0;
-    if (!dws_reserve_bytes(text, 4096)) {
+    if (!dws_reserve(&text->at, &text->room, 4096)) {
         return DW_NO_MEMORY;
     }
     enum dw_result result = dw_session_subtree(&s->machine, tree->path, length, tree->most, text->at, text->room, &text->length);
     if (result == DW_OK && text->length > text->room) {
-        if (!dws_reserve_bytes(text, text->length + text->length / 8)) {
+        if (!dws_reserve(&text->at, &text->room, text->length + text->length / 8)) {
             return DW_NO_MEMORY;
         }
         result = dw_session_subtree(&s->machine, tree->path, length, tree->most, text->at, text->room, &text->length);
@@ -2369,8 +2513,7 @@ static inline enum dw_result dws_learn(dws_session *s, dws_tree *tree)
 /* Looks at a tree. After a look that took long, the next one waits. */
 static inline void dws_look_at_tree(dws_session *s, dws_tree *tree)
 {
-    struct timespec begun, ended;
-    clock_gettime(CLOCK_MONOTONIC, &begun);
+    uint64_t begun_us = dws_now_us();
     tree->must_look = false;
     enum dw_result result = dws_learn(s, tree);
     if (result == DW_NO_MEMORY || result == DW_CLOSED) {
@@ -2379,9 +2522,8 @@ static inline void dws_look_at_tree(dws_session *s, dws_tree *tree)
         tree->fault = result == DW_OK ? 0 : DWS_REFUSED - (int32_t)result;
         dws_weigh(s, tree);
     }
-    clock_gettime(CLOCK_MONOTONIC, &ended);
-    int64_t took_us = (int64_t)(ended.tv_sec - begun.tv_sec) * 1000000 + (ended.tv_nsec - begun.tv_nsec) / 1000;
-    tree->look_at_ms = dws_now_ms() + (uint64_t)took_us * DWS_SHARE / 1000;
+    uint64_t ended_us = dws_now_us();
+    tree->look_at_ms = (ended_us + (ended_us - begun_us) * DWS_SHARE) / 1000;
 }
 
 /* Shows a tree of which there is something to be told, where there is one. */
@@ -2430,18 +2572,10 @@ static inline uint64_t dws_first_look(dws_session *s)
     return first;
 }
 
-static inline char *dws_outer(const dws_session *s, const char *path);
-
 static inline enum dw_result dws_follow_tree(dws_session *s, dws_tree *tree, const char *path, size_t most,
                                              void (*shown)(dws_session *, dws_tree *))
 {
-    dw_kept_data kept;
-    uint8_t none;
-    tree->path = dws_outer(s, path);
-    enum dw_result result = tree->path == NULL ? DW_NO_MEMORY : dws_words_of_path(path) != NULL ? DW_NOT_PATH : DW_OK;
-    if (result == DW_OK) {
-        result = dw_session_peek_data(&s->machine, tree->path, strlen(tree->path), &kept, &none, 0);
-    }
+    enum dw_result result = dws_find_outer(s, path, &tree->path);
     if (result != DW_OK) {
         free(tree->path);
         tree->path = NULL;
@@ -2466,7 +2600,7 @@ static inline void dws_unfollow_tree(dws_session *s, dws_tree *tree)
     if (*at != NULL) {
         *at = tree->next;
     }
-    if (tree->ticket != 0 && !s->is_over) {
+    if (tree->ticket != 0) {
         dws_let_go(s, tree->ticket, true);
     }
     dws_free_members(&tree->members);
@@ -2508,8 +2642,7 @@ static inline void dws_work(dws_session *s)
     dws_introduce_new(s);
     dws_follow_new(s);
     dws_mark(s);
-    while (s->must_show && !s->is_over) {
-        dws_show_next(s);
+    while (!s->is_over && dws_show_next(s)) {
     }
     dws_look_at_trees(s);
     dws_send_queued(s);
@@ -2554,7 +2687,8 @@ static inline int dws_wanted(dws_session *s, struct pollfd *polled)
     polled->fd = s->is_over ? -1 : s->wire.socket;
     polled->events = (short)(POLLIN | (s->is_connecting ? POLLOUT : s->read_wants) | (s->unsent.length > 0 ? s->write_wants : 0));
     polled->revents = 0;
-    if (s->has_news || s->is_over || s->has_more || s->is_dial_due || s->must_look || s->must_show || s->must_follow || s->must_introduce) {
+    if (s->has_news || s->is_over || s->has_more || s->is_dial_due || s->must_follow || s->must_introduce || s->subjects[DWS_NAMED].first != NULL
+        || s->subjects[DWS_CHANGED].first != NULL) {
         return 0;
     }
     uint64_t first = dws_first_due(s);
@@ -2604,19 +2738,6 @@ static inline void dws_put(dws_session *s, dws_call *call)
     } else {
         dws_append(&s->queue, call);
     }
-}
-
-/* The path that the servers know, of one that the program knows. A text that is no path does not become one. */
-static inline char *dws_outer(const dws_session *s, const char *path)
-{
-    size_t root = path[0] == '/' ? strlen(s->root) : 0, length = strcmp(path, "/") == 0 && root > 0 ? 0 : strlen(path);
-    char *outer = (char *)malloc(root + length + 1);
-    if (outer != NULL) {
-        memcpy(outer, s->root, root);
-        memcpy(outer + root, path, length);
-        outer[root + length] = 0;
-    }
-    return outer;
 }
 
 /* Asks about a path, with these bytes where they are not NULL. */
@@ -2732,16 +2853,12 @@ static inline void dws_words(dws_session *s, const dws_call *call, char *room, s
     if (call->kind == DWS_RAW && call->record->write_words(call, room, size)) {
         return;
     }
-    if (call->why > DWS_REFUSED) {
-        dws_write_result(room, size, (enum dw_result)(DWS_REFUSED - call->why), path);
-    } else if (call->why == DWS_LATE || call->why == DW_OUTCOME_NOT_CONNECTED) {
+    if (call->why == DWS_LATE || call->why == DW_OUTCOME_NOT_CONNECTED) {
         dws_write_late(s, call, room, size, path);
-    } else if (call->why < 0) {
-        dws_write_code(room, size, call->why, path);
     } else if (call->why == DW_OUTCOME_EXPIRED && !s->is_over) {
         dws_write_words(room, size, dw_outcome_words(DW_OUTCOME_EXPIRED), path, "call again");
     } else {
-        dws_write_outcome(room, size, (enum dw_outcome)call->why, path);
+        dws_write_why(room, size, call->why, path);
     }
 }
 
@@ -2751,24 +2868,22 @@ static inline void dws_words(dws_session *s, const dws_call *call, char *room, s
 static inline enum dw_result dws_follow_side(dws_session *s, dws_subject *subject, const char *path, enum dw_side side,
                                              void (*changed)(dws_session *, dws_subject *))
 {
-    dw_kept_data kept;
-    uint8_t none;
-    subject->path = dws_outer(s, path);
     subject->side = side;
     subject->changed = changed;
-    enum dw_result result = subject->path == NULL ? DW_NO_MEMORY : dws_words_of_path(path) != NULL ? DW_NOT_PATH : DW_OK;
-    if (result == DW_OK) {
-        result = dw_session_peek_data(&s->machine, subject->path, strlen(subject->path), &kept, &none, 0);
+    enum dw_result result = dws_find_outer(s, path, &subject->path);
+    if (result == DW_OK && !dws_reserve_chains(s)) {
+        result = DW_NO_MEMORY;
     }
     if (result != DW_OK) {
         free(subject->path);
         subject->path = NULL;
         return result;
     }
-    subject->ticket = 0;
-    subject->next = s->subjects;
-    s->subjects = subject;
-    s->must_follow = s->must_look = true;
+    subject->keys[DWS_BY_PATH] = dws_number_of_path(subject->path);
+    dws_chain(s, subject, DWS_BY_PATH);
+    dws_move(s, subject, DWS_NEW);
+    s->subject_count++;
+    s->must_follow = true;
     return DW_OK;
 }
 
@@ -2787,10 +2902,10 @@ static inline enum dw_result dws_follow_children(dws_session *s, dws_subject *su
 /* The library is to follow what has this ticket no more. */
 static inline void dws_let_go(dws_session *s, uint64_t ticket, bool is_tree)
 {
-    void *block = s->gone;
-    bool is_there = dws_reserve(&block, &s->gone_room, (s->gone_count + 1) * sizeof s->gone[0]);
-    s->gone = (struct dws_gone *)block;
-    if (!is_there) {
+    if (s->is_over) {
+        return;
+    }
+    if (!dws_reserve(&s->gone, &s->gone_room, (s->gone_count + 1) * sizeof s->gone[0])) {
         dws_fail(s, DW_NO_MEMORY);
         return;
     }
@@ -2801,15 +2916,14 @@ static inline void dws_let_go(dws_session *s, uint64_t ticket, bool is_tree)
 
 static inline void dws_unfollow(dws_session *s, dws_subject *subject)
 {
-    dws_subject **at = &s->subjects;
-    while (*at != NULL && *at != subject) {
-        at = &(*at)->next;
+    if (subject->list != NULL) {
+        dws_take_out(subject);
+        dws_unchain(s, subject, DWS_BY_PATH);
+        s->subject_count--;
     }
-    if (*at != NULL) {
-        *at = subject->next;
-    }
-    if (subject->ticket != 0 && !s->is_over) {
-        dws_let_go(s, subject->ticket, false);
+    if (subject->keys[DWS_BY_TICKET] != 0) {
+        dws_unchain(s, subject, DWS_BY_TICKET);
+        dws_let_go(s, subject->keys[DWS_BY_TICKET], false);
     }
     free(subject->path);
     free(subject->text);
@@ -2845,8 +2959,8 @@ static inline void dws_free(dws_session *s)
         return;
     }
     s->is_over = true;
-    while (s->subjects != NULL) {
-        dws_unfollow(s, s->subjects);
+    while (dws_next_subject(s, NULL) != NULL) {
+        dws_unfollow(s, dws_next_subject(s, NULL));
     }
     while (s->trees != NULL) {
         dws_unfollow_tree(s, s->trees);
@@ -2858,7 +2972,9 @@ static inline void dws_free(dws_session *s)
     dws_forget_credentials(s);
     dw_session_free(&s->machine);
     dws_release(&s->close);
+    free(s->chains);
     free(s->unsent.at);
+    free(s->large);
     free(s->gone);
     free(s->seen);
     free(s->hosts);
@@ -2875,6 +2991,9 @@ static inline dws_session *dws_open(const char *hosts, const dws_options *option
     enum dw_result result = DW_NO_MEMORY;
     if (s != NULL) {
         s->wire.socket = -1;
+        for (int i = 0; i < DWS_LISTS; i++) {
+            s->subjects[i].last = &s->subjects[i].first;
+        }
         if (options != NULL) {
             s->options = *options;
         }
@@ -2929,6 +3048,7 @@ static inline int64_t dws_last_zxid(dws_session *s)
 static inline void dws_forget(dws_session *s)
 {
     dw_session_forget(&s->machine);
+    dws_name_all(s);
 }
 
 static inline int64_t dws_heard_ms(dws_session *s)

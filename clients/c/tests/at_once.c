@@ -112,6 +112,15 @@ static void hand_in(const struct bytes *came)
     compare(0);
 }
 
+/* A server sends a frame, which this function of frames.h adds with these words. */
+#define HAND_IN(add, ...) \
+    do { \
+        struct bytes added; \
+        added.length = 0; \
+        add(&added, __VA_ARGS__); \
+        hand_in(&added); \
+    } while (0)
+
 static void begin(uint64_t now_ms)
 {
     EACH(dw_session_moment(s, now_ms));
@@ -130,9 +139,7 @@ static void connect_sessions(void)
     begin(30);
     add_connected(&came);
     hand_in(&came);
-    came.length = 0;
-    add_data(&came, 1, 5, "", &STAT);
-    hand_in(&came);
+    HAND_IN(add_data, 1, 5, "", &STAT);
 }
 
 /* Replies with each record, and a code. Three come in one step. */
@@ -141,48 +148,32 @@ static void ask(void)
     struct bytes came = {.length = 0};
     EACH(dw_session_get_children(s, 40, 10, UINT64_MAX, "/config", 7, false));
     compare(0);
-    add_names(&came, 2, 6, "a", "first", &STAT);
-    hand_in(&came);
+    HAND_IN(add_names, 2, 6, "a", "first", &STAT);
     EACH(dw_session_create(s, 40, UINT64_MAX - 1, UINT64_MAX, "/a", 2, NULL, 0, true, DW_MODE_SEQUENTIAL));
     compare(1);
     EACH(dw_session_exists(s, 40, 12, UINT64_MAX, "/a", 2, false));
     EACH(dw_session_delete(s, 40, 13, UINT64_MAX, "/a", 2, 3));
-    came.length = 0;
     add_created(&came, 3, 7, "/a0000000002");
     add_stat(&came, 4, 7, &STAT);
     add_header(&came, 5, 8, CODE_BAD_VERSION);
     hand_in(&came);
     EACH(dw_session_get_data(s, 40, 14, UINT64_MAX, "/a", 2, false));
-    came.length = 0;
-    add_data(&came, 6, 8, "up", &STAT);
-    hand_in(&came);
+    HAND_IN(add_data, 6, 8, "up", &STAT);
 }
 
 /* What is followed is reported, and its read is refused. A tree has more nodes than its bound. One is gone, and the other is whole. */
 static void follow(void)
 {
-    struct bytes came = {.length = 0};
-    add_notice(&came, DW_EVENT_DATA_CHANGED, "/config");
-    hand_in(&came);
-    came.length = 0;
-    add_header(&came, 7, 8, -102);
-    hand_in(&came);
+    HAND_IN(add_notice, DW_EVENT_DATA_CHANGED, "/config");
+    HAND_IN(add_header, 7, 8, -102);
     EACH(dw_session_follow_tree(s, 40, TREE, "/tree", 5, 1));
     compare(0);
-    came.length = 0;
-    add_data(&came, 8, 9, "up", &STAT);
-    hand_in(&came);
-    came.length = 0;
-    add_names(&came, 9, 9, "b", "c", &STAT);
-    hand_in(&came);
+    HAND_IN(add_data, 8, 9, "up", &STAT);
+    HAND_IN(add_names, 9, 9, "b", "c", &STAT);
     EACH(dw_session_follow_tree(s, 40, 3, "/small", 6, 1));
     compare(0);
-    came.length = 0;
-    add_data(&came, 10, 9, "up", &STAT);
-    hand_in(&came);
-    came.length = 0;
-    add_no_names(&came, 11, 9, &STAT);
-    hand_in(&came);
+    HAND_IN(add_data, 10, 9, "up", &STAT);
+    HAND_IN(add_no_names, 11, 9, &STAT);
     EACH(dw_session_unfollow_tree(s, 40, TREE));
     compare(0);
 }
@@ -191,15 +182,13 @@ static void follow(void)
 static void end(void)
 {
     struct bytes came = {.length = 0};
-    add_header(&came, 99, 9, 0);
-    hand_in(&came);
+    HAND_IN(add_header, 99, 9, 0);
     EACH(dw_session_cut(s, 50));
     compare(0);
     EACH(dw_session_set_data(s, 50, 15, 60, "/a", 2, NULL, 0, true, -1));
     EACH(dw_session_moment(s, 60));
     compare(0);
     begin(2000);
-    came.length = 0;
     add_expired(&came);
     hand_in(&came);
 }

@@ -11,6 +11,14 @@ enum { NOW = 1, ROOM = 8, UNTOUCHED = 0x5a };
 #define TEXT(text) (text), sizeof(text) - 1
 #define DATA(text) (const uint8_t *)(text), sizeof(text) - 1
 
+/* A function that counts bytes answers this, and counts none. */
+#define EXPECT_NONE(result, call) \
+    do { \
+        count = 1; \
+        EXPECT_NUMBER(result, call); \
+        EXPECT_NUMBER(0, count); \
+    } while (0)
+
 static void expect_untouched(const void *at, size_t length)
 {
     const uint8_t *bytes = (const uint8_t *)at;
@@ -38,18 +46,15 @@ static void expect_closed_outputs(dw_client *none)
 {
     char room[ROOM];
     dw_output output;
-    size_t count = 1;
+    size_t count;
     memset(room, UNTOUCHED, sizeof room);
     memset(&output, UNTOUCHED, sizeof output);
     EXPECT_NUMBER(DW_CLOSED, dw_next(none, &output));
     expect_untouched(&output, sizeof output);
     EXPECT_NUMBER(0, dw_copy(none, 0, room, sizeof room));
     EXPECT_NUMBER(0, dw_name(none, 0, room, sizeof room));
-    EXPECT_NUMBER(DW_CLOSED, dw_words(none, room, sizeof room, &count));
-    EXPECT_NUMBER(0, count);
-    count = 1;
-    EXPECT_NUMBER(DW_CLOSED, dw_names(none, (uint8_t *)room, sizeof room, &count));
-    EXPECT_NUMBER(0, count);
+    EXPECT_NONE(DW_CLOSED, dw_words(none, room, sizeof room, &count));
+    EXPECT_NONE(DW_CLOSED, dw_names(none, (uint8_t *)room, sizeof room, &count));
     expect_untouched(room, sizeof room);
 }
 
@@ -57,7 +62,7 @@ static void expect_closed_session(dw_client *none)
 {
     uint8_t room[ROOM];
     uint64_t first_ms = 1;
-    size_t count = 1;
+    size_t count;
     memset(room, UNTOUCHED, sizeof room);
     EXPECT_NUMBER(DW_CLOSED, dw_state(none));
     EXPECT_NUMBER(0, dw_revision(none));
@@ -65,8 +70,7 @@ static void expect_closed_session(dw_client *none)
     EXPECT_NUMBER(DW_CLOSED, dw_timeout_ms(none));
     EXPECT_NUMBER(DW_CLOSED, dw_deadline(none, &first_ms));
     EXPECT_NUMBER(0, first_ms);
-    EXPECT_NUMBER(DW_CLOSED, dw_saved(none, room, sizeof room, &count));
-    EXPECT_NUMBER(0, count);
+    EXPECT_NONE(DW_CLOSED, dw_saved(none, room, sizeof room, &count));
     EXPECT_NUMBER(DW_CLOSED, dw_forget(none));
     expect_untouched(room, sizeof room);
 }
@@ -79,24 +83,17 @@ static void expect_no_look_up(dw_client *client, enum dw_result result, const ch
     dw_kept_data data;
     dw_kept_names names;
     int64_t token = 1;
-    size_t count = 1;
+    size_t count;
     memset(room, UNTOUCHED, sizeof room);
     memset(name, UNTOUCHED, sizeof name);
     memset(&data, UNTOUCHED, sizeof data);
     memset(&names, UNTOUCHED, sizeof names);
     EXPECT_NUMBER(result, dw_peek_data(client, path, length, &data, room, sizeof room));
     EXPECT_NUMBER(result, dw_peek_children(client, path, length, &names));
-    EXPECT_NUMBER(result, dw_peek_name(client, path, length, 0, name, sizeof name, &count));
-    EXPECT_NUMBER(0, count);
-    count = 1;
-    EXPECT_NUMBER(result, dw_peek_names(client, path, length, room, sizeof room, &count));
-    EXPECT_NUMBER(0, count);
-    count = 1;
-    EXPECT_NUMBER(result, dw_subtree(client, path, length, 1, room, sizeof room, &count));
-    EXPECT_NUMBER(0, count);
-    count = 1;
-    EXPECT_NUMBER(result, dw_lacking(client, path, length, 1, room, sizeof room, &count));
-    EXPECT_NUMBER(0, count);
+    EXPECT_NONE(result, dw_peek_name(client, path, length, 0, name, sizeof name, &count));
+    EXPECT_NONE(result, dw_peek_names(client, path, length, room, sizeof room, &count));
+    EXPECT_NONE(result, dw_subtree(client, path, length, 1, room, sizeof room, &count));
+    EXPECT_NONE(result, dw_lacking(client, path, length, 1, room, sizeof room, &count));
     count = 1;
     EXPECT_NUMBER(result, dw_standing(client, path, length, TEXT("n-0000000000"), DATA("\0\0\0\1n"), 1, DATA("\0\0\0\1n"), &token, name,
                                       sizeof name, &count));
@@ -118,15 +115,12 @@ static void expect_no_snapshot(dw_client *client, enum dw_result result, const c
 {
     uint8_t room[ROOM];
     struct bytes spelled;
-    size_t count = 1;
+    size_t count;
     spelled.length = 0;
     put_buffer(&spelled, path, length);
     memset(room, UNTOUCHED, sizeof room);
-    EXPECT_NUMBER(result, dw_snapshot(client, spelled.at, spelled.length, DATA("\0\0\0\2/a"), room, sizeof room, &count));
-    EXPECT_NUMBER(0, count);
-    count = 1;
-    EXPECT_NUMBER(result, dw_snapshot(client, DATA("\0\0\0\2/a"), spelled.at, spelled.length, room, sizeof room, &count));
-    EXPECT_NUMBER(0, count);
+    EXPECT_NONE(result, dw_snapshot(client, spelled.at, spelled.length, DATA("\0\0\0\2/a"), room, sizeof room, &count));
+    EXPECT_NONE(result, dw_snapshot(client, DATA("\0\0\0\2/a"), spelled.at, spelled.length, room, sizeof room, &count));
     expect_untouched(room, sizeof room);
 }
 

@@ -1,11 +1,7 @@
 /* A session by hand that follows a tree within a bound: its root and two nodes below are taken on as the names come, a notice makes another look
  * worth while, a node that has gone is let go and another one taken on, in the end all of it is let go, and of a tree of fewer nodes the bound is
  * told. What comes of it is what zookeeper.jute and the header say. */
-#include "dirwolleu.h"
-#include "expect.h"
-#include "frames.h"
-
-#include <string.h>
+#include "by_hand.h"
 
 enum { ASKED_MS = 9000, ADDRESSES = 1, TREE = 7, MOST = 3 };
 
@@ -13,30 +9,6 @@ enum { ASKED_MS = 9000, ADDRESSES = 1, TREE = 7, MOST = 3 };
 static const uint64_t FIRST = (uint64_t)1 << 63;
 
 static const dw_stat STAT = {6, 6, 1000, 1000, 0, 6, 0, 0, 0, 2, 0};
-
-static dw_output expect_next(dw_session *session, enum dw_kind kind)
-{
-    dw_output action;
-    EXPECT_NUMBER(DW_OK, dw_session_next(session, &action));
-    EXPECT_NUMBER(kind, action.kind);
-    return action;
-}
-
-static void expect_no_more(dw_session *session)
-{
-    dw_output action;
-    EXPECT_NUMBER(DW_NONE, dw_session_next(session, &action));
-}
-
-/* The next action is a frame. Tells its xid, which stands after the length. */
-static int32_t expect_sent(dw_session *session)
-{
-    uint8_t frame[128];
-    size_t length = expect_next(session, DW_KIND_SEND).length;
-    EXPECT_NUMBER(length, dw_session_copy(session, 0, frame, sizeof frame));
-    EXPECT(length >= 8 && length <= sizeof frame);
-    return (int32_t)((uint32_t)frame[4] << 24 | (uint32_t)frame[5] << 16 | (uint32_t)frame[6] << 8 | frame[7]);
-}
 
 static void expect_shown(dw_session *session, uint64_t ticket)
 {
@@ -46,15 +18,12 @@ static void expect_shown(dw_session *session, uint64_t ticket)
 /* A side of a node is taken on for the tree, by this ticket. */
 static void expect_taken_on(dw_session *session, uint64_t ticket, enum dw_side side, const char *path)
 {
-    char text[64];
     dw_output told = expect_next(session, DW_KIND_TAKEN_ON);
-    size_t length = dw_session_copy(session, 0, text, sizeof text);
     EXPECT(told.ticket == ticket);
     EXPECT_NUMBER(TREE, told.tree);
     EXPECT_NUMBER(side, told.side);
     EXPECT_NUMBER(strlen(path), told.length);
-    EXPECT_NUMBER(strlen(path), length);
-    EXPECT(memcmp(path, text, length) == 0);
+    expect_text(session, path);
 }
 
 static void expect_let_go(dw_session *session, uint64_t ticket)
@@ -70,11 +39,6 @@ static void expect_whole(dw_session *session)
     EXPECT_NUMBER(TREE, expect_next(session, DW_KIND_WHOLE).ticket);
 }
 
-static void hand_in(dw_session *session, uint64_t now_ms, const struct bytes *bytes)
-{
-    EXPECT_NUMBER(DW_OK, dw_session_bytes(session, now_ms, bytes->at, bytes->length));
-}
-
 /* A step is due at once, in which the tree is tended. */
 static void tend(dw_session *session, uint64_t now_ms)
 {
@@ -85,64 +49,35 @@ static void tend(dw_session *session, uint64_t now_ms)
     EXPECT_NUMBER(DW_OK, dw_session_moment(session, now_ms));
 }
 
-/* The connection is there, and a server admits the session. */
-static void connect_session(dw_session *session)
-{
-    struct bytes response;
-    response.length = 0;
-    add_connected(&response);
-    EXPECT_NUMBER(DW_OK, dw_session_opened(session, 30));
-    expect_sent(session);
-    EXPECT_NUMBER(DW_STATE_CONNECTING, expect_next(session, DW_KIND_STATE).state);
-    expect_no_more(session);
-    hand_in(session, 31, &response);
-    EXPECT_NUMBER(DW_STATE_CONNECTED, expect_next(session, DW_KIND_STATE).state);
-}
-
 static void answer_data(dw_session *session, uint64_t now_ms, int32_t xid, int64_t zxid)
 {
-    struct bytes came;
-    came.length = 0;
-    add_data(&came, xid, zxid, "up", &STAT);
-    hand_in(session, now_ms, &came);
+    HAND_IN(session, now_ms, add_data, xid, zxid, "up", &STAT);
 }
 
 static void answer_no_names(dw_session *session, uint64_t now_ms, int32_t xid, int64_t zxid)
 {
-    struct bytes came;
-    came.length = 0;
-    add_no_names(&came, xid, zxid, &STAT);
-    hand_in(session, now_ms, &came);
+    HAND_IN(session, now_ms, add_no_names, xid, zxid, &STAT);
 }
 
 static void answer_no_node(dw_session *session, uint64_t now_ms, int32_t xid, int64_t zxid)
 {
-    struct bytes came;
-    came.length = 0;
-    add_header(&came, xid, zxid, CODE_NO_NODE);
-    hand_in(session, now_ms, &came);
+    HAND_IN(session, now_ms, add_header, xid, zxid, CODE_NO_NODE);
 }
 
 static void notice(dw_session *session, uint64_t now_ms, enum dw_event event, const char *path)
 {
-    struct bytes came;
-    came.length = 0;
-    add_notice(&came, event, path);
-    hand_in(session, now_ms, &came);
+    HAND_IN(session, now_ms, add_notice, event, path);
 }
 
 /* The root has the ticket of the tree, and its names the first one of nodes. The names lead to two nodes, which are read in their order. */
 static void grow(dw_session *session)
 {
-    struct bytes came;
-    int32_t data = expect_sent(session), names = expect_sent(session), reads[4];
+    int32_t data = expect_sent(session, 0), names = expect_sent(session, 0), reads[4];
     expect_no_more(session);
     answer_data(session, 40, data, 6);
     expect_shown(session, TREE);
     expect_no_more(session);
-    came.length = 0;
-    add_names(&came, names, 6, "a", "b", &STAT);
-    hand_in(session, 41, &came);
+    HAND_IN(session, 41, add_names, names, 6, "a", "b", &STAT);
     expect_shown(session, FIRST);
     tend(session, 41);
     expect_taken_on(session, FIRST + 1, DW_SIDE_DATA, "/t/a");
@@ -150,7 +85,7 @@ static void grow(dw_session *session)
     expect_taken_on(session, FIRST + 3, DW_SIDE_CHILDREN, "/t/a");
     expect_taken_on(session, FIRST + 4, DW_SIDE_CHILDREN, "/t/b");
     for (int i = 0; i < 4; i++) {
-        reads[i] = expect_sent(session);
+        reads[i] = expect_sent(session, 0);
     }
     expect_no_more(session);
     answer_data(session, 42, reads[0], 6);
@@ -177,7 +112,7 @@ static void change(dw_session *session)
     expect_no_more(session);
     notice(session, 51, DW_EVENT_DATA_CHANGED, "/t/a");
     expect_next(session, DW_KIND_REPORT);
-    read = expect_sent(session);
+    read = expect_sent(session, 0);
     expect_shown(session, FIRST + 3);
     expect_no_more(session);
     answer_data(session, 52, read, 7);
@@ -195,14 +130,14 @@ static void lose(dw_session *session)
     notice(session, 53, DW_EVENT_DELETED, "/t/b");
     expect_next(session, DW_KIND_REPORT);
     expect_next(session, DW_KIND_REPORT);
-    data = expect_sent(session);
-    names = expect_sent(session);
+    data = expect_sent(session, 0);
+    names = expect_sent(session, 0);
     expect_no_more(session);
     answer_no_node(session, 54, data, 8);
-    absent_data = expect_sent(session);
+    absent_data = expect_sent(session, 0);
     expect_no_more(session);
     answer_no_node(session, 55, names, 8);
-    absent_names = expect_sent(session);
+    absent_names = expect_sent(session, 0);
     expect_no_more(session);
     answer_no_node(session, 56, absent_data, 8);
     expect_shown(session, FIRST + 2);
@@ -218,22 +153,19 @@ static void lose(dw_session *session)
 /* The names lead to another node instead. */
 static void replace(dw_session *session)
 {
-    struct bytes came;
     int32_t names, data;
     notice(session, 58, DW_EVENT_CHILDREN_CHANGED, "/t");
     expect_next(session, DW_KIND_REPORT);
-    names = expect_sent(session);
+    names = expect_sent(session, 0);
     expect_shown(session, TREE);
     expect_no_more(session);
-    came.length = 0;
-    add_names(&came, names, 9, "a", "c", &STAT);
-    hand_in(session, 59, &came);
+    HAND_IN(session, 59, add_names, names, 9, "a", "c", &STAT);
     expect_shown(session, FIRST);
     tend(session, 59);
     expect_taken_on(session, FIRST + 5, DW_SIDE_DATA, "/t/c");
     expect_taken_on(session, FIRST + 6, DW_SIDE_CHILDREN, "/t/c");
-    data = expect_sent(session);
-    names = expect_sent(session);
+    data = expect_sent(session, 0);
+    names = expect_sent(session, 0);
     expect_no_more(session);
     answer_data(session, 60, data, 9);
     expect_shown(session, FIRST + 5);
@@ -286,7 +218,7 @@ int main(void)
     expect_taken_on(&session, TREE, DW_SIDE_DATA, "/t");
     expect_taken_on(&session, FIRST, DW_SIDE_CHILDREN, "/t");
     expect_no_more(&session);
-    connect_session(&session);
+    connect_session(&session, 30);
     grow(&session);
     change(&session);
     lose(&session);

@@ -225,25 +225,7 @@ static bool serve_request(int32_t type, const uint8_t *request)
 
 static void serve(void)
 {
-    static uint8_t in[1 << 12];
-    static size_t length;
-    static bool is_admitted;
-    int accepted = accept(listener, NULL, NULL);
-    if (accepted >= 0) {
-        close(line);
-        line = accepted;
-        length = heard = told = 0;
-        is_admitted = false;
-    }
-    ssize_t count = line >= 0 ? take(in + length, sizeof in - length) : -1;
-    length += count > 0 ? (size_t)count : 0;
-    while (line >= 0 && length >= 4 && length >= 4 + dws_read_int(in)) {
-        size_t whole = 4 + dws_read_int(in);
-        bool goes_on = serve_request(is_admitted ? (int32_t)dws_read_int(in + 8) : TYPE_CONNECT, in + 4);
-        is_admitted = true;
-        memmove(in, in + whole, length - whole);
-        length = goes_on ? length - whole : 0;
-    }
+    serve_by(serve_request);
 }
 
 static bool is_true(const void *flag)
@@ -379,13 +361,10 @@ static void free_in_callbacks(bool is_at_loss)
     lock->context = is_at_loss ? lock : NULL;
     EXPECT(dws_lock_take(session, lock, "/l", DWS_EXCLUSIVE, "me", free_when_told));
     if (is_at_loss) {
-        struct bytes came;
         go_on_until(is_true, &lock->is_held);
         snprintf(path, sizeof path, "/l/%s", nodes[0].name);
         node_count = 0;
-        came.length = 0;
-        add_notice(&came, DW_EVENT_DELETED, path);
-        answer_at_once(&came);
+        ANSWER(add_notice, DW_EVENT_DELETED, path);
     }
     go_on_until(is_null, &session->errands);
     EXPECT(node_count == 0);
@@ -396,7 +375,6 @@ static void free_in_callbacks(bool is_at_loss)
 /* What a server refuses is told, with the place that is left, and is asked again: by the program, and at the next connection. */
 static void refuse_to_delete(void)
 {
-    struct bytes came;
     char why[DWS_LONGEST_LINE], wanted[400];
     static dws_lock lock;
     begin(BEFORE, SIZE_MAX);
@@ -405,9 +383,7 @@ static void refuse_to_delete(void)
     turn(0);
     const dws_call *gone = dws_lock_let_go(session, &lock);
     hear();
-    came.length = 0;
-    add_header(&came, (int32_t)dws_read_int(out.at), zxid, DW_CODE_NO_AUTH);
-    answer_at_once(&came);
+    ANSWER(add_header, (int32_t)dws_read_int(out.at), zxid, DW_CODE_NO_AUTH);
     EXPECT(gone->is_answered && gone->why == DW_CODE_NO_AUTH);
     dws_words(session, gone, why, sizeof why);
     snprintf(wanted, sizeof wanted, "the node's ACL does not admit this client: /l/%s", nodes[0].name);
@@ -500,8 +476,7 @@ static void wait_for_a_lock(void)
 {
     static dws_lock lock;
     char place[256], again[256];
-    open_session();
-    admit();
+    begin_session();
     EXPECT(dws_lock_take(session, &lock, "/l", DWS_EXCLUSIVE, "me", NULL));
     make_place(1, "0000000002", place, sizeof place);
     hear_about(2, TYPE_GET, place);
@@ -542,8 +517,7 @@ static void lose_a_lock(void)
     static dws_lock lock;
     char place[256], again[256];
     struct bytes expired;
-    open_session();
-    admit();
+    begin_session();
     EXPECT(dws_lock_take(session, &lock, "/l", DWS_EXCLUSIVE, "me", NULL));
     make_place(1, "0000000002", place, sizeof place);
     hear_about(2, TYPE_GET, place);
@@ -575,8 +549,7 @@ static void share_a_lock(void)
 {
     static dws_lock lock;
     char place[256];
-    open_session();
-    admit();
+    begin_session();
     EXPECT(dws_lock_take(session, &lock, "/l", DWS_SHARED, "me", NULL));
     hear_request(1, TYPE_CREATE, NULL);
     text_at(8, place, sizeof place);

@@ -91,13 +91,11 @@ static void make_nodes(void)
         {"", DW_OPERATION_CREATE_TTL, "/t/", DW_MODE_SEQUENTIAL, 1099511627775, "/t/", 6, "/t/0000000000", "/t/0000000000"},
     };
     for (size_t i = 0; i < sizeof rows / sizeof rows[0]; i++) {
-        struct bytes came;
         open_below(rows[i].chroot);
         const dws_call *call = create_by(rows[i].operation, rows[i].path, rows[i].mode, rows[i].ttl_ms);
         hear_creation(1, rows[i].operation, rows[i].sent, rows[i].flags, rows[i].ttl_ms);
-        came.length = 0;
         add_made(&came, 1, rows[i].reply);
-        answer(&came, 1, 9);
+        answer_came(1, 9);
         EXPECT(call->is_answered && call->why == 0 && strcmp(call->text, rows[i].made) == 0 && call->length == strlen(rows[i].made));
         EXPECT(call->stat.pzxid == STAT.pzxid && call->stat.version == STAT.version && call->zxid == 6);
         close_session();
@@ -122,7 +120,6 @@ static void refuse_nodes(void)
         {DW_OPERATION_CREATE_CONTAINER, "/c/", 0, DW_NOT_PATH, "/c/ is no path: an empty name"},
         {DW_OPERATION_CREATE_TTL, "/t", DW_MODE_EPHEMERAL, DW_NO_SUCH_MODE, "the mode is no sum of DW_MODE_EPHEMERAL and DW_MODE_SEQUENTIAL: /t"},
     };
-    struct bytes came;
     open_below("");
     for (size_t i = 0; i < sizeof rows / sizeof rows[0]; i++) {
         EXPECT_NUMBER(DWS_REFUSED - (int32_t)rows[i].result, dws_wait(session, create_by(rows[i].operation, rows[i].path, rows[i].mode, 1)));
@@ -130,9 +127,7 @@ static void refuse_nodes(void)
     }
     const dws_call *call = create_by(DW_OPERATION_CREATE2, "/folder/", DW_MODE_SEQUENTIAL, 0);
     hear_creation(1, DW_OPERATION_CREATE2, "/folder/", 2, 0);
-    came.length = 0;
-    add_header(&came, 1, 6, DW_CODE_NO_NODE);
-    answer_at_once(&came);
+    ANSWER(add_header, 1, 6, DW_CODE_NO_NODE);
     EXPECT(call->why == DW_CODE_NO_NODE);
     expect_words(call, "no node: /folder");
     close_session();
@@ -222,10 +217,10 @@ static void tell_ephemerals(void)
         {"/app", "/a", "/app/a", {"/app/a", "/app/ab"}, {"/a", "/ab"}},
     };
     for (size_t i = 0; i < sizeof rows / sizeof rows[0]; i++) {
-        struct bytes came, body;
+        struct bytes body;
         open_below(rows[i].chroot);
         const dws_call *call = dws_get_ephemerals(session, &request, rows[i].prefix);
-        body.length = came.length = 0;
+        body.length = 0;
         put_words(&body, rows[i].sent);
         hear_request(1, DW_OPERATION_GET_EPHEMERALS, &body);
         size_t begin = begin_answer(&came, 1, 0);
@@ -233,7 +228,7 @@ static void tell_ephemerals(void)
         put_words(&came, rows[i].replies[0]);
         put_words(&came, rows[i].replies[1]);
         end_answer(&came, begin);
-        answer(&came, 3, 5);
+        answer_came(3, 5);
         EXPECT(call->why == 0 && call->count == 2);
         EXPECT(strcmp(call->names[0], rows[i].paths[0]) == 0 && strcmp(call->names[1], rows[i].paths[1]) == 0);
         close_session();
@@ -246,19 +241,19 @@ static void tell_ephemerals(void)
 /* How many nodes are below one, and whom the server knows the session by: a request of no bytes. */
 static void tell_of_servers(void)
 {
-    struct bytes came, body;
+    struct bytes body;
     open_below("/app");
     dws_get_all_children_number(session, &request, "/");
-    body.length = came.length = 0;
+    body.length = 0;
     put_words(&body, "/app");
     hear_request(1, DW_OPERATION_GET_ALL_CHILDREN_NUMBER, &body);
     size_t begin = begin_answer(&came, 1, 0);
     put_int(&came, 70000);
     end_answer(&came, begin);
-    answer(&came, 3, 5);
+    answer_came(3, 5);
     EXPECT(request.call.why == 0 && request.node_count == 70000);
     dws_who_am_i(session, &request);
-    body.length = came.length = 0;
+    body.length = 0;
     hear_request(2, DW_OPERATION_WHO_AM_I, &body);
     begin = begin_answer(&came, 2, 0);
     put_int(&came, 2);
@@ -267,7 +262,7 @@ static void tell_of_servers(void)
     put_words(&came, "digest");
     put_words(&came, "ann");
     end_answer(&came, begin);
-    answer(&came, 3, 5);
+    answer_came(3, 5);
     EXPECT(request.call.why == 0 && request.id_count == 2);
     EXPECT(strcmp(request.ids[0].scheme, "ip") == 0 && strcmp(request.ids[0].id, "127.0.0.1") == 0);
     EXPECT(strcmp(request.ids[1].scheme, "digest") == 0 && strcmp(request.ids[1].id, "ann") == 0);
@@ -278,7 +273,8 @@ static void tell_of_servers(void)
 static dws_call *ask_raw(int32_t operation, const void *body, size_t length)
 {
     dws_begin_question(&request, operation);
-    return dws_ask_question(session, &request, dws_put_bytes(&request.call.body, body, length));
+    dws_put_bytes(&request.call.body, body, length);
+    return dws_ask_question(session, &request);
 }
 
 /* Reads a frame of this many bytes that the session sends. */
@@ -305,16 +301,13 @@ static void send_edges(void)
     }
     open_below("");
     for (int32_t i = 0; i < 4; i++) {
-        struct bytes came;
         ask_raw(DW_OPERATION_SET_ACL, body, sizes[i]);
         hear_bytes(room, 12 + sizes[i]);
         EXPECT_NUMBER(8 + sizes[i], dws_read_int(room));
         EXPECT_NUMBER(1 + i, dws_read_int(room + 4));
         EXPECT_NUMBER(DW_OPERATION_SET_ACL, dws_read_int(room + 8));
         EXPECT(memcmp(room + 12, body, sizes[i]) == 0);
-        came.length = 0;
-        add_stat(&came, 1 + i, 6, &STAT);
-        answer_at_once(&came);
+        ANSWER(add_stat, 1 + i, 6, &STAT);
         EXPECT(request.call.is_answered && request.call.why == 0 && request.call.stat.pzxid == STAT.pzxid);
     }
     EXPECT_NUMBER(DW_OUTCOME_TOO_LARGE, dws_wait(session, ask_raw(DW_OPERATION_SET_ACL, body, LARGEST_BODY + 1)));
@@ -338,20 +331,15 @@ enum { OPERATION_COUNT = sizeof OPERATIONS / sizeof OPERATIONS[0] };
 static void answer_nothing(void)
 {
     for (size_t i = 0; i < OPERATION_COUNT; i++) {
-        struct bytes came;
         open_below("");
         ask_raw(OPERATIONS[i], "x", 1);
         hear_request(1, OPERATIONS[i], NULL);
-        came.length = 0;
-        add_header(&came, 1, 20, DW_CODE_BAD_ARGUMENTS);
-        answer_at_once(&came);
+        ANSWER(add_header, 1, 20, DW_CODE_BAD_ARGUMENTS);
         EXPECT_NUMBER(DW_CODE_BAD_ARGUMENTS, request.call.why);
         EXPECT(strchr(events, '0' + DWS_CUT) == NULL && dws_last_zxid(session) == 20);
         ask_raw(OPERATIONS[i], "x", 1);
         hear_request(2, OPERATIONS[i], NULL);
-        came.length = 0;
-        add_header(&came, 2, 21, 0);
-        answer_at_once(&came);
+        ANSWER(add_header, 2, 21, 0);
         EXPECT_NUMBER(DW_OUTCOME_LOST, request.call.why);
         EXPECT(strchr(events, '0' + DWS_CUT) != NULL);
         accept_line();
@@ -404,16 +392,14 @@ static void add_set(struct bytes *bytes, int32_t xid)
 /* A reply with a null where a text has to be does not read. */
 static void leave_out_texts(void)
 {
-    struct bytes came;
     open_below("");
     create_by(DW_OPERATION_CREATE2, "/a", DW_MODE_PERSISTENT, 0);
     hear_request(1, DW_OPERATION_CREATE2, NULL);
-    came.length = 0;
     size_t begin = begin_answer(&came, 1, 0);
     put_int(&came, -1);
     put_stat(&came, &STAT);
     end_answer(&came, begin);
-    answer_at_once(&came);
+    answer_all();
     EXPECT_NUMBER(DW_OUTCOME_LOST, request.call.why);
     close_session();
 }
@@ -423,15 +409,13 @@ static void count_too_many(void)
 {
     static const int32_t operations[] = {DW_OPERATION_GET_ACL, DW_OPERATION_GET_EPHEMERALS, DW_OPERATION_WHO_AM_I}, counts[] = {-1, 1, INT32_MAX};
     for (size_t i = 0; i < 9; i++) {
-        struct bytes came;
         open_below("");
         ask_raw(operations[i / 3], "x", 1);
         hear_request(1, operations[i / 3], NULL);
-        came.length = 0;
         size_t begin = begin_answer(&came, 1, 0);
         put_int(&came, counts[i % 3]);
         end_answer(&came, begin);
-        answer_at_once(&came);
+        answer_all();
         EXPECT_NUMBER(DW_OUTCOME_LOST, request.call.why);
         close_session();
     }
@@ -445,7 +429,6 @@ static void mix_types(void)
     read.side = DW_SIDE_CHILDREN;
     read.path = "/a";
     for (int i = 0; i < 2; i++) {
-        struct bytes came;
         open_below("");
         if (i == 0) {
             dws_transaction_check(session, &request, "/a", 1);
@@ -454,7 +437,6 @@ static void mix_types(void)
             dws_multi_read(session, &request, &read, 1);
         }
         hear_request(1, i == 0 ? DW_OPERATION_MULTI : DW_OPERATION_MULTI_READ, NULL);
-        came.length = 0;
         size_t begin = begin_answer(&came, 1, 0);
         put_type(&came, i == 0 ? DWS_OF_DELETE : 4, 0); /* of a node that is read: data */
         if (i == 1) {
@@ -462,7 +444,7 @@ static void mix_types(void)
         }
         put_type(&came, -1, 1);
         end_answer(&came, begin);
-        answer_at_once(&came);
+        answer_all();
         EXPECT_NUMBER(DW_OUTCOME_LOST, request.call.why);
         close_session();
     }
@@ -522,20 +504,16 @@ static void cut_reads(bool is_quick)
                                          DW_OPERATION_MULTI_READ,     DW_OPERATION_GET_ACL,                 DW_OPERATION_SYNC};
     for (size_t i = 0; i < sizeof operations / sizeof operations[0]; i++) {
         for (size_t sent = 0; sent < 20; sent += is_quick ? 19 : 1) {
-            struct bytes came;
             open_below("");
             ask_raw(operations[i], "x", 1);
             hear_request(1, operations[i], NULL);
-            came.length = 0;
             add_header(&came, 1, 6, DW_CODE_NO_NODE);
             came.length = sent;
-            answer_at_once(&came);
+            answer_all();
             end_line();
             admit();
             hear_request(2, operations[i], NULL);
-            came.length = 0;
-            add_header(&came, 2, 6, DW_CODE_NO_NODE);
-            answer_at_once(&came);
+            ANSWER(add_header, 2, 6, DW_CODE_NO_NODE);
             EXPECT_NUMBER(DW_CODE_NO_NODE, request.call.why);
             close_session();
         }

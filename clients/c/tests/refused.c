@@ -1,8 +1,6 @@
 /* Each request for memory of a short session is refused in turn. The codes are those of the header: where a call was refused, the same
  * call succeeds after it, and all goes on as if nothing had happened; where a step halted, nothing is kept, and the saved session is
  * taken up by another handle. No block is lost. */
-#include "dirwolleu.h"
-#include "expect.h"
 #include "frames.h"
 #include "lines.h"
 #include "refusing_heap.h"
@@ -229,14 +227,6 @@ static enum dw_result closed(struct play *play)
     return hand_in(&play->client, &replies);
 }
 
-/* A move: a step may halt, and one that refuses may answer DW_NO_MEMORY, by the header. The outputs of a step are read after it,
- * unless a move that follows reads them. */
-enum { STEP = 1, REFUSES = 2, UNREAD = 4 };
-struct move {
-    enum dw_result (*make)(struct play *play);
-    int kind;
-};
-
 static const struct move MOVES[] = {
     {open_client, REFUSES},
     {tick, STEP},
@@ -313,21 +303,13 @@ static void expect_halted(struct play *play)
 /* Makes a move, and once more where it was refused. Answers whether the client can go on. */
 static bool make(struct play *play, const struct move *move)
 {
-    bool was_already = was_refused();
-    enum dw_result result = move->make(play);
-    if (result == DW_NO_MEMORY) {
-        EXPECT((move->kind & REFUSES) != 0 && !was_already && was_refused());
-        result = move->make(play);
-    }
-    if (result == DW_HALTED) {
-        EXPECT((move->kind & STEP) != 0 && !was_already && was_refused());
+    if (make_twice(play, move) == DW_HALTED) {
         expect_halted(play);
         EXPECT_NUMBER(DW_OK, save(play));
         EXPECT_NUMBER(DW_OK, resume(play));
         expect_taken_up(play);
         return false;
     }
-    EXPECT_NUMBER(DW_OK, result);
     if ((move->kind & (STEP | UNREAD)) == STEP) {
         add_outputs(&play->lines, &play->client);
     }

@@ -2,7 +2,8 @@
 #ifndef DIRWOLLEU_TESTS_REFUSING_HEAP_H
 #define DIRWOLLEU_TESTS_REFUSING_HEAP_H
 
-#include <stdbool.h>
+#include "dirwolleu.h"
+#include "expect.h"
 
 struct counted_heap {
     long asked;      /* requests, of a new block or of another size */
@@ -14,5 +15,27 @@ extern struct counted_heap heap;
 
 /* Whether the request was there, and was refused. */
 bool was_refused(void);
+
+/* What a test does in turn: a step may halt, and a move that refuses may answer DW_NO_MEMORY, by the header. The outputs of a step are read after it,
+ * unless a move that follows reads them. */
+enum { STEP = 1, REFUSES = 2, UNREAD = 4 };
+struct play;
+struct move {
+    enum dw_result (*make)(struct play *play);
+    int kind;
+};
+
+/* Makes a move, and once more where it was refused. It halts only where a request was refused, and at most once is one. */
+static inline enum dw_result make_twice(struct play *play, const struct move *move)
+{
+    bool was_already = was_refused();
+    enum dw_result result = move->make(play);
+    if (result == DW_NO_MEMORY) {
+        EXPECT((move->kind & REFUSES) != 0 && !was_already && was_refused());
+        result = move->make(play);
+    }
+    EXPECT(result == DW_OK || (result == DW_HALTED && (move->kind & STEP) != 0 && !was_already && was_refused()));
+    return result;
+}
 
 #endif

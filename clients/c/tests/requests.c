@@ -135,12 +135,17 @@ static void release_all(void)
     }
 }
 
+static void end_session(void)
+{
+    close_all();
+    release_all();
+}
+
 /* Calls and requests are on their way at once, and are answered in their order, wherever the stream is cut. */
 static void ask_both(size_t first, size_t rest)
 {
     struct bytes came;
-    open_session();
-    admit();
+    begin_session();
     dws_get(session, named(&get.call, "get"), "/a", true);
     named(&sync_call.request.call, "sync");
     dws_sync(session, &sync_call.request, "/a");
@@ -168,8 +173,7 @@ static void ask_both(size_t first, size_t rest)
     EXPECT(acl.request.acl_count == 2 && acl.request.acls[0].permissions == DWS_MAY_ALL && strcmp(acl.request.acls[0].id, "") == 0);
     EXPECT(strcmp(acl.request.acls[1].scheme, "ip") == 0 && strcmp(acl.request.acls[1].id, "10.0.0.0/8") == 0);
     EXPECT(acl.request.call.stat.pzxid == STAT.pzxid && acl.request.call.length == 0 && dws_last_zxid(session) == 6);
-    close_all();
-    release_all();
+    end_session();
 }
 
 /* How many bytes the stream above has. */
@@ -203,8 +207,7 @@ static void begin_within_a_frame(bool is_quick)
     came.length = 0;
     add_data(&came, 1, 5, "one", &STAT);
     for (size_t first = 1; first < came.length; first += is_quick ? 13 : 1) {
-        open_session();
-        admit();
+        begin_session();
         dws_get(session, named(&get.call, "get"), "/a", false);
         hear_request(1, TYPE_GET, NULL);
         send_all(came.at, first);
@@ -217,8 +220,7 @@ static void begin_within_a_frame(bool is_quick)
         answer(&rest, 1, 5);
         wait_for(&sync_call.request.call);
         expect_said("get 0\nsync 0\n");
-        close_all();
-        release_all();
+        end_session();
     }
 }
 
@@ -226,10 +228,8 @@ static void begin_within_a_frame(bool is_quick)
 static void lose_both(void)
 {
     static const dws_acl acls[] = {{DWS_MAY_ALL, "world", "anyone"}};
-    struct bytes came;
     char why[DWS_LONGEST_LINE];
-    open_session();
-    admit();
+    begin_session();
     named(&sync_call.request.call, "sync");
     dws_sync(session, &sync_call.request, "/");
     dws_set(session, named(&change.call, "set"), "/", "one", 3, -1);
@@ -254,21 +254,18 @@ static void lose_both(void)
     hear_request(7, DW_OPERATION_SYNC, NULL);
     hear_request(8, TYPE_GET, NULL);
     hear_request(9, DW_OPERATION_GET_ACL, NULL);
-    came.length = 0;
     add_synced(&came, 7);
     add_data(&came, 8, 5, "one", &STAT);
     add_acls(&came, 9);
-    answer_at_once(&came);
+    answer_all();
     wait_for(&acl.request.call);
     expect_said("sync 0\nget 0\nacl 0\n");
-    close_all();
-    release_all();
+    end_session();
 }
 
 /* A request waits for a connection as calls do, in one line with them, and on the next one too. */
 static void keep_the_order(void)
 {
-    struct bytes came;
     open_session();
     dws_get(session, named(&get.call, "get"), "/", false);
     named(&sync_call.request.call, "sync");
@@ -287,37 +284,31 @@ static void keep_the_order(void)
     hear_request(5, DW_OPERATION_SYNC, NULL);
     hear_request(6, TYPE_GET, NULL);
     hear_request(7, DW_OPERATION_GET_ACL, NULL);
-    came.length = 0;
     add_data(&came, 4, 5, "one", &STAT);
     add_synced(&came, 5);
     add_data(&came, 6, 5, "one", &STAT);
     add_acls(&came, 7);
-    answer(&came, 9, 50);
+    answer_came(9, 50);
     wait_for(&acl.request.call);
     expect_said("get 0\nsync 0\nlast 0\nacl 0\n");
-    close_all();
-    release_all();
+    end_session();
 }
 
 /* An answer that does not read ends the connection. */
 static void give_up(void)
 {
-    struct bytes came;
-    open_session();
-    admit();
+    begin_session();
     named(&acl.request.call, "acl");
     dws_get_acl(session, &acl.request, "/");
     hear_request(1, DW_OPERATION_GET_ACL, NULL);
-    came.length = 0;
     size_t begin = begin_answer(&came, 1, 0);
     put_int(&came, 7);
     end_answer(&came, begin);
-    answer_at_once(&came);
+    answer_all();
     EXPECT(strchr(events, '0' + DWS_CUT) != NULL);
     wait_for(&acl.request.call);
     expect_said("acl 1\n");
-    close_all();
-    release_all();
+    end_session();
 }
 
 /* What is refused, by the server and before anything is sent, has its words. */
@@ -330,17 +321,14 @@ static void tell_refusals(void)
         {-101, "operation 2 was refused, and nothing has happened: no node: /"},
         {-110, "operation 2 was refused, and nothing has happened: there is a node already: /log-"},
     };
-    struct bytes came;
     char *large = (char *)calloc(1, BIG);
-    open_session();
-    admit();
+    begin_session();
     for (size_t i = 0; i < 2; i++) {
         spell_transaction(&change.request);
         dws_commit(session, &change.request);
         hear_transaction(1 + (int32_t)i);
-        came.length = 0;
         add_rolled_back(&came, 1 + (int32_t)i, rows[i].code);
-        answer(&came, 3, 5);
+        answer_came(3, 5);
         EXPECT_NUMBER(rows[i].code, dws_wait(session, &change.request.call));
         EXPECT_NUMBER(2, change.request.refused);
         expect_words(&change.request.call, rows[i].words);
@@ -355,8 +343,7 @@ static void tell_refusals(void)
     EXPECT(dws_wait(session, dws_create_with_acl(session, &acl.request, "/a", large, BIG, 0, NULL, 0)) == DW_OUTCOME_TOO_LARGE);
     EXPECT(dws_commit(session, &change.request)->is_answered == false);
     free(large);
-    close_all();
-    release_all();
+    end_session();
 }
 
 /* A path is on one line of a message, whatever bytes it has. */
@@ -406,7 +393,6 @@ static void expect_credentials(const char *words)
 /* Credentials are told first on each connection, in the order in which they were handed in, and answered once. */
 static void introduce(void)
 {
-    struct bytes came;
     open_session();
     EXPECT(dws_introduce(session, "digest", "ann:secret", 10) && dws_introduce(session, "digest", "ann:secret", 10));
     dws_get(session, named(&get.call, "get"), "/", false);
@@ -419,11 +405,10 @@ static void introduce(void)
     dws_add_auth(session, &acl.request, "digest", "eve:secret", 10);
     expect_credentials("bob:secret");
     expect_credentials("eve:secret");
-    came.length = 0;
     add_header(&came, -4, 0, 0);
     add_header(&came, -4, 0, 0); /* a server answers credentials before what it was asked before */
     add_data(&came, 1, 5, "one", &STAT);
-    answer(&came, 7, 11);
+    answer_came(7, 11);
     wait_for(&get.call);
     expect_said("bob 0\nget 0\n");
     end_line();
@@ -432,15 +417,13 @@ static void introduce(void)
     expect_credentials("bob:secret");
     expect_credentials("eve:secret");
     EXPECT(!acl.request.call.is_answered);
-    came.length = 0;
     add_header(&came, -4, 0, 0);
     add_header(&came, -4, 0, 0);
     add_header(&came, -4, 0, 0);
-    answer(&came, 3, 5);
+    answer_came(3, 5);
     wait_for(&acl.request.call);
     expect_said("eve 0\n");
-    close_all();
-    release_all();
+    end_session();
 }
 
 /* A server that never answers credentials: the call has its limit, as all have. */
@@ -457,8 +440,7 @@ static void wait_in_vain(void)
     wait_for(&acl.request.call);
     expect_said("eve 99\n");
     expect_words(&acl.request.call, "no answer came in 1 s; it may have happened, or may yet: read again");
-    close_all();
-    release_all();
+    end_session();
 }
 
 static void watch_secret(const uint8_t *at, size_t length)
@@ -501,16 +483,13 @@ static void introduce_when_connected(dws_session *s, enum dws_event event, const
 /* Credentials come before the watches that are set again, in another session too, and may be handed in by a callback. */
 static void introduce_first(void)
 {
-    struct bytes came;
     open_session();
     session->options.told = introduce_when_connected;
     admit();
     expect_credentials("ann:secret");
     dws_get(session, named(&get.call, "get"), "/a", true);
     hear_request(1, TYPE_GET, NULL);
-    came.length = 0;
-    add_data(&came, 1, 5, "one", &STAT);
-    answer_at_once(&came);
+    ANSWER(add_data, 1, 5, "one", &STAT);
     end_line();
     admit();
     expect_credentials("ann:secret");
@@ -518,15 +497,13 @@ static void introduce_first(void)
     end_line();
     accept_line(); /* the session has expired */
     hear();
-    came.length = 0;
     add_expired(&came);
-    answer_at_once(&came);
+    answer_all();
     end_line();
     admit();
     expect_credentials("ann:secret");
     expect_said("get 0\n");
-    close_all();
-    release_all();
+    end_session();
 }
 
 /* What the library does not take is told to the call, or ends the session where there is none. */
@@ -544,8 +521,7 @@ static void refuse_credentials(void)
     EXPECT(dws_is_over(session) && strchr(events, '0' + DWS_FAILED) != NULL);
     EXPECT_NUMBER(DWS_REFUSED - DW_CREDENTIAL_TOO_LARGE, acl.request.call.why);
     free(large);
-    close_all();
-    release_all();
+    end_session();
 }
 
 static void see_mark(dws_session *s, dws_subject *subject)
@@ -562,8 +538,7 @@ static void bar(void)
     came.length = data.length = 0;
     add_data(&data, 1, 5, "one", &STAT);
     add_header(&came, -4, 0, -115);
-    open_session();
-    admit();
+    begin_session();
     EXPECT(dws_add_auth(session, &acl.request, "digest", "eve:secret", 10) == &acl.request.call);
     expect_credentials("eve:secret");
     answer_at_once(&came);
@@ -586,8 +561,7 @@ static void bar(void)
     expect_said("mark 1\nget -115\nmark 0\nlast -115\n");
     EXPECT(dws_is_over(session) && strchr(events, '0' + DWS_BARRED) != NULL);
     expect_words(&last.call, "the server does not take these credentials: /");
-    close_all();
-    release_all();
+    end_session();
 }
 
 static dws_subject followed;
@@ -612,23 +586,18 @@ static void add_set(struct bytes *bytes, int32_t xid, int64_t zxid)
 /* Follows /a, and sets it in a transaction at zxid 50, whose notice comes in the same bytes as the answer. */
 static void change_followed(void)
 {
-    struct bytes came;
-    open_session();
-    admit();
+    begin_session();
     EXPECT_NUMBER(DW_OK, dws_follow(session, &followed, "/a", see_mark));
     hear_request(1, TYPE_GET, NULL);
-    came.length = 0;
-    add_data(&came, 1, 5, "alpha", &STAT);
-    answer_at_once(&came);
+    ANSWER(add_data, 1, 5, "alpha", &STAT);
     turn(0);
     change.request.call.then = tell_followed;
     dws_transaction_set(session, &change.request, "/a", "beta", 4, -1);
     dws_commit(session, &change.request);
     hear_request(2, DW_OPERATION_MULTI, NULL);
-    came.length = 0;
     add_notice(&came, DW_EVENT_DATA_CHANGED, "/a");
     add_set(&came, 2, 50);
-    answer_at_once(&came);
+    answer_all();
     turn(0);
     expect_said("mark 1\nchange 0 mark 2 zxid 50\nmark 2\n");
     hear_request(3, TYPE_GET, NULL);
@@ -659,8 +628,7 @@ static void leave_servers_behind(void)
         }
     }
     hear_request(4, TYPE_GET, NULL);
-    close_all();
-    release_all();
+    end_session();
 }
 
 /* The zxid of each answer counts, of those that refuse too. */
@@ -668,49 +636,38 @@ static void count_each_zxid(void)
 {
     static const int32_t operations[] = {DW_OPERATION_SYNC, DW_OPERATION_GET_ACL, DW_OPERATION_SET_ACL, DW_OPERATION_CREATE2};
     static const dws_acl acls[] = {{DWS_MAY_ALL, "world", "anyone"}};
-    struct bytes came;
-    open_session();
-    admit();
+    begin_session();
     dws_sync(session, &sync_call.request, "/a");
     dws_get_acl(session, &acl.request, "/a");
     dws_set_acl(session, &last.request, "/a", acls, 1, -1);
     dws_create_with_acl(session, &get.request, "/a/b", "", 0, 0, acls, 1);
     for (int32_t i = 0; i < 4; i++) {
         hear_request(1 + i, operations[i], NULL);
-        came.length = 0;
-        add_header(&came, 1 + i, 20 + i, DW_CODE_NO_NODE);
-        answer_at_once(&came);
+        ANSWER(add_header, 1 + i, 20 + i, DW_CODE_NO_NODE);
         EXPECT_NUMBER(20 + i, dws_last_zxid(session));
     }
     end_line();
     accept_line();
     hear();
     EXPECT_NUMBER(23, dws_read_long(out.at + 4));
-    close_all();
-    release_all();
+    end_session();
 }
 
 /* A frame with an xid for which nobody waits ends the connection. */
 static void leave_the_rest(void)
 {
-    struct bytes came;
-    open_session();
-    admit();
+    begin_session();
     dws_sync(session, named(&sync_call.request.call, "sync") != NULL ? &sync_call.request : NULL, "/");
     hear_request(1, DW_OPERATION_SYNC, NULL);
-    came.length = 0;
     add_synced(&came, 2);
-    answer(&came, 5, 5);
+    answer_came(5, 5);
     EXPECT(strchr(events, '0' + DWS_CUT) != NULL && !sync_call.request.call.is_answered);
     admit();
     hear_request(2, DW_OPERATION_SYNC, NULL);
-    came.length = 0;
-    add_synced(&came, 2);
-    answer_at_once(&came);
+    ANSWER(add_synced, 2);
     wait_for(&sync_call.request.call);
     expect_said("sync 0\n");
-    close_all();
-    release_all();
+    end_session();
 }
 
 int main(int argc, char **argv)

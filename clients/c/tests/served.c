@@ -18,19 +18,13 @@ static bool has_told(enum dws_event event)
 
 static void answer_data(int32_t xid)
 {
-    struct bytes came;
-    came.length = 0;
-    add_data(&came, xid, 5, "one", &STAT);
-    answer_at_once(&came);
+    ANSWER(add_data, xid, 5, "one", &STAT);
 }
 
 /* A reply that brings nothing. */
 static void answer_nothing(int32_t xid, int64_t zxid)
 {
-    struct bytes came;
-    came.length = 0;
-    add_header(&came, xid, zxid, 0);
-    answer_at_once(&came);
+    ANSWER(add_header, xid, zxid, 0);
 }
 
 /* The first ping comes a third of the timeout that was granted after the session was admitted, and the session wants to be woken for it. */
@@ -65,8 +59,7 @@ static void be_suspended(void)
     enum { HOUR_MS = 3600000 };
     struct pollfd polled;
     struct bytes came;
-    open_session();
-    admit();
+    begin_session();
     turn(0);
     let_pass(100);
     suspended_ms += HOUR_MS;
@@ -92,8 +85,7 @@ static void be_suspended(void)
 /* Pings are answered and a call is not: the connection is left two thirds of the timeout after the call was asked. */
 static void answer_pings_alone(void)
 {
-    open_session();
-    admit();
+    begin_session();
     let_pass(100);
     uint64_t asked_ms = clock_ms;
     dws_set(session, &set, "/a", "one", 3, -1);
@@ -130,8 +122,7 @@ static void expect_new_connection(void)
 static void forget_unsent(void)
 {
     struct bytes connected;
-    open_session();
-    admit();
+    begin_session();
     is_blocked = true;
     dws_set(session, &set, "/a", "one", 3, -1);
     turn(0);
@@ -253,9 +244,7 @@ static void tell_mark(dws_session *s, dws_call *call)
  * of the whole step. */
 static void mark_before_callbacks(bool is_told_first)
 {
-    struct bytes came;
-    open_session();
-    admit();
+    begin_session();
     EXPECT_NUMBER(DW_OK, dws_follow(session, &node, "/a", NULL));
     hear_request(1, TYPE_GET, NULL);
     answer_data(1);
@@ -266,7 +255,6 @@ static void mark_before_callbacks(bool is_told_first)
     dws_get(session, &get, "/b", false);
     hear_request(2, TYPE_SET, NULL);
     hear_request(3, TYPE_GET, NULL);
-    came.length = 0;
     if (is_told_first) {
         add_notice(&came, DW_EVENT_DATA_CHANGED, "/a");
     }
@@ -275,7 +263,7 @@ static void mark_before_callbacks(bool is_told_first)
         add_notice(&came, DW_EVENT_DATA_CHANGED, "/a");
     }
     add_data(&came, 3, 8, "one", &STAT);
-    answer_at_once(&came);
+    answer_all();
     expect_said("set 0 mark 2 zxid 8\nget 0 mark 2 zxid 8\n");
     hear_request(4, TYPE_GET, NULL);
     close_all();
@@ -285,8 +273,7 @@ static void mark_before_callbacks(bool is_told_first)
 /* After the server's word that the session is closed nothing more is done. */
 static void close_once(void)
 {
-    open_session();
-    admit();
+    begin_session();
     dws_end(session);
     dws_get(session, &get, "/a", false);
     EXPECT(get.is_answered && get.why == DW_OUTCOME_CLOSED);
@@ -302,26 +289,17 @@ static void close_once(void)
 
 static void answer_node(int32_t xid)
 {
-    struct bytes came;
-    came.length = 0;
-    add_data(&came, xid, 6, "one", &STAT);
-    answer_at_once(&came);
+    ANSWER(add_data, xid, 6, "one", &STAT);
 }
 
 static void answer_no_names(int32_t xid)
 {
-    struct bytes came;
-    came.length = 0;
-    add_no_names(&came, xid, 6, &STAT);
-    answer_at_once(&came);
+    ANSWER(add_no_names, xid, 6, &STAT);
 }
 
 static void refuse(int32_t xid)
 {
-    struct bytes came;
-    came.length = 0;
-    add_header(&came, xid, 6, DW_CODE_NO_AUTH);
-    answer_at_once(&came);
+    ANSWER(add_header, xid, 6, DW_CODE_NO_AUTH);
 }
 
 /* What a session has at its end: a lock that is held, and a node and names that are good. Each is told that it is lost, once. */
@@ -421,7 +399,7 @@ static void lose_all_at_expiry(bool ends)
     add_expired(&expired);
     answer_at_once(&expired);
     EXPECT(has_told(DWS_EXPIRED));
-    expect_nothing_owned("names 0\nnode 0\nlock 0\n");
+    expect_nothing_owned("lock 0\nnode 0\nnames 0\n");
 }
 
 /* After a close: by the server's word, without it after a second, and a second time at once. */
@@ -444,7 +422,7 @@ static void lose_all_at_close(bool is_answered, bool is_at_once)
     for (int i = 0; !dws_is_over(session); i++) {
         turn(i);
     }
-    expect_nothing_owned(is_answered ? "unread 0\nnames 0\nnode 0\nlock 0\n" : "names 0\nnode 0\nlock 0\n");
+    expect_nothing_owned(is_answered ? "lock 0\nnode 0\nnames 0\nunread 0\n" : "lock 0\nnode 0\nnames 0\n");
 }
 
 /* Bytes come in small pieces, of which one turn takes many. */
@@ -457,11 +435,9 @@ static ssize_t read_few(dws_wire *wire, void *room, size_t size, void *context)
 static void close_before_a_lock(void)
 {
     char place[256];
-    struct bytes came;
     memset(&owned, 0, sizeof owned);
     owned.lock = (dws_lock *)calloc(1, sizeof *owned.lock);
-    open_session();
-    admit();
+    begin_session();
     EXPECT(dws_lock_take(session, owned.lock, "/l", DWS_EXCLUSIVE, "me", see_owned_lock));
     make_place(1, "0000000002", place, sizeof place);
     hear_about(2, TYPE_GET, place);
@@ -469,11 +445,10 @@ static void close_before_a_lock(void)
     dws_end(session);
     hear_request(4, -11, NULL);
     session->options.read = read_few;
-    came.length = 0;
     add_place(&came, 2, 6);
     add_names(&came, 3, 6, place + 3, "note", &STAT);
     add_header(&came, 4, 6, 0);
-    answer_at_once(&came);
+    answer_all();
     expect_said("");
     EXPECT(dws_is_over(session) && !owned.lock->is_held);
     close_all();
@@ -495,8 +470,7 @@ static void take_tree(dws_session *s, dws_tree *shown)
 /* Two nodes of a tree are refused: the first one is told, and the other one once that is read, though it was refused long before. */
 static void refuse_nodes(void)
 {
-    open_session();
-    admit();
+    begin_session();
     EXPECT_NUMBER(DW_OK, dws_follow_tree(session, &tree, "/t", 0, take_tree));
     hear_about(1, TYPE_GET, "/t");
     hear_about(2, TYPE_CHILDREN, "/t");
@@ -529,8 +503,7 @@ static void refuse_nodes(void)
 /* A tree that is followed no more while its nodes are read is told nothing, and what comes of it is nobody's. */
 static void unfollow_tree(void)
 {
-    open_session();
-    admit();
+    begin_session();
     EXPECT_NUMBER(DW_OK, dws_follow_tree(session, &tree, "/t", 0, take_tree));
     hear_about(1, TYPE_GET, "/t");
     hear_about(2, TYPE_CHILDREN, "/t");
@@ -562,8 +535,7 @@ static void unfollow_tree(void)
 /* Where a name makes no path no read makes the tree whole, and that is told. */
 static void find_no_path(void)
 {
-    open_session();
-    admit();
+    begin_session();
     EXPECT_NUMBER(DW_OK, dws_follow_tree(session, &tree, "/t", 0, take_tree));
     hear_about(1, TYPE_GET, "/t");
     hear_about(2, TYPE_CHILDREN, "/t");
@@ -575,46 +547,90 @@ static void find_no_path(void)
     close_all();
 }
 
+enum { CROWD = 40 };
+
+static dws_subject crowd[CROWD], *unwanted;
+
+/* What is shown of one of many that are followed lets another one go. */
+static void see_of_crowd(dws_session *s, dws_subject *subject)
+{
+    say("%d mark %d %s\n", (int)(subject - crowd), (int)subject->mark, subject->text);
+    if (unwanted != NULL) {
+        dws_unfollow(s, unwanted);
+    }
+    unwanted = NULL;
+}
+
+/* Answers the next read, which is of data. */
+static void answer_next(const char *data, int64_t mzxid)
+{
+    dw_stat stat = STAT;
+    stat.mzxid = mzxid;
+    hear();
+    ANSWER(add_data, (int32_t)dws_read_int(out.at), 9, data, &stat);
+}
+
+/* Of many nodes that are followed, each by two, those are looked at that a step names: by a notice of its path, by what is read again, and by the answer
+ * to a call with a watch that nothing announced. One of them is let go before it is shown. */
+static void name_few_of_many(void)
+{
+    char path[16];
+    begin_session();
+    for (int i = 0; i < CROWD; i++) {
+        snprintf(path, sizeof path, "/%d", i / 2);
+        EXPECT_NUMBER(DW_OK, dws_follow(session, &crowd[i], path, see_of_crowd));
+    }
+    for (int i = 0; i < CROWD; i++) {
+        answer_next("one", 5);
+    }
+    turn(0);
+    said[0] = 0;
+    notice(DW_EVENT_DATA_CHANGED, "/7");
+    turn(0);
+    expect_said("15 mark 2 one\n14 mark 2 one\n");
+    answer_next("two", 8);
+    answer_next("two", 8);
+    turn(0);
+    expect_said("15 mark 1 two\n14 mark 1 two\n");
+    dws_get(session, &get, "/9", true);
+    answer_next("three", 9);
+    turn(0);
+    expect_said("19 mark 1 three\n18 mark 1 three\n");
+    unwanted = &crowd[14];
+    notice(DW_EVENT_DATA_CHANGED, "/7");
+    turn(0);
+    expect_said("15 mark 2 two\n");
+    close_all();
+    memset(crowd, 0, sizeof crowd);
+    dws_release(&get);
+}
+
 static bool introduces;    /* the session has credentials */
 static bool is_introduced; /* the last connection has told credentials before all else */
 
-/* Serves what the session asks, over any number of connections, as far as it has asked. */
+static bool serve_request(int32_t type, const uint8_t *request)
+{
+    int32_t xid = (int32_t)dws_read_int(request);
+    EXPECT(type == TYPE_CONNECT || type == TYPE_AUTH || is_introduced || !introduces);
+    is_introduced = type != TYPE_CONNECT && (is_introduced || type == TYPE_AUTH);
+    switch (type) {
+    case TYPE_CONNECT: add_connected(&came); break;
+    case TYPE_GET: add_data(&came, xid, 6, "one", &STAT); break;
+    case TYPE_CHILDREN: add_no_names(&came, xid, 6, &STAT); break;
+    case TYPE_SET:
+    case TYPE_EXISTS: add_stat(&came, xid, 6, &STAT); break;
+    default: add_header(&came, xid, 6, 0); break;
+    }
+    ssize_t sent = send(line, came.at, came.length, MSG_NOSIGNAL);
+    EXPECT(sent != 0);
+    told += sent > 0 ? (size_t)sent : 0;
+    came.length = 0;
+    return true;
+}
+
 static void serve(void)
 {
-    static uint8_t in[1 << 12];
-    static size_t length;
-    static bool is_admitted;
-    int accepted = accept(listener, NULL, NULL);
-    if (accepted >= 0) {
-        close(line);
-        line = accepted;
-        length = heard = told = 0;
-        is_admitted = is_introduced = false;
-    }
-    ssize_t count = line >= 0 ? take(in + length, sizeof in - length) : -1;
-    length += count > 0 ? (size_t)count : 0;
-    while (length >= 4 && length >= 4 + dws_read_int(in)) {
-        struct bytes came;
-        size_t whole = 4 + dws_read_int(in);
-        int32_t xid = (int32_t)dws_read_int(in + 4), type = is_admitted ? (int32_t)dws_read_int(in + 8) : TYPE_CONNECT;
-        came.length = 0;
-        EXPECT(type == TYPE_CONNECT || type == TYPE_AUTH || is_introduced || !introduces);
-        is_introduced = is_introduced || type == TYPE_AUTH;
-        switch (type) {
-        case TYPE_CONNECT: add_connected(&came); break;
-        case TYPE_GET: add_data(&came, xid, 6, "one", &STAT); break;
-        case TYPE_CHILDREN: add_no_names(&came, xid, 6, &STAT); break;
-        case TYPE_SET:
-        case TYPE_EXISTS: add_stat(&came, xid, 6, &STAT); break;
-        default: add_header(&came, xid, 6, 0); break;
-        }
-        is_admitted = true;
-        memmove(in, in + whole, length - whole);
-        length -= whole;
-        ssize_t sent = send(line, came.at, came.length, MSG_NOSIGNAL);
-        EXPECT(sent != 0);
-        told += sent > 0 ? (size_t)sent : 0;
-    }
+    serve_by(serve_request);
 }
 
 /* As many paths are watched as may be. So the root of a tree is refused, which is said before the library says which node that is. */
@@ -724,6 +740,7 @@ int main(int argc, char **argv)
     refuse_nodes();
     unfollow_tree();
     find_no_path();
+    name_few_of_many();
     if (argc == 1) {
         watch_all();
     }

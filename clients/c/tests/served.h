@@ -233,6 +233,22 @@ static inline void answer_at_once(const struct bytes *bytes)
     answer(bytes, bytes->length, bytes->length);
 }
 
+static struct bytes came; /* what is answered next, as far as it is spelled */
+
+static inline void answer_came(size_t first, size_t rest)
+{
+    answer(&came, first, rest);
+    came.length = 0;
+}
+
+static inline void answer_all(void)
+{
+    answer_came(came.length, came.length);
+}
+
+/* Answers with one frame, which this function of frames.h adds with these words. */
+#define ANSWER(add, ...) (add(&came, __VA_ARGS__), answer_all())
+
 /* Takes the next connection. */
 static inline void accept_line(void)
 {
@@ -262,6 +278,37 @@ static inline void admit(void)
     admit_by(0);
 }
 
+/* A session that a server has admitted. */
+static inline void begin_session(void)
+{
+    open_session();
+    admit();
+}
+
+/* Serves what the session asks, over any number of connections, as far as it has asked: by this function, which says whether the connection goes on. */
+static inline void serve_by(bool (*serve_request)(int32_t type, const uint8_t *request))
+{
+    static uint8_t in[1 << 12];
+    static size_t length;
+    static bool is_admitted;
+    int accepted = accept(listener, NULL, NULL);
+    if (accepted >= 0) {
+        close(line);
+        line = accepted;
+        length = heard = told = 0;
+        is_admitted = false;
+    }
+    ssize_t count = line >= 0 ? take(in + length, sizeof in - length) : -1;
+    length += count > 0 ? (size_t)count : 0;
+    while (line >= 0 && length >= 4 && length >= 4 + dws_read_int(in)) {
+        size_t whole = 4 + dws_read_int(in);
+        bool goes_on = serve_request(is_admitted ? (int32_t)dws_read_int(in + 8) : TYPE_CONNECT, in + 4);
+        is_admitted = true;
+        memmove(in, in + whole, length - whole);
+        length = goes_on ? length - whole : 0;
+    }
+}
+
 /* Goes on until a call is answered. */
 static inline void wait_for(const dws_call *call)
 {
@@ -279,13 +326,10 @@ static inline void text_at(size_t place, char *room, size_t size)
 /* The place that a lock asks for is made, with this number. */
 static inline void make_place(int32_t xid, const char *number, char *place, size_t size)
 {
-    struct bytes came;
     hear_request(xid, TYPE_CREATE, NULL);
     text_at(8, place, size);
     strncat(place, number, size - strlen(place) - 1);
-    came.length = 0;
-    add_created(&came, xid, 6, place);
-    answer_at_once(&came);
+    ANSWER(add_created, xid, 6, place);
 }
 
 /* The next request is about this path. */
@@ -307,44 +351,29 @@ static inline void add_place(struct bytes *came, int32_t xid, int64_t zxid)
 
 static inline void answer_place(int32_t xid, int64_t zxid)
 {
-    struct bytes came;
-    came.length = 0;
-    add_place(&came, xid, zxid);
-    answer_at_once(&came);
+    ANSWER(add_place, xid, zxid);
 }
 
 static inline void answer_names(int32_t xid, int64_t zxid, const char *first, const char *second)
 {
-    struct bytes came;
-    came.length = 0;
-    add_names(&came, xid, zxid, first, second, &STAT);
-    answer_at_once(&came);
+    ANSWER(add_names, xid, zxid, first, second, &STAT);
 }
 
 static inline void answer_none(int32_t xid, int64_t zxid)
 {
-    struct bytes came;
-    came.length = 0;
-    add_header(&came, xid, zxid, CODE_NO_NODE);
-    answer_at_once(&came);
+    ANSWER(add_header, xid, zxid, CODE_NO_NODE);
 }
 
 /* The next request is a sync, which is answered. */
 static inline void answer_sync(int32_t xid)
 {
-    struct bytes came;
     hear_request(xid, DW_OPERATION_SYNC, NULL);
-    came.length = 0;
-    add_created(&came, xid, 7, "/l"); /* its answer has a path too */
-    answer_at_once(&came);
+    ANSWER(add_created, xid, 7, "/l"); /* its answer has a path too */
 }
 
 static inline void notice(int32_t event, const char *path)
 {
-    struct bytes came;
-    came.length = 0;
-    add_notice(&came, event, path);
-    answer_at_once(&came);
+    ANSWER(add_notice, event, path);
 }
 
 static inline void put_words(struct bytes *bytes, const char *text)

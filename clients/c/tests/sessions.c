@@ -1,47 +1,10 @@
 /* A session by hand, with no socket and no clock: it dials, follows a node that is not there and then is made, loses its connection, lets a call
  * wait, and is closed. What comes of it is what zookeeper.jute and the header say. */
-#include "dirwolleu.h"
-#include "expect.h"
-#include "frames.h"
-
-#include <string.h>
+#include "by_hand.h"
 
 enum { ASKED_MS = 9000, ADDRESSES = 2, FOLLOWED = 1 };
 
 #define CONFIG "/config", 7
-
-/* The next action is of this kind. */
-static dw_output expect_next(dw_session *session, enum dw_kind kind)
-{
-    dw_output action;
-    EXPECT_NUMBER(DW_OK, dw_session_next(session, &action));
-    EXPECT_NUMBER(kind, action.kind);
-    return action;
-}
-
-static void expect_no_more(dw_session *session)
-{
-    dw_output action;
-    EXPECT_NUMBER(DW_NONE, dw_session_next(session, &action));
-}
-
-/* The next action is a frame of this length. Tells its xid, which stands after the length. */
-static int32_t expect_sent(dw_session *session, size_t length)
-{
-    uint8_t frame[128];
-    EXPECT_NUMBER(length, expect_next(session, DW_KIND_SEND).length);
-    EXPECT_NUMBER(length, dw_session_copy(session, 0, frame, sizeof frame));
-    EXPECT(length >= 8);
-    return (int32_t)((uint32_t)frame[4] << 24 | (uint32_t)frame[5] << 16 | (uint32_t)frame[6] << 8 | frame[7]);
-}
-
-static void expect_text(dw_session *session, const char *wanted)
-{
-    char text[64];
-    size_t length = dw_session_copy(session, 0, text, sizeof text);
-    EXPECT_NUMBER(strlen(wanted), length);
-    EXPECT(memcmp(wanted, text, length) == 0);
-}
 
 static void expect_deadline(dw_session *session, uint64_t wanted_ms)
 {
@@ -61,34 +24,10 @@ static void expect_dial(dw_session *session, uint64_t now_ms, uint64_t within_ms
     expect_deadline(session, now_ms + within_ms);
 }
 
-static void hand_in(dw_session *session, uint64_t now_ms, const struct bytes *bytes)
-{
-    EXPECT_NUMBER(DW_OK, dw_session_bytes(session, now_ms, bytes->at, bytes->length));
-}
-
-/* The connection is there, and a server admits the session. Then this many more actions of the step are the caller's to see. */
-static void connect_session(dw_session *session, uint64_t now_ms)
-{
-    struct bytes response;
-    response.length = 0;
-    add_connected(&response);
-    EXPECT_NUMBER(DW_OK, dw_session_opened(session, now_ms));
-    EXPECT_NUMBER(49, expect_next(session, DW_KIND_SEND).length);
-    EXPECT_NUMBER(DW_STATE_CONNECTING, expect_next(session, DW_KIND_STATE).state);
-    expect_no_more(session);
-    hand_in(session, now_ms, &response);
-    EXPECT_NUMBER(DW_STATE_CONNECTED, expect_next(session, DW_KIND_STATE).state);
-    EXPECT_NUMBER(DW_STATE_CONNECTED, dw_session_state(session));
-    EXPECT_NUMBER(GRANTED_MS, dw_session_timeout_ms(session));
-}
-
 /* A reply without a record. */
 static void answer(dw_session *session, uint64_t now_ms, int32_t xid, int64_t zxid, int32_t code)
 {
-    struct bytes came;
-    came.length = 0;
-    add_header(&came, xid, zxid, code);
-    hand_in(session, now_ms, &came);
+    HAND_IN(session, now_ms, add_header, xid, zxid, code);
 }
 
 /* What is kept of the node that is followed is good. */
@@ -122,7 +61,6 @@ enum { READ_LENGTH = 4 + 4 + 4 + 4 + 7 + 1 };
 static void follow_an_absent_node(dw_session *session)
 {
     dw_stat stat = {6, 6, 1000, 1000, 0, 6, 0, 0, 0, 2, 0};
-    struct bytes came;
     int32_t xid = expect_sent(session, READ_LENGTH);
     expect_no_more(session);
     answer(session, 40, xid, 5, CODE_NO_NODE);
@@ -130,9 +68,7 @@ static void follow_an_absent_node(dw_session *session)
     expect_no_more(session);
     answer(session, 41, xid, 5, CODE_NO_NODE);
     expect_shown(session, DW_KEPT_ABSENT);
-    came.length = 0;
-    add_notice(&came, DW_EVENT_CREATED, "/config");
-    hand_in(session, 50, &came);
+    HAND_IN(session, 50, add_notice, DW_EVENT_CREATED, "/config");
     forget_what_is_stale(session);
     dw_output report = expect_next(session, DW_KIND_REPORT);
     EXPECT_NUMBER(DW_EVENT_CREATED, report.event);
@@ -140,9 +76,7 @@ static void follow_an_absent_node(dw_session *session)
     expect_text(session, "/config");
     xid = expect_sent(session, READ_LENGTH);
     expect_no_more(session);
-    came.length = 0;
-    add_data(&came, xid, 6, "up", &stat);
-    hand_in(session, 51, &came);
+    HAND_IN(session, 51, add_data, xid, 6, "up", &stat);
     expect_shown(session, DW_KEPT_FULL);
     EXPECT_NUMBER(6, dw_session_last_zxid(session));
 }
@@ -187,11 +121,8 @@ static void connect_again(dw_session *session)
 static void ask_and_close(dw_session *session)
 {
     dw_stat stat = {6, 6, 1000, 1000, 0, 6, 0, 0, 0, 2, 0};
-    struct bytes came;
     EXPECT_NUMBER(DW_OK, dw_session_get_data(session, 700, 3, UINT64_MAX, CONFIG, false));
-    came.length = 0;
-    add_data(&came, expect_sent(session, READ_LENGTH), 6, "up", &stat);
-    hand_in(session, 710, &came);
+    HAND_IN(session, 710, add_data, expect_sent(session, READ_LENGTH), 6, "up", &stat);
     dw_output got = expect_next(session, DW_KIND_ANSWER);
     EXPECT_NUMBER(3, got.ticket);
     EXPECT_NUMBER(DW_OUTCOME_REPLIED, got.outcome);

@@ -1,8 +1,6 @@
 /* Each request for memory of a short session is refused in turn, by the handle of a session. The codes are those of the header: where no step
  * was made, the same call succeeds after it, and what is told is the same; where one halted, nothing is told, each later step says so, and what
  * is saved is taken up by another handle. No block is lost. */
-#include "dirwolleu.h"
-#include "expect.h"
 #include "frames.h"
 #include "refusing_heap.h"
 
@@ -76,7 +74,21 @@ static enum dw_result created(struct play *play)
     return hand_in(&play->session, &reply);
 }
 
-/* The root is kept already, and its names are read third. */
+/* A request that the caller spells, a multi of the path `/`, and its reply of no bytes. */
+static enum dw_result ask_multi(struct play *play)
+{
+    static const uint8_t body[] = {0, 0, 0, 1, '/'};
+    return dw_session_raw(&play->session, 1, 7, UINT64_MAX, DW_OPERATION_MULTI, body, sizeof body);
+}
+
+static enum dw_result answered(struct play *play)
+{
+    struct bytes reply = {.length = 0};
+    add_header(&reply, 3, 6, 0);
+    return hand_in(&play->session, &reply);
+}
+
+/* The root is kept already, and its names are read fourth. */
 static enum dw_result follow_tree(struct play *play)
 {
     return dw_session_follow_tree(&play->session, 1, 3, PATH, sizeof PATH, 3);
@@ -86,7 +98,7 @@ static enum dw_result follow_tree(struct play *play)
 static enum dw_result named(struct play *play)
 {
     struct bytes reply = {.length = 0};
-    add_names(&reply, 3, 6, "a", "b", &STAT);
+    add_names(&reply, 4, 6, "a", "b", &STAT);
     return hand_in(&play->session, &reply);
 }
 
@@ -131,13 +143,6 @@ static enum dw_result cut(struct play *play)
     return dw_session_cut(&play->session, 1);
 }
 
-/* A step may halt, and a move that refuses may answer DW_NO_MEMORY, by the header. */
-enum { STEP = 1, REFUSES = 2 };
-struct move {
-    enum dw_result (*make)(struct play *play);
-    int kind;
-};
-
 static const struct move MOVES[] = {
     {open_session, REFUSES},
     {moment, STEP},
@@ -147,6 +152,8 @@ static const struct move MOVES[] = {
     {shown, STEP | REFUSES},
     {create, STEP | REFUSES},
     {created, STEP | REFUSES},
+    {ask_multi, STEP | REFUSES},
+    {answered, STEP | REFUSES},
     {follow_tree, STEP | REFUSES},
     {named, STEP | REFUSES},
     {moment, STEP},
@@ -197,18 +204,10 @@ static void want_room(struct play *play)
 static bool make(struct play *play, const struct move *move)
 {
     dw_output action;
-    bool was_already = was_refused();
-    enum dw_result result = move->make(play);
-    if (result == DW_NO_MEMORY) {
-        EXPECT((move->kind & REFUSES) != 0 && !was_already && was_refused());
-        result = move->make(play);
-    }
-    if (result == DW_HALTED) {
-        EXPECT((move->kind & STEP) != 0 && !was_already && was_refused());
+    if (make_twice(play, move) == DW_HALTED) {
         expect_halted(play);
         return false;
     }
-    EXPECT_NUMBER(DW_OK, result);
     if ((move->kind & STEP) != 0) {
         want_room(play);
     }
@@ -238,7 +237,7 @@ int main(void)
 {
     static const enum dw_kind TOLD[] = {
         DW_KIND_DIAL, DW_KIND_SEND, DW_KIND_STATE, DW_KIND_STATE, DW_KIND_SEND, DW_KIND_SHOWN, DW_KIND_SEND, DW_KIND_ANSWER,
-        DW_KIND_TAKEN_ON, DW_KIND_TAKEN_ON, DW_KIND_SEND, DW_KIND_SHOWN, DW_KIND_SHOWN,
+        DW_KIND_SEND, DW_KIND_ANSWER, DW_KIND_TAKEN_ON, DW_KIND_TAKEN_ON, DW_KIND_SEND, DW_KIND_SHOWN, DW_KIND_SHOWN,
         DW_KIND_TAKEN_ON, DW_KIND_TAKEN_ON, DW_KIND_TAKEN_ON, DW_KIND_TAKEN_ON,
         DW_KIND_SEND, DW_KIND_SEND, DW_KIND_SEND, DW_KIND_SEND,
         DW_KIND_LET_GO, DW_KIND_LET_GO, DW_KIND_LET_GO, DW_KIND_LET_GO, DW_KIND_LET_GO, DW_KIND_LET_GO,
