@@ -13,8 +13,9 @@ import time
 import unittest
 from typing import Callable, NamedTuple
 
+from python_shell import outcome_of_python
 from served import World, world
-from shell import outcome, outcome_of_python, program
+from shell import outcome, program
 from tables import HERE, Row, cases_of, numbered, repeated
 
 ADDRESS = "127.0.0.1:2181"
@@ -110,10 +111,6 @@ def asked(served: World, line: str, given: bytes, is_python: bool) -> str:
     return (outcome_of_python(words, given) if is_here else outcome(words, given, refuse_reads)).replace(here, ADDRESS)
 
 
-def asks_python(case: Case) -> str:
-    return asks(case, True)
-
-
 def asks(case: Case, is_python: bool = False) -> str:
     """Command lines over one server, of which `part` cuts all off and which `join` lets in again."""
     printed, lines = "", case.script.splitlines()
@@ -206,9 +203,9 @@ class ShellTest(unittest.TestCase):
     def test_values(self) -> None:
         self._table("shell/values.txt")
 
-    def _kind(self, does: Callable[[Case], str], kind: str = "") -> None:
+    def _kind(self, does: Callable[[Case], str]) -> None:
         for case in cases():
-            if case.kind == (kind or does.__name__):
+            if case.kind == does.__name__:
                 with self.subTest(case.header):
                     self._is(case.header, case.wanted, does(case))
 
@@ -224,8 +221,11 @@ class ShellTest(unittest.TestCase):
     def test_asks(self) -> None:
         self._kind(asks)
 
-    def test_asks_python(self) -> None:
-        self._kind(asks_python, "asks")
+    def test_commands_of_python_by_the_same_rows(self) -> None:
+        for case in cases():
+            if case.kind == "asks":
+                with self.subTest(case.header):
+                    self._is(case.header, case.wanted, asks(case, True))
 
     def test_loopback(self) -> None:
         self._kind(loopback)
