@@ -1062,11 +1062,6 @@ static inline void dws_fail(dws_session *s, enum dw_result result)
     }
 }
 
-static inline uint64_t dws_timeout_ms(dws_session *s)
-{
-    return (uint64_t)dw_session_timeout_ms(&s->machine);
-}
-
 /* Closes the connection, or gives the attempt up. */
 static inline void dws_hang_up(dws_session *s)
 {

@@ -124,11 +124,9 @@ static void put_read(struct bytes *bytes, const char *path, int32_t side)
     put_int(bytes, side);
 }
 
-/* A node, as dw_subtree spells it. */
-static void put_node(struct bytes *bytes, const char *path, const char *data, const dw_stat *stat)
+/* The numbers of a node, as dw_subtree and dw_snapshot spell them. */
+static void put_numbers(struct bytes *bytes, const dw_stat *stat)
 {
-    put_buffer(bytes, path, strlen(path));
-    put_buffer(bytes, data, strlen(data));
     put_long(bytes, stat->czxid);
     put_long(bytes, stat->mzxid);
     put_long(bytes, stat->ctime);
@@ -136,6 +134,14 @@ static void put_node(struct bytes *bytes, const char *path, const char *data, co
     put_int(bytes, stat->version);
     put_long(bytes, stat->ephemeral_owner);
     put_int(bytes, stat->data_length);
+}
+
+/* A node, as dw_subtree spells it. */
+static void put_node(struct bytes *bytes, const char *path, const char *data, const dw_stat *stat)
+{
+    put_buffer(bytes, path, strlen(path));
+    put_buffer(bytes, data, strlen(data));
+    put_numbers(bytes, stat);
     put_long(bytes, stat->pzxid);
 }
 
@@ -216,13 +222,7 @@ static void put_shown(struct bytes *bytes, enum dw_kept kind, const char *data, 
     } else {
         put_buffer(bytes, data, strlen(data));
     }
-    put_long(bytes, stat->czxid);
-    put_long(bytes, stat->mzxid);
-    put_long(bytes, stat->ctime);
-    put_long(bytes, stat->mtime);
-    put_int(bytes, stat->version);
-    put_long(bytes, stat->ephemeral_owner);
-    put_int(bytes, stat->data_length);
+    put_numbers(bytes, stat);
 }
 
 /* A node that is read, one that is not there and one whose data were not read, and names: all of one moment. */

@@ -32,15 +32,8 @@ static enum dw_result open_client(struct play *play)
     return result;
 }
 
-static enum dw_result tick(struct play *play)
-{
-    return dw_tick(&play->client, 1);
-}
-
-static enum dw_result opened(struct play *play)
-{
-    return dw_opened(&play->client, 1);
-}
+MOVE(tick, dw_tick(&play->client, 1))
+MOVE(opened, dw_opened(&play->client, 1))
 
 static enum dw_result connected(struct play *play)
 {
@@ -49,35 +42,12 @@ static enum dw_result connected(struct play *play)
     return hand_in(&play->client, &response);
 }
 
-static enum dw_result get_data(struct play *play)
-{
-    return dw_get_data(&play->client, 1, 11, PATH, sizeof PATH, true);
-}
-
-static enum dw_result get_children(struct play *play)
-{
-    return dw_get_children(&play->client, 1, 12, PATH, sizeof PATH, true);
-}
-
-static enum dw_result exists(struct play *play)
-{
-    return dw_exists(&play->client, 1, 13, OTHER, sizeof OTHER, true);
-}
-
-static enum dw_result create(struct play *play)
-{
-    return dw_create(&play->client, 1, 14, OTHER, sizeof OTHER, DATA, sizeof DATA, false, DW_MODE_SEQUENTIAL);
-}
-
-static enum dw_result set_data(struct play *play)
-{
-    return dw_set_data(&play->client, 1, 15, PATH, sizeof PATH, DATA, sizeof DATA, false, -1);
-}
-
-static enum dw_result delete(struct play *play)
-{
-    return dw_delete(&play->client, 1, 16, PATH, sizeof PATH, -1);
-}
+MOVE(get_data, dw_get_data(&play->client, 1, 11, PATH, sizeof PATH, true))
+MOVE(get_children, dw_get_children(&play->client, 1, 12, PATH, sizeof PATH, true))
+MOVE(exists, dw_exists(&play->client, 1, 13, OTHER, sizeof OTHER, true))
+MOVE(create, dw_create(&play->client, 1, 14, OTHER, sizeof OTHER, DATA, sizeof DATA, false, DW_MODE_SEQUENTIAL))
+MOVE(set_data, dw_set_data(&play->client, 1, 15, PATH, sizeof PATH, DATA, sizeof DATA, false, -1))
+MOVE(delete, dw_delete(&play->client, 1, 16, PATH, sizeof PATH, -1))
 
 /* The replies to these six, and two notices, in one piece. */
 static enum dw_result replied(struct play *play)
@@ -93,15 +63,8 @@ static enum dw_result replied(struct play *play)
     return hand_in(&play->client, &replies);
 }
 
-static enum dw_result peek_data(struct play *play)
-{
-    return add_kept_data(&play->lines, &play->client, "/a");
-}
-
-static enum dw_result peek_names(struct play *play)
-{
-    return add_kept_names(&play->lines, &play->client, "/a");
-}
+MOVE(peek_data, add_kept_data(&play->lines, &play->client, "/a"))
+MOVE(peek_names, add_kept_names(&play->lines, &play->client, "/a"))
 
 /* All names of the listing that was told last: none, since no output of this step is one. */
 static enum dw_result names(struct play *play)
@@ -173,15 +136,8 @@ static enum dw_result save(struct play *play)
     return result;
 }
 
-static enum dw_result forget(struct play *play)
-{
-    return dw_forget(&play->client);
-}
-
-static enum dw_result cut(struct play *play)
-{
-    return dw_cut(&play->client, 1);
-}
+MOVE(forget, dw_forget(&play->client))
+MOVE(cut, dw_cut(&play->client, 1))
 
 /* A reply for which nobody asked: the connection is given up, which is the first output. */
 static enum dw_result unasked(struct play *play)
@@ -214,10 +170,7 @@ static enum dw_result resume(struct play *play)
     return result;
 }
 
-static enum dw_result close_session(struct play *play)
-{
-    return dw_close_session(&play->client, 1, 17);
-}
+MOVE(close_session, dw_close_session(&play->client, 1, 17))
 
 static enum dw_result closed(struct play *play)
 {

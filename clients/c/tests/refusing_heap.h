@@ -25,6 +25,13 @@ struct move {
     int kind;
 };
 
+/* A move that is one call. */
+#define MOVE(name, call) \
+    static enum dw_result name(struct play *play) \
+    { \
+        return call; \
+    }
+
 /* Makes a move, and once more where it was refused. It halts only where a request was refused, and at most once is one. */
 static inline enum dw_result make_twice(struct play *play, const struct move *move)
 {

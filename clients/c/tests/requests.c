@@ -126,6 +126,12 @@ static void tell_change(dws_session *s, dws_call *call)
         (int)request->changes[1].stat.version);
 }
 
+static dws_request *asked(struct named *one, const char *name)
+{
+    named(&one->request.call, name);
+    return &one->request;
+}
+
 static void release_all(void)
 {
     struct named *all[] = {&get, &sync_call, &acl, &change, &last};
@@ -141,16 +147,24 @@ static void end_session(void)
     release_all();
 }
 
+/* The answers to the first four calls and requests of ask_both. */
+static void add_stream(struct bytes *stream)
+{
+    add_data(stream, 1, 5, "one", &STAT);
+    add_synced(stream, 2);
+    add_acls(stream, 3);
+    add_notice(stream, DW_EVENT_DATA_CHANGED, "/a");
+    add_changes(stream, 4);
+}
+
 /* Calls and requests are on their way at once, and are answered in their order, wherever the stream is cut. */
 static void ask_both(size_t first, size_t rest)
 {
     struct bytes came;
     begin_session();
     dws_get(session, named(&get.call, "get"), "/a", true);
-    named(&sync_call.request.call, "sync");
-    dws_sync(session, &sync_call.request, "/a");
-    named(&acl.request.call, "acl");
-    dws_get_acl(session, &acl.request, "/a");
+    dws_sync(session, asked(&sync_call, "sync"), "/a");
+    dws_get_acl(session, asked(&acl, "acl"), "/a");
     change.request.call.then = tell_change;
     spell_transaction(&change.request);
     dws_commit(session, &change.request);
@@ -161,11 +175,7 @@ static void ask_both(size_t first, size_t rest)
     hear_transaction(4);
     hear_request(5, TYPE_EXISTS, NULL);
     came.length = 0;
-    add_data(&came, 1, 5, "one", &STAT);
-    add_synced(&came, 2);
-    add_acls(&came, 3);
-    add_notice(&came, DW_EVENT_DATA_CHANGED, "/a");
-    add_changes(&came, 4);
+    add_stream(&came);
     add_stat(&came, 5, 6, &STAT);
     answer(&came, first, rest);
     wait_for(&last.call);
@@ -176,27 +186,16 @@ static void ask_both(size_t first, size_t rest)
     end_session();
 }
 
-/* How many bytes the stream above has. */
-static size_t measure_stream(void)
-{
-    struct bytes came;
-    came.length = 0;
-    add_data(&came, 1, 5, "one", &STAT);
-    add_synced(&came, 2);
-    add_acls(&came, 3);
-    add_notice(&came, DW_EVENT_DATA_CHANGED, "/a");
-    add_changes(&came, 4);
-    return came.length;
-}
-
 static void cut_streams(bool is_quick)
 {
     static const size_t pieces[] = {1, 2, 3, 7, 64, 4096};
     for (size_t i = is_quick ? 3 : 0; i < sizeof pieces / sizeof pieces[0]; i++) {
         ask_both(pieces[i], pieces[i]);
     }
-    for (size_t first = 1, length = measure_stream(); first < length; first += is_quick ? 37 : 1) {
-        ask_both(first, length);
+    static struct bytes stream;
+    add_stream(&stream);
+    for (size_t first = 1; first < stream.length; first += is_quick ? 37 : 1) {
+        ask_both(first, stream.length);
     }
 }
 
@@ -211,8 +210,7 @@ static void begin_within_a_frame(bool is_quick)
         dws_get(session, named(&get.call, "get"), "/a", false);
         hear_request(1, TYPE_GET, NULL);
         send_all(came.at, first);
-        named(&sync_call.request.call, "sync");
-        dws_sync(session, &sync_call.request, "/a");
+        dws_sync(session, asked(&sync_call, "sync"), "/a");
         hear_request(2, DW_OPERATION_SYNC, NULL);
         rest.length = came.length - first;
         memcpy(rest.at, came.at + first, rest.length);
@@ -230,15 +228,12 @@ static void lose_both(void)
     static const dws_acl acls[] = {{DWS_MAY_ALL, "world", "anyone"}};
     char why[DWS_LONGEST_LINE];
     begin_session();
-    named(&sync_call.request.call, "sync");
-    dws_sync(session, &sync_call.request, "/");
+    dws_sync(session, asked(&sync_call, "sync"), "/");
     dws_set(session, named(&change.call, "set"), "/", "one", 3, -1);
     dws_get(session, named(&get.call, "get"), "/", false);
-    named(&acl.request.call, "acl");
-    dws_get_acl(session, &acl.request, "/");
+    dws_get_acl(session, asked(&acl, "acl"), "/");
     dws_delete(session, named(&last.call, "last"), "/a", -1);
-    named(&change.request.call, "set_acl");
-    dws_set_acl(session, &change.request, "/", acls, 1, -1);
+    dws_set_acl(session, asked(&change, "set_acl"), "/", acls, 1, -1);
     hear_request(1, DW_OPERATION_SYNC, NULL);
     hear_request(2, TYPE_SET, NULL);
     hear_request(3, TYPE_GET, NULL);
@@ -268,8 +263,7 @@ static void keep_the_order(void)
 {
     open_session();
     dws_get(session, named(&get.call, "get"), "/", false);
-    named(&sync_call.request.call, "sync");
-    dws_sync(session, &sync_call.request, "/");
+    dws_sync(session, asked(&sync_call, "sync"), "/");
     dws_get(session, named(&last.call, "last"), "/", false);
     admit();
     hear_request(1, TYPE_GET, NULL);
@@ -277,8 +271,7 @@ static void keep_the_order(void)
     hear_request(3, TYPE_GET, NULL);
     end_line();
     wait_for_cut();
-    named(&acl.request.call, "acl");
-    dws_get_acl(session, &acl.request, "/");
+    dws_get_acl(session, asked(&acl, "acl"), "/");
     admit();
     hear_request(4, TYPE_GET, NULL);
     hear_request(5, DW_OPERATION_SYNC, NULL);
@@ -298,8 +291,7 @@ static void keep_the_order(void)
 static void give_up(void)
 {
     begin_session();
-    named(&acl.request.call, "acl");
-    dws_get_acl(session, &acl.request, "/");
+    dws_get_acl(session, asked(&acl, "acl"), "/");
     hear_request(1, DW_OPERATION_GET_ACL, NULL);
     size_t begin = begin_answer(&came, 1, 0);
     put_int(&came, 7);
@@ -399,10 +391,8 @@ static void introduce(void)
     admit_by(-4); /* that is no xid */
     expect_credentials("ann:secret");
     hear_request(1, TYPE_GET, NULL);
-    named(&sync_call.request.call, "bob");
-    dws_add_auth(session, &sync_call.request, "digest", "bob:secret", 10);
-    named(&acl.request.call, "eve");
-    dws_add_auth(session, &acl.request, "digest", "eve:secret", 10);
+    dws_add_auth(session, asked(&sync_call, "bob"), "digest", "bob:secret", 10);
+    dws_add_auth(session, asked(&acl, "eve"), "digest", "eve:secret", 10);
     expect_credentials("bob:secret");
     expect_credentials("eve:secret");
     add_header(&came, -4, 0, 0);
@@ -434,8 +424,7 @@ static void wait_in_vain(void)
     options.patience_ms = 1000;
     open_session_with(options);
     admit();
-    named(&acl.request.call, "eve");
-    dws_add_auth(session, &acl.request, "digest", "eve:secret", 10);
+    dws_add_auth(session, asked(&acl, "eve"), "digest", "eve:secret", 10);
     expect_credentials("eve:secret");
     wait_for(&acl.request.call);
     expect_said("eve 99\n");
@@ -657,7 +646,7 @@ static void count_each_zxid(void)
 static void leave_the_rest(void)
 {
     begin_session();
-    dws_sync(session, named(&sync_call.request.call, "sync") != NULL ? &sync_call.request : NULL, "/");
+    dws_sync(session, asked(&sync_call, "sync"), "/");
     hear_request(1, DW_OPERATION_SYNC, NULL);
     add_synced(&came, 2);
     answer_came(5, 5);

@@ -467,15 +467,21 @@ static void take_tree(dws_session *s, dws_tree *shown)
     }
 }
 
-/* Two nodes of a tree are refused: the first one is told, and the other one once that is read, though it was refused long before. */
-static void refuse_nodes(void)
+/* A tree whose root is read, with two names below it: `a` and this one. */
+static void begin_tree(const char *second)
 {
     begin_session();
     EXPECT_NUMBER(DW_OK, dws_follow_tree(session, &tree, "/t", 0, take_tree));
     hear_about(1, TYPE_GET, "/t");
     hear_about(2, TYPE_CHILDREN, "/t");
     answer_node(1);
-    answer_names(2, 6, "a", "b");
+    answer_names(2, 6, "a", second);
+}
+
+/* Two nodes of a tree are refused: the first one is told, and the other one once that is read, though it was refused long before. */
+static void refuse_nodes(void)
+{
+    begin_tree("b");
     hear_about(3, TYPE_GET, "/t/a");
     hear_about(4, TYPE_GET, "/t/b");
     hear_about(5, TYPE_CHILDREN, "/t/a");
@@ -503,12 +509,7 @@ static void refuse_nodes(void)
 /* A tree that is followed no more while its nodes are read is told nothing, and what comes of it is nobody's. */
 static void unfollow_tree(void)
 {
-    begin_session();
-    EXPECT_NUMBER(DW_OK, dws_follow_tree(session, &tree, "/t", 0, take_tree));
-    hear_about(1, TYPE_GET, "/t");
-    hear_about(2, TYPE_CHILDREN, "/t");
-    answer_node(1);
-    answer_names(2, 6, "a", "b");
+    begin_tree("b");
     hear_about(3, TYPE_GET, "/t/a");
     dws_unfollow_tree(session, &tree);
     turn(0);
@@ -535,12 +536,7 @@ static void unfollow_tree(void)
 /* Where a name makes no path no read makes the tree whole, and that is told. */
 static void find_no_path(void)
 {
-    begin_session();
-    EXPECT_NUMBER(DW_OK, dws_follow_tree(session, &tree, "/t", 0, take_tree));
-    hear_about(1, TYPE_GET, "/t");
-    hear_about(2, TYPE_CHILDREN, "/t");
-    answer_node(1);
-    answer_names(2, 6, "a", "..");
+    begin_tree("..");
     turn(0);
     expect_said("some of what is asked for is not kept, or not good: /t; read what is lacking, with a watch\n");
     EXPECT(!tree.is_good && tree.count == 0);

@@ -25,6 +25,15 @@ static enum dw_result hand_in(dw_session *session, const struct bytes *bytes)
     return dw_session_bytes(session, 1, bytes->at, bytes->length);
 }
 
+/* A move that hands in one frame, which this function of frames.h adds with these words. */
+#define REPLY(name, add, ...) \
+    static enum dw_result name(struct play *play) \
+    { \
+        struct bytes reply = {.length = 0}; \
+        add(&reply, __VA_ARGS__); \
+        return hand_in(&play->session, &reply); \
+    }
+
 static enum dw_result open_session(struct play *play)
 {
     enum dw_result result = dw_session_open(&play->session, 10000, 3, 1);
@@ -32,20 +41,9 @@ static enum dw_result open_session(struct play *play)
     return result;
 }
 
-static enum dw_result moment(struct play *play)
-{
-    return dw_session_moment(&play->session, 1);
-}
-
-static enum dw_result follow(struct play *play)
-{
-    return dw_session_follow_data(&play->session, 1, 1, PATH, sizeof PATH);
-}
-
-static enum dw_result opened(struct play *play)
-{
-    return dw_session_opened(&play->session, 1);
-}
+MOVE(moment, dw_session_moment(&play->session, 1))
+MOVE(follow, dw_session_follow_data(&play->session, 1, 1, PATH, sizeof PATH))
+MOVE(opened, dw_session_opened(&play->session, 1))
 
 static enum dw_result connected(struct play *play)
 {
@@ -55,24 +53,11 @@ static enum dw_result connected(struct play *play)
 }
 
 /* The subject is read first. */
-static enum dw_result shown(struct play *play)
-{
-    struct bytes reply = {.length = 0};
-    add_data(&reply, 1, 5, "first", &STAT);
-    return hand_in(&play->session, &reply);
-}
+REPLY(shown, add_data, 1, 5, "first", &STAT)
 
-static enum dw_result create(struct play *play)
-{
-    return dw_session_create(&play->session, 1, 2, UINT64_MAX, PATH, sizeof PATH, DATA, sizeof DATA, false, DW_MODE_SEQUENTIAL);
-}
+MOVE(create, dw_session_create(&play->session, 1, 2, UINT64_MAX, PATH, sizeof PATH, DATA, sizeof DATA, false, DW_MODE_SEQUENTIAL))
 
-static enum dw_result created(struct play *play)
-{
-    struct bytes reply = {.length = 0};
-    add_created(&reply, 2, 6, "/a0000000002");
-    return hand_in(&play->session, &reply);
-}
+REPLY(created, add_created, 2, 6, "/a0000000002")
 
 /* A request that the caller spells, a multi of the path `/`, and its reply of no bytes. */
 static enum dw_result ask_multi(struct play *play)
@@ -81,36 +66,16 @@ static enum dw_result ask_multi(struct play *play)
     return dw_session_raw(&play->session, 1, 7, UINT64_MAX, DW_OPERATION_MULTI, body, sizeof body);
 }
 
-static enum dw_result answered(struct play *play)
-{
-    struct bytes reply = {.length = 0};
-    add_header(&reply, 3, 6, 0);
-    return hand_in(&play->session, &reply);
-}
+REPLY(answered, add_header, 3, 6, 0)
 
 /* The root is kept already, and its names are read fourth. */
-static enum dw_result follow_tree(struct play *play)
-{
-    return dw_session_follow_tree(&play->session, 1, 3, PATH, sizeof PATH, 3);
-}
+MOVE(follow_tree, dw_session_follow_tree(&play->session, 1, 3, PATH, sizeof PATH, 3))
 
 /* Two nodes are below the root. */
-static enum dw_result named(struct play *play)
-{
-    struct bytes reply = {.length = 0};
-    add_names(&reply, 4, 6, "a", "b", &STAT);
-    return hand_in(&play->session, &reply);
-}
+REPLY(named, add_names, 4, 6, "a", "b", &STAT)
 
-static enum dw_result unfollow_tree(struct play *play)
-{
-    return dw_session_unfollow_tree(&play->session, 1, 3);
-}
-
-static enum dw_result addresses(struct play *play)
-{
-    return dw_session_addresses(&play->session, 1, 5);
-}
+MOVE(unfollow_tree, dw_session_unfollow_tree(&play->session, 1, 3))
+MOVE(addresses, dw_session_addresses(&play->session, 1, 5))
 
 static enum dw_result peek(struct play *play)
 {
@@ -133,15 +98,8 @@ static enum dw_result resume(struct play *play)
     return result;
 }
 
-static enum dw_result unfollow(struct play *play)
-{
-    return dw_session_unfollow(&play->session, 1, 1);
-}
-
-static enum dw_result cut(struct play *play)
-{
-    return dw_session_cut(&play->session, 1);
-}
+MOVE(unfollow, dw_session_unfollow(&play->session, 1, 1))
+MOVE(cut, dw_session_cut(&play->session, 1))
 
 static const struct move MOVES[] = {
     {open_session, REFUSES},
