@@ -2,19 +2,16 @@
 
 use crate::example;
 use crate::server::Server;
+use crate::{kind_of, started, PATIENCE};
 use dirwolleu::{
-    Cause, Code, DataAnswer, Error, ErrorKind, Event, Fault, Mark, Mode, NoReply, NodeEvent,
-    Request, Session, SessionOptions, Side, State, ANY_VERSION,
+    Cause, Code, DataAnswer, ErrorKind, Event, Fault, Mark, Mode, NoReply, NodeEvent, Request,
+    Session, SessionOptions, Side, State, ANY_VERSION,
 };
-use std::fmt::Debug;
 use std::io::{BufRead, BufReader};
 use std::process::{Command, Stdio};
 use std::sync::mpsc::channel;
 use std::thread;
 use std::time::{Duration, Instant};
-
-/// How long an event may take.
-const PATIENCE: Duration = Duration::from_secs(120);
 
 fn session_at(server: &Server, timeout_ms: u64) -> Session {
     Session::open([server.address], Duration::from_millis(timeout_ms)).unwrap()
@@ -48,11 +45,6 @@ fn kept(session: &Session, path: &str) -> Option<(Vec<u8>, Mark)> {
         DataAnswer::Full { data, .. } => Some((data?, kept.mark)),
         _ => None,
     }
-}
-
-/// Of what kind the error of a call is.
-fn kind_of<T: Debug>(ending: Result<T, Error>) -> ErrorKind {
-    ending.unwrap_err().kind().clone()
 }
 
 /// Each call, as the Programmer's Guide has it, and the errors of the server.
@@ -102,9 +94,7 @@ fn try_calls(session: Session) {
 
 #[test]
 fn calls_are_answered() {
-    let Some(server) = Server::start(&[]) else {
-        return;
-    };
+    let Some(server) = started() else { return };
     try_calls(session_at(&server, 60_000));
 }
 
@@ -118,9 +108,7 @@ fn calls_are_answered_byte_by_byte() {
 
 #[test]
 fn a_change_is_reported() {
-    let Some(mut server) = Server::start(&[]) else {
-        return;
-    };
+    let Some(mut server) = started() else { return };
     server.tell("create /a one");
     let session = session_at(&server, 10_000);
     session.watch("/a").unwrap().expect("there is a node");
@@ -142,9 +130,7 @@ fn a_change_is_reported() {
 
 #[test]
 fn a_node_that_is_not_there_is_watched() {
-    let Some(mut server) = Server::start(&[]) else {
-        return;
-    };
+    let Some(mut server) = started() else { return };
     let session = session_at(&server, 10_000);
     assert_eq!(session.watch("/a"), Ok(None));
     let absent = session.peek("/a").unwrap().unwrap();
@@ -159,9 +145,7 @@ fn a_node_that_is_not_there_is_watched() {
 
 #[test]
 fn no_event_is_no_wait() {
-    let Some(server) = Server::start(&[]) else {
-        return;
-    };
+    let Some(server) = started() else { return };
     let session = session_at(&server, 10_000);
     session.exists("/").unwrap();
     while session.next_event(Some(Instant::now())).unwrap().is_some() {}
@@ -173,9 +157,7 @@ fn no_event_is_no_wait() {
 
 #[test]
 fn a_connection_that_is_dropped_begins_again() {
-    let Some(mut server) = Server::start(&[]) else {
-        return;
-    };
+    let Some(mut server) = started() else { return };
     for node in ["create /a one", "create /b one"] {
         server.tell(node);
     }
@@ -197,12 +179,8 @@ fn a_connection_that_is_dropped_begins_again() {
 
 #[test]
 fn a_silent_server_is_left_after_two_thirds_of_the_timeout() {
-    let Some(mut silent) = Server::start(&[]) else {
-        return;
-    };
-    let Some(mut other) = Server::start(&[]) else {
-        return;
-    };
+    let Some(mut silent) = started() else { return };
+    let Some(mut other) = started() else { return };
     other.tell("create /ahead x");
     other.tell("set /ahead y");
     let timeout = Duration::from_millis(6_000);
@@ -233,9 +211,7 @@ fn a_silent_server_is_left_after_two_thirds_of_the_timeout() {
 
 #[test]
 fn a_write_is_lost_with_its_connection() {
-    let Some(mut server) = Server::start(&[]) else {
-        return;
-    };
+    let Some(mut server) = started() else { return };
     let session = session_at(&server, 6_000);
     session.exists("/").unwrap();
     server.tell("mute");
@@ -252,9 +228,7 @@ fn a_write_is_lost_with_its_connection() {
 
 #[test]
 fn an_idle_session_goes_on_by_pings() {
-    let Some(server) = Server::start(&[]) else {
-        return;
-    };
+    let Some(server) = started() else { return };
     let session = session_at(&server, 6_000);
     session.watch("/").unwrap();
     while session.next_event(Some(Instant::now())).unwrap().is_some() {}
@@ -265,9 +239,7 @@ fn an_idle_session_goes_on_by_pings() {
 
 #[test]
 fn an_expired_session_is_renewed() {
-    let Some(mut server) = Server::start(&[]) else {
-        return;
-    };
+    let Some(mut server) = started() else { return };
     server.tell("create /a one");
     let session = session_at(&server, 10_000);
     session.watch("/a").unwrap();
@@ -289,9 +261,7 @@ fn an_expired_session_is_renewed() {
 
 #[test]
 fn a_session_is_taken_up_by_another() {
-    let Some(server) = Server::start(&[]) else {
-        return;
-    };
+    let Some(server) = started() else { return };
     let first = session_at(&server, 10_000);
     first.create("/mine", b"", Mode::Ephemeral).unwrap();
     let saved = first.saved().unwrap();
@@ -340,9 +310,7 @@ fn each_call_returns_whatever_a_server_sends() {
 
 #[test]
 fn all_paths_are_below_the_chroot() {
-    let Some(mut server) = Server::start(&[]) else {
-        return;
-    };
+    let Some(mut server) = started() else { return };
     let below = format!("{}/app", server.address);
     let session = Session::open(below, Duration::from_secs(10)).unwrap();
     for (path, made) in [("/", "/"), ("/a", "/a")] {
@@ -373,9 +341,7 @@ fn all_paths_are_below_the_chroot() {
 
 #[test]
 fn a_node_is_followed_through_all() {
-    let Some(mut server) = Server::start(&[]) else {
-        return;
-    };
+    let Some(mut server) = started() else { return };
     let options = SessionOptions::new(Duration::from_secs(10)).renews(true);
     let session = options.open(server.address).unwrap();
     let mut nodes = session.follow("/a");
@@ -400,9 +366,7 @@ fn a_node_is_followed_through_all() {
 
 #[test]
 fn the_example_follows_a_node_through_a_restart() {
-    let Some(mut server) = Server::start(&[]) else {
-        return;
-    };
+    let Some(mut server) = started() else { return };
     server.tell("create /config first");
     let mut command = Command::new(example::follow());
     command.arg(server.address.to_string()).arg("/config");
