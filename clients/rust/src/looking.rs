@@ -2,6 +2,7 @@
 
 use crate::fault::Fault;
 use crate::path_fault::PathFault;
+use crate::standing::spelled;
 use std::time::Duration;
 
 /// The room that a text of unknown length is given at first.
@@ -19,9 +20,43 @@ pub(crate) fn whole<E>(mut copy: impl FnMut(&mut [u8]) -> Result<usize, E>) -> R
     Ok(bytes)
 }
 
+/// The same of what is mostly as long as this room.
+pub(crate) fn whole_in<E>(
+    room: usize,
+    mut copy: impl FnMut(&mut [u8]) -> Result<usize, E>,
+) -> Result<Vec<u8>, E> {
+    let mut bytes = vec![0; room];
+    let length = copy(&mut bytes)?;
+    if length > room {
+        bytes.resize(length, 0);
+        copy(&mut bytes)?;
+    }
+    bytes.truncate(length);
+    Ok(bytes)
+}
+
 /// The text of bytes that the library takes for one.
 pub(crate) fn whole_text(bytes: Vec<u8>) -> String {
     String::from_utf8(bytes).expect("the library gives UTF-8")
+}
+
+/// Texts as the library spells them. They are read by who wants them, without the lock of the session: of a large directory that takes a while.
+#[derive(Debug, Default, PartialEq)]
+pub(crate) struct Spelled {
+    pub(crate) count: usize,
+    pub(crate) bytes: Vec<u8>,
+}
+
+impl Spelled {
+    pub(crate) fn of<T: AsRef<str>>(texts: &[T]) -> Spelled {
+        let (count, texts) = (texts.len(), texts.iter().map(AsRef::as_ref));
+        let bytes = spelled(texts);
+        Spelled { count, bytes }
+    }
+
+    pub(crate) fn texts(&self) -> Vec<String> {
+        texts_in(self.count, &self.bytes)
+    }
 }
 
 /// This many texts, which follow one another, each after its length in four bytes.

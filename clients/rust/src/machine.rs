@@ -6,7 +6,7 @@ use crate::fault::{done, Fault};
 use crate::ffi::{Call, KeptData, MachineHandle, Settings};
 use crate::kept::{mark_of, Children, DataAnswer, Kept, Mark};
 use crate::looking::{for_each_call, look_ups_of_handle, steps_of_handle};
-use crate::looking::{no_path_among, texts_in, timeout_ms, whole, whole_text};
+use crate::looking::{no_path_among, texts_in, timeout_ms, whole, whole_in, whole_text};
 use crate::moment::Moment;
 use crate::node::{Mode, Side, Watch};
 use crate::numbers::result;
@@ -315,31 +315,22 @@ impl Machine {
 
     look_ups_of_handle! {}
 
-    /// As [`subtree`](Machine::subtree). The text of a tree that is looked at again is mostly as long as the last one: it is given more room than that.
-    pub(crate) fn subtree_of(
+    /// What a [`subtree`](Machine::subtree) has, as the library spells it. A tree that is looked at again is mostly as long as it was: it is given
+    /// more room than that.
+    pub(crate) fn spelled_subtree(
         &self,
         path: &str,
         most: usize,
         room: &mut usize,
-    ) -> Result<Option<Subtree>, Fault> {
-        let mut spelled = vec![0; *room];
-        let copy = |spelled: &mut Vec<u8>| match self.handle.subtree(path, most, spelled) {
-            Ok(length) => Ok(Some(length)),
+    ) -> Result<Option<Vec<u8>>, Fault> {
+        match whole_in(*room, |room| self.handle.subtree(path, most, room)) {
+            Ok(spelled) => {
+                *room = (*room).max(spelled.len() + spelled.len() / 8);
+                Ok(Some(spelled))
+            }
             Err(Fault::NotWhole) => Ok(None),
             Err(other) => Err(other),
-        };
-        let Some(length) = copy(&mut spelled)? else {
-            return Ok(None);
-        };
-        if length > *room {
-            *room = length + length / 8;
-            spelled.resize(*room, 0);
-            copy(&mut spelled)?;
         }
-        Ok(Some(Subtree {
-            zxid: self.last_zxid(),
-            nodes: nodes_in(&spelled[..length]),
-        }))
     }
 }
 

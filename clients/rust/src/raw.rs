@@ -235,7 +235,7 @@ impl RawCall {
             RawCall::Reads(reads) => records.answers = multi_read::read(reads, &mut reply)?,
             RawCall::Ephemerals => {
                 let paths = reply.vector(Reader::text)?;
-                found.names = paths.into_iter().map(|path| root.inner(path)).collect();
+                records.paths = paths.into_iter().map(|path| root.inner(path)).collect();
             }
             RawCall::AllChildrenNumber => records.count = reply.int()?,
             RawCall::WhoAmI => records.ids = reply.vector(Reader::id)?,
@@ -422,9 +422,9 @@ mod tests {
             stat: stat(),
             ..none()
         };
-        let (mut made, mut ephemerals, mut of_acls) = (with_stat(), none(), records());
+        let (mut made, mut ephemerals, mut of_acls) = (with_stat(), records(), records());
         made.path = String::from("/a");
-        ephemerals.names = ["/a", "/b"].map(String::from).to_vec();
+        ephemerals.paths = ["/a", "/b"].map(String::from).to_vec();
         of_acls.acls = vec![Acl::new(Permissions::READ, "ip", "::1")];
         let body_of_acls = [int(1), int(1), text("ip"), text("::1"), stat_bytes()].concat();
         let body_of_create = [text("/app/a"), stat_bytes()].concat();
@@ -434,7 +434,7 @@ mod tests {
             (set_acls(), stat_bytes(), with_stat(), records()),
             (RawCall::Acls, body_of_acls, with_stat(), of_acls),
             (create(Lifetime::Container), body_of_create, made, records()),
-            (RawCall::Ephemerals, body_of_paths, ephemerals, records()),
+            (RawCall::Ephemerals, body_of_paths, none(), ephemerals),
         ]
     }
 
