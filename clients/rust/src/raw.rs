@@ -26,48 +26,37 @@ use std::time::Duration;
 /// ```
 #[derive(Clone, Copy, Debug, PartialEq, Eq, Hash)]
 #[non_exhaustive]
+#[repr(i32)]
 pub enum RawOperation {
     /// The ACL of a node. It changes nothing, as [`Sync`](RawOperation::Sync) and those from [`MultiRead`](RawOperation::MultiRead) on: these
     /// are asked again where they are lost.
-    GetAcl,
+    GetAcl = operation::GET_ACL,
     /// Sets the ACL of a node.
-    SetAcl,
+    SetAcl = operation::SET_ACL,
     /// Has the server catch up with the leader.
-    Sync,
+    Sync = operation::SYNC,
     /// Changes that happen together or not at all. One that fails is no error of the reply: its codes are in the body.
-    Multi,
+    Multi = operation::MULTI,
     /// Makes a node, and brings its path and Stat: of ZooKeeper 3.5 and later.
-    Create2,
+    Create2 = operation::CREATE2,
     /// Makes a container.
-    CreateContainer,
+    CreateContainer = operation::CREATE_CONTAINER,
     /// Makes a node with a time to live.
-    CreateTtl,
+    CreateTtl = operation::CREATE_TTL,
     /// Reads several nodes at one zxid: of ZooKeeper 3.6 and later.
-    MultiRead,
+    MultiRead = operation::MULTI_READ,
     /// The ephemeral nodes of the session.
-    GetEphemerals,
+    GetEphemerals = operation::GET_EPHEMERALS,
     /// How many nodes are below one.
-    GetAllChildrenNumber,
+    GetAllChildrenNumber = operation::GET_ALL_CHILDREN_NUMBER,
     /// As whom the server knows the client: of ZooKeeper 3.7 and later.
-    WhoAmI,
+    WhoAmI = operation::WHO_AM_I,
 }
 
 impl RawOperation {
     /// The number of the protocol.
     pub(crate) fn number(self) -> i32 {
-        match self {
-            RawOperation::GetAcl => operation::GET_ACL,
-            RawOperation::SetAcl => operation::SET_ACL,
-            RawOperation::Sync => operation::SYNC,
-            RawOperation::Multi => operation::MULTI,
-            RawOperation::Create2 => operation::CREATE2,
-            RawOperation::CreateContainer => operation::CREATE_CONTAINER,
-            RawOperation::CreateTtl => operation::CREATE_TTL,
-            RawOperation::MultiRead => operation::MULTI_READ,
-            RawOperation::GetEphemerals => operation::GET_EPHEMERALS,
-            RawOperation::GetAllChildrenNumber => operation::GET_ALL_CHILDREN_NUMBER,
-            RawOperation::WhoAmI => operation::WHO_AM_I,
-        }
+        self as i32
     }
 }
 
