@@ -159,15 +159,12 @@ impl Engine {
             address: None,
             reasons: Vec::new(),
             inbox: Vec::new(),
-            credentials: Credentials::default(),
+            credentials: Credentials::of(beginning.credentials),
             deletions: Deletions::default(),
             closing: None,
             course: Course::GoesOn,
         };
         engine.note_hosts();
-        for credential in beginning.credentials {
-            engine.credentials.add(credential);
-        }
         engine.introduce_again()?;
         Ok(engine)
     }

@@ -323,59 +323,33 @@ mod tests {
         }])
     }
 
+    /// A create with this body after what all have.
+    fn made(path: &str, rest: &[u8]) -> Vec<u8> {
+        let acl = [int(1), int(1), text("ip"), text("::1")].concat();
+        [&text(path), &text("x"), &acl, rest].concat()
+    }
+
     #[test]
     fn each_request_is_spelled_as_the_protocol_has_it() {
         let acl = [int(1), int(1), text("ip"), text("::1")].concat();
-        let made = |path: &str| [text(path), text("x"), acl.clone()].concat();
+        let set_acl = [text("/app/a"), acl, int(7)].concat();
         let read = |number| [header(number, 0, -1), text("/app/a"), vec![0]].concat();
-        let end = header(-1, 1, -1);
+        let (begin, end) = (header(5, 0, -1), header(-1, 1, -1));
+        let set = [begin, text("/app/a"), text("x"), int(7), end.clone()];
         let plain = |mode| create(Lifetime::Mode(mode));
-        let ttl = vec![0, 0, 0, 0, 1, 2, 3, 4];
+        let numbered = plain(Mode::EphemeralSequential);
+        let ttl = |flags: u8| [0, 0, 0, flags, 0, 0, 0, 0, 1, 2, 3, 4];
+        let numbered_ttl = with_ttl(Mode::PersistentSequential);
         for (call, path, body) in [
             (RawCall::Sync, "/", text("/app")),
             (RawCall::Acls, "/a", text("/app/a")),
-            (
-                set_acls(),
-                "/a",
-                [text("/app/a"), acl.clone(), int(7)].concat(),
-            ),
-            (
-                plain(Mode::Ephemeral),
-                "/a",
-                [made("/app/a"), int(1)].concat(),
-            ),
-            (
-                plain(Mode::EphemeralSequential),
-                "/a/",
-                [made("/app/a/"), int(3)].concat(),
-            ),
-            (
-                create(Lifetime::Container),
-                "/a",
-                [made("/app/a"), int(4)].concat(),
-            ),
-            (
-                with_ttl(Mode::Persistent),
-                "/a",
-                [made("/app/a"), int(5), ttl.clone()].concat(),
-            ),
-            (
-                with_ttl(Mode::PersistentSequential),
-                "/",
-                [made("/app/"), int(6), ttl].concat(),
-            ),
-            (
-                change(),
-                "/",
-                [
-                    header(5, 0, -1),
-                    text("/app/a"),
-                    text("x"),
-                    int(7),
-                    end.clone(),
-                ]
-                .concat(),
-            ),
+            (set_acls(), "/a", set_acl),
+            (plain(Mode::Ephemeral), "/a", made("/app/a", &int(1))),
+            (numbered, "/a/", made("/app/a/", &int(3))),
+            (create(Lifetime::Container), "/a", made("/app/a", &int(4))),
+            (with_ttl(Mode::Persistent), "/a", made("/app/a", &ttl(5))),
+            (numbered_ttl, "/", made("/app/", &ttl(6))),
+            (change(), "/", set.concat()),
             (reads(), "/", [read(4), read(8), read(4), end].concat()),
             (RawCall::Ephemerals, "/", text("/app/")),
             (RawCall::AllChildrenNumber, "/a", text("/app/a")),

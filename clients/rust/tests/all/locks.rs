@@ -1,7 +1,7 @@
 //! Locks and elections, at the server in memory. Where there is no python3, each test says so and passes.
 
 use crate::server::Server;
-use crate::{started, PATIENCE, TIMEOUT};
+use crate::{kind_of, started, PATIENCE, TIMEOUT};
 use dirwolleu::{
     Code, Election, Error, ErrorKind, Lock, LockNames, LockOptions, Mark, Mode, NoReply, Session,
     Sharing, ANY_VERSION,
@@ -128,10 +128,7 @@ fn a_place_that_is_taken_away_is_told() {
             .unwrap();
         lock.release().unwrap();
         let told = waits.join().unwrap();
-        assert_eq!(
-            told.map_err(Error::into_kind),
-            Err(ErrorKind::Server(Code::NO_NODE))
-        );
+        assert_eq!(kind_of(told), Code::NO_NODE.into());
     });
 }
 
@@ -164,10 +161,7 @@ fn a_lock_below_an_ephemeral_node_is_refused() {
     let session = session_at(&server);
     session.create("/mine", b"", Mode::Ephemeral).unwrap();
     let refused = Lock::acquire(&session, "/mine", Sharing::Exclusive, b"").map(drop);
-    assert_eq!(
-        refused.map_err(Error::into_kind),
-        Err(ErrorKind::Server(Code::NO_CHILDREN_FOR_EPHEMERALS))
-    );
+    assert_eq!(kind_of(refused), Code::NO_CHILDREN_FOR_EPHEMERALS.into());
 }
 
 #[test]

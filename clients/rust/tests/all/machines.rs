@@ -2,10 +2,9 @@
 
 use crate::jute::{self, EXISTS, GET_DATA, PING, SYNC};
 use crate::partner::Partner;
-use crate::{millis, PATIENCE, SLACK, TIMEOUT};
+use crate::{kind_of, millis, PATIENCE, SLACK, TIMEOUT};
 use dirwolleu::{
-    Code, Error, ErrorKind, Hosts, LocalSession, Mode, NoReply, Request, Session, SessionOptions,
-    State,
+    Code, ErrorKind, Hosts, LocalSession, Mode, NoReply, Request, Session, SessionOptions, State,
 };
 use std::sync::mpsc;
 use std::thread::{self, sleep};
@@ -108,7 +107,7 @@ fn a_raw_call_waits_to_its_limit_too() {
         sleep(millis(5));
     }
     let late = session.call(Request::sync("/").within(millis(2_000)));
-    assert_eq!(late.map_err(Error::into_kind), Err(ErrorKind::TimedOut));
+    assert_eq!(kind_of(late), ErrorKind::TimedOut);
 }
 
 #[test]

@@ -6,8 +6,7 @@ use crate::partner::{Line, Partner};
 use crate::runtime::block_on;
 use crate::{kind_of, millis, PATIENCE, SLACK};
 use dirwolleu::{
-    Code, Error, ErrorKind, Event, LocalSession, Mark, NoReply, Request, Session, State,
-    ANY_VERSION,
+    Code, Error, Event, LocalSession, Mark, NoReply, Request, Session, State, ANY_VERSION,
 };
 use std::fmt::Debug;
 use std::fs::OpenOptions;
@@ -301,7 +300,7 @@ fn is_lost_in_time<T: Debug>(call: impl FnOnce() -> Result<T, Error>) {
     let begun = Instant::now();
     let lost = call();
     let took = begun.elapsed();
-    assert_eq!(kind_of(lost), ErrorKind::NoReply(NoReply::ConnectionLoss));
+    assert_eq!(kind_of(lost), NoReply::ConnectionLoss.into());
     assert!(
         took >= millis(1_990) && took < millis(2_000) + SLACK,
         "{took:?}"

@@ -50,18 +50,18 @@ fn kept(session: &Session, path: &str) -> Option<(Vec<u8>, Mark)> {
 /// Each call, as the Programmer's Guide has it, and the errors of the server.
 fn try_calls(session: Session) {
     let missing = session.get("/a");
-    assert_eq!(kind_of(missing), ErrorKind::Server(Code::NO_NODE));
+    assert_eq!(kind_of(missing), Code::NO_NODE.into());
     assert_eq!(session.exists("/a"), Ok(None));
     let made = session.create("/a", b"one", Mode::Persistent);
     assert_eq!(made.as_deref(), Ok("/a"));
     let again = session.create("/a", b"two", Mode::Persistent);
-    assert_eq!(kind_of(again), ErrorKind::Server(Code::NODE_EXISTS));
+    assert_eq!(kind_of(again), Code::NODE_EXISTS.into());
     let node = session.get("/a").unwrap();
     assert_eq!(node.data.as_deref(), Some(b"one".as_slice()));
     assert_eq!((node.stat.version, node.stat.data_length), (0, 3));
     assert_eq!(session.set("/a", b"three", 0).unwrap().version, 1);
     let late = session.set("/a", b"four", 0);
-    assert_eq!(kind_of(late), ErrorKind::Server(Code::BAD_VERSION));
+    assert_eq!(kind_of(late), Code::BAD_VERSION.into());
     let first = session
         .create("/a/s-", b"", Mode::EphemeralSequential)
         .unwrap();
@@ -69,17 +69,14 @@ fn try_calls(session: Session) {
     let stat = session.exists(&first).unwrap().unwrap();
     assert_ne!(stat.ephemeral_owner, 0);
     let below = session.create(&format!("{first}/b"), b"", Mode::Persistent);
-    assert_eq!(
-        kind_of(below),
-        ErrorKind::Server(Code::NO_CHILDREN_FOR_EPHEMERALS)
-    );
+    assert_eq!(kind_of(below), Code::NO_CHILDREN_FOR_EPHEMERALS.into());
     let (names, stat) = session.children("/a").unwrap();
     assert_eq!(
         (names.as_slice(), stat.num_children),
         (["s-0000000000".to_string()].as_slice(), 1)
     );
     let full = session.delete("/a", ANY_VERSION);
-    assert_eq!(kind_of(full), ErrorKind::Server(Code::NOT_EMPTY));
+    assert_eq!(kind_of(full), Code::NOT_EMPTY.into());
     assert_eq!(session.delete(&first, 0), Ok(()));
     assert_eq!(session.delete("/a", ANY_VERSION), Ok(()));
     let no_path = session.get("a");
@@ -88,7 +85,7 @@ fn try_calls(session: Session) {
         ErrorKind::Fault(Fault::NotPath { .. })
     ));
     let large = session.set("/a", &vec![0; 1 << 20], ANY_VERSION);
-    assert_eq!(kind_of(large), ErrorKind::NoReply(NoReply::TooLarge));
+    assert_eq!(kind_of(large), NoReply::TooLarge.into());
     assert_eq!(session.close(), Ok(()));
 }
 
@@ -217,11 +214,11 @@ fn a_write_is_lost_with_its_connection() {
     server.tell("mute");
     let read = session.ask(Request::exists("/"));
     let lost = session.delete("/", ANY_VERSION);
-    assert_eq!(kind_of(lost), ErrorKind::NoReply(NoReply::ConnectionLoss));
+    assert_eq!(kind_of(lost), NoReply::ConnectionLoss.into());
     let nobody = session.exists("/");
-    assert_eq!(kind_of(nobody), ErrorKind::NoReply(NoReply::NotConnected));
+    assert_eq!(kind_of(nobody), NoReply::NotConnected.into());
     let read = read.wait(); // it waits for another connection
-    assert_eq!(kind_of(read), ErrorKind::NoReply(NoReply::NotConnected));
+    assert_eq!(kind_of(read), NoReply::NotConnected.into());
     server.tell("unmute");
     wait_for_state(&session, State::Connected);
 }
@@ -249,10 +246,7 @@ fn an_expired_session_is_renewed() {
     assert_eq!(session.next_event(None), Ok(None));
     assert_eq!(session.peek("/a").unwrap(), None);
     let expired = session.get("/a");
-    assert_eq!(
-        kind_of(expired),
-        ErrorKind::NoReply(NoReply::SessionExpired)
-    );
+    assert_eq!(kind_of(expired), NoReply::SessionExpired.into());
     let seen = session.last_zxid();
     session.renew().unwrap();
     assert_eq!(session.exists("/mine"), Ok(None));
@@ -282,7 +276,7 @@ fn nobody_answers_where_there_is_no_server() {
     let options = SessionOptions::new(Duration::from_millis(100));
     let session = options.open_lazily([]).unwrap();
     let nobody = session.get("/a");
-    assert_eq!(kind_of(nobody), ErrorKind::NoReply(NoReply::NotConnected));
+    assert_eq!(kind_of(nobody), NoReply::NotConnected.into());
 }
 
 /// Asks a server that answers with random bytes.

@@ -167,7 +167,7 @@ fn a_call_waits_for_a_connection_as_long_as_the_timeout() {
     let session = options.open_lazily(Hosts::default()).unwrap();
     let begun = Instant::now();
     let nobody = session.get("/a");
-    assert_eq!(kind_of(nobody), ErrorKind::NoReply(NoReply::NotConnected));
+    assert_eq!(kind_of(nobody), NoReply::NotConnected.into());
     let took = begun.elapsed();
     assert!(took >= millis(1_490) && took < PATIENCE, "{took:?}");
 }
@@ -180,7 +180,7 @@ fn a_close_waits_a_second_for_a_connection() {
     let local = options().open_local(Hosts::default()).unwrap();
     let begun = Instant::now();
     for closed in [session.close(), local.close()] {
-        assert_eq!(kind_of(closed), ErrorKind::NoReply(NoReply::NotConnected));
+        assert_eq!(kind_of(closed), NoReply::NotConnected.into());
     }
     let took = begun.elapsed();
     assert!(took >= millis(1_990) && took < PATIENCE / 2, "{took:?}");
@@ -220,7 +220,7 @@ fn a_write_that_may_have_happened_is_not_asked_again() {
     let (partner, count) = losing(SET_DATA);
     let session = retrying(&partner);
     let lost = session.set("/a", b"one", ANY_VERSION);
-    assert_eq!(kind_of(lost), ErrorKind::NoReply(NoReply::ConnectionLoss));
+    assert_eq!(kind_of(lost), NoReply::ConnectionLoss.into());
     assert!(session.get("/a").is_ok());
     assert_eq!(count.load(Ordering::SeqCst), 1);
 }
@@ -251,7 +251,7 @@ fn each_ticket_is_answered_where_the_session_is_let_go() {
     drop(session);
     assert_eq!(
         kind_of(sent.wait_for(PATIENCE)),
-        ErrorKind::NoReply(NoReply::ConnectionLoss)
+        NoReply::ConnectionLoss.into()
     );
     let options = SessionOptions::new(millis(10_000));
     let nowhere = options.open_lazily(Hosts::default()).unwrap();
@@ -259,7 +259,7 @@ fn each_ticket_is_answered_where_the_session_is_let_go() {
     drop(nowhere);
     assert_eq!(
         kind_of(not_sent.wait_for(PATIENCE)),
-        ErrorKind::NoReply(NoReply::NotConnected)
+        NoReply::NotConnected.into()
     );
 }
 
@@ -271,10 +271,7 @@ fn a_dial_that_panics_leaves_nobody_waiting() {
     let options = SessionOptions::new(millis(10_000)).dial(panics);
     let session = options.open_lazily("127.0.0.1:1").unwrap();
     let answer: Ticket<_> = session.ask(Request::get("/a"));
-    assert_eq!(
-        kind_of(answer.wait_for(PATIENCE)),
-        ErrorKind::Fault(Fault::Panicked)
-    );
+    assert_eq!(kind_of(answer.wait_for(PATIENCE)), Fault::Panicked.into());
     assert_eq!(session.next_event(None), Err(Fault::Panicked));
     assert_eq!(session.renew(), Err(Fault::Panicked));
     assert_eq!(session.state(), None);
@@ -371,10 +368,7 @@ fn an_expired_session_renews_itself_where_it_is_told_to() {
     });
     let options = SessionOptions::new(millis(10_000)).renews(true);
     let session = options.open(partner.address).unwrap();
-    assert_eq!(
-        kind_of(session.get("/a")),
-        ErrorKind::NoReply(NoReply::SessionExpired)
-    );
+    assert_eq!(kind_of(session.get("/a")), NoReply::SessionExpired.into());
     assert!(session.get("/a").is_ok());
     let mut states = Vec::new();
     while let Some(event) = session.next_event(Some(Instant::now())).unwrap() {
