@@ -276,11 +276,8 @@ impl<'a> From<Output<'a>> for Action<'a> {
 
 #[cfg(test)]
 mod tests {
-    use super::{Action, Refusal};
-    use crate::fault::Code;
+    use super::Action;
     use crate::ffi::{self, MachineHandle, Settings};
-    use crate::node::Side;
-    use std::time::Duration;
 
     fn handle() -> MachineHandle {
         MachineHandle::open(Settings {
@@ -291,95 +288,52 @@ mod tests {
         .unwrap()
     }
 
+    fn flat(kind: i32) -> ffi::Output {
+        ffi::Output {
+            kind,
+            ..ffi::Output::default()
+        }
+    }
+
+    /// What these actions print, which has each of their fields.
+    fn printed<const N: usize>(flats: [ffi::Output; N]) -> [String; N] {
+        let handle = handle();
+        flats.map(|flat| format!("{:?}", Action::of(&handle, &flat).unwrap()))
+    }
+
     #[test]
     fn each_field_of_an_action_has_its_place() {
-        let handle = handle();
-        let dial = ffi::Output {
-            kind: 6,
-            ticket: 1_500,
-            names: 2,
-            ..ffi::Output::default()
-        };
-        let within = Duration::from_millis(1_500);
-        assert!(matches!(
-            Action::of(&handle, &dial),
-            Ok(Action::Dial { place: 2, within: told }) if told == within
-        ));
-        let late = ffi::Output {
-            kind: 8,
-            ticket: 7,
-            is_null: true,
-            ..ffi::Output::default()
-        };
-        assert!(matches!(
-            Action::of(&handle, &late),
-            Ok(Action::TimedOut {
-                ticket: 7,
-                was_sent: true
-            })
-        ));
-        let refused = ffi::Output {
-            kind: 11,
-            detail: 1,
-            code: -102,
-            ticket: 9,
-            ..ffi::Output::default()
-        };
-        let reason = Refusal::Code(Code::NO_AUTH);
-        assert!(matches!(
-            Action::of(&handle, &refused),
-            Ok(Action::Refused { ticket: 9, reason: told }) if told == reason
-        ));
-        let credential = ffi::Output {
-            kind: 16,
-            code: -115,
-            names: 2,
-            ..ffi::Output::default()
-        };
-        assert!(matches!(
-            Action::of(&handle, &credential),
-            Ok(Action::Credential {
-                place: 2,
-                code: Code::AUTH_FAILED
-            })
-        ));
+        let (mut dial, mut late, mut refused, mut credential) =
+            (flat(6), flat(8), flat(11), flat(16));
+        (dial.ticket, dial.names) = (1_500, 2);
+        (late.ticket, late.is_null) = (7, true);
+        (refused.ticket, refused.detail, refused.code) = (9, 1, -102);
+        (credential.names, credential.code) = (2, -115);
+        let told = [
+            "Dial { place: 2, within: 1.5s }",
+            "TimedOut { ticket: 7, was_sent: true }",
+            "Refused { ticket: 9, reason: Code(Code(-102)) }",
+            "Credential { place: 2, code: Code(-115) }",
+        ];
+        assert_eq!(printed([dial, late, refused, credential]), told);
     }
 
     #[test]
     fn each_field_of_what_is_told_of_a_tree_has_its_place() {
-        let handle = handle();
-        let flat = |kind| ffi::Output {
-            kind,
+        let of_tree = |kind| ffi::Output {
             result: 2,
             ticket: 9,
             names: 7,
             is_null: true,
-            ..ffi::Output::default()
+            ..flat(kind)
         };
-        assert!(matches!(
-            Action::of(&handle, &flat(12)),
-            Ok(Action::TakenOn {
-                tree: 7,
-                ticket: 9,
-                side: Side::Children,
-                ..
-            })
-        ));
-        assert!(matches!(
-            Action::of(&handle, &flat(13)),
-            Ok(Action::LetGo { tree: 7, ticket: 9 })
-        ));
-        assert!(matches!(
-            Action::of(&handle, &flat(14)),
-            Ok(Action::Bounded {
-                tree: 9,
-                is_bounded: true
-            })
-        ));
-        assert!(matches!(
-            Action::of(&handle, &flat(15)),
-            Ok(Action::Whole { tree: 9 })
-        ));
+        let told = [
+            r#"TakenOn { tree: 7, ticket: 9, side: Children, path: "" }"#,
+            "LetGo { tree: 7, ticket: 9 }",
+            "Bounded { tree: 9, is_bounded: true }",
+            "Whole { tree: 9 }",
+        ];
+        assert_eq!(printed([12, 13, 14, 15].map(of_tree)), told);
     }
 
     #[test]
@@ -387,9 +341,8 @@ mod tests {
         let handle = handle();
         for (kind, detail, what) in [(0, 0, "output"), (17, 0, "output"), (11, 5, "refusal")] {
             let flat = ffi::Output {
-                kind,
                 detail,
-                ..ffi::Output::default()
+                ..flat(kind)
             };
             let unknown = Action::of(&handle, &flat).unwrap_err();
             assert_eq!(unknown.what(), what, "{kind} {detail}");

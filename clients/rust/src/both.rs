@@ -252,7 +252,7 @@ macro_rules! look_ups {
     () => {
         /// Looks several things up at one moment. The session waits meanwhile, so do not wait there, and ask nothing of it.
         pub fn view<R>(&self, look: impl FnOnce(View<'_>) -> R) -> R {
-            self.inner().with(|engine| look(View::of(engine)))
+            self.inner().look(|engine| look(View::of(engine)))
         }
 
         /// What is kept about the data of a path that was read with a watch, with its mark; see [`View::peek`].

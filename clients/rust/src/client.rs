@@ -3,7 +3,8 @@
 use crate::fault::{done, Fault};
 use crate::ffi::{Call, ClientHandle, KeptData};
 use crate::kept::{mark_of, Children, DataAnswer, Kept, Mark};
-use crate::looking::{look_ups_of_handle, no_path_among, texts_in, whole, whole_text};
+use crate::looking::{for_each_call, look_ups_of_handle, steps_of_handle};
+use crate::looking::{no_path_among, texts_in, timeout_ms, whole, whole_text};
 use crate::moment::Moment;
 use crate::node::{Mode, Watch};
 use crate::numbers::result;
@@ -68,11 +69,6 @@ pub struct Client {
     state: State,
 }
 
-/// The number of milliseconds of a timeout, in whole ones.
-pub(crate) fn timeout_ms(timeout: Duration) -> Result<i32, Fault> {
-    i32::try_from(timeout.as_millis()).map_err(|_| Fault::BadTimeout)
-}
-
 /// How a client begins.
 impl Client {
     /// A client of no session yet, which asks for this timeout, in whole milliseconds: 1 to 2,147,483,647.
@@ -108,22 +104,6 @@ impl Client {
         let timeout = timeout_ms(timeout)?;
         self.step(|handle| handle.renew(timeout)).map(drop)
     }
-
-    fn of(handle: ClientHandle) -> Result<Client, Fault> {
-        let state = State::try_from(handle.state())?;
-        Ok(Client { handle, state })
-    }
-
-    /// Takes a step. The state is noted, also where the step has failed.
-    fn step(
-        &mut self,
-        step: impl FnOnce(&mut ClientHandle) -> Result<(), Fault>,
-    ) -> Result<Outputs<'_>, Fault> {
-        let done = step(&mut self.handle);
-        self.state = State::try_from(self.handle.state())?;
-        done?;
-        Ok(Outputs::of(self))
-    }
 }
 
 /// Steps: what happened.
@@ -146,23 +126,7 @@ impl Client {
         self.step(|handle| handle.cut(now))
     }
 
-    /// A moment, and nothing else: at the latest at the [`deadline`](Client::deadline).
-    ///
-    /// # Errors
-    ///
-    /// [`Fault::Halted`] and [`Fault::UnknownNumber`].
-    pub fn tick(&mut self, now: Moment) -> Result<Outputs<'_>, Fault> {
-        self.step(|handle| handle.moment(now))
-    }
-
-    /// Bytes came from the server, in any pieces.
-    ///
-    /// # Errors
-    ///
-    /// [`Fault::Halted`], [`Fault::UnknownNumber`], and [`Fault::NoMemory`]: then the same bytes can be handed in again.
-    pub fn bytes(&mut self, now: Moment, bytes: &[u8]) -> Result<Outputs<'_>, Fault> {
-        self.step(|handle| handle.bytes(now, bytes))
-    }
+    steps_of_handle! { Client, ClientHandle, Outputs }
 }
 
 /// Calls about a node, each by the function of its name that the handle has.
@@ -180,7 +144,8 @@ macro_rules! calls {
             path: &str,
             $($word: $kind),*
         ) -> Result<Outputs<'_>, Fault> {
-            self.step(|handle| handle.$name(Call { now, ticket, path }, $($word),*))
+            let until = Moment::default(); // it waits for no connection
+            self.step(|handle| handle.$name(Call { now, ticket, until, path }, $($word),*))
         }
     )*};
 }
@@ -188,26 +153,7 @@ macro_rules! calls {
 /// Steps: calls. The ticket is the caller's own number, and comes back with the answer, which is an output of this step or of a later
 /// one.
 impl Client {
-    calls! {
-        /// Asks whether there is a node, and what is known of it.
-        exists(watch: Watch);
-
-        /// Asks for the data of a node. Where there is no node it leaves no watch: [`exists`](Client::exists) does.
-        get_data(watch: Watch);
-
-        /// Asks for the names of the children of a node. Where there is no node it leaves no watch.
-        get_children(watch: Watch);
-
-        /// Asks to set the data of a node: none are null data. The version is the one that the node has to have, or
-        /// [`ANY_VERSION`](crate::ANY_VERSION).
-        set_data(data: Option<&[u8]>, version: i32);
-
-        /// Asks to make a node, with these data: none are null data.
-        create(data: Option<&[u8]>, mode: Mode);
-
-        /// Asks to delete a node. The version is as of [`set_data`](Client::set_data).
-        delete(version: i32);
-    }
+    for_each_call! { calls }
 
     /// Asks to end the session.
     ///
@@ -215,17 +161,19 @@ impl Client {
     ///
     /// [`Fault::NoMemory`]: then nothing has happened. [`Fault::Halted`] and [`Fault::UnknownNumber`].
     pub fn close_session(&mut self, now: Moment, ticket: u64) -> Result<Outputs<'_>, Fault> {
-        self.step(|handle| handle.close_session(now, ticket))
+        let (until, path) = (Moment::default(), "");
+        let call = Call {
+            now,
+            ticket,
+            until,
+            path,
+        };
+        self.step(|handle| handle.close_session(call))
     }
 }
 
 /// Look-ups. They ask nobody, and serve after [`Fault::Halted`] too, when nothing is kept.
 impl Client {
-    /// The state.
-    pub fn state(&self) -> State {
-        self.state
-    }
-
     /// The first moment at which something is due: a ping, or that the server is silent for too long. None where nothing ever is, as
     /// without a connection. It changes with each step.
     pub fn deadline(&self) -> Option<Moment> {

@@ -44,6 +44,15 @@ pub(crate) struct Credentials {
 }
 
 impl Credentials {
+    /// These, which are to be handed in.
+    pub(crate) fn of(all: Vec<Credential>) -> Credentials {
+        let mut credentials = Credentials::default();
+        for credential in all {
+            credentials.add(credential);
+        }
+        credentials
+    }
+
     /// The place of a credential that was handed in before.
     pub(crate) fn place_of(&self, credential: &Credential) -> Option<usize> {
         self.all.iter().position(|it| it.credential == *credential)

@@ -129,7 +129,7 @@ impl Deletions {
         deletion.asked = None;
         match outcome {
             Ok(_) if deletion.step == Step::Sync => deletion.step = Step::List,
-            Ok(found) => self.is_done(asked, &found.names),
+            Ok(found) => self.is_done(asked, &found.names.texts()),
             Err(ErrorKind::Server(Code::NO_NODE)) => self.is_done(asked, &[]),
             Err(ErrorKind::NoReply(NoReply::ConnectionLoss | NoReply::NotConnected)) => {
                 deletion.begin_again(now);
@@ -183,6 +183,7 @@ mod tests {
     use super::{Deletions, Place, Step};
     use crate::error::ErrorKind;
     use crate::fault::{Code, NoReply};
+    use crate::looking::Spelled;
     use crate::moment::Moment;
     use crate::told::Found;
 
@@ -240,7 +241,7 @@ mod tests {
         deletions.hear(now, 3, &Ok(Found::default()));
         assert_eq!(deletions.ask(now, 4), Some((Step::List, place)));
         let found = Found {
-            names: ["x1", "y1", "x2"].map(String::from).into(),
+            names: Spelled::of(&["x1", "y1", "x2"]),
             ..Found::default()
         };
         deletions.hear(now, 4, &Ok(found));

@@ -16,7 +16,7 @@ use crate::deletions::Deletions;
 use crate::error::{Error, ErrorKind, Search};
 use crate::fault::{Code, Fault, NoReply};
 use crate::followed::Followed;
-use crate::growing::Growing;
+use crate::growing::{Growing, Look};
 use crate::hosts::{chance, Host, Hosts, Order, Places};
 use crate::machine::Machine;
 use crate::moment::{Clock, Moment};
@@ -107,6 +107,7 @@ pub(crate) struct Engine {
     followed: Followed,
     /// The trees that are followed, by the tickets that the machine has for them.
     trees: BTreeMap<u64, Growing>,
+    looks: Vec<Look>,
     /// The attempts that the machine has asked for, and the one that is to be begun or is on its way.
     attempts: u64,
     wanted: Option<Attempt>,
@@ -149,6 +150,7 @@ impl Engine {
             calls: Calls::default(),
             followed: Followed::default(),
             trees: BTreeMap::new(),
+            looks: Vec::new(),
             attempts: 0,
             wanted: None,
             dialling: None,
@@ -157,15 +159,12 @@ impl Engine {
             address: None,
             reasons: Vec::new(),
             inbox: Vec::new(),
-            credentials: Credentials::default(),
+            credentials: Credentials::of(beginning.credentials),
             deletions: Deletions::default(),
             closing: None,
             course: Course::GoesOn,
         };
         engine.note_hosts();
-        for credential in beginning.credentials {
-            engine.credentials.add(credential);
-        }
         engine.introduce_again()?;
         Ok(engine)
     }
@@ -370,6 +369,11 @@ impl Engine {
     /// The answers that are to be handed out.
     pub(crate) fn take_answers(&mut self) -> Vec<(Arc<Slot>, Ending)> {
         self.calls.take_answers()
+    }
+
+    /// What was copied of trees, to be shown.
+    pub(crate) fn take_looks(&mut self) -> Vec<Look> {
+        mem::take(&mut self.looks)
     }
 
     /// The first moment at which something is due, as the machine has it.

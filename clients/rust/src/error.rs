@@ -126,17 +126,17 @@ impl fmt::Display for ErrorKind {
     }
 }
 
-impl From<Code> for ErrorKind {
-    fn from(code: Code) -> ErrorKind {
-        ErrorKind::Server(code)
-    }
+macro_rules! kinds {
+    ($($reason:ident: $kind:ident),*) => {$(
+        impl From<$reason> for ErrorKind {
+            fn from(reason: $reason) -> ErrorKind {
+                ErrorKind::$kind(reason)
+            }
+        }
+    )*};
 }
 
-impl From<NoReply> for ErrorKind {
-    fn from(reason: NoReply) -> ErrorKind {
-        ErrorKind::NoReply(reason)
-    }
-}
+kinds! { Code: Server, NoReply: NoReply, Fault: Fault }
 
 impl From<Refusal> for ErrorKind {
     fn from(reason: Refusal) -> ErrorKind {
@@ -146,12 +146,6 @@ impl From<Refusal> for ErrorKind {
             Refusal::TooLarge => NoReply::TooLarge.into(),
             Refusal::Closed => NoReply::SessionClosed.into(),
         }
-    }
-}
-
-impl From<Fault> for ErrorKind {
-    fn from(fault: Fault) -> ErrorKind {
-        ErrorKind::Fault(fault)
     }
 }
 

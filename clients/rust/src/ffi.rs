@@ -1,20 +1,15 @@
 //! The C interface, `include/dirwolleu.h`, and a [`Handle`] that keeps what the header asks of its callers. All `unsafe` code of this
-//! crate is here, and in the modules below: what a client alone has, and what a session.
+//! crate is here.
 #![deny(clippy::undocumented_unsafe_blocks)]
-
-mod client;
-mod machine;
 
 use crate::fault::{done, done_at, Fault};
 use crate::moment::Moment;
-use crate::node::{DataStat, Stat};
+use crate::node::{DataStat, Mode, Side, Stat, Watch};
 use crate::numbers::{result, VERSION};
 use crate::standing::Contender;
 use std::cell::UnsafeCell;
+use std::ops::{Deref, DerefMut};
 use std::ptr;
-
-pub(crate) use client::ClientHandle;
-pub(crate) use machine::{MachineHandle, Settings};
 
 // made by scripts/interface from include/interface.toml
 /// `dw_client`, and `dw_session`.
@@ -158,9 +153,6 @@ extern "C" {
 }
 // end of what is made
 
-/// The code of a function that did what it was asked, or has something to tell.
-pub(crate) const OK: i32 = result::OK;
-
 /// A step without more than its moment.
 type Step = unsafe extern "C" fn(*mut Raw, u64) -> i32;
 
@@ -178,40 +170,89 @@ type CopyOne = unsafe extern "C" fn(*mut Raw, usize, *mut u8, usize) -> usize;
 type Collect =
     unsafe extern "C" fn(*mut Raw, *const u8, usize, usize, *mut u8, usize, *mut usize) -> i32;
 
-/// The functions that a client and a session have alike, each by its name in the header.
+/// A call that reads a node, and one that takes data for it, and a version or a mode.
+type Read = unsafe extern "C" fn(*mut Raw, u64, u64, u64, *const u8, usize, bool) -> i32;
 #[rustfmt::skip]
-struct Functions {
-    free: unsafe extern "C" fn(*mut Raw),
-    opened: Step,
-    cut: Step,
-    moment: Step,
-    bytes: unsafe extern "C" fn(*mut Raw, u64, *const u8, usize) -> i32,
-    next: unsafe extern "C" fn(*mut Raw, *mut Output) -> i32,
-    copy: CopyOne,
-    name: CopyOne,
-    names: CopyAll,
-    words: CopyAll,
-    state: Look<i32>,
-    revision: Look<u64>,
-    last_zxid: Look<i64>,
-    timeout_ms: Look<i64>,
-    deadline: LookOut<u64>,
-    saved: CopyAll,
-    peek_data: unsafe extern "C" fn(*mut Raw, *const u8, usize, *mut KeptData, *mut u8, usize) -> i32,
-    peek_children: unsafe extern "C" fn(*mut Raw, *const u8, usize, *mut KeptNames) -> i32,
-    peek_names: unsafe extern "C" fn(*mut Raw, *const u8, usize, *mut u8, usize, *mut usize) -> i32,
-    subtree: Collect,
-    lacking: Collect,
-    snapshot: unsafe extern "C" fn(*mut Raw, *const u8, usize, *const u8, usize, *mut u8, usize, *mut usize) -> i32,
-    standing: unsafe extern "C" fn(*mut Raw, *const u8, usize, *const u8, usize, *const u8, usize, i64, *const u8, usize, *mut i64, *mut u8, usize, *mut usize) -> i32,
-    holder: unsafe extern "C" fn(*mut Raw, *const u8, usize, *const u8, usize, *const u8, usize, *mut i64) -> i32,
+type Write<N> =
+    unsafe extern "C" fn(*mut Raw, u64, u64, u64, *const u8, usize, *const u8, usize, bool, N) -> i32;
+
+/// The functions that a client and a session have alike, each by its field, its type and its names in the header.
+macro_rules! functions {
+    ($($field:ident: $kind:ty = $client:ident, $session:ident;)*) => {
+        struct Functions {
+            $($field: $kind,)*
+        }
+
+        static OF_CLIENTS: Functions = Functions { $($field: $client,)* };
+        static OF_SESSIONS: Functions = Functions { $($field: $session,)* };
+    };
 }
 
-/// What each call about a node has: its moment, the ticket for its answer, and the path.
+#[rustfmt::skip]
+functions! {
+    free: unsafe extern "C" fn(*mut Raw) = dw_close, dw_session_free;
+    opened: Step = dw_opened, dw_session_opened;
+    cut: Step = dw_cut, dw_session_cut;
+    moment: Step = dw_tick, dw_session_moment;
+    bytes: unsafe extern "C" fn(*mut Raw, u64, *const u8, usize) -> i32 = dw_bytes, dw_session_bytes;
+    exists: Read = exists, dw_session_exists;
+    get_data: Read = get_data, dw_session_get_data;
+    get_children: Read = get_children, dw_session_get_children;
+    set_data: Write<i32> = set_data, dw_session_set_data;
+    create: Write<u32> = create, dw_session_create;
+    delete: unsafe extern "C" fn(*mut Raw, u64, u64, u64, *const u8, usize, i32) -> i32 = delete, dw_session_delete;
+    close: unsafe extern "C" fn(*mut Raw, u64, u64, u64) -> i32 = close_session, dw_session_close;
+    next: unsafe extern "C" fn(*mut Raw, *mut Output) -> i32 = dw_next, dw_session_next;
+    copy: CopyOne = dw_copy, dw_session_copy;
+    name: CopyOne = dw_name, dw_session_name;
+    names: CopyAll = dw_names, dw_session_names;
+    words: CopyAll = dw_words, dw_session_words;
+    state: Look<i32> = dw_state, dw_session_state;
+    revision: Look<u64> = dw_revision, dw_session_revision;
+    last_zxid: Look<i64> = dw_last_zxid, dw_session_last_zxid;
+    timeout_ms: Look<i64> = dw_timeout_ms, dw_session_timeout_ms;
+    deadline: LookOut<u64> = dw_deadline, dw_session_deadline;
+    saved: CopyAll = dw_saved, dw_session_saved;
+    peek_data: unsafe extern "C" fn(*mut Raw, *const u8, usize, *mut KeptData, *mut u8, usize) -> i32 = dw_peek_data, dw_session_peek_data;
+    peek_children: unsafe extern "C" fn(*mut Raw, *const u8, usize, *mut KeptNames) -> i32 = dw_peek_children, dw_session_peek_children;
+    peek_names: unsafe extern "C" fn(*mut Raw, *const u8, usize, *mut u8, usize, *mut usize) -> i32 = dw_peek_names, dw_session_peek_names;
+    subtree: Collect = dw_subtree, dw_session_subtree;
+    lacking: Collect = dw_lacking, dw_session_lacking;
+    snapshot: unsafe extern "C" fn(*mut Raw, *const u8, usize, *const u8, usize, *mut u8, usize, *mut usize) -> i32 = dw_snapshot, dw_session_snapshot;
+    standing: unsafe extern "C" fn(*mut Raw, *const u8, usize, *const u8, usize, *const u8, usize, i64, *const u8, usize, *mut i64, *mut u8, usize, *mut usize) -> i32 = dw_standing, dw_session_standing;
+    holder: unsafe extern "C" fn(*mut Raw, *const u8, usize, *const u8, usize, *const u8, usize, *mut i64) -> i32 = dw_holder, dw_session_holder;
+    forget: Look<i32> = dw_forget, dw_session_forget;
+}
+
+/// Calls of a client in the form of those of a session. They wait for no connection, so they have no limit.
+#[rustfmt::skip]
+macro_rules! without_limit {
+    ($($name:ident = $function:ident($($word:ident: $kind:ty),*);)*) => {$(
+        #[allow(clippy::too_many_arguments)] // as the header has it
+        unsafe extern "C" fn $name(raw: *mut Raw, now: u64, ticket: u64, _until: u64 $(, $word: $kind)*) -> i32 {
+            // SAFETY: the caller keeps what `Handle` says.
+            unsafe { $function(raw, now, ticket $(, $word)*) }
+        }
+    )*};
+}
+
+#[rustfmt::skip]
+without_limit! {
+    exists = dw_exists(path: *const u8, length: usize, watch: bool);
+    get_data = dw_get_data(path: *const u8, length: usize, watch: bool);
+    get_children = dw_get_children(path: *const u8, length: usize, watch: bool);
+    set_data = dw_set_data(path: *const u8, length: usize, bytes: *const u8, count: usize, is_null: bool, version: i32);
+    create = dw_create(path: *const u8, length: usize, bytes: *const u8, count: usize, is_null: bool, mode: u32);
+    delete = dw_delete(path: *const u8, length: usize, version: i32);
+    close_session = dw_close_session();
+}
+
+/// What each call has: its moment, the ticket for its answer, until when it waits, and the path of the node that it is about.
 #[derive(Clone, Copy)]
 pub(crate) struct Call<'a> {
     pub(crate) now: Moment,
     pub(crate) ticket: u64,
+    pub(crate) until: Moment,
     pub(crate) path: &'a str,
 }
 
@@ -250,51 +291,132 @@ fn check_version() -> Result<(), Fault> {
     Err(Fault::OtherVersion { library })
 }
 
-/// The bytes of data, and whether they are null. The bytes of null data are not looked at.
-fn bytes_of(data: Option<&[u8]>) -> (&[u8], bool) {
-    (data.unwrap_or_default(), data.is_none())
-}
-
 impl Handle {
     /// A handle that holds nothing, whose functions are these.
-    fn closed(functions: &'static Functions) -> Handle {
-        Handle {
-            raw: UnsafeCell::new(Raw {
-                is_open: false,
-                slot: Slot {
-                    at: ptr::null_mut(),
-                },
-            }),
-            functions,
-        }
+    fn closed(functions: &'static Functions) -> Result<Handle, Fault> {
+        check_version()?;
+        let at = ptr::null_mut();
+        let (is_open, slot) = (false, Slot { at });
+        let raw = UnsafeCell::new(Raw { is_open, slot });
+        Ok(Handle { raw, functions })
+    }
+
+    /// The pointer to it, for a function of its kind.
+    fn pointer(&self) -> *mut Raw {
+        self.raw.get()
     }
 
     pub(crate) fn opened(&mut self, now: Moment) -> Result<(), Fault> {
         // SAFETY: as `Handle` says.
-        done(unsafe { (self.functions.opened)(self.raw.get(), now.as_millis()) })
+        done(unsafe { (self.functions.opened)(self.pointer(), now.as_millis()) })
     }
 
     pub(crate) fn cut(&mut self, now: Moment) -> Result<(), Fault> {
         // SAFETY: as `Handle` says.
-        done(unsafe { (self.functions.cut)(self.raw.get(), now.as_millis()) })
+        done(unsafe { (self.functions.cut)(self.pointer(), now.as_millis()) })
     }
 
     pub(crate) fn moment(&mut self, now: Moment) -> Result<(), Fault> {
         // SAFETY: as `Handle` says.
-        done(unsafe { (self.functions.moment)(self.raw.get(), now.as_millis()) })
+        done(unsafe { (self.functions.moment)(self.pointer(), now.as_millis()) })
     }
 
     pub(crate) fn bytes(&mut self, now: Moment, bytes: &[u8]) -> Result<(), Fault> {
-        let (raw, now) = (self.raw.get(), now.as_millis());
+        let (raw, now) = (self.pointer(), now.as_millis());
         // SAFETY: as `Handle` says.
         done(unsafe { (self.functions.bytes)(raw, now, bytes.as_ptr(), bytes.len()) })
+    }
+
+    /// Reads by this function of the library.
+    fn read(&mut self, read: Read, call: Call<'_>, watch: Watch) -> Result<(), Fault> {
+        let (now, until) = (call.now.as_millis(), call.until.as_millis());
+        let (raw, path, length) = (self.pointer(), call.path.as_ptr(), call.path.len());
+        // SAFETY: as `Handle` says.
+        let code = unsafe { read(raw, now, call.ticket, until, path, length, watch.is_left()) };
+        done_at(call.path, code)
+    }
+
+    pub(crate) fn exists(&mut self, call: Call<'_>, watch: Watch) -> Result<(), Fault> {
+        self.read(self.functions.exists, call, watch)
+    }
+
+    pub(crate) fn get_data(&mut self, call: Call<'_>, watch: Watch) -> Result<(), Fault> {
+        self.read(self.functions.get_data, call, watch)
+    }
+
+    pub(crate) fn get_children(&mut self, call: Call<'_>, watch: Watch) -> Result<(), Fault> {
+        self.read(self.functions.get_children, call, watch)
+    }
+
+    /// Writes by this function of the library, which has one number more. The bytes of null data are not looked at.
+    fn write<N>(
+        &mut self,
+        write: Write<N>,
+        call: Call<'_>,
+        data: Option<&[u8]>,
+        number: N,
+    ) -> Result<(), Fault> {
+        let (now, until) = (call.now.as_millis(), call.until.as_millis());
+        let (raw, path, length) = (self.pointer(), call.path.as_ptr(), call.path.len());
+        let (bytes, is_null) = (data.unwrap_or_default(), data.is_none());
+        let (at, count) = (bytes.as_ptr(), bytes.len());
+        // SAFETY: as `Handle` says.
+        let code = unsafe {
+            write(
+                raw,
+                now,
+                call.ticket,
+                until,
+                path,
+                length,
+                at,
+                count,
+                is_null,
+                number,
+            )
+        };
+        done_at(call.path, code)
+    }
+
+    pub(crate) fn set_data(
+        &mut self,
+        call: Call<'_>,
+        data: Option<&[u8]>,
+        version: i32,
+    ) -> Result<(), Fault> {
+        self.write(self.functions.set_data, call, data, version)
+    }
+
+    pub(crate) fn create(
+        &mut self,
+        call: Call<'_>,
+        data: Option<&[u8]>,
+        mode: Mode,
+    ) -> Result<(), Fault> {
+        self.write(self.functions.create, call, data, mode.number())
+    }
+
+    pub(crate) fn delete(&mut self, call: Call<'_>, version: i32) -> Result<(), Fault> {
+        let (now, until) = (call.now.as_millis(), call.until.as_millis());
+        let (raw, path, length) = (self.pointer(), call.path.as_ptr(), call.path.len());
+        let delete = self.functions.delete;
+        // SAFETY: as `Handle` says.
+        let code = unsafe { delete(raw, now, call.ticket, until, path, length, version) };
+        done_at(call.path, code)
+    }
+
+    /// Ends the session. It is about no node.
+    pub(crate) fn close_session(&mut self, call: Call<'_>) -> Result<(), Fault> {
+        let (now, until) = (call.now.as_millis(), call.until.as_millis());
+        // SAFETY: as `Handle` says.
+        done(unsafe { (self.functions.close)(self.pointer(), now, call.ticket, until) })
     }
 
     /// The next output of the last step, and none where all were told.
     pub(crate) fn next(&mut self) -> Result<Option<Output>, Fault> {
         let mut output = Output::default();
         // SAFETY: as `Handle` says.
-        let code = unsafe { (self.functions.next)(self.raw.get(), &mut output) };
+        let code = unsafe { (self.functions.next)(self.pointer(), &mut output) };
         if code == result::NONE {
             return Ok(None);
         }
@@ -304,70 +426,74 @@ impl Handle {
     /// Copies the text of the output that was told last, and tells how many bytes there are from that place on.
     pub(crate) fn copy(&self, from: usize, room: &mut [u8]) -> usize {
         // SAFETY: as `Handle` says.
-        unsafe { (self.functions.copy)(self.raw.get(), from, room.as_mut_ptr(), room.len()) }
+        unsafe { (self.functions.copy)(self.pointer(), from, room.as_mut_ptr(), room.len()) }
     }
 
     /// Copies a name of the listing that was told last, and tells how many bytes it has.
     pub(crate) fn name(&self, index: usize, room: &mut [u8]) -> usize {
         // SAFETY: as `Handle` says.
-        unsafe { (self.functions.name)(self.raw.get(), index, room.as_mut_ptr(), room.len()) }
+        unsafe { (self.functions.name)(self.pointer(), index, room.as_mut_ptr(), room.len()) }
     }
 
-    /// Copies all names of the listing that was told last, each after its length in four bytes, and tells how many bytes there are.
+    /// Copies what this function of the library has, and tells how many bytes that is.
+    fn copy_all(&self, copy: CopyAll, room: &mut [u8]) -> Result<usize, Fault> {
+        let mut count = 0;
+        // SAFETY: as `Handle` says.
+        done(unsafe { copy(self.pointer(), room.as_mut_ptr(), room.len(), &mut count) })?;
+        Ok(count)
+    }
+
+    /// All names of the listing that was told last, each after its length in four bytes.
     pub(crate) fn names(&self, room: &mut [u8]) -> Result<usize, Fault> {
-        let mut count = 0;
-        // SAFETY: as `Handle` says.
-        done(unsafe {
-            (self.functions.names)(self.raw.get(), room.as_mut_ptr(), room.len(), &mut count)
-        })?;
-        Ok(count)
+        self.copy_all(self.functions.names, room)
     }
 
-    /// Copies the words of the drop that was told last, and tells how many bytes they have.
+    /// The words of the drop that was told last.
     pub(crate) fn words(&self, room: &mut [u8]) -> Result<usize, Fault> {
-        let mut count = 0;
-        // SAFETY: as `Handle` says.
-        done(unsafe {
-            (self.functions.words)(self.raw.get(), room.as_mut_ptr(), room.len(), &mut count)
-        })?;
-        Ok(count)
+        self.copy_all(self.functions.words, room)
+    }
+
+    /// The saved session.
+    pub(crate) fn saved(&self, room: &mut [u8]) -> Result<usize, Fault> {
+        self.copy_all(self.functions.saved, room)
     }
 
     pub(crate) fn state(&self) -> i32 {
         // SAFETY: as `Handle` says.
-        unsafe { (self.functions.state)(self.raw.get()) }
+        unsafe { (self.functions.state)(self.pointer()) }
     }
 
     pub(crate) fn revision(&self) -> u64 {
         // SAFETY: as `Handle` says.
-        unsafe { (self.functions.revision)(self.raw.get()) }
+        unsafe { (self.functions.revision)(self.pointer()) }
     }
 
     pub(crate) fn last_zxid(&self) -> i64 {
         // SAFETY: as `Handle` says.
-        unsafe { (self.functions.last_zxid)(self.raw.get()) }
+        unsafe { (self.functions.last_zxid)(self.pointer()) }
     }
 
     pub(crate) fn timeout_ms(&self) -> i64 {
         // SAFETY: as `Handle` says.
-        unsafe { (self.functions.timeout_ms)(self.raw.get()) }
+        unsafe { (self.functions.timeout_ms)(self.pointer()) }
+    }
+
+    /// Forgets stale answers, which what is open always does.
+    pub(crate) fn forget(&mut self) {
+        // SAFETY: as `Handle` says.
+        unsafe { (self.functions.forget)(self.pointer()) };
+    }
+
+    /// The moment that this function of the library tells, where there is one.
+    fn moment_by(&self, look: LookOut<u64>) -> Option<Moment> {
+        let mut millis = 0;
+        // SAFETY: as `Handle` says.
+        let code = unsafe { look(self.pointer(), &mut millis) };
+        (code == result::OK).then(|| Moment::from_millis(millis))
     }
 
     pub(crate) fn deadline(&self) -> Option<Moment> {
-        let mut first_ms = 0;
-        // SAFETY: as `Handle` says.
-        let code = unsafe { (self.functions.deadline)(self.raw.get(), &mut first_ms) };
-        (code == OK).then(|| Moment::from_millis(first_ms))
-    }
-
-    /// Copies the saved session, and tells how many bytes it has.
-    pub(crate) fn saved(&self, room: &mut [u8]) -> Result<usize, Fault> {
-        let mut count = 0;
-        // SAFETY: as `Handle` says.
-        done(unsafe {
-            (self.functions.saved)(self.raw.get(), room.as_mut_ptr(), room.len(), &mut count)
-        })?;
-        Ok(count)
+        self.moment_by(self.functions.deadline)
     }
 
     /// What is kept about the data of a path, of which it copies as many as there is room for.
@@ -377,7 +503,7 @@ impl Handle {
         let (out, room) = (room.as_mut_ptr(), room.len());
         // SAFETY: as `Handle` says.
         let code = unsafe {
-            (self.functions.peek_data)(self.raw.get(), text, length, &mut kept, out, room)
+            (self.functions.peek_data)(self.pointer(), text, length, &mut kept, out, room)
         };
         done_at(path, code).map(|()| kept)
     }
@@ -387,7 +513,7 @@ impl Handle {
         let (text, length) = (path.as_ptr(), path.len());
         // SAFETY: as `Handle` says.
         let code =
-            unsafe { (self.functions.peek_children)(self.raw.get(), text, length, &mut kept) };
+            unsafe { (self.functions.peek_children)(self.pointer(), text, length, &mut kept) };
         done_at(path, code).map(|()| kept)
     }
 
@@ -398,7 +524,7 @@ impl Handle {
         let (out, room) = (room.as_mut_ptr(), room.len());
         // SAFETY: as `Handle` says.
         let code = unsafe {
-            (self.functions.peek_names)(self.raw.get(), text, length, out, room, &mut count)
+            (self.functions.peek_names)(self.pointer(), text, length, out, room, &mut count)
         };
         done_at(path, code).map(|()| count)
     }
@@ -415,7 +541,7 @@ impl Handle {
         let (text, length) = (path.as_ptr(), path.len());
         let (out, room) = (room.as_mut_ptr(), room.len());
         // SAFETY: as `Handle` says.
-        let code = unsafe { collect(self.raw.get(), text, length, most, out, room, &mut count) };
+        let code = unsafe { collect(self.pointer(), text, length, most, out, room, &mut count) };
         done_at(path, code).map(|()| count)
     }
 
@@ -436,7 +562,7 @@ impl Handle {
         let (first, length) = (nodes.as_ptr(), nodes.len());
         let (second, width) = (parents.as_ptr(), parents.len());
         let (out, room) = (room.as_mut_ptr(), room.len());
-        let raw = self.raw.get();
+        let raw = self.pointer();
         // SAFETY: as `Handle` says.
         let code = unsafe {
             (self.functions.snapshot)(raw, first, length, second, width, out, room, &mut count)
@@ -450,7 +576,7 @@ impl Handle {
         // SAFETY: as `Handle` says.
         let code = unsafe {
             (self.functions.holder)(
-                self.raw.get(),
+                self.pointer(),
                 directory.as_ptr(),
                 directory.len(),
                 prefix.as_ptr(),
@@ -477,7 +603,7 @@ impl Handle {
         // SAFETY: as `Handle` says.
         let code = unsafe {
             (self.functions.standing)(
-                self.raw.get(),
+                self.pointer(),
                 directory.as_ptr(),
                 directory.len(),
                 name.as_ptr(),
@@ -497,5 +623,160 @@ impl Handle {
             done_at(directory, code)?;
         }
         Ok((code, token, count))
+    }
+}
+
+/// A handle of one kind, which the functions of that kind alone are given.
+macro_rules! handle_of {
+    ($(#[$doc:meta])* $name:ident) => {
+        $(#[$doc])*
+        pub(crate) struct $name {
+            handle: Handle,
+        }
+
+        impl Deref for $name {
+            type Target = Handle;
+
+            fn deref(&self) -> &Handle {
+                &self.handle
+            }
+        }
+
+        impl DerefMut for $name {
+            fn deref_mut(&mut self) -> &mut Handle {
+                &mut self.handle
+            }
+        }
+    };
+}
+
+handle_of! {
+    /// An open client.
+    ClientHandle
+}
+
+handle_of! {
+    /// An open session.
+    MachineHandle
+}
+
+impl ClientHandle {
+    pub(crate) fn open(timeout_ms: i32) -> Result<ClientHandle, Fault> {
+        let handle = Handle::closed(&OF_CLIENTS)?;
+        // SAFETY: as `Handle` says.
+        done(unsafe { dw_open(handle.pointer(), timeout_ms) })?;
+        Ok(ClientHandle { handle })
+    }
+
+    pub(crate) fn resume(timeout_ms: i32, saved: &[u8]) -> Result<ClientHandle, Fault> {
+        let handle = Handle::closed(&OF_CLIENTS)?;
+        let (raw, at, length) = (handle.pointer(), saved.as_ptr(), saved.len());
+        // SAFETY: as `Handle` says.
+        done(unsafe { dw_resume(raw, timeout_ms, at, length) })?;
+        Ok(ClientHandle { handle })
+    }
+
+    pub(crate) fn renew(&mut self, timeout_ms: i32) -> Result<(), Fault> {
+        // SAFETY: as `Handle` says.
+        done(unsafe { dw_renew(self.pointer(), timeout_ms) })
+    }
+}
+
+/// How a session begins, besides what it takes up.
+#[derive(Clone, Copy)]
+pub(crate) struct Settings {
+    pub(crate) timeout_ms: i32,
+    pub(crate) addresses: usize,
+    pub(crate) seed: u64,
+}
+
+impl MachineHandle {
+    pub(crate) fn open(of: Settings) -> Result<MachineHandle, Fault> {
+        let handle = Handle::closed(&OF_SESSIONS)?;
+        let raw = handle.pointer();
+        // SAFETY: as `Handle` says.
+        done(unsafe { dw_session_open(raw, of.timeout_ms, of.addresses, of.seed) })?;
+        Ok(MachineHandle { handle })
+    }
+
+    pub(crate) fn resume(of: Settings, saved: &[u8]) -> Result<MachineHandle, Fault> {
+        let handle = Handle::closed(&OF_SESSIONS)?;
+        let (raw, at, length) = (handle.pointer(), saved.as_ptr(), saved.len());
+        // SAFETY: as `Handle` says.
+        done(unsafe { dw_session_resume(raw, of.timeout_ms, of.addresses, of.seed, at, length) })?;
+        Ok(MachineHandle { handle })
+    }
+
+    pub(crate) fn failed(&mut self, now: Moment) -> Result<(), Fault> {
+        // SAFETY: as `Handle` says.
+        done(unsafe { dw_session_failed(self.pointer(), now.as_millis()) })
+    }
+
+    pub(crate) fn addresses(&mut self, now: Moment, count: usize) -> Result<(), Fault> {
+        // SAFETY: as `Handle` says.
+        done(unsafe { dw_session_addresses(self.pointer(), now.as_millis(), count) })
+    }
+
+    /// Follows a side of a path, without a limit.
+    pub(crate) fn follow(&mut self, call: Call<'_>, side: Side) -> Result<(), Fault> {
+        let follow = match side {
+            Side::Data => dw_session_follow_data,
+            Side::Children => dw_session_follow_names,
+        };
+        let (raw, now) = (self.pointer(), call.now.as_millis());
+        let (path, length) = (call.path.as_ptr(), call.path.len());
+        // SAFETY: as `Handle` says.
+        let code = unsafe { follow(raw, now, call.ticket, path, length) };
+        done_at(call.path, code)
+    }
+
+    pub(crate) fn unfollow(&mut self, now: Moment, ticket: u64) -> Result<(), Fault> {
+        // SAFETY: as `Handle` says.
+        done(unsafe { dw_session_unfollow(self.pointer(), now.as_millis(), ticket) })
+    }
+
+    pub(crate) fn follow_tree(&mut self, call: Call<'_>, most: usize) -> Result<(), Fault> {
+        let (raw, now) = (self.pointer(), call.now.as_millis());
+        let (path, length) = (call.path.as_ptr(), call.path.len());
+        // SAFETY: as `Handle` says.
+        let code = unsafe { dw_session_follow_tree(raw, now, call.ticket, path, length, most) };
+        done_at(call.path, code)
+    }
+
+    pub(crate) fn unfollow_tree(&mut self, now: Moment, ticket: u64) -> Result<(), Fault> {
+        // SAFETY: as `Handle` says.
+        done(unsafe { dw_session_unfollow_tree(self.pointer(), now.as_millis(), ticket) })
+    }
+
+    /// When the server was heard last, where it was.
+    pub(crate) fn heard_at(&self) -> Option<Moment> {
+        self.moment_by(dw_session_heard_at)
+    }
+
+    /// Asks for the operation of this number, with this body. It is about no node that the core knows.
+    pub(crate) fn raw(&mut self, call: Call<'_>, number: i32, body: &[u8]) -> Result<(), Fault> {
+        let (raw, now, until) = (self.pointer(), call.now.as_millis(), call.until.as_millis());
+        let (bytes, length) = (body.as_ptr(), body.len());
+        // SAFETY: as `Handle` says.
+        done(unsafe { dw_session_raw(raw, now, call.ticket, until, number, bytes, length) })
+    }
+
+    /// Introduces the session.
+    pub(crate) fn credential(
+        &mut self,
+        now: Moment,
+        scheme: &str,
+        secret: &[u8],
+    ) -> Result<(), Fault> {
+        let (raw, now, text, length) = (
+            self.pointer(),
+            now.as_millis(),
+            scheme.as_ptr(),
+            scheme.len(),
+        );
+        // SAFETY: as `Handle` says.
+        done(unsafe {
+            dw_session_credential(raw, now, text, length, secret.as_ptr(), secret.len())
+        })
     }
 }

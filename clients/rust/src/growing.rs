@@ -1,7 +1,8 @@
 //! What is shown of a tree, and when it is looked at. It has no connection and no thread.
 //!
 //! The machine decides which nodes are followed, and tells when the tree is worth a look; the core judges whether it is of one moment. What
-//! is noted here is who waits for what is shown, how often it is looked at, and why there is nothing newer.
+//! is noted here is who waits for what is shown, how often it is looked at, and why there is nothing newer. A look copies the tree while the
+//! session waits; what was copied is read without its lock, since that takes longer than all else.
 
 use crate::action::Refusal;
 use crate::chroot::Chroot;
@@ -10,12 +11,13 @@ use crate::fault::{Code, Fault};
 use crate::kept::{DataAnswer, Kept, Mark};
 use crate::machine::Machine;
 use crate::moment::{Clock, Moment};
+use crate::subtree::{nodes_in, Subtree};
 use crate::told::{Shows, TreeNews};
 use crate::tree_snapshot::{is_below, TreeSnapshot};
 use std::collections::{BTreeMap, HashMap};
 use std::fmt;
 use std::mem;
-use std::sync::{Mutex, MutexGuard, PoisonError, Weak};
+use std::sync::{Arc, Mutex, MutexGuard, PoisonError, Weak};
 use std::time::{Duration, Instant};
 
 /// The time from a look for which there was no memory to the next one.
@@ -42,6 +44,11 @@ struct Board {
     trouble: Option<Error>,
     shown: u64,
     troubled: u64,
+    /// The number of the last look, and whether something has ended what it saw.
+    looked: u64,
+    is_past: bool,
+    /// How long it took to read what was copied last.
+    reading: Duration,
 }
 
 impl Shown {
@@ -98,14 +105,31 @@ impl Shown {
 
 impl Board {
     fn next_number(&self) -> u64 {
-        self.shown.max(self.troubled) + 1
+        self.shown.max(self.troubled).max(self.looked) + 1
     }
 
-    fn show(&mut self, snapshot: TreeSnapshot) {
-        self.shown = self.next_number();
-        self.latest = Some(snapshot);
-        self.is_current = true;
+    /// The tree is looked at: the number of what will be shown of it.
+    fn begin_look(&mut self) -> u64 {
+        self.looked = self.next_number();
+        self.is_past = false;
         self.trouble = None;
+        self.looked
+    }
+
+    /// Shows what the look of this number saw, unless a later one was shown. What is shown no more is handed back.
+    fn show(&mut self, number: u64, snapshot: TreeSnapshot) -> Option<TreeSnapshot> {
+        if number < self.shown {
+            return Some(snapshot);
+        }
+        self.shown = number;
+        self.is_current = number == self.looked && !self.is_past;
+        self.latest.replace(snapshot)
+    }
+
+    /// What is shown, and what is copied to be shown, is not known to be so any more.
+    fn end_current(&mut self) {
+        self.is_current = false;
+        self.is_past = true;
     }
 
     /// Whether there is a trouble, and it is another one than before.
@@ -113,7 +137,7 @@ impl Board {
         let is_news = trouble.is_some() && self.trouble != trouble;
         if is_news {
             self.troubled = self.next_number();
-            self.is_current = false;
+            self.end_current();
         }
         self.trouble = trouble;
         is_news
@@ -187,7 +211,7 @@ impl Growing {
     pub(crate) fn is_past(&mut self) {
         self.must_look = false;
         if let Some(shown) = self.shown.upgrade() {
-            shown.board().is_current = false;
+            shown.board().end_current();
         }
     }
 
@@ -264,35 +288,69 @@ impl Growing {
     }
 
     /// Looks, where the moment has come. After a look that took long, the next one waits.
-    pub(crate) fn look(&mut self, machine: &Machine, chroot: &Chroot, clock: Clock) {
+    pub(crate) fn look(
+        &mut self,
+        machine: &Machine,
+        chroot: &Chroot,
+        clock: Clock,
+    ) -> Option<Look> {
         if !self.must_look || clock.now() < self.look_at {
-            return;
+            return None;
         }
         let begun = Instant::now();
-        let looked = self.show(machine, chroot);
+        let shown = self.shown.upgrade()?;
+        let looked = self.copy(machine, &shown);
         self.must_look = looked == Err(Fault::NoMemory);
         let pause = if self.must_look {
             BETWEEN_LOOKS
         } else {
-            begun.elapsed() * SHARE
+            (begun.elapsed() + shown.board().reading) * SHARE
         };
         self.look_at = clock.now().saturating_add(pause);
-        self.note(ALL, looked.err().map(ErrorKind::from));
+        self.note(ALL, looked.as_ref().err().cloned().map(ErrorKind::from));
+        let (number, spelled) = looked.ok()??;
+        let (zxid, chroot) = (machine.last_zxid(), chroot.clone());
+        Some(Look {
+            shown,
+            number,
+            zxid,
+            spelled,
+            chroot,
+        })
     }
 
-    /// Shows the tree where it is whole. It fails where no read makes it so.
-    fn show(&mut self, machine: &Machine, chroot: &Chroot) -> Result<(), Fault> {
-        let found = machine.subtree_of(&self.root, self.most, &mut self.room)?;
-        let Some(subtree) = found else {
-            return machine.lacking(&self.root, self.most).map(drop);
+    /// Copies the tree where it is whole, with the number of the look. It fails where no read makes it so.
+    fn copy(&mut self, machine: &Machine, shown: &Shown) -> Result<Option<(u64, Vec<u8>)>, Fault> {
+        let found = machine.spelled_subtree(&self.root, self.most, &mut self.room)?;
+        let Some(spelled) = found else {
+            return machine.lacking(&self.root, self.most).map(|_| None);
         };
         self.troubles.clear(); // what is refused still is not of the tree any more
-        if let Some(shown) = self.shown.upgrade() {
-            let snapshot = TreeSnapshot::new(shown.root(), subtree.below(chroot));
-            shown.board().show(snapshot);
-            self.is_news = true;
-        }
-        Ok(())
+        Ok(Some((shown.board().begin_look(), spelled)))
+    }
+}
+
+/// What a look has copied of a tree, which the library has spelled.
+pub(crate) struct Look {
+    shown: Arc<Shown>,
+    number: u64,
+    zxid: i64,
+    spelled: Vec<u8>,
+    chroot: Chroot,
+}
+
+impl Look {
+    /// Reads it, and shows it. It is done without the lock of the session.
+    pub(crate) fn show(self) {
+        let begun = Instant::now();
+        let (zxid, nodes) = (self.zxid, nodes_in(&self.spelled));
+        let subtree = Subtree { zxid, nodes }.below(&self.chroot);
+        let snapshot = TreeSnapshot::new(self.shown.root(), subtree);
+        let mut board = self.shown.board();
+        board.reading = begun.elapsed();
+        let before = board.show(self.number, snapshot);
+        drop(board); // before the nodes that are shown no more
+        drop(before);
     }
 }
 
@@ -385,12 +443,34 @@ mod tests {
             ("/app/ta", false),
             ("/app", false),
         ] {
-            shown.board().show(snapshot(1));
+            show(&shown, 1);
             tree.hear(TreeNews::Whole);
             tree.notice(path);
             let is_over = (shown.current().is_none(), tree.deadline().is_none());
             assert_eq!(is_over, (is_of_tree, is_of_tree), "{path}");
         }
+    }
+
+    /// Looks, and shows a snapshot of this zxid.
+    fn show(shown: &Shown, zxid: i64) {
+        let number = shown.board().begin_look();
+        shown.board().show(number, snapshot(zxid));
+    }
+
+    #[test]
+    fn what_has_ended_since_it_was_copied_is_not_current() {
+        let shown = Shown::of("/t");
+        let number = shown.board().begin_look();
+        shown.board().end_current();
+        shown.board().show(number, snapshot(1));
+        assert_eq!((shown.current(), shown.latest()), (None, Some(snapshot(1))));
+        let [first, second] = [0; 2].map(|_| shown.board().begin_look());
+        shown.board().show(second, snapshot(3));
+        let passed = shown.board().show(first, snapshot(2));
+        assert_eq!(
+            (passed, shown.current()),
+            (Some(snapshot(2)), Some(snapshot(3)))
+        );
     }
 
     /// A snapshot without nodes, as of this zxid.
@@ -404,15 +484,15 @@ mod tests {
         let shown = Shown::of("/t");
         let none = || trouble("/t", Code::NO_NODE);
         assert_eq!(shown.news_after(0), None);
-        shown.board().show(snapshot(1));
-        shown.board().show(snapshot(2));
+        show(&shown, 1);
+        show(&shown, 2);
         assert!(shown.board().warn(Some(none())));
         let first = shown.news_after(0).unwrap();
         assert_eq!(first.1, Ok(snapshot(2)), "the newest of several");
         let second = shown.news_after(first.0).unwrap();
         assert_eq!(second.1, Err(none()));
         assert_eq!(shown.news_after(second.0), None);
-        shown.board().show(snapshot(3));
+        show(&shown, 3);
         let third = shown.news_after(second.0).unwrap();
         assert_eq!((third.1, shown.trouble()), (Ok(snapshot(3)), None));
         assert_eq!(shown.news_after(third.0), None);
@@ -422,7 +502,7 @@ mod tests {
     #[test]
     fn a_trouble_is_told_once_and_ends_what_is_current() {
         let shown = Shown::of("/t");
-        shown.board().show(snapshot(1));
+        show(&shown, 1);
         assert_eq!(shown.current(), Some(snapshot(1)));
         let warn = |code: Code| shown.board().warn(Some(trouble("/t", code)));
         assert!(warn(Code::NO_NODE));

@@ -82,7 +82,7 @@ impl Shared {
     /// Lets the engine go, so that whoever is woken can have it, and writes what is to be written.
     fn hand_out(&self, mut engine: MutexGuard<'_, Engine>) {
         let answers = engine.take_answers();
-        let outboxes = engine.take_outboxes();
+        let (outboxes, looks) = (engine.take_outboxes(), engine.take_looks());
         let is_news = engine.has_event();
         drop(engine);
         for outbox in outboxes {
@@ -93,6 +93,10 @@ impl Shared {
         }
         if is_news {
             self.tell_all();
+        }
+        for look in looks {
+            look.show();
+            self.wake();
         }
     }
 

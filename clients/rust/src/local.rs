@@ -139,7 +139,7 @@ impl LocalSession {
     /// The state. None where something was due on the connection and this program has not come to do it: then nobody knows whether there
     /// is a session still. Call [`next_event`](LocalSession::next_event) to learn it.
     pub fn state(&self) -> Option<State> {
-        self.inner().with(|engine| engine.state(Duration::ZERO))
+        self.inner().look(|engine| engine.state(Duration::ZERO))
     }
 
     /// The next event: one that waits, or the first that comes until this instant, and none where none has come by then. Without an

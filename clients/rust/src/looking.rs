@@ -1,7 +1,9 @@
-//! What is looked up of a handle of the library, alike of a client and of a machine.
+//! What a client and a machine have alike: their steps, their calls, and what is looked up of their handles.
 
 use crate::fault::Fault;
 use crate::path_fault::PathFault;
+use crate::standing::spelled;
+use std::time::Duration;
 
 /// The room that a text of unknown length is given at first.
 const FIRST_ROOM: usize = 256;
@@ -18,9 +20,43 @@ pub(crate) fn whole<E>(mut copy: impl FnMut(&mut [u8]) -> Result<usize, E>) -> R
     Ok(bytes)
 }
 
+/// The same of what is mostly as long as this room.
+pub(crate) fn whole_in<E>(
+    room: usize,
+    mut copy: impl FnMut(&mut [u8]) -> Result<usize, E>,
+) -> Result<Vec<u8>, E> {
+    let mut bytes = vec![0; room];
+    let length = copy(&mut bytes)?;
+    if length > room {
+        bytes.resize(length, 0);
+        copy(&mut bytes)?;
+    }
+    bytes.truncate(length);
+    Ok(bytes)
+}
+
 /// The text of bytes that the library takes for one.
 pub(crate) fn whole_text(bytes: Vec<u8>) -> String {
     String::from_utf8(bytes).expect("the library gives UTF-8")
+}
+
+/// Texts as the library spells them. They are read by who wants them, without the lock of the session: of a large directory that takes a while.
+#[derive(Debug, Default, PartialEq)]
+pub(crate) struct Spelled {
+    pub(crate) count: usize,
+    pub(crate) bytes: Vec<u8>,
+}
+
+impl Spelled {
+    pub(crate) fn of<T: AsRef<str>>(texts: &[T]) -> Spelled {
+        let (count, texts) = (texts.len(), texts.iter().map(AsRef::as_ref));
+        let bytes = spelled(texts);
+        Spelled { count, bytes }
+    }
+
+    pub(crate) fn texts(&self) -> Vec<String> {
+        texts_in(self.count, &self.bytes)
+    }
 }
 
 /// This many texts, which follow one another, each after its length in four bytes.
@@ -44,9 +80,84 @@ pub(crate) fn no_path_among<'a>(paths: impl IntoIterator<Item = &'a &'a str>) ->
     )
 }
 
-/// The look-ups of a type that has a `handle`.
+/// The number of milliseconds of a timeout, in whole ones.
+pub(crate) fn timeout_ms(timeout: Duration) -> Result<i32, Fault> {
+    i32::try_from(timeout.as_millis()).map_err(|_| Fault::BadTimeout)
+}
+
+/// How a type with a `handle` and a `state` takes steps, of which it says this.
+macro_rules! steps_of_handle {
+    ($type:ident, $handle:ident, $said:ident) => {
+        fn of(handle: $handle) -> Result<$type, Fault> {
+            let state = State::try_from(handle.state())?;
+            Ok($type { handle, state })
+        }
+
+        /// Takes a step. The state is noted, also where the step has failed.
+        fn step(
+            &mut self,
+            step: impl FnOnce(&mut $handle) -> Result<(), Fault>,
+        ) -> Result<$said<'_>, Fault> {
+            let done = step(&mut self.handle);
+            self.state = State::try_from(self.handle.state())?;
+            done?;
+            Ok($said::of(self))
+        }
+
+        /// A moment, and nothing else: at the latest at the [`deadline`](Self::deadline).
+        ///
+        /// # Errors
+        ///
+        /// [`Fault::Halted`] and [`Fault::UnknownNumber`].
+        pub fn tick(&mut self, now: Moment) -> Result<$said<'_>, Fault> {
+            self.step(|handle| handle.moment(now))
+        }
+
+        /// Bytes came from the server, in any pieces.
+        ///
+        /// # Errors
+        ///
+        /// [`Fault::Halted`], [`Fault::UnknownNumber`], and [`Fault::NoMemory`]: then the same bytes can be handed in again.
+        pub fn bytes(&mut self, now: Moment, bytes: &[u8]) -> Result<$said<'_>, Fault> {
+            self.step(|handle| handle.bytes(now, bytes))
+        }
+    };
+}
+
+/// Hands the calls about a node to a macro that makes each of them, by the function of its name that the handle has.
+macro_rules! for_each_call {
+    ($calls:ident) => {
+        $calls! {
+            /// Asks whether there is a node, and what is known of it.
+            exists(watch: Watch);
+
+            /// Asks for the data of a node. Where there is no node it leaves no watch: [`exists`](Self::exists) does.
+            get_data(watch: Watch);
+
+            /// Asks for the names of the children of a node. Where there is no node it leaves no watch.
+            get_children(watch: Watch);
+
+            /// Asks to set the data of a node: none are null data. The version is the one that the node has to have, or
+            /// [`ANY_VERSION`](crate::ANY_VERSION).
+            set_data(data: Option<&[u8]>, version: i32);
+
+            /// Asks to make a node, with these data: none are null data.
+            create(data: Option<&[u8]>, mode: Mode);
+
+            /// Asks to delete a node. The version is as of [`set_data`](Self::set_data).
+            delete(version: i32);
+        }
+    };
+}
+
+/// The look-ups of a type that has a `handle` and a `state`.
 macro_rules! look_ups_of_handle {
     () => {
+        /// The state.
+        pub fn state(&self) -> State {
+            self.state
+        }
+
         /// A number from 1 on that rises where what is kept and good may have changed, or the state, or the session. While it is the same, a
         /// [subtree](Self::subtree), what is [lacking](Self::lacking) and a [snapshot](Self::snapshot) are the same, so ask for them again
         /// only where it differs. The [last zxid](Self::last_zxid) may rise meanwhile. Of a [`Client`](crate::Client) it rises by one at each
@@ -233,4 +344,4 @@ macro_rules! look_ups_of_handle {
     };
 }
 
-pub(crate) use look_ups_of_handle;
+pub(crate) use {for_each_call, look_ups_of_handle, steps_of_handle};

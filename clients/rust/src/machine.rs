@@ -1,11 +1,12 @@
 //! A session as a machine.
 
 use crate::action::Actions;
-use crate::client::{timeout_ms, State};
+use crate::client::State;
 use crate::fault::{done, Fault};
 use crate::ffi::{Call, KeptData, MachineHandle, Settings};
 use crate::kept::{mark_of, Children, DataAnswer, Kept, Mark};
-use crate::looking::{look_ups_of_handle, no_path_among, texts_in, whole, whole_text};
+use crate::looking::{for_each_call, look_ups_of_handle, steps_of_handle};
+use crate::looking::{no_path_among, texts_in, timeout_ms, whole, whole_in, whole_text};
 use crate::moment::Moment;
 use crate::node::{Mode, Side, Watch};
 use crate::numbers::result;
@@ -104,22 +105,6 @@ impl Machine {
         };
         Machine::of(MachineHandle::resume(settings, saved.as_bytes())?)
     }
-
-    fn of(handle: MachineHandle) -> Result<Machine, Fault> {
-        let state = State::try_from(handle.state())?;
-        Ok(Machine { handle, state })
-    }
-
-    /// Takes a step. The state is noted, also where the step has failed.
-    fn step(
-        &mut self,
-        step: impl FnOnce(&mut MachineHandle) -> Result<(), Fault>,
-    ) -> Result<Actions<'_>, Fault> {
-        let done = step(&mut self.handle);
-        self.state = State::try_from(self.handle.state())?;
-        done?;
-        Ok(Actions::of(self))
-    }
 }
 
 /// Steps: what happened, noticed at a moment.
@@ -142,15 +127,6 @@ impl Machine {
         self.step(|handle| handle.failed(now))
     }
 
-    /// Bytes came from the server, in any pieces.
-    ///
-    /// # Errors
-    ///
-    /// [`Fault::Halted`], [`Fault::UnknownNumber`], and [`Fault::NoMemory`]: then the same bytes can be handed in again.
-    pub fn bytes(&mut self, now: Moment, bytes: &[u8]) -> Result<Actions<'_>, Fault> {
-        self.step(|handle| handle.bytes(now, bytes))
-    }
-
     /// The connection is over: the server closed it, or a read or a write failed.
     ///
     /// # Errors
@@ -160,14 +136,7 @@ impl Machine {
         self.step(|handle| handle.cut(now))
     }
 
-    /// A moment, and nothing else: at the latest at the [`deadline`](Machine::deadline).
-    ///
-    /// # Errors
-    ///
-    /// [`Fault::Halted`] and [`Fault::UnknownNumber`].
-    pub fn tick(&mut self, now: Moment) -> Result<Actions<'_>, Fault> {
-        self.step(|handle| handle.moment(now))
-    }
+    steps_of_handle! { Machine, MachineHandle, Actions }
 
     /// The list of addresses is another one, of this many, and they are dialled in a new order. A connection that is there stays.
     ///
@@ -191,7 +160,8 @@ impl Machine {
         path: &str,
         side: Side,
     ) -> Result<Actions<'_>, Fault> {
-        self.step(|handle| handle.follow(Call { now, ticket, path }, side))
+        let call = call(now, ticket, None, path);
+        self.step(|handle| handle.follow(call, side))
     }
 
     /// The subject of this ticket is followed no more.
@@ -217,7 +187,8 @@ impl Machine {
         path: &str,
         most: usize,
     ) -> Result<Actions<'_>, Fault> {
-        self.step(|handle| handle.follow_tree(Call { now, ticket, path }, most))
+        let call = call(now, ticket, None, path);
+        self.step(|handle| handle.follow_tree(call, most))
     }
 
     /// The tree of this ticket is followed no more, nor is any node that was taken on for it. Where there is none, the moment alone is noticed.
@@ -253,9 +224,15 @@ impl Machine {
     }
 }
 
-/// The moment to which a call waits: the last one of all where it has no limit.
-fn moment_of(until: Option<Moment>) -> Moment {
-    until.unwrap_or(Moment::from_millis(u64::MAX))
+/// A call, which waits to the last moment of all where it has no limit.
+fn call(now: Moment, ticket: u64, until: Option<Moment>, path: &str) -> Call<'_> {
+    let until = until.unwrap_or(Moment::from_millis(u64::MAX));
+    Call {
+        now,
+        ticket,
+        until,
+        path,
+    }
 }
 
 /// Calls about a node, each by the function of its name that the handle has.
@@ -274,37 +251,18 @@ macro_rules! calls {
             path: &str,
             $($word: $kind),*
         ) -> Result<Actions<'_>, Fault> {
-            let until = moment_of(until);
-            self.step(|handle| handle.$name(Call { now, ticket, path }, until, $($word),*))
+            let call = call(now, ticket, until, path);
+            self.step(|handle| handle.$name(call, $($word),*))
         }
     )*};
 }
 
 /// Steps: calls. Each waits in one line until a server has accepted the connection and fewer than 1,024 are on their way, until a moment at
 /// most, where there is one. It is answered once, or times out once. A read that is lost with its connection is asked again, in its place;
-/// a write is answered [`ConnectionLoss`](crate::NoReply::ConnectionLoss). No other call or subject has or had the ticket.
+/// a write is answered [`ConnectionLoss`](crate::NoReply::ConnectionLoss). No other call or subject has or had the ticket. What is to be kept good
+/// is [followed](Machine::follow).
 impl Machine {
-    calls! {
-        /// Asks whether there is a node, and what is known of it.
-        exists(watch: Watch);
-
-        /// Asks for the data of a node. Where there is no node it leaves no watch: [`exists`](Machine::exists) does. What is to be kept
-        /// good is [followed](Machine::follow).
-        get_data(watch: Watch);
-
-        /// Asks for the names of the children of a node. Where there is no node it leaves no watch.
-        get_children(watch: Watch);
-
-        /// Asks to set the data of a node: none are null data. The version is the one that the node has to have, or
-        /// [`ANY_VERSION`](crate::ANY_VERSION).
-        set_data(data: Option<&[u8]>, version: i32);
-
-        /// Asks to make a node, with these data: none are null data.
-        create(data: Option<&[u8]>, mode: Mode);
-
-        /// Asks to delete a node. The version is as of [`set_data`](Machine::set_data).
-        delete(version: i32);
-    }
+    for_each_call! { calls }
 
     /// Asks for another operation, with what stands after the header of its request, as `zookeeper.jute` spells its record. The core adds the
     /// header, and reads none of these bytes: 1,048,567 at most, else it is answered [`TooLarge`](crate::NoReply::TooLarge). A reply without
@@ -321,8 +279,8 @@ impl Machine {
         operation: RawOperation,
         body: &[u8],
     ) -> Result<Actions<'_>, Fault> {
-        let (until, number) = (moment_of(until), operation.number());
-        self.step(|handle| handle.raw(now, ticket, until, number, body))
+        let call = call(now, ticket, until, "");
+        self.step(|handle| handle.raw(call, operation.number(), body))
     }
 
     /// Asks to end the session.
@@ -336,18 +294,13 @@ impl Machine {
         ticket: u64,
         until: Option<Moment>,
     ) -> Result<Actions<'_>, Fault> {
-        let until = moment_of(until);
-        self.step(|handle| handle.close_session(now, ticket, until))
+        let call = call(now, ticket, until, "");
+        self.step(|handle| handle.close_session(call))
     }
 }
 
 /// Look-ups. They ask nobody, and serve after [`Fault::Halted`] too, when nothing is kept.
 impl Machine {
-    /// The state.
-    pub fn state(&self) -> State {
-        self.state
-    }
-
     /// The first moment at which something is due: a ping, the end of an attempt, a dial, a read, a limit. None where nothing ever is. It
     /// changes with each step.
     pub fn deadline(&self) -> Option<Moment> {
@@ -362,31 +315,22 @@ impl Machine {
 
     look_ups_of_handle! {}
 
-    /// As [`subtree`](Machine::subtree). The text of a tree that is looked at again is mostly as long as the last one: it is given more room than that.
-    pub(crate) fn subtree_of(
+    /// What a [`subtree`](Machine::subtree) has, as the library spells it. A tree that is looked at again is mostly as long as it was: it is given
+    /// more room than that.
+    pub(crate) fn spelled_subtree(
         &self,
         path: &str,
         most: usize,
         room: &mut usize,
-    ) -> Result<Option<Subtree>, Fault> {
-        let mut spelled = vec![0; *room];
-        let copy = |spelled: &mut Vec<u8>| match self.handle.subtree(path, most, spelled) {
-            Ok(length) => Ok(Some(length)),
+    ) -> Result<Option<Vec<u8>>, Fault> {
+        match whole_in(*room, |room| self.handle.subtree(path, most, room)) {
+            Ok(spelled) => {
+                *room = (*room).max(spelled.len() + spelled.len() / 8);
+                Ok(Some(spelled))
+            }
             Err(Fault::NotWhole) => Ok(None),
             Err(other) => Err(other),
-        };
-        let Some(length) = copy(&mut spelled)? else {
-            return Ok(None);
-        };
-        if length > *room {
-            *room = length + length / 8;
-            spelled.resize(*room, 0);
-            copy(&mut spelled)?;
         }
-        Ok(Some(Subtree {
-            zxid: self.last_zxid(),
-            nodes: nodes_in(&spelled[..length]),
-        }))
     }
 }
 

@@ -44,14 +44,6 @@ pub(crate) mod kind {
     pub(crate) const CREDENTIAL: i32 = 16;
 }
 
-pub(crate) mod state {
-    pub(crate) const IDLE: i32 = 0;
-    pub(crate) const CONNECTING: i32 = 1;
-    pub(crate) const CONNECTED: i32 = 2;
-    pub(crate) const EXPIRED: i32 = 3;
-    pub(crate) const SESSION_CLOSED: i32 = 4;
-}
-
 pub(crate) mod brought {
     pub(crate) const CODE: i32 = 1;
     pub(crate) const STAT: i32 = 2;
@@ -62,27 +54,8 @@ pub(crate) mod brought {
     pub(crate) const RAW: i32 = 7;
 }
 
-pub(crate) mod event {
-    pub(crate) const NODE_CREATED: i32 = 1;
-    pub(crate) const NODE_DELETED: i32 = 2;
-    pub(crate) const DATA_CHANGED: i32 = 3;
-    pub(crate) const CHILDREN_CHANGED: i32 = 4;
-}
-
-pub(crate) mod side {
-    pub(crate) const DATA_SIDE: i32 = 1;
-    pub(crate) const CHILDREN_SIDE: i32 = 2;
-}
-
 pub(crate) mod outcome {
     pub(crate) const REPLIED: i32 = 0;
-    pub(crate) const LOST: i32 = 1;
-    pub(crate) const AFTER_EXPIRY: i32 = 2;
-    pub(crate) const AFTER_CLOSE: i32 = 3;
-    pub(crate) const NOT_CONNECTED: i32 = 4;
-    pub(crate) const TOO_MANY_WATCHES: i32 = 5;
-    pub(crate) const TOO_LARGE: i32 = 6;
-    pub(crate) const TOO_MANY_PENDING: i32 = 7;
 }
 
 pub(crate) mod cause {
@@ -100,30 +73,10 @@ pub(crate) mod refusal {
     pub(crate) const READ_CLOSED: i32 = 4;
 }
 
-pub(crate) mod code {
-    pub(crate) const CONNECTION_LOSS: i32 = -4;
-    pub(crate) const UNIMPLEMENTED: i32 = -6;
-    pub(crate) const BAD_ARGUMENTS: i32 = -8;
-    pub(crate) const NO_NODE: i32 = -101;
-    pub(crate) const NO_AUTH: i32 = -102;
-    pub(crate) const BAD_VERSION: i32 = -103;
-    pub(crate) const NO_CHILDREN_FOR_EPHEMERALS: i32 = -108;
-    pub(crate) const NODE_EXISTS: i32 = -110;
-    pub(crate) const NOT_EMPTY: i32 = -111;
-    pub(crate) const SESSION_EXPIRED: i32 = -112;
-    pub(crate) const INVALID_ACL: i32 = -114;
-    pub(crate) const SESSION_MOVED: i32 = -118;
-}
-
 pub(crate) mod mode {
     pub(crate) const PERSISTENT: i32 = 0;
     pub(crate) const EPHEMERAL: i32 = 1;
     pub(crate) const SEQUENTIAL: i32 = 2;
-}
-
-pub(crate) mod mark {
-    pub(crate) const GOOD: i32 = 1;
-    pub(crate) const STALE: i32 = 2;
 }
 
 pub(crate) mod kept {
@@ -158,44 +111,15 @@ pub(crate) mod operation {
 #[derive(Clone, Copy, Debug, PartialEq, Eq, Hash)]
 pub enum State {
     /// There is no connection. What is kept stays kept, with its marks.
-    Idle,
+    Idle = 0,
     /// The connection stands, and the server has not answered for the session yet.
-    Connecting,
+    Connecting = 1,
     /// A server has accepted the session.
-    Connected,
+    Connected = 2,
     /// The servers have given the session up. Nothing is kept or watched, and that is final.
-    Expired,
+    Expired = 3,
     /// The session was closed, as it was asked. Nothing is kept or watched, and that is final.
-    Closed,
-}
-
-/// By its number in the header.
-impl TryFrom<i32> for State {
-    type Error = UnknownNumber;
-
-    fn try_from(number: i32) -> Result<State, UnknownNumber> {
-        Ok(match number {
-            0 => State::Idle,
-            1 => State::Connecting,
-            2 => State::Connected,
-            3 => State::Expired,
-            4 => State::Closed,
-            _ => return Err(UnknownNumber::of("state", number)),
-        })
-    }
-}
-
-/// Its number in the header.
-impl From<State> for i32 {
-    fn from(state: State) -> i32 {
-        match state {
-            State::Idle => 0,
-            State::Connecting => 1,
-            State::Connected => 2,
-            State::Expired => 3,
-            State::Closed => 4,
-        }
-    }
+    Closed = 4,
 }
 
 /// What has happened to a node whose watch has fired.
@@ -214,40 +138,13 @@ impl From<State> for i32 {
 #[non_exhaustive]
 pub enum NodeEvent {
     /// It was made.
-    Created,
+    Created = 1,
     /// It was deleted.
-    Deleted,
+    Deleted = 2,
     /// Its data were changed.
-    DataChanged,
+    DataChanged = 3,
     /// The set of its children was changed.
-    ChildrenChanged,
-}
-
-/// By its number in the header.
-impl TryFrom<i32> for NodeEvent {
-    type Error = UnknownNumber;
-
-    fn try_from(number: i32) -> Result<NodeEvent, UnknownNumber> {
-        Ok(match number {
-            1 => NodeEvent::Created,
-            2 => NodeEvent::Deleted,
-            3 => NodeEvent::DataChanged,
-            4 => NodeEvent::ChildrenChanged,
-            _ => return Err(UnknownNumber::of("event", number)),
-        })
-    }
-}
-
-/// Its number in the header.
-impl From<NodeEvent> for i32 {
-    fn from(node_event: NodeEvent) -> i32 {
-        match node_event {
-            NodeEvent::Created => 1,
-            NodeEvent::Deleted => 2,
-            NodeEvent::DataChanged => 3,
-            NodeEvent::ChildrenChanged => 4,
-        }
-    }
+    ChildrenChanged = 4,
 }
 
 /// What may be watched of a path.
@@ -266,32 +163,9 @@ impl From<NodeEvent> for i32 {
 #[non_exhaustive]
 pub enum Side {
     /// Whether there is a node, and its data.
-    Data,
+    Data = 1,
     /// The names of its children.
-    Children,
-}
-
-/// By its number in the header.
-impl TryFrom<i32> for Side {
-    type Error = UnknownNumber;
-
-    fn try_from(number: i32) -> Result<Side, UnknownNumber> {
-        Ok(match number {
-            1 => Side::Data,
-            2 => Side::Children,
-            _ => return Err(UnknownNumber::of("side", number)),
-        })
-    }
-}
-
-/// Its number in the header.
-impl From<Side> for i32 {
-    fn from(side: Side) -> i32 {
-        match side {
-            Side::Data => 1,
-            Side::Children => 2,
-        }
-    }
+    Children = 2,
 }
 
 /// Why a call has no reply. But for [`NoReply::ConnectionLoss`], nothing was sent and nothing has changed.
@@ -306,52 +180,19 @@ impl From<Side> for i32 {
 #[non_exhaustive]
 pub enum NoReply {
     /// The connection ended before the reply: the call may or may not have happened.
-    ConnectionLoss,
+    ConnectionLoss = 1,
     /// The session has expired.
-    SessionExpired,
+    SessionExpired = 2,
     /// The session is closed, or about to be.
-    SessionClosed,
+    SessionClosed = 3,
     /// There is no connection on which a server has accepted the session.
-    NotConnected,
+    NotConnected = 4,
     /// 65,536 paths of this side are watched.
-    TooManyWatches,
+    TooManyWatches = 5,
     /// The payload would have more than 1,048,575 bytes.
-    TooLarge,
+    TooLarge = 6,
     /// 1,024 calls wait for their reply.
-    TooManyPending,
-}
-
-/// By its number in the header.
-impl TryFrom<i32> for NoReply {
-    type Error = UnknownNumber;
-
-    fn try_from(number: i32) -> Result<NoReply, UnknownNumber> {
-        Ok(match number {
-            1 => NoReply::ConnectionLoss,
-            2 => NoReply::SessionExpired,
-            3 => NoReply::SessionClosed,
-            4 => NoReply::NotConnected,
-            5 => NoReply::TooManyWatches,
-            6 => NoReply::TooLarge,
-            7 => NoReply::TooManyPending,
-            _ => return Err(UnknownNumber::of("outcome", number)),
-        })
-    }
-}
-
-/// Its number in the header.
-impl From<NoReply> for i32 {
-    fn from(no_reply: NoReply) -> i32 {
-        match no_reply {
-            NoReply::ConnectionLoss => 1,
-            NoReply::SessionExpired => 2,
-            NoReply::SessionClosed => 3,
-            NoReply::NotConnected => 4,
-            NoReply::TooManyWatches => 5,
-            NoReply::TooLarge => 6,
-            NoReply::TooManyPending => 7,
-        }
-    }
+    TooManyPending = 7,
 }
 
 /// Whether anything that the client was told has ended what is kept. It tells of a zxid, and not of a time.
@@ -378,32 +219,40 @@ impl From<NoReply> for i32 {
 #[derive(Clone, Copy, Debug, PartialEq, Eq, Hash)]
 pub enum Mark {
     /// ZooKeeper held this at the greatest zxid seen, and nothing that the client was told has ended it.
-    Good,
+    Good = 1,
     /// A change was told since, and the path was not read again.
-    Stale,
+    Stale = 2,
 }
 
-/// By its number in the header.
-impl TryFrom<i32> for Mark {
-    type Error = UnknownNumber;
+/// Enums whose variants have the numbers of the header, each with its name there.
+#[rustfmt::skip]
+macro_rules! numbered {
+    ($($name:ident, $what:literal: $($variant:ident),*;)*) => {$(
+        /// By its number in the header.
+        impl TryFrom<i32> for $name {
+            type Error = UnknownNumber;
 
-    fn try_from(number: i32) -> Result<Mark, UnknownNumber> {
-        Ok(match number {
-            1 => Mark::Good,
-            2 => Mark::Stale,
-            _ => return Err(UnknownNumber::of("mark", number)),
-        })
-    }
-}
-
-/// Its number in the header.
-impl From<Mark> for i32 {
-    fn from(mark: Mark) -> i32 {
-        match mark {
-            Mark::Good => 1,
-            Mark::Stale => 2,
+            fn try_from(number: i32) -> Result<$name, UnknownNumber> {
+                let found = [$($name::$variant),*].into_iter().find(|one| *one as i32 == number);
+                found.ok_or(UnknownNumber::of($what, number))
+            }
         }
-    }
+
+        /// Its number in the header.
+        impl From<$name> for i32 {
+            fn from(one: $name) -> i32 {
+                one as i32
+            }
+        }
+    )*};
+}
+
+numbered! {
+    State, "state": Idle, Connecting, Connected, Expired, Closed;
+    NodeEvent, "event": Created, Deleted, DataChanged, ChildrenChanged;
+    Side, "side": Data, Children;
+    NoReply, "outcome": ConnectionLoss, SessionExpired, SessionClosed, NotConnected, TooManyWatches, TooLarge, TooManyPending;
+    Mark, "mark": Good, Stale;
 }
 
 /// The codes of servers.

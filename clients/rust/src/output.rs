@@ -3,7 +3,7 @@
 use crate::client::{Client, State};
 use crate::fault::{Code, Fault, NoReply, UnknownNumber};
 use crate::ffi::{self, Handle};
-use crate::looking::{texts_in, whole, whole_text};
+use crate::looking::{whole, whole_in, whole_text, Spelled};
 use crate::node::{NodeEvent, Side, Stat};
 use crate::numbers::{brought, cause, kind, outcome};
 use std::convert::Infallible;
@@ -382,6 +382,9 @@ impl fmt::Debug for Text<'_> {
     }
 }
 
+/// The room that each of many names is given at first.
+const ROOM_OF_NAME: usize = 32;
+
 /// Names of children, which stay in the library until they are copied.
 ///
 /// ```
@@ -428,8 +431,15 @@ impl<'a> Names<'a> {
     ///
     /// [`Fault::NoMemory`] where the library has no memory for them.
     pub fn to_vec(&self) -> Result<Vec<String>, Fault> {
-        let spelled = whole(|room| self.handle.names(room))?;
-        Ok(texts_in(self.count, &spelled))
+        Ok(self.spelled()?.texts())
+    }
+
+    /// The same, before they are read.
+    pub(crate) fn spelled(&self) -> Result<Spelled, Fault> {
+        let room = self.count * ROOM_OF_NAME;
+        let bytes = whole_in(room, |room| self.handle.names(room))?;
+        let count = self.count;
+        Ok(Spelled { count, bytes })
     }
 
     /// Copies of them, in the order of the reply, by a call for each.

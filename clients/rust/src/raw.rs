@@ -26,48 +26,37 @@ use std::time::Duration;
 /// ```
 #[derive(Clone, Copy, Debug, PartialEq, Eq, Hash)]
 #[non_exhaustive]
+#[repr(i32)]
 pub enum RawOperation {
     /// The ACL of a node. It changes nothing, as [`Sync`](RawOperation::Sync) and those from [`MultiRead`](RawOperation::MultiRead) on: these
     /// are asked again where they are lost.
-    GetAcl,
+    GetAcl = operation::GET_ACL,
     /// Sets the ACL of a node.
-    SetAcl,
+    SetAcl = operation::SET_ACL,
     /// Has the server catch up with the leader.
-    Sync,
+    Sync = operation::SYNC,
     /// Changes that happen together or not at all. One that fails is no error of the reply: its codes are in the body.
-    Multi,
+    Multi = operation::MULTI,
     /// Makes a node, and brings its path and Stat: of ZooKeeper 3.5 and later.
-    Create2,
+    Create2 = operation::CREATE2,
     /// Makes a container.
-    CreateContainer,
+    CreateContainer = operation::CREATE_CONTAINER,
     /// Makes a node with a time to live.
-    CreateTtl,
+    CreateTtl = operation::CREATE_TTL,
     /// Reads several nodes at one zxid: of ZooKeeper 3.6 and later.
-    MultiRead,
+    MultiRead = operation::MULTI_READ,
     /// The ephemeral nodes of the session.
-    GetEphemerals,
+    GetEphemerals = operation::GET_EPHEMERALS,
     /// How many nodes are below one.
-    GetAllChildrenNumber,
+    GetAllChildrenNumber = operation::GET_ALL_CHILDREN_NUMBER,
     /// As whom the server knows the client: of ZooKeeper 3.7 and later.
-    WhoAmI,
+    WhoAmI = operation::WHO_AM_I,
 }
 
 impl RawOperation {
     /// The number of the protocol.
     pub(crate) fn number(self) -> i32 {
-        match self {
-            RawOperation::GetAcl => operation::GET_ACL,
-            RawOperation::SetAcl => operation::SET_ACL,
-            RawOperation::Sync => operation::SYNC,
-            RawOperation::Multi => operation::MULTI,
-            RawOperation::Create2 => operation::CREATE2,
-            RawOperation::CreateContainer => operation::CREATE_CONTAINER,
-            RawOperation::CreateTtl => operation::CREATE_TTL,
-            RawOperation::MultiRead => operation::MULTI_READ,
-            RawOperation::GetEphemerals => operation::GET_EPHEMERALS,
-            RawOperation::GetAllChildrenNumber => operation::GET_ALL_CHILDREN_NUMBER,
-            RawOperation::WhoAmI => operation::WHO_AM_I,
-        }
+        self as i32
     }
 }
 
@@ -235,7 +224,7 @@ impl RawCall {
             RawCall::Reads(reads) => records.answers = multi_read::read(reads, &mut reply)?,
             RawCall::Ephemerals => {
                 let paths = reply.vector(Reader::text)?;
-                found.names = paths.into_iter().map(|path| root.inner(path)).collect();
+                records.paths = paths.into_iter().map(|path| root.inner(path)).collect();
             }
             RawCall::AllChildrenNumber => records.count = reply.int()?,
             RawCall::WhoAmI => records.ids = reply.vector(Reader::id)?,
@@ -334,59 +323,33 @@ mod tests {
         }])
     }
 
+    /// A create with this body after what all have.
+    fn made(path: &str, rest: &[u8]) -> Vec<u8> {
+        let acl = [int(1), int(1), text("ip"), text("::1")].concat();
+        [&text(path), &text("x"), &acl, rest].concat()
+    }
+
     #[test]
     fn each_request_is_spelled_as_the_protocol_has_it() {
         let acl = [int(1), int(1), text("ip"), text("::1")].concat();
-        let made = |path: &str| [text(path), text("x"), acl.clone()].concat();
+        let set_acl = [text("/app/a"), acl, int(7)].concat();
         let read = |number| [header(number, 0, -1), text("/app/a"), vec![0]].concat();
-        let end = header(-1, 1, -1);
+        let (begin, end) = (header(5, 0, -1), header(-1, 1, -1));
+        let set = [begin, text("/app/a"), text("x"), int(7), end.clone()];
         let plain = |mode| create(Lifetime::Mode(mode));
-        let ttl = vec![0, 0, 0, 0, 1, 2, 3, 4];
+        let numbered = plain(Mode::EphemeralSequential);
+        let ttl = |flags: u8| [0, 0, 0, flags, 0, 0, 0, 0, 1, 2, 3, 4];
+        let numbered_ttl = with_ttl(Mode::PersistentSequential);
         for (call, path, body) in [
             (RawCall::Sync, "/", text("/app")),
             (RawCall::Acls, "/a", text("/app/a")),
-            (
-                set_acls(),
-                "/a",
-                [text("/app/a"), acl.clone(), int(7)].concat(),
-            ),
-            (
-                plain(Mode::Ephemeral),
-                "/a",
-                [made("/app/a"), int(1)].concat(),
-            ),
-            (
-                plain(Mode::EphemeralSequential),
-                "/a/",
-                [made("/app/a/"), int(3)].concat(),
-            ),
-            (
-                create(Lifetime::Container),
-                "/a",
-                [made("/app/a"), int(4)].concat(),
-            ),
-            (
-                with_ttl(Mode::Persistent),
-                "/a",
-                [made("/app/a"), int(5), ttl.clone()].concat(),
-            ),
-            (
-                with_ttl(Mode::PersistentSequential),
-                "/",
-                [made("/app/"), int(6), ttl].concat(),
-            ),
-            (
-                change(),
-                "/",
-                [
-                    header(5, 0, -1),
-                    text("/app/a"),
-                    text("x"),
-                    int(7),
-                    end.clone(),
-                ]
-                .concat(),
-            ),
+            (set_acls(), "/a", set_acl),
+            (plain(Mode::Ephemeral), "/a", made("/app/a", &int(1))),
+            (numbered, "/a/", made("/app/a/", &int(3))),
+            (create(Lifetime::Container), "/a", made("/app/a", &int(4))),
+            (with_ttl(Mode::Persistent), "/a", made("/app/a", &ttl(5))),
+            (numbered_ttl, "/", made("/app/", &ttl(6))),
+            (change(), "/", set.concat()),
             (reads(), "/", [read(4), read(8), read(4), end].concat()),
             (RawCall::Ephemerals, "/", text("/app/")),
             (RawCall::AllChildrenNumber, "/a", text("/app/a")),
@@ -422,9 +385,9 @@ mod tests {
             stat: stat(),
             ..none()
         };
-        let (mut made, mut ephemerals, mut of_acls) = (with_stat(), none(), records());
+        let (mut made, mut ephemerals, mut of_acls) = (with_stat(), records(), records());
         made.path = String::from("/a");
-        ephemerals.names = ["/a", "/b"].map(String::from).to_vec();
+        ephemerals.paths = ["/a", "/b"].map(String::from).to_vec();
         of_acls.acls = vec![Acl::new(Permissions::READ, "ip", "::1")];
         let body_of_acls = [int(1), int(1), text("ip"), text("::1"), stat_bytes()].concat();
         let body_of_create = [text("/app/a"), stat_bytes()].concat();
@@ -434,7 +397,7 @@ mod tests {
             (set_acls(), stat_bytes(), with_stat(), records()),
             (RawCall::Acls, body_of_acls, with_stat(), of_acls),
             (create(Lifetime::Container), body_of_create, made, records()),
-            (RawCall::Ephemerals, body_of_paths, ephemerals, records()),
+            (RawCall::Ephemerals, body_of_paths, none(), ephemerals),
         ]
     }
 

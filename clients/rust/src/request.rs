@@ -199,7 +199,7 @@ impl Request<(Vec<String>, Stat)> {
     /// [`Code::NO_NODE`].
     pub fn children(path: &str) -> Request<(Vec<String>, Stat)> {
         Request::new(path, Call::Core(CoreCall::Children(Watch::No)), |ending| {
-            ending.map(|found| (found.names, found.stat))
+            ending.map(|found| (found.names.texts(), found.stat))
         })
     }
 
@@ -214,7 +214,7 @@ impl Request<(Vec<String>, i64)> {
     /// The names of the children of a node, and the zxid at which it has these.
     pub(crate) fn listing(path: &str) -> Request<(Vec<String>, i64)> {
         Request::new(path, Call::Core(CoreCall::Children(Watch::No)), |ending| {
-            ending.map(|found| (found.names, found.zxid))
+            ending.map(|found| (found.names.texts(), found.zxid))
         })
     }
 }
@@ -329,7 +329,7 @@ impl Request<Vec<String>> {
     /// has it since version 3.6.
     pub fn ephemerals(prefix: &str) -> Request<Vec<String>> {
         Request::new(prefix, Call::Raw(RawCall::Ephemerals), |ending| {
-            ending.map(|found| found.names)
+            ending.map(|found| found.records().paths)
         })
     }
 }

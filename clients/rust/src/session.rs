@@ -232,8 +232,8 @@ impl Session {
     /// The state. None where something was due on the connection for more than a sixth of the timeout and the session's thread has not
     /// come to do it, as where the process was stopped, or that thread has panicked: then nobody knows.
     pub fn state(&self) -> Option<State> {
-        let lateness = self.timeout() / LATENESS;
-        self.shared.with(|engine| engine.state(lateness))
+        self.shared
+            .look(|engine| engine.state(engine.machine().timeout() / LATENESS))
     }
 
     /// The next event: one that waits, or the first that comes until this instant, and none where none has come by then. Without an

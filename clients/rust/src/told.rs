@@ -6,6 +6,7 @@ use crate::chroot::Chroot;
 use crate::client::State;
 use crate::error::ErrorKind;
 use crate::fault::{Code, Fault, NoReply};
+use crate::looking::Spelled;
 use crate::multi_read::ReadAnswer;
 use crate::node::{NodeEvent, Side, Stat};
 use crate::output::{Brought, Cause, GivenUp, Reply};
@@ -71,7 +72,7 @@ pub(crate) struct Found {
     /// The data of a node, or what stands after the header of a reply that the core does not read.
     pub(crate) data: Option<Vec<u8>>,
     pub(crate) path: String,
-    pub(crate) names: Vec<String>,
+    pub(crate) names: Spelled,
     pub(crate) stat: Stat,
     pub(crate) records: Option<Box<Records>>,
 }
@@ -83,6 +84,7 @@ pub(crate) struct Records {
     pub(crate) changes: Vec<Change>,
     pub(crate) answers: Vec<Result<ReadAnswer, Code>>,
     pub(crate) count: i32,
+    pub(crate) paths: Vec<String>,
     pub(crate) ids: Vec<Id>,
 }
 
@@ -164,7 +166,8 @@ impl Found {
                 found.stat = *stat;
             }
             Brought::Names { names, stat } => {
-                found.names = names.to_vec().unwrap_or_else(|_| names.iter().collect());
+                let one_by_one = |_| Spelled::of(&names.iter().collect::<Vec<_>>());
+                found.names = names.spelled().unwrap_or_else(one_by_one);
                 found.stat = *stat;
             }
             Brought::Created(path) => found.path = chroot.inner(String::from(*path)),

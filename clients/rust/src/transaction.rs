@@ -45,6 +45,49 @@ pub enum Change {
     Checked,
 }
 
+/// Adds an operation after those that are there, by `with`.
+macro_rules! operations {
+    () => {
+        /// Checks that a node has this version; [`ANY_VERSION`](crate::ANY_VERSION) asks for no more than that it is there.
+        pub fn check(self, path: &str, version: i32) -> Self {
+            let path = String::from(path);
+            self.with(Operation::Check { path, version })
+        }
+
+        /// Sets the data of a node that has this version; [`ANY_VERSION`](crate::ANY_VERSION) is that of each node.
+        pub fn set(self, path: &str, data: &[u8], version: i32) -> Self {
+            let (path, data) = (String::from(path), data.to_vec());
+            self.with(Operation::Set {
+                path,
+                data,
+                version,
+            })
+        }
+
+        /// Makes a node, with which anybody may do anything.
+        pub fn create(self, path: &str, data: &[u8], mode: Mode) -> Self {
+            self.create_with_acls(path, data, mode, &[Acl::anyone(Permissions::ALL)])
+        }
+
+        /// Makes a node with this ACL.
+        pub fn create_with_acls(self, path: &str, data: &[u8], mode: Mode, acls: &[Acl]) -> Self {
+            let (path, data, acls) = (String::from(path), data.to_vec(), acls.to_vec());
+            self.with(Operation::Create {
+                path,
+                data,
+                mode,
+                acls,
+            })
+        }
+
+        /// Deletes a node that has this version and no children; [`ANY_VERSION`](crate::ANY_VERSION) is that of each node.
+        pub fn delete(self, path: &str, version: i32) -> Self {
+            let path = String::from(path);
+            self.with(Operation::Delete { path, version })
+        }
+    };
+}
+
 /// Operations that happen together or not at all: of [`Session::transaction`].
 ///
 /// ```no_run
@@ -83,41 +126,12 @@ impl<'a> Transaction<'a> {
         }
     }
 
-    /// Checks that a node has this version; [`ANY_VERSION`](crate::ANY_VERSION) asks for no more than that it is there.
-    pub fn check(mut self, path: &str, version: i32) -> Transaction<'a> {
-        self.operations = self.operations.check(path, version);
+    fn with(mut self, operation: Operation) -> Transaction<'a> {
+        self.operations = self.operations.with(operation);
         self
     }
 
-    /// Sets the data of a node that has this version; [`ANY_VERSION`](crate::ANY_VERSION) is that of each node.
-    pub fn set(mut self, path: &str, data: &[u8], version: i32) -> Transaction<'a> {
-        self.operations = self.operations.set(path, data, version);
-        self
-    }
-
-    /// Makes a node, with which anybody may do anything.
-    pub fn create(mut self, path: &str, data: &[u8], mode: Mode) -> Transaction<'a> {
-        self.operations = self.operations.create(path, data, mode);
-        self
-    }
-
-    /// Makes a node with this ACL.
-    pub fn create_with_acls(
-        mut self,
-        path: &str,
-        data: &[u8],
-        mode: Mode,
-        acls: &[Acl],
-    ) -> Transaction<'a> {
-        self.operations = self.operations.create_with_acls(path, data, mode, acls);
-        self
-    }
-
-    /// Deletes a node that has this version and no children; [`ANY_VERSION`](crate::ANY_VERSION) is that of each node.
-    pub fn delete(mut self, path: &str, version: i32) -> Transaction<'a> {
-        self.operations = self.operations.delete(path, version);
-        self
-    }
+    operations! {}
 
     /// Asks for all of it, and waits: what each operation has brought, in their order.
     ///
@@ -168,43 +182,7 @@ impl Operations {
         self
     }
 
-    /// Checks that a node has this version; [`ANY_VERSION`](crate::ANY_VERSION) asks for no more than that it is there.
-    pub fn check(self, path: &str, version: i32) -> Operations {
-        let path = String::from(path);
-        self.with(Operation::Check { path, version })
-    }
-
-    /// Sets the data of a node that has this version; [`ANY_VERSION`](crate::ANY_VERSION) is that of each node.
-    pub fn set(self, path: &str, data: &[u8], version: i32) -> Operations {
-        let (path, data) = (String::from(path), data.to_vec());
-        self.with(Operation::Set {
-            path,
-            data,
-            version,
-        })
-    }
-
-    /// Makes a node, with which anybody may do anything.
-    pub fn create(self, path: &str, data: &[u8], mode: Mode) -> Operations {
-        self.create_with_acls(path, data, mode, &[Acl::anyone(Permissions::ALL)])
-    }
-
-    /// Makes a node with this ACL.
-    pub fn create_with_acls(self, path: &str, data: &[u8], mode: Mode, acls: &[Acl]) -> Operations {
-        let (path, data, acls) = (String::from(path), data.to_vec(), acls.to_vec());
-        self.with(Operation::Create {
-            path,
-            data,
-            mode,
-            acls,
-        })
-    }
-
-    /// Deletes a node that has this version and no children; [`ANY_VERSION`](crate::ANY_VERSION) is that of each node.
-    pub fn delete(self, path: &str, version: i32) -> Operations {
-        let path = String::from(path);
-        self.with(Operation::Delete { path, version })
-    }
+    operations! {}
 }
 
 /// It tells no data.

@@ -332,19 +332,12 @@ fn a_subtree_is_told_once_nothing_is_lacking() {
         panic!("{nodes:?}");
     };
     assert_eq!((zxid, root.path.as_str(), root.pzxid), (6, "/a", 5));
-    assert_eq!(
-        (root.data.as_deref(), root.stat.version),
-        (Some(b"one".as_slice()), 2)
-    );
-    assert_eq!(
-        (root.stat.czxid, root.stat.ctime, root.stat.mtime),
-        (5, 1_000, 2_000)
-    );
-    assert_eq!((root.stat.data_length, root.stat.ephemeral_owner), (3, 0));
-    assert_eq!(
-        (leaf.path.as_str(), &leaf.data, leaf.stat.mzxid),
-        ("/a/b", &None, 6)
-    );
+    assert_eq!((&root.data, &leaf.data), (&Some(b"one".to_vec()), &None));
+    let (stat, of_leaf) = (root.stat, leaf.stat);
+    assert_eq!((stat.version, stat.data_length), (2, 3));
+    assert_eq!((stat.czxid, stat.ctime, stat.mtime), (5, 1_000, 2_000));
+    assert_eq!((stat.ephemeral_owner, of_leaf.mzxid), (0, 6));
+    assert_eq!(leaf.path, "/a/b");
     assert_eq!(client.subtree("/a", 1), Err(Fault::TooManyNodes));
     assert!(matches!(client.lacking("a", 1), Err(Fault::NotPath { .. })));
 }

@@ -6,6 +6,7 @@ use dirwolleu::{
     ANY_VERSION,
 };
 use std::env;
+use std::fmt::Debug;
 use std::io::{BufRead, BufReader};
 use std::process::{Command, Stdio};
 use std::thread::{self, sleep};
@@ -87,6 +88,16 @@ fn a_tree_has_all_nodes_of_one_moment() {
     assert_eq!(tree.latest().unwrap().len(), 3);
 }
 
+/// Of what kind the error of a call is.
+fn kind_of<T: Debug>(ending: Result<T, Error>) -> ErrorKind {
+    ending.unwrap_err().into_kind()
+}
+
+fn rolled_back(index: usize, code: Code, path: &str) -> ErrorKind {
+    let path = String::from(path);
+    ErrorKind::RolledBack { index, code, path }
+}
+
 #[test]
 fn a_transaction_happens_as_a_whole_or_not_at_all() {
     let Some(place) = place("transaction") else {
@@ -106,42 +117,19 @@ fn a_transaction_happens_as_a_whole_or_not_at_all() {
     else {
         panic!("{changes:?}");
     };
-    assert_eq!(
-        (stat.version, path.as_str(), other.as_str()),
-        (1, "/b-0000000001", "/c")
-    );
-    assert_eq!(
-        session.get("/a").unwrap().data.as_deref(),
-        Some(b"two".as_slice())
-    );
+    assert_eq!((path.as_str(), other.as_str()), ("/b-0000000001", "/c"));
+    assert_eq!(stat.version, 1);
+    assert_eq!(session.get("/a").unwrap().data, Some(b"two".to_vec()));
     assert!(session.last_zxid() >= stat.mzxid);
-    let refused = session
-        .transaction()
-        .set("/a", b"three", 1)
-        .check("/a", 7)
-        .delete("/a", 2);
-    let code = Code::BAD_VERSION;
-    let path = String::from("/a");
-    let rolled_back = ErrorKind::RolledBack {
-        index: 1,
-        code,
-        path,
-    };
-    assert_eq!(refused.commit().map_err(Error::into_kind), Err(rolled_back));
+    let refused = session.transaction().set("/a", b"three", 1);
+    let refused = refused.check("/a", 7).delete("/a", 2);
+    let of_check = rolled_back(1, Code::BAD_VERSION, "/a");
+    assert_eq!(kind_of(refused.commit()), of_check);
     assert_eq!(session.get("/a").unwrap().stat.version, 1);
     assert_eq!(session.transaction().commit(), Ok(Vec::new()));
-    let nowhere = session
-        .transaction()
-        .delete("/nowhere", ANY_VERSION)
-        .commit();
-    let code = Code::NO_NODE;
-    let path = String::from("/nowhere");
-    let rolled_back = ErrorKind::RolledBack {
-        index: 0,
-        code,
-        path,
-    };
-    assert_eq!(nowhere.map_err(Error::into_kind), Err(rolled_back));
+    let nowhere = session.transaction().delete("/nowhere", ANY_VERSION);
+    let of_delete = rolled_back(0, Code::NO_NODE, "/nowhere");
+    assert_eq!(kind_of(nowhere.commit()), of_delete);
 }
 
 #[test]
@@ -172,38 +160,21 @@ fn a_node_of_ones_own_is_read_with_credentials_alone() {
         ("digest", Permissions::ALL)
     );
     let other = Session::open(&place, TIMEOUT).unwrap();
-    assert_eq!(
-        other.get("/mine").map_err(Error::into_kind),
-        Err(ErrorKind::Server(Code::NO_AUTH))
-    );
+    assert_eq!(kind_of(other.get("/mine")), Code::NO_AUTH.into());
     other.add_auth("digest", b"ann:secret").unwrap();
     assert!(other.get("/mine").is_ok());
     let open = [acls[0].clone(), Acl::anyone(Permissions::READ)];
-    assert_eq!(
-        session
-            .set_acls("/mine", &open, stat.aversion)
-            .unwrap()
-            .aversion,
-        1
-    );
+    let set = session.set_acls("/mine", &open, stat.aversion);
+    assert_eq!(set.unwrap().aversion, 1);
     let late = session.set_acls("/mine", &open, stat.aversion);
-    assert_eq!(
-        late.map_err(Error::into_kind),
-        Err(ErrorKind::Server(Code::BAD_VERSION))
-    );
+    assert_eq!(kind_of(late), Code::BAD_VERSION.into());
     let stranger = Session::open(&place, TIMEOUT).unwrap();
     assert!(stranger.get("/mine").is_ok());
     let refused = stranger.set("/mine", b"two", ANY_VERSION);
-    assert_eq!(
-        refused.map_err(Error::into_kind),
-        Err(ErrorKind::Server(Code::NO_AUTH))
-    );
+    assert_eq!(kind_of(refused), Code::NO_AUTH.into());
     let nobody = [Acl::new(Permissions::ALL, "digest", "no hash")];
     let invalid = stranger.create_with_acls("/other", b"", Mode::Persistent, &nobody);
-    assert_eq!(
-        invalid.map_err(Error::into_kind),
-        Err(ErrorKind::Server(Code::INVALID_ACL))
-    );
+    assert_eq!(kind_of(invalid), Code::INVALID_ACL.into());
 }
 
 #[test]
@@ -331,10 +302,7 @@ fn a_scheme_that_is_not_there_is_refused() {
         .unwrap();
     let until = Some(Instant::now() + PATIENCE);
     while barred.next_event(until).unwrap() != Some(Event::CredentialsRefused) {}
-    assert_eq!(
-        barred.get("/").map_err(Error::into_kind),
-        Err(ErrorKind::Server(Code::AUTH_FAILED))
-    );
+    assert_eq!(kind_of(barred.get("/")), Code::AUTH_FAILED.into());
 }
 
 #[test]
@@ -349,10 +317,7 @@ fn a_lock_is_held_by_one_at_a_time() {
     let limit = Duration::from_millis(300);
     let late = LockOptions::new().sharing(Sharing::Shared).within(limit);
     let late = late.acquire(&second, "/lock/a");
-    assert_eq!(
-        late.map(drop).map_err(Error::into_kind),
-        Err(ErrorKind::LockTimeout)
-    );
+    assert_eq!(kind_of(late.map(drop)), ErrorKind::LockTimeout);
     let token = lock.token();
     thread::scope(|scope| {
         let waits =

@@ -186,22 +186,17 @@ fn what_the_model_has_not_is_answered() {
         .unwrap();
     assert_eq!(session.data_mark("/a"), Ok(Some(Mark::Stale)));
     assert_eq!(now(&session, "/b"), b"z");
-    assert_eq!(
-        session.acls("/b").unwrap().0,
-        [Acl::anyone(Permissions::ALL)]
-    );
+    let anyone = [Acl::anyone(Permissions::ALL)];
+    assert_eq!(session.acls("/b").unwrap().0, anyone);
     let mine = [Acl::creator(Permissions::READ)];
     session.add_auth("digest", b"bob:secret").unwrap();
     assert_eq!(session.set_acls("/b", &mine, 0).unwrap().aversion, 1);
-    assert_eq!(
-        code(session.set_acls("/b", &mine, 0)),
-        Some(Code::BAD_VERSION)
-    );
+    let late = session.set_acls("/b", &mine, 0);
+    assert_eq!(code(late), Some(Code::BAD_VERSION));
     assert_eq!(session.acls("/b").unwrap().0, mine);
     session.sync("/b").unwrap();
-    session
-        .create_with_acls("/c", b"", Mode::Persistent, &mine)
-        .unwrap();
+    let made = session.create_with_acls("/c", b"", Mode::Persistent, &mine);
+    made.unwrap();
     assert_eq!(session.acls("/c").unwrap().0, mine);
     server.expire(session.id().unwrap()).unwrap();
     until("the ephemeral node of the transaction goes", || {

@@ -10,6 +10,7 @@ use crate::moment::Moment;
 use crate::outbox::Outbox;
 use crate::stream::Outgoing;
 use crate::told::News;
+use std::borrow::Cow;
 use std::io;
 use std::mem;
 use std::net::SocketAddr;
@@ -205,13 +206,18 @@ impl Engine {
     /// Hands in what came from the server, and before it what there was no memory for.
     pub(crate) fn hand_in(&mut self, bytes: &[u8]) -> Result<(), Fault> {
         let now = self.now();
-        self.inbox.extend(bytes);
-        let actions = self.machine.bytes(now, &self.inbox);
+        let kept = mem::take(&mut self.inbox);
+        let came = if kept.is_empty() {
+            Cow::Borrowed(bytes)
+        } else {
+            Cow::Owned([&kept, bytes].concat())
+        };
+        let actions = self.machine.bytes(now, &came);
         let taken = actions.and_then(|actions| self.told.take(actions));
         // Nothing is due at this moment: what the machine leaves a connection for has come.
         self.told.news.is_left = false;
-        if taken.is_ok() {
-            self.inbox.clear();
+        if taken.is_err() {
+            self.inbox = came.into_owned();
         }
         self.settle(now, taken)
     }

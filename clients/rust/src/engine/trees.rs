@@ -92,7 +92,8 @@ impl Engine {
                 tree.is_past();
             }
             if may_look {
-                tree.look(&self.machine, &self.chroot, self.clock);
+                let look = tree.look(&self.machine, &self.chroot, self.clock);
+                self.looks.extend(look);
             }
         }
     }

@@ -2,16 +2,12 @@
 
 use crate::jute::{Record, CLOSE_SESSION, GET_CHILDREN_2, GET_DATA};
 use crate::partner::Partner;
+use crate::{PATIENCE, TIMEOUT};
 use dirwolleu::{
     Code, Error, ErrorKind, Event, Mark, NoReply, Request, Session, SessionOptions, State,
 };
 use std::sync::mpsc;
 use std::time::{Duration, Instant};
-
-const TIMEOUT: Duration = Duration::from_secs(10);
-
-/// How long what is awaited may take.
-const PATIENCE: Duration = Duration::from_secs(120);
 
 /// The type of a request that tells credentials, and the xid of it and its answer.
 const AUTH: i32 = 100;
@@ -76,17 +72,14 @@ fn credentials_that_are_refused_end_all_calls() {
 
 #[test]
 fn credentials_that_are_refused_end_what_is_good() {
-    let partner = Partner::start(|_, mut line| {
-        line.admit(10_000);
-        while let Some(request) = line.request() {
-            let reply = Record::reply(request.xid, 5, 0);
-            match request.kind {
-                AUTH => true,
-                GET_DATA => line.tell_data(request.xid),
-                GET_CHILDREN_2 => line.send(&reply.texts(&[]).stat(5, 0, 3, 0).framed()),
-                _ => line.refuse(AUTH_XID, Code::AUTH_FAILED.0),
-            };
-        }
+    let partner = Partner::answering(|line, request| {
+        let reply = Record::reply(request.xid, 5, 0);
+        match request.kind {
+            AUTH => true,
+            GET_DATA => line.tell_data(request.xid),
+            GET_CHILDREN_2 => line.send(&reply.texts(&[]).stat(5, 0, 3, 0).framed()),
+            _ => line.refuse(AUTH_XID, Code::AUTH_FAILED.0),
+        };
     });
     let options = SessionOptions::new(TIMEOUT).auth("nobody", b"knows");
     let session = options.open(partner.address).unwrap();
@@ -157,12 +150,9 @@ fn credentials_wait_for_a_connection_and_go_first() {
 
 #[test]
 fn a_call_whose_credentials_have_no_answer_ends_at_its_limit() {
-    let partner = Partner::start(|_, mut line| {
-        line.admit(10_000);
-        while let Some(request) = line.request() {
-            if request.kind != AUTH {
-                line.tell_data(request.xid);
-            }
+    let partner = Partner::answering(|line, request| {
+        if request.kind != AUTH {
+            line.tell_data(request.xid);
         }
     });
     let session = Session::open(partner.address, TIMEOUT).unwrap();

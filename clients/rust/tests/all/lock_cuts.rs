@@ -3,6 +3,7 @@
 
 use crate::jute::{CREATE, DELETE};
 use crate::server::Server;
+use crate::{started, PATIENCE};
 use dirwolleu::{ErrorKind, Lock, LockOptions, Session, Sharing};
 use std::io::{Read, Write};
 use std::net::{Shutdown, SocketAddr, TcpListener, TcpStream};
@@ -13,9 +14,6 @@ use std::time::{Duration, Instant};
 
 /// A session lasts for longer than its test.
 const TIMEOUT: Duration = Duration::from_secs(60);
-
-/// How long what is awaited may take.
-const PATIENCE: Duration = Duration::from_secs(120);
 
 /// How long a contender waits that gives up.
 const A_WHILE: Duration = Duration::from_millis(300);
@@ -206,9 +204,7 @@ impl Scene {
 }
 
 fn leave_cut_and_have_another_one_take_it(way: Way) {
-    let Some(server) = Server::start(&[]) else {
-        return;
-    };
+    let Some(server) = started() else { return };
     let wire = Wire::to(server.address);
     let mut scene = Scene {
         server,
@@ -255,9 +251,7 @@ fn one_that_gives_up_and_knows_no_place_is_cut() {
 
 #[test]
 fn a_release_says_what_is_left() {
-    let Some(server) = Server::start(&[]) else {
-        return;
-    };
+    let Some(server) = started() else { return };
     let wire = Wire::to(server.address);
     let session = Session::open(wire.address, Duration::from_secs(1)).unwrap();
     let lock = Lock::acquire(&session, "/lock", Sharing::Exclusive, b"").unwrap();

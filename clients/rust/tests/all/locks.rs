@@ -1,6 +1,7 @@
 //! Locks and elections, at the server in memory. Where there is no python3, each test says so and passes.
 
 use crate::server::Server;
+use crate::{kind_of, started, PATIENCE, TIMEOUT};
 use dirwolleu::{
     Code, Election, Error, ErrorKind, Lock, LockNames, LockOptions, Mark, Mode, NoReply, Session,
     Sharing, ANY_VERSION,
@@ -8,11 +9,6 @@ use dirwolleu::{
 use std::sync::mpsc;
 use std::thread;
 use std::time::Duration;
-
-const TIMEOUT: Duration = Duration::from_secs(10);
-
-/// How long what is awaited may take.
-const PATIENCE: Duration = Duration::from_secs(120);
 
 /// How long it is seen that something does not happen.
 const A_WHILE: Duration = Duration::from_millis(300);
@@ -27,9 +23,7 @@ fn exclusive(session: &Session) -> Lock<'_> {
 
 #[test]
 fn one_at_a_time_holds_a_lock_and_tokens_rise() {
-    let Some(server) = Server::start(&[]) else {
-        return;
-    };
+    let Some(server) = started() else { return };
     let first = session_at(&server);
     let lock = exclusive(&first);
     let token = lock.token();
@@ -54,9 +48,7 @@ fn one_at_a_time_holds_a_lock_and_tokens_rise() {
 
 #[test]
 fn a_limit_gives_the_place_up() {
-    let Some(server) = Server::start(&[]) else {
-        return;
-    };
+    let Some(server) = started() else { return };
     let (first, second) = (session_at(&server), session_at(&server));
     let lock = exclusive(&first);
     let late = LockOptions::new().within(A_WHILE);
@@ -72,9 +64,7 @@ fn a_limit_gives_the_place_up() {
 
 #[test]
 fn those_that_share_hold_together_and_wait_for_who_does_not() {
-    let Some(server) = Server::start(&[]) else {
-        return;
-    };
+    let Some(server) = started() else { return };
     let session = session_at(&server);
     let shared = LockOptions::new().sharing(Sharing::Shared);
     let shared = |limit| shared.within(limit).acquire(&session, "/locks/a");
@@ -99,9 +89,7 @@ fn those_that_share_hold_together_and_wait_for_who_does_not() {
 
 #[test]
 fn a_lock_goes_with_its_session() {
-    let Some(mut server) = Server::start(&[]) else {
-        return;
-    };
+    let Some(mut server) = started() else { return };
     let session = session_at(&server);
     let lock = exclusive(&session);
     server.tell("expire");
@@ -122,9 +110,7 @@ fn a_lock_goes_with_its_session() {
 
 #[test]
 fn a_place_that_is_taken_away_is_told() {
-    let Some(server) = Server::start(&[]) else {
-        return;
-    };
+    let Some(server) = started() else { return };
     let (first, second) = (session_at(&server), session_at(&server));
     let lock = exclusive(&first);
     let held = first.children("/locks/a").unwrap().0;
@@ -142,18 +128,13 @@ fn a_place_that_is_taken_away_is_told() {
             .unwrap();
         lock.release().unwrap();
         let told = waits.join().unwrap();
-        assert_eq!(
-            told.map_err(Error::into_kind),
-            Err(ErrorKind::Server(Code::NO_NODE))
-        );
+        assert_eq!(kind_of(told), Code::NO_NODE.into());
     });
 }
 
 #[test]
 fn one_leads_at_a_time() {
-    let Some(server) = Server::start(&[]) else {
-        return;
-    };
+    let Some(server) = started() else { return };
     let (first, second) = (session_at(&server), session_at(&server));
     let (one, other) = (
         Election::new(&first, "/leader"),
@@ -176,23 +157,16 @@ fn one_leads_at_a_time() {
 
 #[test]
 fn a_lock_below_an_ephemeral_node_is_refused() {
-    let Some(server) = Server::start(&[]) else {
-        return;
-    };
+    let Some(server) = started() else { return };
     let session = session_at(&server);
     session.create("/mine", b"", Mode::Ephemeral).unwrap();
     let refused = Lock::acquire(&session, "/mine", Sharing::Exclusive, b"").map(drop);
-    assert_eq!(
-        refused.map_err(Error::into_kind),
-        Err(ErrorKind::Server(Code::NO_CHILDREN_FOR_EPHEMERALS))
-    );
+    assert_eq!(kind_of(refused), Code::NO_CHILDREN_FOR_EPHEMERALS.into());
 }
 
 #[test]
 fn a_node_that_is_no_place_counts_for_nothing() {
-    let Some(server) = Server::start(&[]) else {
-        return;
-    };
+    let Some(server) = started() else { return };
     let session = session_at(&server);
     session.create("/locks", b"", Mode::Persistent).unwrap();
     session.create("/locks/a", b"", Mode::Persistent).unwrap();
@@ -210,9 +184,7 @@ fn a_node_that_is_no_place_counts_for_nothing() {
 
 #[test]
 fn a_place_of_the_other_names_is_told() {
-    let Some(server) = Server::start(&[]) else {
-        return;
-    };
+    let Some(server) = started() else { return };
     let (first, second) = (session_at(&server), session_at(&server));
     for (names, other) in [
         (LockNames::Kazoo, LockNames::Curator),
@@ -240,9 +212,7 @@ fn a_place_of_the_other_names_is_told() {
 
 #[test]
 fn those_of_one_path_and_names_never_hold_together() {
-    let Some(server) = Server::start(&[]) else {
-        return;
-    };
+    let Some(server) = started() else { return };
     let (first, second) = (session_at(&server), session_at(&server));
     let kinds = [Sharing::Exclusive, Sharing::Writing, Sharing::Shared];
     for names in [LockNames::Kazoo, LockNames::Curator] {

@@ -1,49 +1,14 @@
 //! What the machine decides of a session: which calls wait and how long, what becomes of them at a cut, what is followed.
 
-use crate::jute::{self, EXISTS, GET_DATA, PING, PONG};
-use crate::partner::{Line, Partner};
+use crate::jute::{self, EXISTS, GET_DATA, PING, SYNC};
+use crate::partner::Partner;
+use crate::{kind_of, millis, PATIENCE, SLACK, TIMEOUT};
 use dirwolleu::{
-    Code, Error, ErrorKind, Hosts, LocalSession, Mode, NoReply, Request, Session, SessionOptions,
-    State,
+    Code, ErrorKind, Hosts, LocalSession, Mode, NoReply, Request, Session, SessionOptions, State,
 };
 use std::sync::mpsc;
 use std::thread::{self, sleep};
 use std::time::{Duration, Instant};
-
-const TIMEOUT: Duration = Duration::from_secs(10);
-
-/// How long what is awaited may take.
-const PATIENCE: Duration = Duration::from_secs(120);
-
-/// How much later than it could a program on a busy machine may act.
-const SLACK: Duration = Duration::from_secs(15);
-
-/// Types of requests, as `zookeeper.jute` has them.
-const CREATE: i32 = 1;
-const SYNC: i32 = 9;
-const CLOSE: i32 = -11;
-
-fn millis(count: u64) -> Duration {
-    Duration::from_millis(count)
-}
-
-/// Answers all that comes, until the client ends the connection.
-fn serve_well(line: &mut Line) {
-    while let Some(request) = line.request() {
-        answer(line, request.xid, request.kind);
-    }
-}
-
-fn answer(line: &mut Line, xid: i32, kind: i32) -> bool {
-    match kind {
-        PING => line.refuse(PONG, 0),
-        CREATE => line.tell_path(xid, "/mine"),
-        SYNC => line.send(&jute::Record::reply(xid, 5, 0).text("/").framed()),
-        EXISTS => line.tell_stat(xid),
-        CLOSE => line.refuse(xid, 0),
-        _ => line.tell_data(xid),
-    }
-}
 
 /// A server that admits the session and answers nothing.
 fn silent() -> Partner {
@@ -99,10 +64,7 @@ fn a_limit_comes_while_a_server_is_dialled() {
 
 #[test]
 fn more_calls_than_may_be_on_their_way_wait_in_line() {
-    let partner = Partner::start(|_, mut line| {
-        line.admit(10_000);
-        serve_well(&mut line);
-    });
+    let partner = Partner::serving();
     let session = Session::open(partner.address, TIMEOUT).unwrap();
     let tickets: Vec<_> = (0..3_000)
         .map(|_| session.ask(Request::get("/a")))
@@ -115,12 +77,9 @@ fn more_calls_than_may_be_on_their_way_wait_in_line() {
 #[test]
 fn calls_that_wait_for_a_connection_are_sent_in_their_order() {
     let (sender, asked) = mpsc::channel();
-    let partner = Partner::start(move |_, mut line| {
-        line.admit(10_000);
-        while let Some(request) = line.request() {
-            sender.send(request.kind).unwrap();
-            answer(&mut line, request.xid, request.kind);
-        }
+    let partner = Partner::answering(move |line, request| {
+        sender.send(request.kind).unwrap();
+        line.answer(&request);
     });
     let options = SessionOptions::new(TIMEOUT);
     let session = options.open_lazily(Hosts::default()).unwrap();
@@ -148,7 +107,7 @@ fn a_raw_call_waits_to_its_limit_too() {
         sleep(millis(5));
     }
     let late = session.call(Request::sync("/").within(millis(2_000)));
-    assert_eq!(late.map_err(Error::into_kind), Err(ErrorKind::TimedOut));
+    assert_eq!(kind_of(late), ErrorKind::TimedOut);
 }
 
 #[test]
@@ -158,7 +117,7 @@ fn a_session_that_is_closed_is_asked_nothing_and_is_renewed() {
         let request = line.frame().unwrap();
         sender.send(request[16..24].to_vec()).unwrap();
         line.send(&jute::Record::accepted(10_000, 0x1234));
-        serve_well(&mut line);
+        line.serve();
     });
     let session = Session::open(partner.address, TIMEOUT).unwrap().shared();
     session.get("/a").unwrap();
@@ -186,7 +145,7 @@ fn a_session_that_lives_goes_on_with_another_machine() {
             line.tell_data(request.xid);
             while line.request().is_some() {}
         }
-        serve_well(&mut line);
+        line.serve();
     });
     let session = Session::open(partner.address, TIMEOUT).unwrap();
     session.call(Request::get("/a").watched()).unwrap();
@@ -203,15 +162,12 @@ fn a_session_that_lives_goes_on_with_another_machine() {
 
 /// A server that refuses this many reads of data with this code, and then tells them.
 fn refuse_reads(code: Code, mut refusals: i32) -> Partner {
-    Partner::start(move |_, mut line| {
-        line.admit(10_000);
-        while let Some(request) = line.request() {
-            if request.kind == GET_DATA && refusals > 0 {
-                refusals -= 1;
-                line.refuse(request.xid, code.0);
-            } else {
-                answer(&mut line, request.xid, request.kind);
-            }
+    Partner::answering(move |line, request| {
+        if request.kind == GET_DATA && refusals > 0 {
+            refusals -= 1;
+            line.refuse(request.xid, code.0);
+        } else {
+            line.answer(&request);
         }
     })
 }
@@ -271,9 +227,9 @@ fn what_is_followed_goes_on_with_a_renewed_session() {
             line.send(&jute::Record::expired());
         } else if line.admit(10_000) {
             let request = line.request().unwrap();
-            answer(&mut line, request.xid, request.kind);
+            line.answer(&request);
             if number > 0 {
-                serve_well(&mut line);
+                line.serve();
             }
         }
     });
@@ -294,10 +250,7 @@ fn what_is_followed_goes_on_with_a_renewed_session() {
 
 #[test]
 fn how_old_an_answer_may_be_is_told() {
-    let partner = Partner::start(|_, mut line| {
-        line.admit(10_000);
-        serve_well(&mut line);
-    });
+    let partner = Partner::serving();
     let mut session = LocalSession::open(partner.address, TIMEOUT).unwrap();
     assert_eq!(session.age(), None);
     session.watch("/a").unwrap();

@@ -1,13 +1,11 @@
 //! What errors print: the reason, the path as the program named it, and what to do.
 
-use crate::server::Server;
+use crate::{started, TIMEOUT};
 use dirwolleu::{Client, Hosts, Mode, Moment, Session, SessionOptions, Watch, ANY_VERSION};
 use std::fmt::{Debug, Display};
 use std::net::{IpAddr, Ipv4Addr, SocketAddr, TcpListener};
 use std::thread;
 use std::time::Duration;
-
-const TIMEOUT: Duration = Duration::from_secs(10);
 
 /// What an error prints, also where `main` returns it.
 fn printed<T, E: Display + Debug>(outcome: Result<T, E>) -> String {
@@ -32,9 +30,7 @@ fn searched(message: &str, hosts: &str) -> (f64, String) {
 
 #[test]
 fn a_refused_call_has_its_path_and_reason() {
-    let Some(mut server) = Server::start(&[]) else {
-        return;
-    };
+    let Some(mut server) = started() else { return };
     server.tell("create /a one");
     let session = Session::open(server.address, TIMEOUT).unwrap();
     session.create("/a/b", b"", Mode::Ephemeral).unwrap();
@@ -58,9 +54,7 @@ fn a_refused_call_has_its_path_and_reason() {
 
 #[test]
 fn a_refused_transaction_has_the_path_of_its_operation() {
-    let Some(mut server) = Server::start(&[]) else {
-        return;
-    };
+    let Some(mut server) = started() else { return };
     server.tell("create /a one");
     let session = Session::open(server.address, TIMEOUT).unwrap();
     let begin = "operation 1 was refused, and nothing has happened: ";
@@ -81,9 +75,7 @@ fn a_refused_transaction_has_the_path_of_its_operation() {
 
 #[test]
 fn below_a_chroot_the_path_is_that_of_the_program() {
-    let Some(mut server) = Server::start(&[]) else {
-        return;
-    };
+    let Some(mut server) = started() else { return };
     server.tell("create /app x");
     let below: Hosts = format!("{}/app", server.address).parse().unwrap();
     let session = Session::open(below, TIMEOUT).unwrap();

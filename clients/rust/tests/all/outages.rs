@@ -3,6 +3,7 @@
 use crate::jute::{Record, GET_DATA, PING, PONG, SET_WATCHES, WATCHES_SET};
 use crate::partner::{Line, Partner, Request};
 use crate::sessions::{wait_for, wait_for_state};
+use crate::{millis, PATIENCE, SLACK};
 use dirwolleu::{
     Cause, Error, Event, Mark, NoReply, Request as Call, Server, Session, SessionOptions, State,
     Tcp,
@@ -12,16 +13,6 @@ use std::sync::atomic::{AtomicUsize, Ordering};
 use std::sync::{mpsc, Arc};
 use std::thread::{self, sleep};
 use std::time::{Duration, Instant};
-
-/// How long what is awaited may take.
-const PATIENCE: Duration = Duration::from_secs(120);
-
-/// How much later than it could a program on a busy machine may act.
-const SLACK: Duration = Duration::from_secs(15);
-
-fn millis(count: u64) -> Duration {
-    Duration::from_millis(count)
-}
 
 /// The mark of what is kept of the data of `/a`.
 fn mark(session: &Session) -> Option<Mark> {

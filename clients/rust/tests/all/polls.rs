@@ -4,6 +4,7 @@ use crate::jute::{Record, EXISTS, GET_DATA, PING, PONG};
 use crate::partner::{Line, Partner};
 use crate::runtime::block_on;
 use crate::server::Server;
+use crate::started;
 use dirwolleu::{Event, KeptNode, Session, SessionOptions, State};
 use std::future::poll_fn;
 use std::sync::{mpsc, Arc};
@@ -21,9 +22,7 @@ fn text(node: Option<KeptNode>) -> Option<String> {
 
 #[test]
 fn a_node_is_followed_by_any_runtime() {
-    let Some(mut server) = Server::start(&[]) else {
-        return;
-    };
+    let Some(mut server) = started() else { return };
     let session = renewing(&server).shared();
     let mut nodes = session.follow("/a");
     let mut next = || {
@@ -48,9 +47,7 @@ fn a_node_is_followed_by_any_runtime() {
 
 #[test]
 fn events_are_told_to_any_runtime() {
-    let Some(mut server) = Server::start(&[]) else {
-        return;
-    };
+    let Some(mut server) = started() else { return };
     server.tell("create /a one");
     let session = renewing(&server).shared();
     let mut events = session.events();

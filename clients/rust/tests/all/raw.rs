@@ -3,17 +3,12 @@
 
 use crate::jute::{Record, EXISTS, GET_DATA, PING, PONG};
 use crate::partner::{Line, Partner};
+use crate::{PATIENCE, TIMEOUT};
 use dirwolleu::{
     Acl, Change, Code, Error, ErrorKind, Mark, Mode, NoReply, Operations, Permissions, Read,
     ReadAnswer, Request, Session, ANY_VERSION,
 };
 use std::sync::mpsc;
-use std::time::Duration;
-
-const TIMEOUT: Duration = Duration::from_secs(10);
-
-/// How long what is awaited may take.
-const PATIENCE: Duration = Duration::from_secs(120);
 
 /// Types of requests, as `zookeeper.jute` has them.
 const GET_ACL: i32 = 6;
@@ -25,17 +20,6 @@ const WHO_AM_I: i32 = 107;
 /// `MultiHeader`.
 fn header(record: Record, kind: i32, is_end: bool) -> Record {
     record.int(kind).boolean(is_end).int(-1)
-}
-
-/// Answers what the core reads, until the client ends the connection.
-fn serve_well(line: &mut Line) {
-    while let Some(request) = line.request() {
-        match request.kind {
-            PING => line.refuse(PONG, 0),
-            GET_DATA => line.tell_data(request.xid),
-            _ => line.tell_stat(request.xid),
-        };
-    }
 }
 
 #[test]
@@ -52,7 +36,7 @@ fn a_transaction_is_spelled_and_read_as_the_protocol_has_it() {
         let reply = header(reply, 5, false).stat(6, 4, 3, 0);
         let reply = header(reply, 1, false).text("/app/log-0000000000");
         line.send(&header(header(reply, 2, false), -1, true).framed());
-        serve_well(&mut line);
+        line.serve();
     });
     let below = format!("{}/app", partner.address);
     let session = Session::open(below, TIMEOUT).unwrap();
@@ -78,20 +62,17 @@ fn a_transaction_is_spelled_and_read_as_the_protocol_has_it() {
 
 #[test]
 fn what_a_transaction_made_stale_is_stale_when_its_caller_goes_on() {
-    let partner = Partner::start(|_, mut line| {
-        line.admit(10_000);
-        while let Some(request) = line.request() {
-            match request.kind {
-                MULTI => {
-                    let reply = Record::reply(request.xid, 6, 0);
-                    let reply = header(header(reply, 2, false), -1, true).framed();
-                    line.send(&[Record::notice(2, "/a"), reply].concat())
-                }
-                PING => line.refuse(PONG, 0),
-                GET_DATA => line.tell_data(request.xid),
-                _ => line.send(&Record::reply(request.xid, 6, 0).stat(5, 0, 3, 0).framed()),
-            };
-        }
+    let partner = Partner::answering(|line, request| {
+        match request.kind {
+            MULTI => {
+                let reply = Record::reply(request.xid, 6, 0);
+                let reply = header(header(reply, 2, false), -1, true).framed();
+                line.send(&[Record::notice(2, "/a"), reply].concat())
+            }
+            PING => line.refuse(PONG, 0),
+            GET_DATA => line.tell_data(request.xid),
+            _ => line.send(&Record::reply(request.xid, 6, 0).stat(5, 0, 3, 0).framed()),
+        };
     });
     let session = Session::open(partner.address, TIMEOUT).unwrap();
     session.watch("/a").unwrap();
@@ -234,19 +215,16 @@ const LONGEST: usize = 1_048_575;
 
 #[test]
 fn a_request_is_sent_that_is_as_long_as_it_may_be() {
-    let partner = Partner::start(|_, mut line| {
-        line.admit(10_000);
-        while let Some(request) = line.request() {
-            let reply = Record::reply(request.xid, 6, 0);
-            match request.kind {
-                MULTI => {
-                    assert_eq!(8 + request.rest.len(), LONGEST);
-                    let reply = header(reply, 5, false).stat(6, 4, 3, 0);
-                    line.send(&header(reply, -1, true).framed())
-                }
-                _ => line.refuse(PONG, 0),
-            };
-        }
+    let partner = Partner::answering(|line, request| {
+        let reply = Record::reply(request.xid, 6, 0);
+        match request.kind {
+            MULTI => {
+                assert_eq!(8 + request.rest.len(), LONGEST);
+                let reply = header(reply, 5, false).stat(6, 4, 3, 0);
+                line.send(&header(reply, -1, true).framed())
+            }
+            _ => line.refuse(PONG, 0),
+        };
     });
     let session = Session::open(partner.address, TIMEOUT).unwrap();
     let mut data = vec![7; LONGEST - BESIDE_DATA];
@@ -261,24 +239,21 @@ fn a_request_is_sent_that_is_as_long_as_it_may_be() {
 
 #[test]
 fn each_read_of_several_has_its_own_code() {
-    let partner = Partner::start(|_, mut line| {
-        line.admit(10_000);
-        while let Some(request) = line.request() {
-            let reply = Record::reply(request.xid, 6, 0);
-            match request.kind {
-                MULTI_READ => {
-                    let reply = header(reply, 4, false).buffer(b"one");
-                    let reply = header(reply.stat(5, 0, 3, 0), -1, false).int(-102);
-                    let reply = header(reply, 8, false).texts(&["b"]);
-                    line.send(&header(reply, -1, true).framed())
-                }
-                WHO_AM_I => {
-                    let reply = reply.int(1).text("ip").text("127.0.0.1");
-                    line.send(&reply.framed())
-                }
-                _ => line.refuse(PONG, 0),
-            };
-        }
+    let partner = Partner::answering(|line, request| {
+        let reply = Record::reply(request.xid, 6, 0);
+        match request.kind {
+            MULTI_READ => {
+                let reply = header(reply, 4, false).buffer(b"one");
+                let reply = header(reply.stat(5, 0, 3, 0), -1, false).int(-102);
+                let reply = header(reply, 8, false).texts(&["b"]);
+                line.send(&header(reply, -1, true).framed())
+            }
+            WHO_AM_I => {
+                let reply = reply.int(1).text("ip").text("127.0.0.1");
+                line.send(&reply.framed())
+            }
+            _ => line.refuse(PONG, 0),
+        };
     });
     let session = Session::open(partner.address, TIMEOUT).unwrap();
     let path = || String::from("/a");

@@ -1,12 +1,12 @@
 //! What a session does where servers go, refuse, and hold it: at a server that does what each test says.
 
 use crate::example;
-use crate::jute::{self, EXISTS, GET_DATA, PING, PONG};
+use crate::jute::{self, GET_DATA};
 use crate::partner::{Line, Partner};
 use crate::runtime::block_on;
+use crate::{kind_of, millis, PATIENCE, SLACK};
 use dirwolleu::{
-    Code, Error, ErrorKind, Event, LocalSession, Mark, NoReply, Request, Session, State,
-    ANY_VERSION,
+    Code, Error, Event, LocalSession, Mark, NoReply, Request, Session, State, ANY_VERSION,
 };
 use std::fmt::Debug;
 use std::fs::OpenOptions;
@@ -16,24 +16,9 @@ use std::sync::mpsc::channel;
 use std::thread::{self, sleep};
 use std::time::{Duration, Instant};
 
-/// How much later than it could a program on a busy machine may act.
-const SLACK: Duration = Duration::from_secs(15);
-
-/// Of what kind the error of a call is.
-fn kind_of<T: Debug>(ending: Result<T, Error>) -> ErrorKind {
-    ending.unwrap_err().kind().clone()
-}
-
-fn millis(count: u64) -> Duration {
-    Duration::from_millis(count)
-}
-
 fn session_at(partner: &Partner, timeout: Duration) -> LocalSession {
     LocalSession::open([partner.address], timeout).unwrap()
 }
-
-/// How long an attempt to connect may take to come.
-const PATIENCE: Duration = Duration::from_secs(120);
 
 /// Goes on until the partner is dialled, and says when.
 fn next_dial(session: &mut LocalSession, partner: &Partner) -> Instant {
@@ -51,17 +36,6 @@ fn next_dial(session: &mut LocalSession, partner: &Partner) -> Instant {
 fn go_on(session: &mut LocalSession, time: Duration) {
     let until = Instant::now() + time;
     while session.next_event(Some(until)).unwrap().is_some() {}
-}
-
-/// Answers each ping and each read, until the client ends the connection.
-fn serve_well(mut line: Line) {
-    while let Some(request) = line.request() {
-        match request.kind {
-            PING => line.refuse(PONG, 0),
-            EXISTS => line.tell_stat(request.xid),
-            _ => line.tell_data(request.xid),
-        };
-    }
 }
 
 /// Sends these bytes again and again, from a thread, until the client ends the connection.
@@ -131,7 +105,7 @@ fn a_timeout_of_a_millisecond_does_not_lock_the_client_out() {
         line.frame();
         sleep(millis(200));
         line.send(&jute::Record::accepted(10_000, 0x1234));
-        serve_well(line);
+        line.serve();
     });
     let mut session = session_at(&partner, millis(10_000));
     let until = Instant::now() + PATIENCE;
@@ -151,7 +125,7 @@ fn a_program_that_was_stopped_keeps_a_server_that_has_sent_something() {
         stopped.recv_timeout(PATIENCE).unwrap();
         line.send(&jute::Record::notice(3, "/a"));
         note.send(()).unwrap();
-        serve_well(line);
+        line.serve();
     });
     let mut session = session_at(&partner, millis(6_000));
     session.watch("/a").unwrap();
@@ -193,15 +167,12 @@ fn events_that_nobody_takes_are_bounded() {
 #[test]
 fn the_example_goes_on_where_a_read_is_refused() {
     let mut codes = vec![-127, -118, -112, -4];
-    let partner = Partner::start(move |_, mut line| {
-        line.admit(10_000);
-        while let Some(request) = line.request() {
-            match (request.kind, codes.pop()) {
-                (GET_DATA, Some(code)) => line.refuse(request.xid, code),
-                (GET_DATA, None) => line.tell_data(request.xid),
-                _ => line.refuse(request.xid, 0),
-            };
-        }
+    let partner = Partner::answering(move |line, request| {
+        match (request.kind, codes.pop()) {
+            (GET_DATA, Some(code)) => line.refuse(request.xid, code),
+            (GET_DATA, None) => line.tell_data(request.xid),
+            _ => line.refuse(request.xid, 0),
+        };
     });
     let begun = Instant::now();
     let mut command = Command::new(example::follow());
@@ -273,18 +244,15 @@ fn the_example_says_why_it_cannot_print() {
 #[test]
 fn data_that_are_denied_of_a_node_are_read_again_after_a_second() {
     let mut denials = 2;
-    let partner = Partner::start(move |_, mut line| {
-        line.admit(10_000);
-        while let Some(request) = line.request() {
-            match request.kind {
-                GET_DATA if denials > 0 => {
-                    denials -= 1;
-                    line.refuse(request.xid, Code::NO_NODE.0)
-                }
-                GET_DATA => line.tell_data(request.xid),
-                _ => line.tell_stat(request.xid),
-            };
-        }
+    let partner = Partner::answering(move |line, request| {
+        match request.kind {
+            GET_DATA if denials > 0 => {
+                denials -= 1;
+                line.refuse(request.xid, Code::NO_NODE.0)
+            }
+            GET_DATA => line.tell_data(request.xid),
+            _ => line.tell_stat(request.xid),
+        };
     });
     let mut session = session_at(&partner, millis(10_000));
     let begun = Instant::now();
@@ -317,7 +285,7 @@ fn distracted(bytes: Vec<u8>) -> Partner {
             line.request();
             dribble(line, bytes.clone());
         } else {
-            serve_well(line);
+            line.serve();
         }
     })
 }
@@ -332,7 +300,7 @@ fn is_lost_in_time<T: Debug>(call: impl FnOnce() -> Result<T, Error>) {
     let begun = Instant::now();
     let lost = call();
     let took = begun.elapsed();
-    assert_eq!(kind_of(lost), ErrorKind::NoReply(NoReply::ConnectionLoss));
+    assert_eq!(kind_of(lost), NoReply::ConnectionLoss.into());
     assert!(
         took >= millis(1_990) && took < millis(2_000) + SLACK,
         "{took:?}"
@@ -400,7 +368,7 @@ fn a_program_that_was_stopped_keeps_a_server_that_has_answered() {
         stopped.recv_timeout(PATIENCE).unwrap();
         line.refuse(ping.xid, 0);
         note_answer.send(()).unwrap();
-        serve_well(line);
+        line.serve();
     });
     let mut session = session_at(&partner, millis(6_000));
     while pinged.try_recv().is_err() {

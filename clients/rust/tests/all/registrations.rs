@@ -1,14 +1,10 @@
 //! Registrations, at the server in memory. Where there is no python3, each test says so and passes.
 
 use crate::server::Server;
+use crate::{started, PATIENCE, TIMEOUT};
 use dirwolleu::{NoReply, Registration, Session, SessionOptions, SharedSession};
 use std::thread::sleep;
 use std::time::{Duration, Instant};
-
-const TIMEOUT: Duration = Duration::from_secs(10);
-
-/// How long what is awaited may take.
-const PATIENCE: Duration = Duration::from_secs(120);
 
 fn renewing(server: &Server) -> SharedSession {
     let options = SessionOptions::new(TIMEOUT).renews(true);
@@ -30,9 +26,7 @@ fn owner(session: &Session) -> Option<i64> {
 
 #[test]
 fn a_node_is_there_until_the_registration_ends() {
-    let Some(mut server) = Server::start(&[]) else {
-        return;
-    };
+    let Some(mut server) = started() else { return };
     let (session, other) = (renewing(&server), renewing(&server));
     let registration = Registration::begin(&session, "/host", b"one").unwrap();
     wait_until("it is registered", || registration.is_registered());
@@ -46,9 +40,7 @@ fn a_node_is_there_until_the_registration_ends() {
 
 #[test]
 fn a_node_is_made_again_by_the_next_session() {
-    let Some(mut server) = Server::start(&[]) else {
-        return;
-    };
+    let Some(mut server) = started() else { return };
     let (session, other) = (renewing(&server), renewing(&server));
     let registration = Registration::begin(&session, "/host", b"one").unwrap();
     wait_until("it is registered", || registration.is_registered());
@@ -63,9 +55,7 @@ fn a_node_is_made_again_by_the_next_session() {
 
 #[test]
 fn a_registration_that_ends_at_once_leaves_no_node() {
-    let Some(server) = Server::start(&[]) else {
-        return;
-    };
+    let Some(server) = started() else { return };
     let session = renewing(&server);
     for _ in 0..50 {
         let registration = Registration::begin(&session, "/host", b"one").unwrap();
@@ -76,9 +66,7 @@ fn a_registration_that_ends_at_once_leaves_no_node() {
 
 #[test]
 fn the_node_of_an_older_session_is_waited_for() {
-    let Some(server) = Server::start(&[]) else {
-        return;
-    };
+    let Some(server) = started() else { return };
     let (first, second) = (renewing(&server), renewing(&server));
     let older = Registration::begin(&first, "/host", b"one").unwrap();
     wait_until("it is registered", || older.is_registered());
@@ -92,9 +80,7 @@ fn the_node_of_an_older_session_is_waited_for() {
 
 #[test]
 fn a_session_that_is_over_ends_it() {
-    let Some(mut server) = Server::start(&[]) else {
-        return;
-    };
+    let Some(mut server) = started() else { return };
     let session = Session::open(server.address, TIMEOUT).unwrap().shared();
     let registration = Registration::begin(&session, "/host", b"one").unwrap();
     wait_until("it is registered", || registration.is_registered());

@@ -2,19 +2,16 @@
 
 use crate::example;
 use crate::server::Server;
+use crate::{kind_of, started, PATIENCE};
 use dirwolleu::{
-    Cause, Code, DataAnswer, Error, ErrorKind, Event, Fault, Mark, Mode, NoReply, NodeEvent,
-    Request, Session, SessionOptions, Side, State, ANY_VERSION,
+    Cause, Code, DataAnswer, ErrorKind, Event, Fault, Mark, Mode, NoReply, NodeEvent, Request,
+    Session, SessionOptions, Side, State, ANY_VERSION,
 };
-use std::fmt::Debug;
 use std::io::{BufRead, BufReader};
 use std::process::{Command, Stdio};
 use std::sync::mpsc::channel;
 use std::thread;
 use std::time::{Duration, Instant};
-
-/// How long an event may take.
-const PATIENCE: Duration = Duration::from_secs(120);
 
 fn session_at(server: &Server, timeout_ms: u64) -> Session {
     Session::open([server.address], Duration::from_millis(timeout_ms)).unwrap()
@@ -50,26 +47,21 @@ fn kept(session: &Session, path: &str) -> Option<(Vec<u8>, Mark)> {
     }
 }
 
-/// Of what kind the error of a call is.
-fn kind_of<T: Debug>(ending: Result<T, Error>) -> ErrorKind {
-    ending.unwrap_err().kind().clone()
-}
-
 /// Each call, as the Programmer's Guide has it, and the errors of the server.
 fn try_calls(session: Session) {
     let missing = session.get("/a");
-    assert_eq!(kind_of(missing), ErrorKind::Server(Code::NO_NODE));
+    assert_eq!(kind_of(missing), Code::NO_NODE.into());
     assert_eq!(session.exists("/a"), Ok(None));
     let made = session.create("/a", b"one", Mode::Persistent);
     assert_eq!(made.as_deref(), Ok("/a"));
     let again = session.create("/a", b"two", Mode::Persistent);
-    assert_eq!(kind_of(again), ErrorKind::Server(Code::NODE_EXISTS));
+    assert_eq!(kind_of(again), Code::NODE_EXISTS.into());
     let node = session.get("/a").unwrap();
     assert_eq!(node.data.as_deref(), Some(b"one".as_slice()));
     assert_eq!((node.stat.version, node.stat.data_length), (0, 3));
     assert_eq!(session.set("/a", b"three", 0).unwrap().version, 1);
     let late = session.set("/a", b"four", 0);
-    assert_eq!(kind_of(late), ErrorKind::Server(Code::BAD_VERSION));
+    assert_eq!(kind_of(late), Code::BAD_VERSION.into());
     let first = session
         .create("/a/s-", b"", Mode::EphemeralSequential)
         .unwrap();
@@ -77,17 +69,14 @@ fn try_calls(session: Session) {
     let stat = session.exists(&first).unwrap().unwrap();
     assert_ne!(stat.ephemeral_owner, 0);
     let below = session.create(&format!("{first}/b"), b"", Mode::Persistent);
-    assert_eq!(
-        kind_of(below),
-        ErrorKind::Server(Code::NO_CHILDREN_FOR_EPHEMERALS)
-    );
+    assert_eq!(kind_of(below), Code::NO_CHILDREN_FOR_EPHEMERALS.into());
     let (names, stat) = session.children("/a").unwrap();
     assert_eq!(
         (names.as_slice(), stat.num_children),
         (["s-0000000000".to_string()].as_slice(), 1)
     );
     let full = session.delete("/a", ANY_VERSION);
-    assert_eq!(kind_of(full), ErrorKind::Server(Code::NOT_EMPTY));
+    assert_eq!(kind_of(full), Code::NOT_EMPTY.into());
     assert_eq!(session.delete(&first, 0), Ok(()));
     assert_eq!(session.delete("/a", ANY_VERSION), Ok(()));
     let no_path = session.get("a");
@@ -96,15 +85,13 @@ fn try_calls(session: Session) {
         ErrorKind::Fault(Fault::NotPath { .. })
     ));
     let large = session.set("/a", &vec![0; 1 << 20], ANY_VERSION);
-    assert_eq!(kind_of(large), ErrorKind::NoReply(NoReply::TooLarge));
+    assert_eq!(kind_of(large), NoReply::TooLarge.into());
     assert_eq!(session.close(), Ok(()));
 }
 
 #[test]
 fn calls_are_answered() {
-    let Some(server) = Server::start(&[]) else {
-        return;
-    };
+    let Some(server) = started() else { return };
     try_calls(session_at(&server, 60_000));
 }
 
@@ -118,9 +105,7 @@ fn calls_are_answered_byte_by_byte() {
 
 #[test]
 fn a_change_is_reported() {
-    let Some(mut server) = Server::start(&[]) else {
-        return;
-    };
+    let Some(mut server) = started() else { return };
     server.tell("create /a one");
     let session = session_at(&server, 10_000);
     session.watch("/a").unwrap().expect("there is a node");
@@ -142,9 +127,7 @@ fn a_change_is_reported() {
 
 #[test]
 fn a_node_that_is_not_there_is_watched() {
-    let Some(mut server) = Server::start(&[]) else {
-        return;
-    };
+    let Some(mut server) = started() else { return };
     let session = session_at(&server, 10_000);
     assert_eq!(session.watch("/a"), Ok(None));
     let absent = session.peek("/a").unwrap().unwrap();
@@ -159,9 +142,7 @@ fn a_node_that_is_not_there_is_watched() {
 
 #[test]
 fn no_event_is_no_wait() {
-    let Some(server) = Server::start(&[]) else {
-        return;
-    };
+    let Some(server) = started() else { return };
     let session = session_at(&server, 10_000);
     session.exists("/").unwrap();
     while session.next_event(Some(Instant::now())).unwrap().is_some() {}
@@ -173,9 +154,7 @@ fn no_event_is_no_wait() {
 
 #[test]
 fn a_connection_that_is_dropped_begins_again() {
-    let Some(mut server) = Server::start(&[]) else {
-        return;
-    };
+    let Some(mut server) = started() else { return };
     for node in ["create /a one", "create /b one"] {
         server.tell(node);
     }
@@ -197,12 +176,8 @@ fn a_connection_that_is_dropped_begins_again() {
 
 #[test]
 fn a_silent_server_is_left_after_two_thirds_of_the_timeout() {
-    let Some(mut silent) = Server::start(&[]) else {
-        return;
-    };
-    let Some(mut other) = Server::start(&[]) else {
-        return;
-    };
+    let Some(mut silent) = started() else { return };
+    let Some(mut other) = started() else { return };
     other.tell("create /ahead x");
     other.tell("set /ahead y");
     let timeout = Duration::from_millis(6_000);
@@ -233,28 +208,24 @@ fn a_silent_server_is_left_after_two_thirds_of_the_timeout() {
 
 #[test]
 fn a_write_is_lost_with_its_connection() {
-    let Some(mut server) = Server::start(&[]) else {
-        return;
-    };
+    let Some(mut server) = started() else { return };
     let session = session_at(&server, 6_000);
     session.exists("/").unwrap();
     server.tell("mute");
     let read = session.ask(Request::exists("/"));
     let lost = session.delete("/", ANY_VERSION);
-    assert_eq!(kind_of(lost), ErrorKind::NoReply(NoReply::ConnectionLoss));
+    assert_eq!(kind_of(lost), NoReply::ConnectionLoss.into());
     let nobody = session.exists("/");
-    assert_eq!(kind_of(nobody), ErrorKind::NoReply(NoReply::NotConnected));
+    assert_eq!(kind_of(nobody), NoReply::NotConnected.into());
     let read = read.wait(); // it waits for another connection
-    assert_eq!(kind_of(read), ErrorKind::NoReply(NoReply::NotConnected));
+    assert_eq!(kind_of(read), NoReply::NotConnected.into());
     server.tell("unmute");
     wait_for_state(&session, State::Connected);
 }
 
 #[test]
 fn an_idle_session_goes_on_by_pings() {
-    let Some(server) = Server::start(&[]) else {
-        return;
-    };
+    let Some(server) = started() else { return };
     let session = session_at(&server, 6_000);
     session.watch("/").unwrap();
     while session.next_event(Some(Instant::now())).unwrap().is_some() {}
@@ -265,9 +236,7 @@ fn an_idle_session_goes_on_by_pings() {
 
 #[test]
 fn an_expired_session_is_renewed() {
-    let Some(mut server) = Server::start(&[]) else {
-        return;
-    };
+    let Some(mut server) = started() else { return };
     server.tell("create /a one");
     let session = session_at(&server, 10_000);
     session.watch("/a").unwrap();
@@ -277,10 +246,7 @@ fn an_expired_session_is_renewed() {
     assert_eq!(session.next_event(None), Ok(None));
     assert_eq!(session.peek("/a").unwrap(), None);
     let expired = session.get("/a");
-    assert_eq!(
-        kind_of(expired),
-        ErrorKind::NoReply(NoReply::SessionExpired)
-    );
+    assert_eq!(kind_of(expired), NoReply::SessionExpired.into());
     let seen = session.last_zxid();
     session.renew().unwrap();
     assert_eq!(session.exists("/mine"), Ok(None));
@@ -289,9 +255,7 @@ fn an_expired_session_is_renewed() {
 
 #[test]
 fn a_session_is_taken_up_by_another() {
-    let Some(server) = Server::start(&[]) else {
-        return;
-    };
+    let Some(server) = started() else { return };
     let first = session_at(&server, 10_000);
     first.create("/mine", b"", Mode::Ephemeral).unwrap();
     let saved = first.saved().unwrap();
@@ -312,7 +276,7 @@ fn nobody_answers_where_there_is_no_server() {
     let options = SessionOptions::new(Duration::from_millis(100));
     let session = options.open_lazily([]).unwrap();
     let nobody = session.get("/a");
-    assert_eq!(kind_of(nobody), ErrorKind::NoReply(NoReply::NotConnected));
+    assert_eq!(kind_of(nobody), NoReply::NotConnected.into());
 }
 
 /// Asks a server that answers with random bytes.
@@ -340,9 +304,7 @@ fn each_call_returns_whatever_a_server_sends() {
 
 #[test]
 fn all_paths_are_below_the_chroot() {
-    let Some(mut server) = Server::start(&[]) else {
-        return;
-    };
+    let Some(mut server) = started() else { return };
     let below = format!("{}/app", server.address);
     let session = Session::open(below, Duration::from_secs(10)).unwrap();
     for (path, made) in [("/", "/"), ("/a", "/a")] {
@@ -373,9 +335,7 @@ fn all_paths_are_below_the_chroot() {
 
 #[test]
 fn a_node_is_followed_through_all() {
-    let Some(mut server) = Server::start(&[]) else {
-        return;
-    };
+    let Some(mut server) = started() else { return };
     let options = SessionOptions::new(Duration::from_secs(10)).renews(true);
     let session = options.open(server.address).unwrap();
     let mut nodes = session.follow("/a");
@@ -400,9 +360,7 @@ fn a_node_is_followed_through_all() {
 
 #[test]
 fn the_example_follows_a_node_through_a_restart() {
-    let Some(mut server) = Server::start(&[]) else {
-        return;
-    };
+    let Some(mut server) = started() else { return };
     server.tell("create /config first");
     let mut command = Command::new(example::follow());
     command.arg(server.address.to_string()).arg("/config");

@@ -1,14 +1,14 @@
 //! Sessions that live by a thread of their own, and calls that are on their way at once.
 
-use crate::jute::{self, CREATE, EXISTS, GET_DATA, PING, PONG, SET_DATA};
+use crate::jute::{self, GET_DATA, SET_DATA};
 use crate::memory;
 use crate::partner::{Line, Partner};
 use crate::runtime::block_on;
+use crate::{kind_of, millis, PATIENCE};
 use dirwolleu::{
-    Code, Error, ErrorKind, Event, Fault, Hosts, LocalSession, Mode, NoReply, Request, Retry,
-    Session, SessionOptions, State, Ticket, ANY_VERSION,
+    Code, ErrorKind, Event, Fault, Hosts, LocalSession, Mode, NoReply, Request, Retry, Session,
+    SessionOptions, State, Ticket, ANY_VERSION,
 };
-use std::fmt::Debug;
 use std::io;
 use std::net::{TcpListener, TcpStream};
 use std::sync::atomic::{AtomicUsize, Ordering};
@@ -16,32 +16,8 @@ use std::sync::{mpsc, Arc, Mutex};
 use std::thread::{self, sleep};
 use std::time::{Duration, Instant};
 
-/// How long what is awaited may take.
-const PATIENCE: Duration = Duration::from_secs(120);
-
-/// Of what kind the error of a call is.
-fn kind_of<T: Debug>(ending: Result<T, Error>) -> ErrorKind {
-    ending.unwrap_err().kind().clone()
-}
-
-fn millis(count: u64) -> Duration {
-    Duration::from_millis(count)
-}
-
 fn session_at(partner: &Partner, timeout: u64) -> Session {
     Session::open(partner.address, millis(timeout)).unwrap()
-}
-
-/// Answers all that comes, until the client ends the connection.
-fn serve_well(line: &mut Line) {
-    while let Some(request) = line.request() {
-        match request.kind {
-            PING => line.refuse(PONG, 0),
-            CREATE => line.tell_path(request.xid, "/mine"),
-            EXISTS | SET_DATA => line.tell_stat(request.xid),
-            _ => line.tell_data(request.xid),
-        };
-    }
 }
 
 /// A server that gives a session up which it has not heard of for its timeout, and then says so to each that asks for it.
@@ -70,7 +46,7 @@ fn serve_or_expire(stream: TcpStream, timeout: Duration, expiries: &AtomicUsize)
         return;
     }
     line.admit(granted);
-    serve_well(&mut line);
+    line.serve();
     if begun.elapsed() >= timeout {
         expiries.fetch_add(1, Ordering::SeqCst);
     }
@@ -141,7 +117,7 @@ fn calls_are_on_their_way_at_once() {
         for request in requests {
             line.tell_data(request.xid);
         }
-        serve_well(&mut line);
+        line.serve();
     });
     let session = session_at(&partner, 10_000);
     let tickets = ["/a", "/b", "/c"].map(|path| session.ask(Request::get(path)));
@@ -153,10 +129,7 @@ fn calls_are_on_their_way_at_once() {
 
 #[test]
 fn a_ticket_is_awaited_by_any_runtime() {
-    let partner = Partner::start(|_, mut line| {
-        line.admit(10_000);
-        serve_well(&mut line);
-    });
+    let partner = Partner::serving();
     let session = session_at(&partner, 10_000);
     let stat = block_on(async {
         let first = session.ask(Request::get("/a"));
@@ -170,11 +143,8 @@ fn a_ticket_is_awaited_by_any_runtime() {
 #[test]
 fn a_limit_says_whether_a_call_may_still_happen() {
     let (sender, requests) = mpsc::channel();
-    let partner = Partner::start(move |_, mut line| {
-        line.admit(10_000);
-        while let Some(request) = line.request() {
-            sender.send(request.kind).unwrap();
-        }
+    let partner = Partner::answering(move |_, request| {
+        sender.send(request.kind).unwrap();
     });
     let session = session_at(&partner, 10_000);
     let ticket = session.ask(Request::set("/a", b"one", 0));
@@ -197,7 +167,7 @@ fn a_call_waits_for_a_connection_as_long_as_the_timeout() {
     let session = options.open_lazily(Hosts::default()).unwrap();
     let begun = Instant::now();
     let nobody = session.get("/a");
-    assert_eq!(kind_of(nobody), ErrorKind::NoReply(NoReply::NotConnected));
+    assert_eq!(kind_of(nobody), NoReply::NotConnected.into());
     let took = begun.elapsed();
     assert!(took >= millis(1_490) && took < PATIENCE, "{took:?}");
 }
@@ -210,7 +180,7 @@ fn a_close_waits_a_second_for_a_connection() {
     let local = options().open_local(Hosts::default()).unwrap();
     let begun = Instant::now();
     for closed in [session.close(), local.close()] {
-        assert_eq!(kind_of(closed), ErrorKind::NoReply(NoReply::NotConnected));
+        assert_eq!(kind_of(closed), NoReply::NotConnected.into());
     }
     let took = begun.elapsed();
     assert!(took >= millis(1_990) && took < PATIENCE / 2, "{took:?}");
@@ -224,12 +194,10 @@ fn losing(kind: i32) -> (Partner, Arc<AtomicUsize>) {
         line.admit(60_000);
         while let Some(request) = line.request() {
             let is_first = request.kind == kind && counted.fetch_add(1, Ordering::SeqCst) == 0;
-            match request.kind {
-                _ if is_first => return,
-                PING => line.refuse(PONG, 0),
-                SET_DATA => line.tell_stat(request.xid),
-                _ => line.tell_data(request.xid),
-            };
+            if is_first {
+                return;
+            }
+            line.answer(&request);
         }
     });
     (partner, count)
@@ -252,7 +220,7 @@ fn a_write_that_may_have_happened_is_not_asked_again() {
     let (partner, count) = losing(SET_DATA);
     let session = retrying(&partner);
     let lost = session.set("/a", b"one", ANY_VERSION);
-    assert_eq!(kind_of(lost), ErrorKind::NoReply(NoReply::ConnectionLoss));
+    assert_eq!(kind_of(lost), NoReply::ConnectionLoss.into());
     assert!(session.get("/a").is_ok());
     assert_eq!(count.load(Ordering::SeqCst), 1);
 }
@@ -260,15 +228,12 @@ fn a_write_that_may_have_happened_is_not_asked_again() {
 #[test]
 fn a_write_that_was_refused_for_a_while_is_asked_again() {
     let mut refusals = 2;
-    let partner = Partner::start(move |_, mut line| {
-        line.admit(10_000);
-        while let Some(request) = line.request() {
-            if request.kind == SET_DATA && refusals > 0 {
-                refusals -= 1;
-                line.refuse(request.xid, Code::THROTTLED.0);
-            } else {
-                line.tell_stat(request.xid);
-            }
+    let partner = Partner::answering(move |line, request| {
+        if request.kind == SET_DATA && refusals > 0 {
+            refusals -= 1;
+            line.refuse(request.xid, Code::THROTTLED.0);
+        } else {
+            line.tell_stat(request.xid);
         }
     });
     assert!(retrying(&partner).set("/a", b"one", ANY_VERSION).is_ok());
@@ -277,11 +242,8 @@ fn a_write_that_was_refused_for_a_while_is_asked_again() {
 #[test]
 fn each_ticket_is_answered_where_the_session_is_let_go() {
     let (sender, requests) = mpsc::channel();
-    let partner = Partner::start(move |_, mut line| {
-        line.admit(10_000);
-        while let Some(request) = line.request() {
-            let _ = sender.send(request.kind);
-        }
+    let partner = Partner::answering(move |_, request| {
+        let _ = sender.send(request.kind);
     });
     let session = session_at(&partner, 10_000);
     let sent = session.ask(Request::get("/a"));
@@ -289,7 +251,7 @@ fn each_ticket_is_answered_where_the_session_is_let_go() {
     drop(session);
     assert_eq!(
         kind_of(sent.wait_for(PATIENCE)),
-        ErrorKind::NoReply(NoReply::ConnectionLoss)
+        NoReply::ConnectionLoss.into()
     );
     let options = SessionOptions::new(millis(10_000));
     let nowhere = options.open_lazily(Hosts::default()).unwrap();
@@ -297,7 +259,7 @@ fn each_ticket_is_answered_where_the_session_is_let_go() {
     drop(nowhere);
     assert_eq!(
         kind_of(not_sent.wait_for(PATIENCE)),
-        ErrorKind::NoReply(NoReply::NotConnected)
+        NoReply::NotConnected.into()
     );
 }
 
@@ -309,10 +271,7 @@ fn a_dial_that_panics_leaves_nobody_waiting() {
     let options = SessionOptions::new(millis(10_000)).dial(panics);
     let session = options.open_lazily("127.0.0.1:1").unwrap();
     let answer: Ticket<_> = session.ask(Request::get("/a"));
-    assert_eq!(
-        kind_of(answer.wait_for(PATIENCE)),
-        ErrorKind::Fault(Fault::Panicked)
-    );
+    assert_eq!(kind_of(answer.wait_for(PATIENCE)), Fault::Panicked.into());
     assert_eq!(session.next_event(None), Err(Fault::Panicked));
     assert_eq!(session.renew(), Err(Fault::Panicked));
     assert_eq!(session.state(), None);
@@ -324,10 +283,7 @@ fn a_dial_that_panics_leaves_nobody_waiting() {
 
 #[test]
 fn threads_share_a_session() {
-    let partner = Partner::start(|_, mut line| {
-        line.admit(10_000);
-        serve_well(&mut line);
-    });
+    let partner = Partner::serving();
     let session = session_at(&partner, 10_000).shared();
     let threads: Vec<_> = (0..8)
         .map(|number| {
@@ -376,10 +332,7 @@ fn a_session_needs_no_network() {
 
 #[test]
 fn a_name_is_looked_up_and_each_of_its_addresses_dialled() {
-    let partner = Partner::start(|_, mut line| {
-        line.admit(10_000);
-        serve_well(&mut line);
-    });
+    let partner = Partner::serving();
     let hosts = format!("localhost:{}", partner.address.port());
     let session = Session::open(hosts, millis(10_000)).unwrap();
     assert!(session.get("/a").is_ok());
@@ -387,10 +340,7 @@ fn a_name_is_looked_up_and_each_of_its_addresses_dialled() {
 
 #[test]
 fn hosts_are_changed_while_the_session_lives() {
-    let partner = Partner::start(|_, mut line| {
-        line.admit(10_000);
-        serve_well(&mut line);
-    });
+    let partner = Partner::serving();
     let options = SessionOptions::new(millis(10_000));
     let session = options.open_lazily(Hosts::default()).unwrap();
     let ticket = session.ask(Request::get("/a"));
@@ -414,14 +364,11 @@ fn an_expired_session_renews_itself_where_it_is_told_to() {
             line.request();
             return;
         }
-        serve_well(&mut line);
+        line.serve();
     });
     let options = SessionOptions::new(millis(10_000)).renews(true);
     let session = options.open(partner.address).unwrap();
-    assert_eq!(
-        kind_of(session.get("/a")),
-        ErrorKind::NoReply(NoReply::SessionExpired)
-    );
+    assert_eq!(kind_of(session.get("/a")), NoReply::SessionExpired.into());
     assert!(session.get("/a").is_ok());
     let mut states = Vec::new();
     while let Some(event) = session.next_event(Some(Instant::now())).unwrap() {

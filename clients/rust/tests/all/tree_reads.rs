@@ -2,6 +2,7 @@
 
 use crate::jute::{Record, EXISTS, GET_CHILDREN_2, GET_DATA, PING, PONG, SET_WATCHES, WATCHES_SET};
 use crate::partner::{Line, Partner, Request};
+use crate::PATIENCE;
 use dirwolleu::{Code, ErrorKind, Request as Asked, Session, SubtreeNode, TreeSnapshot};
 use std::mem;
 use std::sync::atomic::{AtomicBool, Ordering};
@@ -10,9 +11,6 @@ use std::thread;
 use std::time::{Duration, Instant};
 
 const TIMEOUT: Duration = Duration::from_secs(300);
-
-/// How long what is awaited may take.
-const PATIENCE: Duration = Duration::from_secs(120);
 
 /// How many reads of a tree wait for their answers, at most.
 const MOST_READS: usize = 960;

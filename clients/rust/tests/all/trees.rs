@@ -2,6 +2,7 @@
 
 use crate::runtime::block_on;
 use crate::server::Server;
+use crate::{PATIENCE, TIMEOUT};
 use dirwolleu::{
     Code, DataAnswer, Error, ErrorKind, Fault, LocalSession, Mark, Mode, NoReply, Request, Session,
     SessionOptions, Snapshots, SubtreeNode, Tree, TreeSnapshot,
@@ -10,11 +11,6 @@ use std::future::poll_fn;
 use std::sync::Arc;
 use std::thread::{self};
 use std::time::{Duration, Instant};
-
-const TIMEOUT: Duration = Duration::from_secs(10);
-
-/// How long what is awaited may take.
-const PATIENCE: Duration = Duration::from_secs(120);
 
 fn server() -> Option<Server> {
     let mut server = Server::start(&[])?;

@@ -1,8 +1,8 @@
 //! What goes to a server that reads slowly, and writers of a program's own.
 
-use crate::jute::{GET_DATA, PING, PONG};
 use crate::memory::connection;
 use crate::partner::{Line, Partner};
+use crate::PATIENCE;
 use dirwolleu::{
     Connection, ErrorKind, Event, Fault, LocalSession, Outgoing, Request, Server, Session,
     SessionOptions, SharedSession,
@@ -15,26 +15,12 @@ use std::time::{Duration, Instant};
 
 const TIMEOUT: Duration = Duration::from_secs(90);
 
-/// How long what is awaited may take.
-const PATIENCE: Duration = Duration::from_secs(120);
-
 /// More than the buffers of the system take, and as much as may wait besides.
 const MANY: usize = 60;
 const LARGE: usize = 1_000_000;
 
 /// How long a server that reads a byte a second may hold a program up: a write used to wait for a third of the timeout and more.
 const AT_ONCE: Duration = Duration::from_secs(20);
-
-/// Answers reads, until the client ends the connection.
-fn serve_well(mut line: Line) {
-    while let Some(request) = line.request() {
-        match request.kind {
-            PING => line.refuse(PONG, 0),
-            GET_DATA => line.tell_data(request.xid),
-            _ => line.tell_stat(request.xid),
-        };
-    }
-}
 
 /// Reads a byte a second, until the client ends the connection.
 fn read_slowly(mut line: Line) {
@@ -73,7 +59,7 @@ fn a_connection_on_which_a_frame_is_not_written_in_time_is_left() {
         if number == 0 {
             thread::spawn(move || read_slowly(line));
         } else {
-            serve_well(line);
+            line.serve();
         }
     });
     let session = Session::open(partner.address, Duration::from_secs(3)).unwrap();
@@ -129,7 +115,7 @@ where
             thread::spawn(move || {
                 let mut line = Line::over(end);
                 line.admit(90_000);
-                serve_well(line);
+                line.serve();
             });
             made.outgoing = Box::new(Own {
                 inner: made.outgoing,

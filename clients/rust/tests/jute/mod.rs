@@ -9,6 +9,7 @@ pub const DELETE: i32 = 2;
 pub const EXISTS: i32 = 3;
 pub const GET_DATA: i32 = 4;
 pub const SET_DATA: i32 = 5;
+pub const SYNC: i32 = 9;
 pub const PING: i32 = 11;
 pub const GET_CHILDREN_2: i32 = 12;
 pub const SET_WATCHES: i32 = 101;

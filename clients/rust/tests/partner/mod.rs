@@ -1,7 +1,7 @@
 //! A server that does what a test says, frame by frame: on 127.0.0.1, or at the end of a connection in memory.
 #![allow(dead_code)] // each test takes what it needs
 
-use crate::jute::Record;
+use crate::jute::{self, Record, PING, PONG};
 use std::io::{Read, Write};
 use std::net::{SocketAddr, TcpListener};
 use std::sync::mpsc::{channel, Receiver};
@@ -94,6 +94,35 @@ impl Line {
     }
 }
 
+/// How a server answers whose nodes all have the bytes `one`.
+impl Line {
+    /// Answers a request of the core.
+    pub fn answer(&mut self, request: &Request) -> bool {
+        match request.kind {
+            PING => self.refuse(PONG, 0),
+            jute::CREATE => self.tell_path(request.xid, "/mine"),
+            jute::SYNC => self.tell_path(request.xid, "/"),
+            jute::EXISTS | jute::SET_DATA => self.tell_stat(request.xid),
+            jute::CLOSE_SESSION => self.refuse(request.xid, 0),
+            _ => self.tell_data(request.xid),
+        }
+    }
+
+    /// Has each request answered, until the client ends the connection.
+    pub fn each(&mut self, mut answer: impl FnMut(&mut Line, Request)) {
+        while let Some(request) = self.request() {
+            answer(self, request);
+        }
+    }
+
+    /// Answers all that comes, until the client ends the connection.
+    pub fn serve(&mut self) {
+        while let Some(request) = self.request() {
+            self.answer(&request);
+        }
+    }
+}
+
 /// The server. Each connection is served before the next one.
 pub struct Partner {
     pub address: SocketAddr,
@@ -114,6 +143,22 @@ impl Partner {
             }
         });
         Partner { address, dials }
+    }
+
+    /// A server that admits each session, with a timeout of ten seconds, and has each request answered so.
+    pub fn answering(mut answer: impl FnMut(&mut Line, Request) + Send + 'static) -> Partner {
+        Partner::start(move |_, mut line| {
+            line.admit(10_000);
+            line.each(&mut answer);
+        })
+    }
+
+    /// A server that admits each session, with a timeout of ten seconds, and answers all that comes.
+    pub fn serving() -> Partner {
+        Partner::start(|_, mut line| {
+            line.admit(10_000);
+            line.serve();
+        })
     }
 
     /// When the next attempt to connect comes.

@@ -8,7 +8,6 @@ mod partner;
 extern crate dirwolleu_rustls as dirwolleu;
 
 use dirwolleu::{rustls, Request, Session, SessionOptions, State, Tls};
-use jute::{PING, PONG, SET_DATA};
 use partner::Line;
 use rustls::{
     Certificate, ClientConfig, PrivateKey, RootCertStore, ServerConfig, ServerConnection,
@@ -125,16 +124,6 @@ fn secured(
     StreamOwned::new(ServerConnection::new(Arc::clone(config)).unwrap(), stream)
 }
 
-fn serve_well(mut line: Line) {
-    while let Some(request) = line.request() {
-        match request.kind {
-            PING => line.refuse(PONG, 0),
-            SET_DATA => line.tell_stat(request.xid),
-            _ => line.tell_data(request.xid),
-        };
-    }
-}
-
 fn open(trust: &Trust, address: SocketAddr, timeout: Duration) -> Session {
     let options = SessionOptions::new(timeout).dial(Tls::new(Arc::clone(&trust.client)));
     options
@@ -149,7 +138,7 @@ fn a_session_lives_over_tls() {
     };
     let address = start(Arc::clone(&trust.server), |number, mut line| {
         if line.admit(1_500) && number > 0 {
-            serve_well(line);
+            line.serve();
         } else if line.request().is_some() {
             line.tell_data(1); // and the connection is over
         }
@@ -171,7 +160,7 @@ fn large_data_and_many_calls_come_through() {
     };
     let address = start(Arc::clone(&trust.server), |_, mut line| {
         line.admit(10_000);
-        serve_well(line);
+        line.serve();
     });
     let session = open(&trust, address, TIMEOUT);
     let large = vec![7; 500_000];
@@ -228,7 +217,7 @@ fn a_handshake_that_drips_ends_with_its_attempt() {
         drip(listener.accept().unwrap().0);
         let mut line = Line::over(secured(&config, listener.accept().unwrap().0));
         line.admit(3_000);
-        serve_well(line);
+        line.serve();
     });
     let session = open(&trust, address, Duration::from_secs(3));
     assert!(session.call(Request::get("/a").within(PATIENCE)).is_ok());
