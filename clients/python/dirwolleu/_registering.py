@@ -96,7 +96,7 @@ class BaseRegistration(Generic[AnyClient]):
             self._there.clear()
             create = requests.create(self._path, self._value, True, False)
             try:
-                yield from plans.create(create, self._path, None, True)
+                yield from plans.create(create, self._path, None)
             except NodeExistsError:
                 pass
 
