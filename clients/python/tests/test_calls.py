@@ -159,14 +159,16 @@ class FutureTest(ClientCase):
         partner = self.partner()
         client = self.client(partner.host, 60.0)
         partner.do("mute")
-        for future in (client.get_async("/", timeout=0.1), client.ensure_path_async("/a/b", timeout=0.1)):
+        futures: list[Any] = [client.get_async("/", timeout=0.1), client.ensure_path_async("/a/b", timeout=0.1)]
+        for future in futures:
             self.assertIsInstance(future.exception(WAIT), CallTimeoutError)
         partner.do("unmute")
 
         async def run() -> None:
             async with aio.Client(partner.host, 60.0) as client:
                 partner.do("mute")
-                for future in (client.get_async("/", timeout=0.1), client.ensure_path_async("/a/b", timeout=0.1)):
+                futures: list[Any] = [client.get_async("/", timeout=0.1), client.ensure_path_async("/a/b", timeout=0.1)]
+                for future in futures:
                     with self.assertRaises(CallTimeoutError):
                         await asyncio.wait_for(future, WAIT)
                 partner.do("unmute")
