@@ -5,6 +5,7 @@ from __future__ import annotations
 import ctypes
 import itertools
 import struct
+import time
 from collections.abc import Iterable, Iterator, Sequence
 from ctypes import Structure, byref, c_int64, c_size_t, c_uint64
 from typing import Any, Callable, NamedTuple, Optional, TypeVar, Union
@@ -99,14 +100,26 @@ class KeptAtOnce(NamedTuple):
 _length_at = struct.Struct(">I").unpack_from
 
 
+MANY, TURN = 2048, 0.00002
+"""After so many texts other threads have the interpreter for so many seconds at least. They would wait for it for 5 ms else."""
+
+
 def texts_in(spelled: bytes) -> list[str]:
     """The texts that follow one another, each after its length in four bytes."""
-    texts, begin, end = list[str](), 4, len(spelled)
+    each = _each_text_in(spelled)
+    texts = list(itertools.islice(each, MANY))
+    while more := list(itertools.islice(each, MANY)):
+        time.sleep(TURN)
+        texts += more
+    return texts
+
+
+def _each_text_in(spelled: bytes) -> Iterator[str]:
+    begin, end = 4, len(spelled)
     while begin <= end:
         (length,) = _length_at(spelled, begin - 4)
-        texts.append(spelled[begin : begin + length].decode())
+        yield spelled[begin : begin + length].decode()
         begin += length + 4
-    return texts
 
 
 def _buffer_at(spelled: bytes, at: int) -> tuple[Optional[bytes], int]:

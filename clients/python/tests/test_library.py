@@ -10,8 +10,10 @@ import pathlib
 import shutil
 import struct
 import subprocess
+import sys
 import tempfile
 import threading
+import time
 import unittest
 from unittest import mock
 
@@ -205,6 +207,23 @@ class MachineTest(unittest.TestCase):
         session.received(300, reply(1, 9, 0, spelled + STAT_BYTES))
         self.assertEqual(session.peek_children("/a"), ((1, tuple(sorted(names)), STAT.pzxid), 9))
         self.assertEqual(session.peek_children("/b"), ((0, (), 0), 9))
+
+    def test_other_threads_have_turns_while_many_names_are_read(self) -> None:
+        """Though nothing has the one that reads let go of the interpreter."""
+        spelled, turns, is_over = b"".join(buffer(b"%d" % number) for number in range(100_000)), [0], threading.Event()
+
+        def turn() -> None:
+            while not is_over.is_set():
+                turns[0] += 1
+                time.sleep(0)
+
+        self.addCleanup(sys.setswitchinterval, sys.getswitchinterval())
+        sys.setswitchinterval(600)
+        threading.Thread(target=turn, daemon=True).start()
+        before = turns[0]
+        self.assertEqual(handle.texts_in(spelled)[99_999], "99999")
+        is_over.set()
+        self.assertGreater(turns[0], before)
 
     def test_a_subtree_is_told_once_nothing_is_lacking(self) -> None:
         session, data_of = connected(), library.DATA_SIDE
