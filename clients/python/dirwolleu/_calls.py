@@ -30,8 +30,8 @@ Made = TypeVar("Made", bound=Callable[..., object])
 
 
 def shown(made: Made, call: Callable[..., object], ending: str = "", *, is_awaited: bool = False) -> Made:
-    """A function of a client, with the name, the parameters and the words of the call that it makes."""
-    name, words = call.__name__, call.__doc__ or ""
+    """A function of a client or a recipe, with the name, the parameters and the words of the call that it makes."""
+    name, words = call.__name__.lstrip("_"), call.__doc__ or ""
     made.__name__ = made.__qualname__ = name + ending
     made.__doc__ = f"`{name}`, which does not wait." if ending else words
     if is_awaited:

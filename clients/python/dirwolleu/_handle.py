@@ -101,7 +101,7 @@ _length_at = struct.Struct(">I").unpack_from
 
 
 MANY, TURN = 2048, 0.00002
-"""After so many texts other threads have the interpreter for so many seconds at least. They would wait for it for 5 ms else."""
+"""After this many texts other threads have the interpreter for this many seconds at least: they would wait for 5 ms else."""
 
 
 def texts_in(spelled: bytes) -> list[str]:

@@ -22,7 +22,7 @@ from dirwolleu._plans import Plan
 from dirwolleu._requests import Request, Result
 from dirwolleu._retry import Retry
 from dirwolleu._shown import AuthData, Shown, parts_of
-from dirwolleu._steps import Ask, Call, Step, Steps, Wait
+from dirwolleu._steps import Ask, Call, GetNews, Step, Steps, Wait
 from dirwolleu._trees import MOST_NODES, AsyncTree
 from dirwolleu._watches import ChildrenWatch, DataWatch
 from dirwolleu.exceptions import ZookeeperError
@@ -262,7 +262,7 @@ class Client(Shown):
 
     def tree(self, path: str, *, most: int = MOST_NODES) -> AsyncTree:
         """Reads all nodes at and below a path, and reads again what changes, as `tree` of `dirwolleu.Client` does."""
-        tree = AsyncTree(self, path, most, asyncio.Event)
+        tree = AsyncTree(self, path, most)
         self._act()
         return tree
 
@@ -305,6 +305,8 @@ class Client(Shown):
             with contextlib.suppress(asyncio.TimeoutError):
                 await asyncio.wait_for(news.wait(), step.seconds)
             return news.clear()
+        if isinstance(step, GetNews):
+            return news
         if isinstance(step, Call):
             told = step.function()
             return (await told) if inspect.isawaitable(told) else told

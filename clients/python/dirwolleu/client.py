@@ -26,7 +26,7 @@ from dirwolleu._plans import Plan
 from dirwolleu._requests import Request, Result
 from dirwolleu._retry import Retry
 from dirwolleu._shown import AuthData, Shown, parts_of
-from dirwolleu._steps import Ask, Call, Step, Steps, Wait
+from dirwolleu._steps import Ask, Call, GetNews, Step, Steps, Wait
 from dirwolleu._trees import MOST_NODES, Tree
 from dirwolleu._waiting import Future, News, Sleepers, Task, Waiter
 from dirwolleu.exceptions import ConnectionClosedError, ZookeeperError
@@ -352,8 +352,8 @@ class Client(Shown):
     def _do(self, step: Step, news: News) -> Any:
         if isinstance(step, Wait):
             return news.wait(step.seconds)
-        if isinstance(step, Call):
-            return step.function()
+        if isinstance(step, (Call, GetNews)):
+            return step.function() if isinstance(step, Call) else news
         return self._ask(step.request, timeout=step.timeout) if isinstance(step, Ask) else self._ask(step)
 
     def _ask(
