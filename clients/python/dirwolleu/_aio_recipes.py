@@ -4,20 +4,26 @@ from __future__ import annotations
 
 import asyncio
 import contextlib
-from collections.abc import Awaitable
+from collections.abc import Awaitable, Coroutine
 from types import TracebackType
 from typing import TYPE_CHECKING, Any, Callable, Optional, TypeVar, cast, overload
 
 from dirwolleu import _contending as contending
-from dirwolleu._contending import READING, WRITING, BaseHeld, BaseLock, Holding
+from dirwolleu._calls import shown
+from dirwolleu._contending import READING, WRITING, BaseHeld, BaseLock, BaseTaker, Holding
 from dirwolleu._counting import BaseCounter, Number
 from dirwolleu._gathering import BaseBarrier, BaseDoubleBarrier
 from dirwolleu._leasing import BaseSemaphore
 from dirwolleu._queueing import BaseQueue
 from dirwolleu._registering import BaseRegistration
+from dirwolleu._steps import Result, Steps
 
 if TYPE_CHECKING:
+    from typing_extensions import Concatenate, ParamSpec
+
     from dirwolleu.aio import Client
+
+    Given = ParamSpec("Given")
 
 __all__ = [
     "Barrier",
@@ -36,12 +42,22 @@ __all__ = [
 Returned = TypeVar("Returned")
 
 
+def _does(
+    call: Callable[Concatenate[Any, Given], Steps[Result]]
+) -> Callable[Concatenate[Any, Given], Coroutine[Any, Any, Result]]:
+    """A coroutine function that does the steps of a recipe."""
+
+    async def does(recipe: Any, /, *given: Given.args, **named: Given.kwargs) -> Result:
+        result: Result = await recipe._client._drive(call(recipe, *given, **named))
+        return result
+
+    return shown(does, call)
+
+
 class Held(BaseHeld["Client"]):
     """A lock or a lease that was taken, as `dirwolleu.Held` is."""
 
-    async def release(self) -> None:
-        """Lets go of it, as `dirwolleu.Held.release` does."""
-        await self._client._drive(self._releasing())
+    release = _does(BaseHeld._release)
 
     async def __aenter__(self) -> Held:
         return self
@@ -52,25 +68,15 @@ class Held(BaseHeld["Client"]):
         await self.release()
 
 
-class Lock(BaseLock["Client", Held]):
-    """An exclusive lock, as `dirwolleu.Lock` is. `on_lost` may be a coroutine function.
-
-        async with dirwolleu.aio.Lock(client, "/locks/job", identifier="host-1") as held:
-            held.check()
-            print("holds with token", held.token)
-    """
+class _Taker(BaseTaker["Client", Held]):
+    """What is taken, and given back at the end of an `async with` block."""
 
     async def acquire(self, timeout: Optional[float] = None) -> Held:
         """Waits until the lock is held, as `dirwolleu.Lock.acquire` does.
 
         Raises `LockTimeout`. Where it is cancelled it leaves no contender.
         """
-        news = asyncio.Event()
-        return await self._client._drive(self._taking(news, timeout), news)
-
-    async def contenders(self) -> list[str]:
-        """The identifiers of those that take the lock, in their order: that of the holder first."""
-        return await self._client._run(contending.contenders(self._path, self._names))
+        return await self._client._drive(self._taking(timeout))
 
     def _held(self, holding: Holding) -> Held:
         return Held(self._client, holding, self._on_lost)
@@ -82,6 +88,17 @@ class Lock(BaseLock["Client", Held]):
         self, kind: Optional[type[BaseException]], error: Optional[BaseException], trace: Optional[TracebackType]
     ) -> None:
         await self._exit(asyncio.current_task()).release()
+
+
+class Lock(_Taker, BaseLock["Client", Held]):
+    """An exclusive lock, as `dirwolleu.Lock` is. `on_lost` may be a coroutine function.
+
+        async with dirwolleu.aio.Lock(client, "/locks/job", identifier="host-1") as held:
+            held.check()
+            print("holds with token", held.token)
+    """
+
+    contenders = _does(BaseLock._contenders)
 
 
 class WriteLock(Lock):
@@ -96,32 +113,14 @@ class ReadLock(Lock):
     _kind = READING
 
 
-class Semaphore(BaseSemaphore["Client", Held]):
+class Semaphore(_Taker, BaseSemaphore["Client", Held]):
     """A lock that `max_leases` hold at a time, as `dirwolleu.Semaphore` is.
 
         async with dirwolleu.aio.Semaphore(client, "/downloads", max_leases=3) as held:
             held.check()
     """
 
-    async def acquire(self, timeout: Optional[float] = None) -> Held:
-        """Waits until there is a lease, as `dirwolleu.Semaphore.acquire` does."""
-        news = asyncio.Event()
-        return await self._client._drive(self._taking(news, timeout), news)
-
-    async def lease_holders(self) -> list[str]:
-        """The identifiers of those that hold a lease, in no order."""
-        return await self._client._run(self._holders())
-
-    def _held(self, holding: Holding) -> Held:
-        return Held(self._client, holding, self._on_lost)
-
-    async def __aenter__(self) -> Held:
-        return self._enter(asyncio.current_task(), await self.acquire())
-
-    async def __aexit__(
-        self, kind: Optional[type[BaseException]], error: Optional[BaseException], trace: Optional[TracebackType]
-    ) -> None:
-        await self._exit(asyncio.current_task()).release()
+    lease_holders = _does(BaseSemaphore._lease_holders)
 
 
 class Election:
@@ -176,13 +175,8 @@ class Registration(BaseRegistration["Client"]):
             await asyncio.wait_for(self._is_there.wait(), timeout)
         return self._is_there.is_set()
 
-    async def set(self, value: bytes) -> None:
-        """Gives the node other data, now and in later sessions."""
-        await self._client._drive(self._setting(value))
-
-    async def withdraw(self) -> None:
-        """Deletes the node, and makes it no more. Where its session is over, so is the node."""
-        await self._client._drive(self._withdrawing())
+    set = _does(BaseRegistration._set)
+    withdraw = _does(BaseRegistration._withdraw)
 
 
 class Barrier(BaseBarrier["Client"]):
@@ -192,32 +186,16 @@ class Barrier(BaseBarrier["Client"]):
         is_open = await barrier.wait(10.0)
     """
 
-    async def create(self) -> None:
-        """Puts the barrier up, where it is not."""
-        await self._client._drive(self._creating())
-
-    async def remove(self) -> bool:
-        """Takes the barrier away, and answers whether it was seen to be there."""
-        return await self._client._drive(self._removing())
-
-    async def wait(self, timeout: Optional[float] = None) -> bool:
-        """Waits until there is no barrier, for at most this many seconds, and answers whether that came to pass."""
-        news = asyncio.Event()
-        return await self._client._drive(self._waiting(news, timeout), news)
+    create = _does(BaseBarrier._create)
+    remove = _does(BaseBarrier._remove)
+    wait = _does(BaseBarrier._wait)
 
 
 class DoubleBarrier(BaseDoubleBarrier["Client"]):
     """A barrier at which `num_clients` wait for one another, as `dirwolleu.DoubleBarrier` is."""
 
-    async def enter(self, timeout: Optional[float] = None) -> bool:
-        """Waits until all have come, for at most this many seconds, and answers whether they have."""
-        news = asyncio.Event()
-        return await self._client._drive(self._entering(news, timeout), news)
-
-    async def leave(self, timeout: Optional[float] = None) -> bool:
-        """Waits until all have left, for at most this many seconds, and answers whether they have. This one has."""
-        news = asyncio.Event()
-        return await self._client._drive(self._leaving(news, timeout), news)
+    enter = _does(BaseDoubleBarrier._enter)
+    leave = _does(BaseDoubleBarrier._leave)
 
 
 class Counter(BaseCounter["Client", Number]):
@@ -256,17 +234,6 @@ class Queue(BaseQueue["Client"]):
         data = await queue.get(10.0)
     """
 
-    async def put(self, value: bytes, priority: int = 100) -> str:
-        """Adds an entry, and answers its path. A priority is 0 to 999."""
-        return await self._client._drive(self._putting(value, priority))
-
-    async def get(self, timeout: Optional[float] = None) -> Optional[bytes]:
-        """Takes the first entry out, waits for one for at most this many seconds, and answers its data: None where none
-        came. It raises what `get` of `dirwolleu.Queue` raises. If it is cancelled, the entry may be gone.
-        """
-        news = asyncio.Event()
-        return await self._client._drive(self._taking(news, timeout), news)
-
-    async def size(self) -> int:
-        """How many entries there are."""
-        return await self._client._run(self._counting())
+    put = _does(BaseQueue._put)
+    get = _does(BaseQueue._get)
+    size = _does(BaseQueue._size)

@@ -5,7 +5,7 @@ from __future__ import annotations
 import collections
 import struct
 from collections.abc import Iterator
-from typing import Optional
+from typing import Optional, Union
 
 _PONG = struct.pack(">ii", 16, -2)
 """How the answer to a ping begins: its length and its xid."""
@@ -33,7 +33,7 @@ class Pings:
     def sent(self, now: int) -> None:
         self._sent.append(now)
 
-    def answered_by(self, data: bytes) -> Iterator[int]:
+    def answered_by(self, data: Union[bytes, memoryview]) -> Iterator[int]:
         """When those were sent that these bytes answer."""
         seen = self._tail + data
         for _ in range(min(seen.count(_PONG), len(self._sent))):

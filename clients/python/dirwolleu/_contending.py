@@ -25,7 +25,7 @@ from dirwolleu._engine import Engine, News
 from dirwolleu._handle import Listing, Standing
 from dirwolleu._plans import Plan
 from dirwolleu._retry import is_lived_through
-from dirwolleu._steps import Result, Steps, TimeIsOver, Wait, bounded, until_of
+from dirwolleu._steps import GetNews, Result, Steps, TimeIsOver, Wait, bounded, run, until_of
 from dirwolleu.exceptions import (
     LockLostError,
     LockTimeout,
@@ -421,7 +421,12 @@ class BaseHeld(Generic[AnyClient]):
         if why:
             raise LockLostError(f"{self.path}: {why}")
 
-    def _releasing(self) -> Steps[None]:
+    def _release(self) -> Steps[None]:
+        """Lets go of it. It may be called again. Where its session is over, so is it.
+
+        A lost answer is asked for again, for twice the timeout of the session. Then `ConnectionLoss` or `CallTimeoutError` is
+        raised, and the node may still be there: the client goes on to delete it, for as long as the session lives.
+        """
         self._client._engine.check_process()
         if not self._is_released:
             self._is_released = True
@@ -487,8 +492,9 @@ class BaseTaker(Generic[AnyClient, AnyHeld]):
         """What makes the steps that take it, given what is told news of the node."""
         raise NotImplementedError
 
-    def _taking(self, news: News, timeout: Optional[float]) -> Steps[AnyHeld]:
+    def _taking(self, timeout: Optional[float]) -> Steps[AnyHeld]:
         engine = self._client._engine
+        news: News = yield GetNews()
         told: list[AnyHeld] = []
         take = self._taken_by(news)
         with engine.news(news.set):
@@ -528,6 +534,10 @@ class BaseLock(BaseTaker[AnyClient, AnyHeld]):
 
     def _taken_by(self, news: News) -> Take:
         return Contender(self._client, self._path, self._data, self._kind, self._names, news).take
+
+    def _contenders(self) -> Steps[list[str]]:
+        """The identifiers of those that take the lock, in their order: that of the holder first."""
+        return run(contenders(self._path, self._names), self._client._retry, None)
 
 
 def identified(identifier: str) -> bytes:

@@ -9,7 +9,7 @@ import logging
 import os
 import ssl
 import weakref
-from typing import Any, Callable, Optional, Protocol, cast
+from typing import Any, Callable, Optional, Protocol, Union, cast
 
 from dirwolleu._clock import moment as moment
 from dirwolleu._engine import Engine
@@ -21,6 +21,8 @@ logger = logging.getLogger("dirwolleu.connection")
 SHORTEST_WAIT = 0.1
 ROOM = 65536
 """How many bytes of a connection are read at once, at most."""
+SHORT = 4096
+"""Fewer bytes than these are copied before the session takes them."""
 MOST_TURNS = 16
 """How often what a connection has is read before the moment is told, at most."""
 _CLOSED = "the server has closed it"
@@ -83,9 +85,14 @@ class Link(asyncio.BufferedProtocol):
 
     def buffer_updated(self, nbytes: int) -> None:
         if not self._is_over:
-            self._driver.bring(self._room[:nbytes].tobytes())
+            self._driver.bring(self._piece(nbytes))
             if self._serving is not None:
                 self._be_served(self._serving)
+
+    def _piece(self, count: int) -> Union[bytes, memoryview]:
+        """What has come: a copy where it is short, which takes less than to lend it."""
+        piece = self._room[:count]
+        return piece.tobytes() if count < SHORT else piece
 
     def _be_served(self, serving: Serving) -> None:
         """Has the connection be read by `_read` from now on. What is written, and how it ends, is the transport's as before."""
@@ -104,7 +111,7 @@ class Link(asyncio.BufferedProtocol):
         try:
             count = os.readv(self._descriptor, self._rooms)
             if count:
-                self._driver.bring(self._room[:count].tobytes())
+                self._driver.bring(self._piece(count))
             else:
                 self.end(_CLOSED)
         except BlockingIOError:
@@ -185,8 +192,8 @@ class Driver:
         self._engine.opened(moment())
         self.act()
 
-    def bring(self, data: bytes) -> None:
-        """Bytes came."""
+    def bring(self, data: Union[bytes, memoryview]) -> None:
+        """Bytes came. The engine takes them before others are read into their place."""
         self._has_brought = True
         now = self._noticed()
         self._engine.received(now, data)

@@ -13,7 +13,7 @@ import itertools
 import logging
 import os
 from collections.abc import Iterable, Iterator
-from typing import Any, Callable, NamedTuple, Optional, Protocol
+from typing import Any, Callable, NamedTuple, Optional, Protocol, Union
 
 from dirwolleu import _library as library
 from dirwolleu._asked import Asked, Waiter
@@ -259,8 +259,8 @@ class Engine(Keeping):
         if self._trees:
             self._grow_trees(now)
 
-    def received(self, now: int, data: bytes) -> None:
-        """Bytes came."""
+    def received(self, now: int, data: Union[bytes, memoryview]) -> None:
+        """Bytes came, maybe in memory that other bytes are read into after this."""
         try:
             self._step(now, Session.received, data)
         except NoMemory:
@@ -540,7 +540,7 @@ class Engine(Keeping):
             self._hangs_up, self._dial = True, None
             self._leave_connection()
 
-    def _bring_again(self, now: int, piece: bytes) -> None:
+    def _bring_again(self, now: int, piece: Union[bytes, memoryview]) -> None:
         """Hands bytes to the session once more, which had no memory for them."""
         try:
             self._step(now, Session.received, piece)

@@ -13,7 +13,7 @@ from dirwolleu._contending import BETWEEN_TRIES, AnyClient, identified, names_of
 from dirwolleu._engine import News
 from dirwolleu._plans import Plan
 from dirwolleu._retry import is_lived_through
-from dirwolleu._steps import Steps, TimeIsOver, Wait, bounded, until_of
+from dirwolleu._steps import GetNews, Steps, TimeIsOver, Wait, bounded, until_of
 from dirwolleu.exceptions import NodeExistsError, NoNodeError, SessionExpiredError, ZookeeperError
 
 _READY = "ready"
@@ -25,28 +25,35 @@ class BaseBarrier(Generic[AnyClient]):
     def __init__(self, client: AnyClient, path: str) -> None:
         self._client, self._path = client, path
 
-    def _creating(self) -> Steps[None]:
+    def _create(self) -> Steps[None]:
+        """Puts the barrier up, where it is not."""
         return patiently(self._client._engine, lambda: plans.ensure_path(self._path, None))
 
-    def _removing(self) -> Steps[bool]:
-        return patiently(self._client._engine, self._remove)
+    def _remove(self) -> Steps[bool]:
+        """Takes the barrier away, and answers whether it was seen to be there."""
+        return patiently(self._client._engine, self._delete)
 
-    def _remove(self) -> Plan[bool]:
+    def _delete(self) -> Plan[bool]:
         try:
             yield requests.delete(self._path, -1)
         except NoNodeError:
             return False
         return True
 
-    def _waiting(self, news: News, timeout: Optional[float]) -> Steps[bool]:
+    def _wait(self, timeout: Optional[float] = None) -> Steps[bool]:
+        """Waits until there is no barrier, for at most this many seconds, and answers whether that came to pass.
+
+        Lost connections and expired sessions are lived through.
+        """
+        news: News = yield GetNews()
         with self._client._engine.news(news.set):
             try:
-                yield from bounded(self._wait(news), until_of(timeout))
+                yield from bounded(self._wait_for(news), until_of(timeout))
             except TimeIsOver:
                 return False
         return True
 
-    def _wait(self, news: News) -> Steps[None]:
+    def _wait_for(self, news: News) -> Steps[None]:
         while True:
             news.clear()
             try:
@@ -70,11 +77,16 @@ class BaseDoubleBarrier(Generic[AnyClient]):
         self._name = plans.new_tag().hex
         self._own, self._ready = plans.child_of(path, self._name), plans.child_of(path, _READY)
 
-    def _entering(self, news: News, timeout: Optional[float]) -> Steps[bool]:
+    def _enter(self, timeout: Optional[float] = None) -> Steps[bool]:
+        """Waits until all have come, for at most this many seconds, and answers whether they have.
+
+        Where they have not, this one is withdrawn. A member whose session ends meanwhile comes again in the next one.
+        """
+        news: News = yield GetNews()
         is_in = False
         with self._client._engine.news(news.set):
             try:
-                yield from bounded(self._enter(news), until_of(timeout))
+                yield from bounded(self._gather(news), until_of(timeout))
                 is_in = True
             except TimeIsOver:
                 pass
@@ -83,10 +95,12 @@ class BaseDoubleBarrier(Generic[AnyClient]):
                     yield from self._withdraw()
         return is_in
 
-    def _leaving(self, news: News, timeout: Optional[float]) -> Steps[bool]:
+    def _leave(self, timeout: Optional[float] = None) -> Steps[bool]:
+        """Waits until all have left, for at most this many seconds, and answers whether they have. This one has."""
+        news: News = yield GetNews()
         with self._client._engine.news(news.set):
             try:
-                yield from bounded(self._leave(news), until_of(timeout))
+                yield from bounded(self._scatter(news), until_of(timeout))
             except TimeIsOver:
                 yield from self._withdraw()
                 return False
@@ -105,7 +119,7 @@ class BaseDoubleBarrier(Generic[AnyClient]):
         except NoNodeError:
             pass
 
-    def _enter(self, news: News) -> Steps[None]:
+    def _gather(self, news: News) -> Steps[None]:
         """Makes the node of this one, and waits until the barrier is ready: whoever is the last one says so."""
         while True:
             news.clear()
@@ -134,7 +148,7 @@ class BaseDoubleBarrier(Generic[AnyClient]):
         names = yield from names_of(self._path)
         return sorted(name for name in names if name != _READY)
 
-    def _leave(self, news: News) -> Steps[None]:
+    def _scatter(self, news: News) -> Steps[None]:
         """Deletes the node of this one, and waits until all are gone. The first one in the order of names goes last."""
         while True:
             news.clear()

@@ -1,68 +1,37 @@
-"""What `Machine` and `Session` have in common: look-ups of what is kept, and what a step says.
-
-Neither opens a socket or reads a clock. Each step is told the moment, in milliseconds of a clock that does not go
-back, and answers what comes out of it. One thread makes all steps; any thread may look up what is kept.
-"""
+"""A handle of the library, and what is kept by it: any thread may look that up."""
 
 from __future__ import annotations
 
 import ctypes
 import itertools
 import struct
-import types
+import time
 from collections.abc import Iterable, Iterator, Sequence
-from ctypes import Structure, byref, c_int64, c_size_t, c_uint64, string_at
-from operator import itemgetter
-from typing import Any, Callable, Generic, NamedTuple, Optional, TypeVar, Union
+from ctypes import Structure, byref, c_int64, c_size_t, c_uint64
+from typing import Any, Callable, NamedTuple, Optional, TypeVar, Union
 
 from dirwolleu import _library as library
 from dirwolleu._library import (
     ABSENT,
-    ANSWER,
-    CHILDREN_CHANGED,
     CHILDREN_SIDE,
-    CODE,
-    CONNECTED,
-    CONNECTING,
-    CREATED,
-    DATA,
-    DATA_CHANGED,
     DATA_SIDE,
-    DROP,
-    EXPIRED,
     FULL,
     GOOD,
-    IDLE,
     KNOWN,
-    NAMES,
-    NODE_CREATED,
-    NODE_DELETED,
     NOTHING,
     NOT_PATH,
     OK,
-    RAW,
-    REPLIED,
-    REPORT,
-    SEND,
-    SESSION_CLOSED,
     STALE,
-    STATE,
-    TOO_MANY_PENDING,
     WAITS,
-    Answer,
-    Drop,
     NotWhole,
-    Output,
-    Report,
-    Send,
-    StateChange,
     checked,
+    functions,
     known,
 )
 from dirwolleu._paths import no_path
 from dirwolleu._process import this_process
 from dirwolleu._root import Root
-from dirwolleu.types import DataStat, Stat
+from dirwolleu.types import DataStat
 
 
 class KeptData(NamedTuple):
@@ -118,7 +87,7 @@ class Listing(NamedTuple):
 
     def each(self) -> list[str]:
         """The names."""
-        return _texts_in(self.names)
+        return texts_in(self.names)
 
 
 class KeptAtOnce(NamedTuple):
@@ -131,14 +100,26 @@ class KeptAtOnce(NamedTuple):
 _length_at = struct.Struct(">I").unpack_from
 
 
-def _texts_in(spelled: bytes) -> list[str]:
+MANY, TURN = 2048, 0.00002
+"""After this many texts other threads have the interpreter for this many seconds at least: they would wait for 5 ms else."""
+
+
+def texts_in(spelled: bytes) -> list[str]:
     """The texts that follow one another, each after its length in four bytes."""
-    texts, begin, end = list[str](), 4, len(spelled)
+    each = _each_text_in(spelled)
+    texts = list(itertools.islice(each, MANY))
+    while more := list(itertools.islice(each, MANY)):
+        time.sleep(TURN)
+        texts += more
+    return texts
+
+
+def _each_text_in(spelled: bytes) -> Iterator[str]:
+    begin, end = 4, len(spelled)
     while begin <= end:
         (length,) = _length_at(spelled, begin - 4)
-        texts.append(spelled[begin : begin + length].decode())
+        yield spelled[begin : begin + length].decode()
         begin += length + 4
-    return texts
 
 
 def _buffer_at(spelled: bytes, at: int) -> tuple[Optional[bytes], int]:
@@ -185,7 +166,7 @@ def _parents_shown(spelled: bytes, at: int) -> Iterator[KeptNames]:
         names, at = _buffer_at(spelled, at)
         pzxid = int.from_bytes(spelled[at : at + 8], "big", signed=True)
         at += 8
-        yield KeptNames(GOOD, tuple(_texts_in(names or b"")), pzxid)
+        yield KeptNames(GOOD, tuple(texts_in(names or b"")), pzxid)
 
 
 def _lacking_in(spelled: bytes, root: Root) -> Iterator[Lacking]:
@@ -208,35 +189,20 @@ def _spelled(texts: Iterable[str]) -> bytes:
     return _joined(map(str.encode, texts))
 
 
-class _Room:
-    """Where the library writes bytes. It grows."""
+new_bytes = ctypes.pythonapi.PyBytes_FromStringAndSize
+"""Makes bytes of this length, after None, which nobody else has yet: the library writes them."""
+new_bytes.restype, new_bytes.argtypes = ctypes.py_object, (ctypes.c_void_p, ctypes.c_ssize_t)
+_FEW = 512
 
-    def __init__(self) -> None:
-        self._make(4096)
 
-    def _make(self, size: int) -> None:
-        self.bytes = ctypes.create_string_buffer(size)
-        self.at, self.view = byref(self.bytes), memoryview(self.bytes)
-        self.size = size  # last: wherever this is interrupted, there is as much as it says
-
-    def widen(self, length: int) -> bool:
-        """Makes room for this many bytes. Answers whether there was too little."""
-        is_short = length > self.size
-        if is_short:
-            self._make(length)
-        return is_short
-
-    def first(self, length: int) -> bytes:
-        """The first bytes of it, which are there."""
-        return self.view[:length].tobytes()
-
-    def filled(self, call: Callable[..., int]) -> bytes:
-        """What a call writes into the room, of which it is told how much there is, and counts."""
-        count, is_whole = c_size_t(), False
-        while not is_whole:
-            checked(call(self.bytes, len(self.bytes), byref(count)))
-            is_whole = not self.widen(count.value)
-        return self.first(count.value)
+def filled(call: Callable[..., int]) -> bytes:
+    """What a call writes into a room, of which it is told how much there is, and counts."""
+    count, room = c_size_t(), new_bytes(None, _FEW)
+    while True:
+        checked(call(room, len(room), byref(count)))
+        if count.value <= len(room):
+            return bytes(room[: count.value])
+        room = new_bytes(None, count.value)
 
 
 Found = TypeVar("Found")
@@ -261,62 +227,25 @@ def _codes_of(kind: type[Structure]) -> Iterator[str]:
             yield getattr(field[1], "_type_")
 
 
-def _fields_of(kind: type[Structure]) -> Callable[[Structure], tuple[Any, ...]]:
+def fields_of(kind: type[Structure]) -> Callable[[Structure], tuple[Any, ...]]:
     """What tells all fields of a structure at once, with those of the structures in it in their places."""
     return struct.Struct("@" + "".join(_codes_of(kind))).unpack_from
 
 
-def _record_of(kind: type[Structure], record: type[Record], begin: int) -> Callable[[tuple[Any, ...]], Record]:
-    """What makes a record of the fields of a structure, of which those of this kind begin at this place."""
-    names = [field[0] for field in kind._fields_]
-    chosen, make = itemgetter(*(begin + names.index(name) for name in record._fields)), record._make
-    return lambda fields: make(chosen(fields))
-
-
-Record = TypeVar("Record", Stat, DataStat)
-
-_fields_of_output, _fields_of_kept_data = _fields_of(library._Output), _fields_of(library._KeptData)
-_HEAD_OF_OUTPUT, _HEAD_OF_KEPT_DATA = len(library._Output._fields_) - 1, len(library._KeptData._fields_) - 1  # the last field is the Stat
-_LENGTH_OF_OUTPUT, _NAMES_OF_OUTPUT = map([name for name, _ in library._Output._fields_].index, ("length", "names"))
-_FIELDS_OF_OUTPUT = _HEAD_OF_OUTPUT + len(library._Stat._fields_)
-_START = c_size_t(0)
+_fields_of_kept_data = fields_of(library._KeptData)
 made = tuple.__new__  # it makes a record of its fields, and is quicker than the record's own name
-_data_stat_in = _record_of(library._DataStat, DataStat, _HEAD_OF_KEPT_DATA)
+_KINDS_OF_KEPT, _MARKS = frozenset((NOTHING, ABSENT, KNOWN, FULL)), frozenset((0, GOOD, STALE))
 
 
-def _stat_in(fields: tuple[Any, ...]) -> tuple[Any, ...]:
-    """The Stat of an output, of which it is the last field, as the protocol has it."""
-    czxid, mzxid, ctime, mtime, owner, pzxid, version, cversion, aversion, length, children = fields[_HEAD_OF_OUTPUT:]
-    return czxid, mzxid, ctime, mtime, version, cversion, aversion, owner, length, children, pzxid
-
-
-_KINDS_OF_KEPT, _MARKS, _EVENTS, _SIDES = (
-    frozenset((NOTHING, ABSENT, KNOWN, FULL)),
-    frozenset((0, GOOD, STALE)),
-    frozenset((NODE_CREATED, NODE_DELETED, DATA_CHANGED, CHILDREN_CHANGED)),
-    frozenset((DATA_SIDE, CHILDREN_SIDE)),
-)
-_STATES, _OUTCOMES, _RESULTS = (
-    frozenset((IDLE, CONNECTING, CONNECTED, EXPIRED, SESSION_CLOSED)),
-    frozenset(range(REPLIED, TOO_MANY_PENDING + 1)),
-    frozenset(range(CODE, RAW + 1)),
-)
-
-
-Said = TypeVar("Said")
-
-
-class LookUps(Generic[Said]):
-    """What a machine and a session have in common: what is kept is looked up, and what a step has said is read.
-
-    All paths that go in and come out are below the root, which is put before them and taken off.
+class LookUps:
+    """What is kept of a session, which is looked up. All paths that go in and come out are below the root: it is put before them, and
+    taken off.
     """
 
-    _calls: types.SimpleNamespace
+    _calls = functions("dw_session_")
 
     def __init__(self, root: Root) -> None:
-        self._handle, self._output, self._room = library._Handle(), library._Output(), _Room()
-        self._handle_at, self._output_at = byref(self._handle), byref(self._output)
+        self._handle = library._Handle()
         self._process = this_process()
         self._root = root
 
@@ -326,10 +255,7 @@ class LookUps(Generic[Said]):
     def close(self) -> None:
         """Frees what it holds. It ends no session. In a forked child it does nothing."""
         if this_process() == self._process:
-            self._free()
-
-    def _free(self) -> None:
-        raise NotImplementedError
+            self._calls.free(self._handle)
 
     def __del__(self) -> None:
         self.close()
@@ -338,15 +264,6 @@ class LookUps(Generic[Said]):
 
     def state(self) -> int:
         return int(self._calls.state(self._handle))
-
-    def revision(self) -> int:
-        """A number from 1 on that rises where what is kept and good may have changed, or the state, or the session; 0 once closed.
-
-        Of a machine it rises by one at each step that told a reply, a report or another state; of a session at each step with bytes
-        too; and of both at a step that halted, and as another session begins. While it is the same, a subtree, what is lacking and a
-        snapshot are the same: ask for them again only where it differs.
-        """
-        return int(self._calls.revision(self._handle))
 
     def last_zxid(self) -> int:
         return self._number(self._calls.last_zxid(self._handle))
@@ -365,7 +282,7 @@ class LookUps(Generic[Said]):
 
     def saved(self) -> bytes:
         """What takes the session up again."""
-        return _Room().filled(lambda *room: self._calls.saved(self._handle, *room))
+        return filled(lambda *room: self._calls.saved(self._handle, *room))
 
     def peek_data(self, path: str) -> tuple[KeptData, int]:
         """What is kept of the data of a path, and the last zxid at that moment."""
@@ -410,7 +327,7 @@ class LookUps(Generic[Said]):
             return self._checked_among(code, nodes, parents)
 
         try:
-            return _Room().filled(copy)
+            return filled(copy)
         except NotWhole:
             return None
 
@@ -420,17 +337,17 @@ class LookUps(Generic[Said]):
         """Where the session stands by its node of this name in a directory, by the names of a listing, which needs no watch,
         and the zxid of that answer. The names may be those of a `Listing`, as it spells them. The first marker is that of its
         name, the others are those of its rivals."""
-        spelled, own, room = self._root.spell(directory), name.encode(), _Room()
+        spelled, own, room = self._root.spell(directory), name.encode(), new_bytes(None, _FEW)
         listing = names if isinstance(names, bytes) else _spelled(names)
         kinds, token, count = _spelled(markers), c_int64(), c_size_t()
         contender = (spelled, len(spelled), own, len(own), listing, len(listing), listed, kinds, len(kinds))
-        is_whole = False
-        while not is_whole:
-            given = room.bytes, len(room.bytes)
-            code = self._calls.standing(self._handle, *contender, byref(token), *given, byref(count))
+        while True:
+            code = self._calls.standing(self._handle, *contender, byref(token), room, len(room), byref(count))
             self._check(code, directory)
-            is_whole = not room.widen(count.value)
-        rival = string_at(room.bytes, count.value).decode() if code == WAITS else None
+            if count.value <= len(room):
+                break
+            room = new_bytes(None, count.value)
+        rival = room[: count.value].decode() if code == WAITS else None
         return Standing(token.value if code == OK else None, rival)
 
     def holder(self, directory: str, prefix: str, path: str) -> Optional[int]:
@@ -448,16 +365,17 @@ class LookUps(Generic[Said]):
         return int(answered)
 
     def _data_kept(self, path: str) -> KeptData:
-        told, room, is_whole, spelled = library._KeptData(), _Room(), False, self._root.spell(path)
-        while not is_whole:
-            self._check(self._calls.peek_data(self._handle, spelled, len(spelled), told, room.bytes, len(room.bytes)), path)
-            fields = _fields_of_kept_data(told)
-            kind, mark, length, is_null = fields[:_HEAD_OF_KEPT_DATA]
-            is_whole = not room.widen(length)
+        told, room, spelled = library._KeptData(), new_bytes(None, _FEW), self._root.spell(path)
+        while True:
+            self._check(self._calls.peek_data(self._handle, spelled, len(spelled), told, room, len(room)), path)
+            kind, mark, length, is_null, czxid, mzxid, ctime, mtime, owner, version, data_length = _fields_of_kept_data(told)
+            if length <= len(room):
+                break
+            room = new_bytes(None, length)
         known("kind of what is kept", kind, _KINDS_OF_KEPT)
         known("mark", mark, _MARKS)
-        stat = _data_stat_in(fields) if kind in (KNOWN, FULL) else None
-        return KeptData(kind, mark, stat, room.first(length) if kind == FULL and not is_null else None)
+        stat = DataStat(czxid, mzxid, ctime, mtime, version, owner, data_length) if kind in (KNOWN, FULL) else None
+        return KeptData(kind, mark, stat, room[:length] if kind == FULL and not is_null else None)
 
     def _side_kept(self, path: str) -> tuple[int, int]:
         kept, spelled = library._KeptNames(), self._root.spell(path)
@@ -466,14 +384,14 @@ class LookUps(Generic[Said]):
 
     def _names_kept(self, path: str) -> tuple[str, ...]:
         spelled = self._root.spell(path)
-        names = _Room().filled(lambda *room: self._calls.peek_names(self._handle, spelled, len(spelled), *room))
-        return tuple(_texts_in(names))
+        names = filled(lambda *room: self._calls.peek_names(self._handle, spelled, len(spelled), *room))
+        return tuple(texts_in(names))
 
     def _collected(self, collect: Callable[..., int], path: str, most: int) -> Optional[bytes]:
         """What a function copies of what is at and below a path, and None where that is not whole."""
         spelled = self._root.spell(path)
         try:
-            return _Room().filled(lambda *room: self._checked_at(collect(self._handle, spelled, len(spelled), most, *room), path))
+            return filled(lambda *room: self._checked_at(collect(self._handle, spelled, len(spelled), most, *room), path))
         except NotWhole:
             return None
 
@@ -489,82 +407,9 @@ class LookUps(Generic[Said]):
         checked(code)
         return code
 
-    # What a step tells.
-
     def _check(self, code: int, path: str) -> None:
         """Raises what a code below 0 says of a call about this path."""
         if code < OK:
             if code == NOT_PATH:
                 raise no_path(path, self._root.full(path))
             checked(code)
-
-    def _outputs(self, code: int, path: str = "") -> list[Said]:
-        if code < OK:
-            self._check(code, path)
-        outputs: list[Any] = []
-        handle, output, take = self._handle_at, self._output_at, self._calls.next
-        while take(handle, output) == OK:
-            fields = _fields_of_output(self._output)
-            outputs.append(self._read(fields[:_HEAD_OF_OUTPUT] + _stat_in(fields), self._bytes_of(fields)))
-        return outputs
-
-    def _bytes_of(self, fields: tuple[Any, ...]) -> bytes:
-        """The bytes of the output that was told last: its text, and after it the names of a listing, or the words of a drop."""
-        length, names = fields[_LENGTH_OF_OUTPUT], fields[_NAMES_OF_OUTPUT]
-        if fields[0] == DROP:
-            return self._text(length) + self._words()
-        return self._names() if fields[0] == ANSWER and names else self._text(length)
-
-    def _read(self, fields: tuple[Any, ...], told: bytes) -> Said:
-        """What the library says, by the fields of an output, with its Stat as the protocol has it, and its bytes."""
-        raise NotImplementedError
-
-    def _output_of(self, fields: tuple[Any, ...], told: bytes) -> Output:
-        """The same of what clients say too."""
-        kind, detail, result, _, _, _, length, _, _, _ = fields[:_HEAD_OF_OUTPUT]
-        if kind == SEND:
-            return made(Send, (told,))
-        if kind == ANSWER:
-            return self._answer(fields, told)
-        if kind == REPORT:
-            event, side = known("event", detail, _EVENTS), known("side", result, _SIDES)
-            return Report(event, side, self._root.read(told))
-        if kind == STATE:
-            return StateChange(known("state", detail, _STATES))
-        known("output", kind, (DROP,))
-        return Drop(told[:length].decode(), told[length:].decode(errors="replace"))
-
-    def _answer(self, fields: tuple[Any, ...], told: bytes) -> Answer:
-        _, lack, result, code, ticket, zxid, _, _, is_null, has_stat = fields[:_HEAD_OF_OUTPUT]
-        if lack not in _OUTCOMES:
-            known("outcome", lack, _OUTCOMES)
-        if lack == REPLIED:
-            if result not in _RESULTS:
-                known("result of a reply", result, _RESULTS)
-        else:
-            zxid = 0
-        text: Optional[bytes] = None
-        names: list[str] = []
-        if result == DATA:
-            text = None if is_null else told
-        elif result == NAMES:
-            names = _texts_in(told)
-        elif result == CREATED:
-            text = self._root.read(told).encode()
-        elif result == RAW:
-            text = told
-        stat = made(Stat, fields[_HEAD_OF_OUTPUT:_FIELDS_OF_OUTPUT]) if has_stat else None
-        return made(Answer, (ticket, lack, result, code, stat, text, names, zxid))
-
-    def _text(self, length: int) -> bytes:
-        room = self._room
-        if length > room.size:
-            room.widen(length)
-        self._calls.copy(self._handle_at, _START, room.at, c_size_t(length))
-        return room.view[:length].tobytes()
-
-    def _names(self) -> bytes:
-        return self._room.filled(lambda *room: self._calls.names(self._handle, *room))
-
-    def _words(self) -> bytes:
-        return self._room.filled(lambda *room: self._calls.words(self._handle, *room))

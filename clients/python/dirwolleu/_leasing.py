@@ -30,7 +30,7 @@ from dirwolleu._contending import (
 )
 from dirwolleu._engine import News
 from dirwolleu._plans import Plan
-from dirwolleu._steps import Steps, Wait
+from dirwolleu._steps import Steps, Wait, run
 from dirwolleu.exceptions import (
     NodeExistsError,
     NoNodeError,
@@ -192,6 +192,10 @@ class BaseSemaphore(BaseTaker[AnyClient, AnyHeld]):
 
     def _taken_by(self, news: News) -> Take:
         return Lessee(self._client, self._path, self._data, self._most, news).take
+
+    def _lease_holders(self) -> Steps[list[str]]:
+        """The identifiers of those that hold a lease, in no order."""
+        return run(self._holders(), self._client._retry, None)
 
     def _holders(self) -> Plan[list[str]]:
         names = yield from names_of(self._path)

@@ -7,7 +7,7 @@ from typing import TYPE_CHECKING, Any, Optional
 
 from dirwolleu import _records as records
 from dirwolleu import _requests as requests
-from dirwolleu._checks import checked_path
+from dirwolleu._checks import checked_path, checked_version
 from dirwolleu._records import Mode, is_nameless
 from dirwolleu._requests import Request, Result
 from dirwolleu.exceptions import NodeExistsError, NoNodeError, NotEmptyError
@@ -64,28 +64,22 @@ def _ensure(path: str, acl: Acls) -> Plan[None]:
             pass
 
 
-def create(request: Request[Result], path: str, acl: Acls, makepath: bool) -> Plan[Result]:
-    """Makes a node, and those above it where `makepath` is true."""
+def create(request: Request[Result], path: str, acl: Acls) -> Plan[Result]:
+    """Makes a node, and those above it as far as they are not there."""
     result: Result
     try:
         result = yield request
     except NoNodeError:
-        if not makepath or path == "/":
+        if path == "/":
             raise
         yield from ensure_path(parent_of(path), acl)
         result = yield request
     return result
 
 
-def delete(path: str, version: int, recursive: bool) -> Plan[None]:
-    """Deletes a node, and all below it where `recursive` is true."""
-    request = requests.delete(path, version)
-    return _delete_all(path, version) if recursive else _asked(request)
-
-
-def _asked(request: Request[Result]) -> Plan[Result]:
-    result: Result = yield request
-    return result
+def delete_all(path: str, version: int) -> Plan[None]:
+    """Deletes a node of this version, and all below it."""
+    return _delete_all(checked_path(path), checked_version(version))
 
 
 def _delete_all(path: str, version: int) -> Plan[None]:

@@ -12,7 +12,7 @@ from dirwolleu._contending import BETWEEN_TRIES, AnyClient, names_of, patiently
 from dirwolleu._engine import News
 from dirwolleu._plans import Plan
 from dirwolleu._retry import is_lived_through
-from dirwolleu._steps import Ask, Steps, TimeIsOver, Wait, bounded, until_of
+from dirwolleu._steps import Ask, GetNews, Steps, TimeIsOver, Wait, bounded, run, until_of
 from dirwolleu.exceptions import BadVersionError, NoNodeError, ZookeeperError
 
 _ENTRY = re.compile(r"entry-(\d{3})-(?:.*-)?(\d{10})$")
@@ -35,8 +35,8 @@ class BaseQueue(Generic[AnyClient]):
     def __init__(self, client: AnyClient, path: str) -> None:
         self._client, self._path = client, path
 
-    def _putting(self, value: bytes, priority: int) -> Steps[str]:
-        """Makes an entry, and answers its path. One whose answer was lost is looked for by its tag."""
+    def _put(self, value: bytes, priority: int = 100) -> Steps[str]:
+        """Adds an entry, and answers its path. A priority is 0 to 999."""
         if not 0 <= priority <= _MOST_PRIORITY:
             raise ValueError(f"a priority is 0 to {_MOST_PRIORITY}")
         tag = f"entry-{priority:03d}-{plans.new_tag().hex}-"
@@ -49,7 +49,7 @@ class BaseQueue(Generic[AnyClient]):
                     raise
                 may_be_there = error.may_have_happened
             yield Wait(BETWEEN_TRIES)
-            if may_be_there:
+            if may_be_there:  # it is looked for by its tag
                 found: Optional[str] = yield from patiently(self._client._engine, lambda: self._find(tag))
                 if found is not None:
                     return found
@@ -59,7 +59,16 @@ class BaseQueue(Generic[AnyClient]):
         names = yield from names_of(self._path)
         return next((plans.child_of(self._path, name) for name in names if name.startswith(tag)), None)
 
-    def _taking(self, news: News, timeout: Optional[float]) -> Steps[Optional[bytes]]:
+    def _get(self, timeout: Optional[float] = None) -> Steps[Optional[bytes]]:
+        """Takes the first entry out, waits for one for at most this many seconds, and answers its data: None where none
+        came. A timeout of 0 tries once.
+
+        Once it has asked for the delete of an entry, it waits for the answer to that as any call does: so it may take longer
+        than `timeout`. Raises `ConnectionLoss` or `CallTimeoutError`, with `may_have_happened`, if that answer does not come:
+        the entry may be gone, its data are the error's `entry`, and its path is `path`. With asyncio the entry may be gone too
+        where the call is cancelled.
+        """
+        news: News = yield GetNews()
         with self._client._engine.news(news.set):
             try:
                 return (yield from bounded(self._take(news), until_of(timeout)))
@@ -100,6 +109,10 @@ class BaseQueue(Generic[AnyClient]):
             raise
         return data or b""
 
-    def _counting(self) -> Plan[int]:
+    def _size(self) -> Steps[int]:
+        """How many entries there are."""
+        return run(self._count(), self._client._retry, None)
+
+    def _count(self) -> Plan[int]:
         names = yield from names_of(self._path)
         return len(in_turn(names))

@@ -71,7 +71,7 @@ class BaseRegistration(Generic[AnyClient]):
                 if self._is_wanted:
                     yield Wait(pause)
         if engine.is_running:
-            yield from self._withdrawing()
+            yield from self._withdraw()
 
     def _make(self) -> Plan[None]:
         """Reads the node with a watch, where nothing good is known of it, and makes it where it is not there."""
@@ -96,11 +96,12 @@ class BaseRegistration(Generic[AnyClient]):
             self._there.clear()
             create = requests.create(self._path, self._value, True, False)
             try:
-                yield from plans.create(create, self._path, None, True)
+                yield from plans.create(create, self._path, None)
             except NodeExistsError:
                 pass
 
-    def _setting(self, value: bytes) -> Plan[None]:
+    def _set(self, value: bytes) -> Plan[None]:
+        """Gives the node other data, now and in later sessions."""
         self._value = checked_data(value)
         try:
             yield requests.set(self._path, value, -1)
@@ -110,7 +111,7 @@ class BaseRegistration(Generic[AnyClient]):
         if self._news is not None:
             self._news.set()
 
-    def _withdrawing(self) -> Steps[None]:
+    def _withdraw(self) -> Steps[None]:
         """Deletes the node, if it is one of this session, and makes it no more. Where its session is over, so is the node."""
         self._is_wanted = False
         self._there.clear()

@@ -1,8 +1,9 @@
 """`Session`, the session of the library: it says which server is dialled and when, has calls wait for a connection, keeps what is followed
 good, and begins another session after an expiry.
 
-It opens no socket and reads no clock. What holds for `Machine` holds for it: each step is told the moment, one thread makes all steps, and
-any thread may look up what is kept. A ticket is the caller's number of a call or a subject, and no two have or had one.
+It opens no socket and reads no clock: each step is told the moment, in milliseconds of a clock that does not go back, and answers what comes
+of it. One thread makes all steps, and any thread may look up what is kept. A ticket is the caller's number of a call or a subject, and no two
+have or had one.
 """
 
 from __future__ import annotations
@@ -10,24 +11,31 @@ from __future__ import annotations
 import enum
 import struct
 from collections.abc import Sequence
-from ctypes import byref, c_size_t, c_uint64
+from ctypes import byref, c_char, c_size_t, c_uint64, create_string_buffer
 from typing import Any, Callable, NamedTuple, Optional, Union
 
 from dirwolleu import _library as library
-from dirwolleu._handle import LookUps, made
-from dirwolleu._library import checked, functions, known
+from dirwolleu._handle import LookUps, fields_of, filled, made, new_bytes, texts_in
+from dirwolleu._library import Answer, Drop, Halted, NoMemory, Report, Send, StateChange, checked, known
 from dirwolleu._root import Root
 from dirwolleu.exceptions import TooLargeError
+from dirwolleu.types import Stat
 
 NO_LIMIT = 2**64 - 1
 """The limit of a call that has none."""
-_REFUSALS = frozenset(
-    (library.READ_CODE, library.READ_TOO_MANY_WATCHES, library.READ_TOO_LARGE, library.READ_CLOSED)
-)
+MOST_AT_ONCE = 98_304
+"""How many bytes of what a step says are taken together, at most. What is longer is taken one output after the other, and copied once."""
+_REFUSALS = frozenset((library.READ_CODE, library.READ_TOO_MANY_WATCHES, library.READ_TOO_LARGE, library.READ_CLOSED))
+_EVENTS = frozenset((library.NODE_CREATED, library.NODE_DELETED, library.DATA_CHANGED, library.CHILDREN_CHANGED))
 _SIDES = frozenset((library.DATA_SIDE, library.CHILDREN_SIDE))
+_STATES = frozenset((library.IDLE, library.CONNECTING, library.CONNECTED, library.EXPIRED, library.SESSION_CLOSED))
+_OUTCOMES = frozenset(range(library.REPLIED, library.TOO_MANY_PENDING + 1))
+_RESULTS = frozenset(range(library.CODE, library.RAW + 1))
 _output = struct.Struct(">iiiiQqQQ??qqqqiiiqiiqi")  # an output: its fields, its Stat, and how many bytes follow
 _output_at, _SIZE_OF_OUTPUT = _output.unpack_from, _output.size
-_SEND, _ANSWER, _Send = library.SEND, library.ANSWER, library.Send
+_fields_of_output = fields_of(library._Output)
+_HEAD, _END_OF_STAT = 10, 21  # of these: what is before the Stat, and with it
+_SEND, _ANSWER, _START = library.SEND, library.ANSWER, c_size_t(0)
 
 
 class Dial(NamedTuple):
@@ -115,27 +123,22 @@ def unbegun(last_zxid: int) -> bytes:
     return struct.pack(">qi", 0, 16) + bytes(16) + struct.pack(">q", last_zxid)
 
 
-class Session(LookUps[Action]):
+class Session(LookUps):
     """One session after the other, with the greatest zxid seen in all of them. It holds memory of the library's until `close`.
 
     `saved` is taken up first. The order of the addresses and the pauses between attempts are random by the seed.
     """
 
-    _calls = functions("dw_session_")
-
     def __init__(
         self, timeout_ms: int, seed: int, saved: Optional[bytes] = None, root: Root = Root(), addresses: int = 0
     ) -> None:
         super().__init__(root)
-        self._count, self._take_all = c_size_t(), self._calls.outputs
-        self._place = self._found_place()
+        self._output, self._count, self._take_all = library._Output(), c_size_t(), self._calls.outputs
+        self._make_room(4096)
         if saved is None:
             checked(self._calls.open(self._handle, timeout_ms, addresses, seed))
         else:
             checked(self._calls.resume(self._handle, timeout_ms, addresses, seed, saved, len(saved)))
-
-    def _free(self) -> None:
-        self._calls.free(self._handle)
 
     # Steps.
 
@@ -155,9 +158,10 @@ class Session(LookUps[Action]):
         """Nothing but the moment."""
         return self._outputs(self._calls.moment(self._handle, now))
 
-    def received(self, now: int, data: bytes) -> list[Action]:
-        """Bytes came. Raises `NoMemory` where they can be handed in again."""
-        return self._outputs(self._calls.bytes(self._handle, now, data, len(data)))
+    def received(self, now: int, data: Union[bytes, memoryview]) -> list[Action]:
+        """Bytes came, maybe in memory that the caller can write. Raises `NoMemory` where they can be handed in again."""
+        at = data if isinstance(data, bytes) else byref(c_char.from_buffer(data))
+        return self._outputs(self._calls.bytes(self._handle, now, at, len(data)))
 
     def addresses(self, now: int, count: int) -> list[Action]:
         """The list of addresses is another one, of this many."""
@@ -258,41 +262,68 @@ class Session(LookUps[Action]):
         if code < library.OK:
             self._check(code, path)
         outputs: list[Any] = []
-        if self._take_all(*self._place) != library.OK or self._count.value > self._room.size:
-            self._take_again()
-        at, end, view = 0, self._count.value, self._room.view
+        if self._take_all(*self._place) != library.OK or self._count.value > self._size:
+            if not self._can_take_all():
+                return self._each_output()
+        at, end, view = 0, self._count.value, self._view
         while at < end:
             fields = _output_at(view, at)
             begin = at + _SIZE_OF_OUTPUT
             at = begin + fields[-1]
             told = view[begin:at].tobytes()
-            kind = fields[0]
-            if kind == _SEND:
-                outputs.append(made(_Send, (told,)))
-            elif kind == _ANSWER:
-                outputs.append(self._answer(fields, told))
-            else:
-                outputs.append(self._read(fields, told))
+            outputs.append(self._answer(fields, told) if fields[0] == _ANSWER else self._read(fields, told))
         return outputs
 
-    def _take_again(self) -> None:
-        """The same where there was too little room. Where there is no memory for what a step says, it is lost."""
-        is_whole = False
-        while not is_whole:
-            code = self._take_all(*self._place)
-            if code != library.OK:
-                checked(library.HALTED if code == library.NO_MEMORY else code)
-            is_whole = not self._room.widen(self._count.value)
-            self._place = self._found_place()
+    def _make_room(self, size: int) -> None:
+        """Makes room for outputs."""
+        self._room = create_string_buffer(size)
+        self._view, self._size = memoryview(self._room), size
+        self._place = byref(self._handle), byref(self._room), c_size_t(size), byref(self._count)
 
-    def _found_place(self) -> tuple[Any, ...]:
-        """Where the library writes outputs: what is handed to a function that does not look at it."""
-        return self._handle_at, self._room.at, c_size_t(self._room.size), byref(self._count)
+    def _can_take_all(self) -> bool:
+        """Takes what a step says into more room, unless it is long, or there is no memory to take it at once."""
+        wanted = self._count.value
+        if not self._size < wanted <= MOST_AT_ONCE:
+            return False
+        self._make_room(wanted)
+        return bool(self._take_all(*self._place) == library.OK)
+
+    def _each_output(self) -> list[Action]:
+        """The same, one output after the other. Where there is no memory for one, it is lost."""
+        outputs: list[Action] = []
+        handle, output, take = byref(self._handle), byref(self._output), self._calls.next
+        while (code := take(handle, output)) == library.OK:
+            *head, czxid, mzxid, ctime, mtime, owner, pzxid, version, cversion, aversion, length, children = _fields_of_output(self._output)
+            stat = czxid, mzxid, ctime, mtime, version, cversion, aversion, owner, length, children, pzxid
+            try:
+                outputs.append(self._read((*head, *stat), self._bytes_of(*head)))
+            except NoMemory:
+                checked(library.HALTED)
+        checked(code)
+        return outputs
+
+    def _bytes_of(self, kind: int, *fields: int) -> bytes:
+        """The bytes of the output that was told last: its text, and after it the names of a listing, or the words of a drop."""
+        length, names = fields[5:7]
+        if kind == _ANSWER and names:
+            return filled(lambda *room: self._calls.names(self._handle, *room))
+        text: bytes = new_bytes(None, length)
+        self._calls.copy(byref(self._handle), _START, text, c_size_t(length))
+        return text + filled(lambda *room: self._calls.words(self._handle, *room)) if kind == library.DROP else text
 
     def _read(self, fields: tuple[Any, ...], told: bytes) -> Action:
-        kind, detail, result, code, ticket, _, _, place, was_sent = fields[:9]
-        if kind <= library.DROP:
-            return self._output_of(fields, told)
+        """What the library says, by the fields of an output, with its Stat as the protocol has it, and its bytes."""
+        kind, detail, result, code, ticket, _, length, place, was_sent = fields[:9]
+        if kind == _SEND:
+            return made(Send, (told,))
+        if kind == _ANSWER:
+            return self._answer(fields, told)
+        if kind == library.REPORT:
+            return Report(known("event", detail, _EVENTS), known("side", result, _SIDES), self._root.read(told))
+        if kind == library.STATE:
+            return StateChange(known("state", detail, _STATES))
+        if kind == library.DROP:
+            return Drop(told[:length].decode(), told[length:].decode(errors="replace"))
         if kind == library.DIAL:
             return Dial(place, ticket)
         if kind == library.TIMED_OUT:
@@ -312,3 +343,25 @@ class Session(LookUps[Action]):
         if kind == library.CREDENTIAL:
             return CredentialAnswer(place, code)
         return _SIGNS[known("output", kind, _SIGNS)]
+
+    def _answer(self, fields: tuple[Any, ...], told: bytes) -> Answer:
+        _, lack, result, code, ticket, zxid, _, _, is_null, has_stat = fields[:_HEAD]
+        if lack not in _OUTCOMES:
+            known("outcome", lack, _OUTCOMES)
+        if lack == library.REPLIED:
+            if result not in _RESULTS:
+                known("result of a reply", result, _RESULTS)
+        else:
+            zxid = 0
+        text: Optional[bytes] = None
+        names: list[str] = []
+        if result == library.DATA:
+            text = None if is_null else told
+        elif result == library.NAMES:
+            names = texts_in(told)
+        elif result == library.CREATED:
+            text = self._root.read(told).encode()
+        elif result == library.RAW:
+            text = told
+        stat = made(Stat, fields[_HEAD:_END_OF_STAT]) if has_stat else None
+        return made(Answer, (ticket, lack, result, code, stat, text, names, zxid))

@@ -10,11 +10,9 @@ from typing import TYPE_CHECKING, Any, Callable, Optional, TypeVar, Union
 from dirwolleu import _watches as watches
 from dirwolleu._checks import checked_function, checked_text
 from dirwolleu._clock import moment
-from dirwolleu._credentials import Credential, Introduction
+from dirwolleu._credentials import Credential
 from dirwolleu._engine import Engine, Listener, News, Tell
-from dirwolleu._freshening import freshening
 from dirwolleu._hosts import Servers
-from dirwolleu._plans import Plan
 from dirwolleu._retry import Retry
 from dirwolleu._steps import Result, Steps
 from dirwolleu.types import Kept, KeptChildren, Mark, Snapshot, State, Stats
@@ -227,10 +225,3 @@ class Shown:
         `dirwolleu.ChildrenWatch`.
         """
         return watches.ChildrenWatch(self, path, function)
-
-    def _introducing(self, credential: Credential) -> Plan[None]:
-        """Says who the session is, now and on each later connection."""
-        yield Introduction(credential)
-
-    def _freshening(self, quorum: bool) -> Plan[int]:
-        return freshening(self._engine, quorum)

@@ -36,13 +36,17 @@ class Wait(NamedTuple):
     seconds: Optional[float]
 
 
+class GetNews(NamedTuple):
+    """Answer what sets the news that `Wait` waits for."""
+
+
 class Call(NamedTuple):
     """Call a function of the program. Where it is a coroutine function of asyncio, what it answers is awaited."""
 
     function: Callable[[], Any]
 
 
-Step = Union[Request[Any], Ask, Wait, Call]
+Step = Union[Request[Any], Ask, Wait, GetNews, Call]
 Steps = Generator[Step, Any, Result]
 
 

@@ -9,8 +9,7 @@ from typing import Any, Callable, Optional, Protocol
 from dirwolleu._checks import checked_int
 from dirwolleu._engine import Engine, News
 from dirwolleu._growing import Growing
-from dirwolleu._steps import Steps, TimeIsOver, Wait, bounded, until_of
-from dirwolleu._waiting import News as ThreadNews
+from dirwolleu._steps import GetNews, Steps, TimeIsOver, Wait, bounded, until_of
 from dirwolleu.exceptions import CallTimeoutError
 from dirwolleu.tree import TreeSnapshot
 
@@ -61,15 +60,19 @@ class _Grown:
         for wake in list(self._waiting):
             wake()
 
-    def _first(self, news: News) -> Steps[TreeSnapshot]:
+    def _first(self, timeout: Optional[float]) -> Steps[TreeSnapshot]:
         """Waits for a snapshot where there is none."""
-        found = yield from self._next(news, None)
+        try:
+            found = yield from bounded(self._next(None), until_of(timeout))
+        except TimeIsOver:
+            raise CallTimeoutError("the tree is not whole yet", "it is read on") from None
         if found is None:
             raise self._engine.why_over("the tree was closed, or its client stopped")
         return found
 
-    def _next(self, news: News, told: Optional[TreeSnapshot]) -> Steps[Optional[TreeSnapshot]]:
+    def _next(self, told: Optional[TreeSnapshot]) -> Steps[Optional[TreeSnapshot]]:
         """Waits for another snapshot than this one: None where the tree or the client ends before."""
+        news: News = yield GetNews()
         self._waiting.append(news.set)
         try:
             with self._engine.news(news.set):
@@ -90,7 +93,7 @@ class _Client(Protocol):
 
     _engine: Engine
 
-    def _drive(self, steps: Steps[Any], news: Any = None) -> Any: ...
+    def _drive(self, steps: Steps[Any]) -> Any: ...
 
 
 class Tree(_Grown):
@@ -122,20 +125,16 @@ class Tree(_Grown):
 
         Raises `CallTimeoutError` where none came in time, and the `trouble` that keeps it from coming.
         """
-        news = ThreadNews()
-        try:
-            found: TreeSnapshot = self._client._drive(bounded(self._first(news), until_of(timeout)), news)
-            return found
-        except TimeIsOver:
-            raise CallTimeoutError("the tree is not whole yet", "it is read on") from None
+        found: TreeSnapshot = self._client._drive(self._first(timeout))
+        return found
 
     def snapshots(self) -> Generator[TreeSnapshot, None, None]:
         """Yields the newest snapshot, and each newer one. Where several come between two of them, the last one is told.
 
         It ends where the tree is closed or the client is stopped.
         """
-        news, told = ThreadNews(), None
-        while (told := self._client._drive(self._next(news, told), news)) is not None:
+        told = None
+        while (told := self._client._drive(self._next(told))) is not None:
             yield told
 
 
@@ -144,7 +143,7 @@ class _AsyncClient(Protocol):
 
     _engine: Engine
 
-    async def _drive(self, steps: Steps[Any], news: Any = None) -> Any: ...
+    async def _drive(self, steps: Steps[Any]) -> Any: ...
 
 
 class AsyncTree(_Grown):
@@ -156,9 +155,9 @@ class AsyncTree(_Grown):
                 tree.close()
     """
 
-    def __init__(self, client: _AsyncClient, path: str, most: int, event: Callable[[], Any]) -> None:
+    def __init__(self, client: _AsyncClient, path: str, most: int) -> None:
         super().__init__(client._engine, path, most)
-        self._client, self._event = client, event
+        self._client = client
 
     async def __aenter__(self) -> AsyncTree:
         return self
@@ -170,15 +169,11 @@ class AsyncTree(_Grown):
 
     async def wait(self, timeout: Optional[float] = None) -> TreeSnapshot:
         """The newest snapshot, as `wait` of `dirwolleu.Tree`."""
-        news = self._event()
-        try:
-            found: TreeSnapshot = await self._client._drive(bounded(self._first(news), until_of(timeout)), news)
-            return found
-        except TimeIsOver:
-            raise CallTimeoutError("the tree is not whole yet", "it is read on") from None
+        found: TreeSnapshot = await self._client._drive(self._first(timeout))
+        return found
 
     async def snapshots(self) -> AsyncGenerator[TreeSnapshot, None]:
         """Yields the newest snapshot, and each newer one, as `snapshots` of `dirwolleu.Tree`."""
-        news, told = self._event(), None
-        while (told := await self._client._drive(self._next(news, told), news)) is not None:
+        told = None
+        while (told := await self._client._drive(self._next(told))) is not None:
             yield told

@@ -15,7 +15,7 @@ from typing import Any, Callable, Optional, Protocol, Union
 from dirwolleu import _ending as ending
 from dirwolleu._requests import Request
 from dirwolleu._semaphore import Semaphore, has_system_threads
-from dirwolleu._steps import Ask, Call, Step, Steps, Wait
+from dirwolleu._steps import Ask, Call, GetNews, Step, Steps, Wait
 
 logger = logging.getLogger("dirwolleu")
 
@@ -377,8 +377,8 @@ class Task:
         try:
             if isinstance(step, Wait):
                 self._wait(step.seconds)
-            elif isinstance(step, Call):
-                self.soon(number, step.function(), None)
+            elif isinstance(step, (Call, GetNews)):
+                self.soon(number, step.function() if isinstance(step, Call) else self, None)
             else:
                 self._ask(step)
         except BaseException as error:

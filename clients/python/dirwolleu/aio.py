@@ -6,31 +6,28 @@ import asyncio
 import contextlib
 import inspect
 import ssl as _ssl
-from collections.abc import AsyncGenerator, Awaitable, Iterable, Sequence
+from collections.abc import AsyncGenerator, Awaitable, Coroutine
 from types import TracebackType
-from typing import Any, Callable, Optional, TypeVar, Union
+from typing import TYPE_CHECKING, Any, Callable, Optional, TypeVar
 
+from dirwolleu import _calls as calls
 from dirwolleu import _following as following
-from dirwolleu import _plans as plans
-from dirwolleu import _records as records
 from dirwolleu import _requests as requests
 from dirwolleu import _steps as steps_of
+from dirwolleu._calls import Wanted
 from dirwolleu._clock import moment
 from dirwolleu._driver import Driver
 from dirwolleu._engine import News as AnyNews
-from dirwolleu._plans import Acls, Plan
-from dirwolleu._records import Created, Mode
+from dirwolleu._plans import Plan
 from dirwolleu._requests import Request, Result
 from dirwolleu._retry import Retry
-from dirwolleu._shown import AuthData, Shown, credential_of, parts_of
-from dirwolleu._steps import Ask, Call, Step, Steps, Wait
+from dirwolleu._shown import AuthData, Shown, parts_of
+from dirwolleu._steps import Ask, Call, GetNews, Step, Steps, Wait
 from dirwolleu._trees import MOST_NODES, AsyncTree
 from dirwolleu._watches import ChildrenWatch, DataWatch
 from dirwolleu.exceptions import ZookeeperError
-from dirwolleu.multi_read import Read, ReadOutcome, multi_read
-from dirwolleu.security import ACL, Id
 from dirwolleu.transaction import AsyncTransaction
-from dirwolleu.types import Kept, KeptChildren, Stat, Watch
+from dirwolleu.types import Kept, KeptChildren
 
 from dirwolleu._aio_recipes import (  # isort: skip
     Barrier,
@@ -63,6 +60,11 @@ __all__ = [
     "WriteLock",
 ]
 
+if TYPE_CHECKING:
+    from typing_extensions import Concatenate, ParamSpec
+
+    Given = ParamSpec("Given")
+
 Returned = TypeVar("Returned")
 
 LONGEST_FAREWELL = 2.0
@@ -76,6 +78,30 @@ class _Waiter(asyncio.Future[Any]):
         return not self.done()
 
 
+def _waits(
+    call: Callable[Concatenate[Client, Given], Wanted[Result]]
+) -> Callable[Concatenate[Client, Given], Coroutine[Any, Any, Result]]:
+    """A coroutine function that waits for what a call asks for."""
+
+    async def waits(client: Client, /, *given: Given.args, **named: Given.kwargs) -> Result:
+        wanted, timeout = call(client, *given, **named)
+        return await (client._call(wanted, timeout) if isinstance(wanted, Request) else client._run(wanted, timeout))
+
+    return calls.shown(waits, call, is_awaited=True)
+
+
+def _sends(
+    call: Callable[Concatenate[Client, Given], Wanted[Result]]
+) -> Callable[Concatenate[Client, Given], asyncio.Future[Result]]:
+    """What hands in at once what a call asks for. One request needs no task."""
+
+    def sends(client: Client, /, *given: Given.args, **named: Given.kwargs) -> asyncio.Future[Result]:
+        wanted, timeout = call(client, *given, **named)
+        return client._send(wanted, timeout) if isinstance(wanted, Request) else client._begin_plan(wanted, timeout)
+
+    return calls.shown(sends, call, "_async")
+
+
 class Client(Shown):
     """A client of ZooKeeper whose functions are coroutines. It belongs to the event loop in which it is started.
 
@@ -83,6 +109,11 @@ class Client(Shown):
     coroutine functions, which the event loop calls. A call that is cancelled may still happen at the server, within its
     bound, also where it waits for a connection. Whoever cancels all tasks of the loop, as `asyncio.run` does at its end, leaves the connection as
     it is, so that `stop` can still end the session.
+
+    Each call has a second one whose name ends in `_async`: it is handed in at once, and answers an `asyncio.Future`.
+
+        futures = [client.get_async(f"/config/{name}") for name in names]
+        data = [(await future)[0] for future in futures]
     """
 
     def __init__(
@@ -160,151 +191,41 @@ class Client(Shown):
             task.cancel()
         self._end_driver(self._engine.close)
 
-    async def exists(self, path: str, watch: Watch = None, *, timeout: Optional[float] = None) -> Optional[Stat]:
-        """What is known of a node, or None where there is none. A watch is left also where there is none."""
-        return await self._call(requests.exists(path, watch), timeout)
+    exists = _waits(calls.exists)
+    get = _waits(calls.get)
+    get_children = _waits(calls.get_children)
+    create = _waits(calls.create)
+    create2 = _waits(calls.create2)
+    ensure_path = _waits(calls.ensure_path)
+    set = _waits(calls.set)
+    delete = _waits(calls.delete)
+    sync = _waits(calls.sync)
+    fresh = _waits(calls.fresh)
+    get_ephemerals = _waits(calls.get_ephemerals)
+    get_all_children_number = _waits(calls.get_all_children_number)
+    who_am_i = _waits(calls.who_am_i)
+    multi_read = _waits(calls.multi_read)
+    get_acls = _waits(calls.get_acls)
+    set_acls = _waits(calls.set_acls)
+    add_auth = _waits(calls.add_auth)
 
-    async def get(
-        self, path: str, watch: Watch = None, *, timeout: Optional[float] = None
-    ) -> tuple[Optional[bytes], Stat]:
-        """The data of a node, None where they are null, and what is known of it.
-
-        Raises `NoNodeError`; then no watch is left.
-        """
-        return await self._call(requests.get(path, watch), timeout)
-
-    async def get_children(self, path: str, watch: Watch = None, *, timeout: Optional[float] = None) -> list[str]:
-        """The names of a node's children, in no order. Raises `NoNodeError`; then no watch is left."""
-        return await self._call(requests.get_children(path, watch), timeout)
-
-    async def create(
-        self,
-        path: str,
-        value: Optional[bytes] = b"",
-        *,
-        acl: Acls = None,
-        ephemeral: bool = False,
-        sequence: bool = False,
-        container: bool = False,
-        ttl: Optional[float] = None,
-        makepath: bool = False,
-        timeout: Optional[float] = None,
-    ) -> str:
-        """Makes a node, open to all unless an ACL is given, and tells its path. None as value is null data.
-
-        An ephemeral node goes with the session. With `sequence` ten digits are added to the path: a path that ends with a slash
-        makes a node whose name is these alone. A `container` is deleted by the servers some time after its last child went, and
-        a node with a `ttl`, in seconds, when it had neither a change nor a child for so long: servers without the option
-        `zookeeper.extendedTypesEnabled` refuse that by `UnimplementedError`. With `makepath` the nodes above it are made too, as
-        far as they are not there. Raises `NodeExistsError`, `NoNodeError` if there is no parent, `NoChildrenForEphemeralsError`,
-        `InvalidACLError`.
-
-        With an ACL, and where the path ends with a slash, it asks by create2, which ZooKeeper has since 3.5; a container by
-        createContainer and a TTL by createTTL, of 3.5 too.
-
-            path = await client.create("/queue/job-", b"one", sequence=True, makepath=True)
-        """
-        request = plans.create_request(path, value, acl, Mode.of(ephemeral, sequence, container, ttl))
-        return await self._run(plans.create(request, path, acl, makepath), timeout)
-
-    async def create2(
-        self,
-        path: str,
-        value: Optional[bytes] = b"",
-        *,
-        acl: Acls = None,
-        ephemeral: bool = False,
-        sequence: bool = False,
-        makepath: bool = False,
-        timeout: Optional[float] = None,
-    ) -> Created:
-        """Makes a node as `create` does, and tells its `path` and its `stat`."""
-        request = records.create2(path, value, acl, Mode(ephemeral, sequence))
-        return await self._run(plans.create(request, path, acl, makepath), timeout)
-
-    async def ensure_path(self, path: str, *, acl: Acls = None, timeout: Optional[float] = None) -> None:
-        """Makes a node and those above it, as far as they are not there. It does no harm to ask it again."""
-        await self._run(plans.ensure_path(path, acl), timeout)
-
-    async def set(
-        self, path: str, value: Optional[bytes], version: int = -1, *, timeout: Optional[float] = None
-    ) -> Stat:
-        """Sets the data of a node of this version, where -1 is any. Raises `NoNodeError` and `BadVersionError`."""
-        return await self._call(requests.set(path, value, version), timeout)
-
-    async def delete(
-        self, path: str, version: int = -1, *, recursive: bool = False, timeout: Optional[float] = None
-    ) -> None:
-        """Deletes a node of this version, where -1 is any.
-
-        Raises `NoNodeError`, `BadVersionError`, `NotEmptyError`. With `recursive` all below it is deleted too, one node
-        after the other, and it is no error where there is no node; another client may see a part of it.
-        """
-        await self._run(plans.delete(path, version, recursive), timeout)
-
-    async def sync(self, path: str = "/", *, timeout: Optional[float] = None) -> str:
-        """Has the server take in all that was done before it answers, and tells the path.
-
-        A read after it sees each write that any client had an answer to before `sync` was called. It marks no kept
-        answer: what is kept has those writes once a later read or ping is answered.
-        """
-        return await self._call(records.sync(path), timeout)
-
-    async def fresh(self, *, quorum: bool = False, timeout: Optional[float] = None) -> int:
-        """Sees to it that what is good has each write that was answered before this call, to whichever client.
-
-        How, and what `quorum` is for, is said at `dirwolleu.Client.fresh`. It tells the zxid that was seen.
-
-            await client.fresh()
-            kept = client.kept("/config")
-            is_current = kept is not None and kept.mark is dirwolleu.Mark.GOOD
-        """
-        return await self._run(self._freshening(quorum), timeout)
-
-    async def get_ephemerals(self, prefix: str = "/", *, timeout: Optional[float] = None) -> list[str]:
-        """The paths of the session's ephemeral nodes that begin with a path, in no order. ZooKeeper has it since 3.6."""
-        return await self._call(records.get_ephemerals(prefix), timeout)
-
-    async def get_all_children_number(self, path: str, *, timeout: Optional[float] = None) -> int:
-        """How many nodes are below a node, at all depths. Raises `NoNodeError`. ZooKeeper has it since 3.6."""
-        return await self._call(records.get_all_children_number(path), timeout)
-
-    async def who_am_i(self, *, timeout: Optional[float] = None) -> list[Id]:
-        """By which schemes and ids the server knows this client: its address, and its credentials. ZooKeeper has it since 3.7."""
-        return await self._call(records.who_am_i(), timeout)
-
-    async def multi_read(self, reads: Iterable[Read], *, timeout: Optional[float] = None) -> list[ReadOutcome]:
-        """Reads the data or the names of several nodes at one zxid, and tells what each read has brought: the data and what is
-        known of the node, or the names, or the error of that read, as an error that is not raised. It leaves no watch, and
-        nothing of it is kept. ZooKeeper has it since 3.6.
-
-            config, names = await client.multi_read([dirwolleu.Read.data("/config"), dirwolleu.Read.children("/")])
-        """
-        return await self._call(multi_read(reads), timeout)
-
-    async def get_acls(self, path: str, *, timeout: Optional[float] = None) -> tuple[list[ACL], Stat]:
-        """The ACL of a node, and what is known of it. Raises `NoNodeError`."""
-        return await self._call(records.get_acls(path), timeout)
-
-    async def set_acls(
-        self, path: str, acls: Sequence[ACL], version: int = -1, *, timeout: Optional[float] = None
-    ) -> Stat:
-        """Sets the ACL of a node whose `aversion` is this one, where -1 is any.
-
-        Raises `NoNodeError`, `BadVersionError`, `InvalidACLError`, `NoAuthError`.
-        """
-        return await self._call(records.set_acls(path, acls, version), timeout)
-
-    async def add_auth(self, scheme: str, credential: Union[str, bytes], *, timeout: Optional[float] = None) -> None:
-        """Says who the session is, now and on each later connection.
-
-        Raises `AuthFailedError` if the server refuses it or does not know the scheme: the session is over then, as with those
-        of `auth_data`, and it is forgotten. The scheme `digest` takes any `username:password`.
-
-            await client.add_auth("digest", "bob:secret")
-            await client.create("/bobs", acl=dirwolleu.security.CREATOR_ALL_ACL)
-        """
-        await self._run(self._introducing(credential_of(scheme, credential)), timeout)
+    exists_async = _sends(calls.exists)
+    get_async = _sends(calls.get)
+    get_children_async = _sends(calls.get_children)
+    create_async = _sends(calls.create)
+    create2_async = _sends(calls.create2)
+    ensure_path_async = _sends(calls.ensure_path)
+    set_async = _sends(calls.set)
+    delete_async = _sends(calls.delete)
+    sync_async = _sends(calls.sync)
+    fresh_async = _sends(calls.fresh)
+    get_ephemerals_async = _sends(calls.get_ephemerals)
+    get_all_children_number_async = _sends(calls.get_all_children_number)
+    who_am_i_async = _sends(calls.who_am_i)
+    multi_read_async = _sends(calls.multi_read)
+    get_acls_async = _sends(calls.get_acls)
+    set_acls_async = _sends(calls.set_acls)
+    add_auth_async = _sends(calls.add_auth)
 
     def transaction(self) -> AsyncTransaction:
         """Several changes that happen together or not at all: see `AsyncTransaction`."""
@@ -327,102 +248,6 @@ class Client(Shown):
                 pause = attempts.after(error)
             await asyncio.sleep(pause)
 
-    def exists_async(self, path: str, watch: Watch = None) -> asyncio.Future[Optional[Stat]]:
-        """`exists`, which is handed in at once, and needs no task."""
-        return self._send(requests.exists(path, watch))
-
-    def get_async(self, path: str, watch: Watch = None) -> asyncio.Future[tuple[Optional[bytes], Stat]]:
-        """`get`, which is handed in at once, and needs no task.
-
-            futures = [client.get_async(f"/config/{name}") for name in names]
-            data = [(await future)[0] for future in futures]
-        """
-        return self._send(requests.get(path, watch))
-
-    def get_children_async(self, path: str, watch: Watch = None) -> asyncio.Future[list[str]]:
-        """`get_children`, which is handed in at once, and needs no task."""
-        return self._send(requests.get_children(path, watch))
-
-    def create_async(
-        self,
-        path: str,
-        value: Optional[bytes] = b"",
-        *,
-        acl: Acls = None,
-        ephemeral: bool = False,
-        sequence: bool = False,
-        container: bool = False,
-        ttl: Optional[float] = None,
-        makepath: bool = False,
-    ) -> asyncio.Future[str]:
-        """`create`, which is handed in at once, and needs no task, unless `makepath` is true."""
-        request = plans.create_request(path, value, acl, Mode.of(ephemeral, sequence, container, ttl))
-        return self._begin_plan(plans.create(request, path, acl, makepath)) if makepath else self._send(request)
-
-    def create2_async(
-        self,
-        path: str,
-        value: Optional[bytes] = b"",
-        *,
-        acl: Acls = None,
-        ephemeral: bool = False,
-        sequence: bool = False,
-        makepath: bool = False,
-    ) -> asyncio.Future[Created]:
-        """`create2`, which is handed in at once, and needs no task, unless `makepath` is true."""
-        request = records.create2(path, value, acl, Mode(ephemeral, sequence))
-        return self._begin_plan(plans.create(request, path, acl, makepath)) if makepath else self._send(request)
-
-    def ensure_path_async(self, path: str, *, acl: Acls = None) -> asyncio.Future[None]:
-        """`ensure_path`, as a task."""
-        return self._begin_plan(plans.ensure_path(path, acl))
-
-    def set_async(self, path: str, value: Optional[bytes], version: int = -1) -> asyncio.Future[Stat]:
-        """`set`, which is handed in at once, and needs no task."""
-        return self._send(requests.set(path, value, version))
-
-    def delete_async(self, path: str, version: int = -1, *, recursive: bool = False) -> asyncio.Future[None]:
-        """`delete`, which is handed in at once, and needs no task, unless `recursive` is true."""
-        if recursive:
-            return self._begin_plan(plans.delete(path, version, recursive))
-        return self._send(requests.delete(path, version))
-
-    def sync_async(self, path: str = "/") -> asyncio.Future[str]:
-        """`sync`, which is handed in at once, and needs no task."""
-        return self._send(records.sync(path))
-
-    def get_ephemerals_async(self, prefix: str = "/") -> asyncio.Future[list[str]]:
-        """`get_ephemerals`, which is handed in at once, and needs no task."""
-        return self._send(records.get_ephemerals(prefix))
-
-    def get_all_children_number_async(self, path: str) -> asyncio.Future[int]:
-        """`get_all_children_number`, which is handed in at once, and needs no task."""
-        return self._send(records.get_all_children_number(path))
-
-    def who_am_i_async(self) -> asyncio.Future[list[Id]]:
-        """`who_am_i`, which is handed in at once, and needs no task."""
-        return self._send(records.who_am_i())
-
-    def multi_read_async(self, reads: Iterable[Read]) -> asyncio.Future[list[ReadOutcome]]:
-        """`multi_read`, which is handed in at once, and needs no task."""
-        return self._send(multi_read(reads))
-
-    def get_acls_async(self, path: str) -> asyncio.Future[tuple[list[ACL], Stat]]:
-        """`get_acls`, which is handed in at once, and needs no task."""
-        return self._send(records.get_acls(path))
-
-    def set_acls_async(self, path: str, acls: Sequence[ACL], version: int = -1) -> asyncio.Future[Stat]:
-        """`set_acls`, which is handed in at once, and needs no task."""
-        return self._send(records.set_acls(path, acls, version))
-
-    def add_auth_async(self, scheme: str, credential: Union[str, bytes]) -> asyncio.Future[None]:
-        """`add_auth`, as a task."""
-        return self._begin_plan(self._introducing(credential_of(scheme, credential)))
-
-    def fresh_async(self, *, quorum: bool = False) -> asyncio.Future[int]:
-        """`fresh`, as a task."""
-        return self._begin_plan(self._freshening(quorum))
-
     async def follow(self, path: str) -> AsyncGenerator[Kept, None]:
         """Yields what a node holds, and again whenever that has changed, as `follow` of `dirwolleu.Client` does."""
         async for kept in self._follow(following.data_of(self._engine, path)):
@@ -437,7 +262,7 @@ class Client(Shown):
 
     def tree(self, path: str, *, most: int = MOST_NODES) -> AsyncTree:
         """Reads all nodes at and below a path, and reads again what changes, as `tree` of `dirwolleu.Client` does."""
-        tree = AsyncTree(self, path, most, asyncio.Event)
+        tree = AsyncTree(self, path, most)
         self._act()
         return tree
 
@@ -480,6 +305,8 @@ class Client(Shown):
             with contextlib.suppress(asyncio.TimeoutError):
                 await asyncio.wait_for(news.wait(), step.seconds)
             return news.clear()
+        if isinstance(step, GetNews):
+            return news
         if isinstance(step, Call):
             told = step.function()
             return (await told) if inspect.isawaitable(told) else told
@@ -518,8 +345,8 @@ class Client(Shown):
 
         self._keep(asyncio.ensure_future(run()))
 
-    def _begin_plan(self, plan: Plan[Any]) -> asyncio.Future[Any]:
-        task = asyncio.ensure_future(self._run(plan))
+    def _begin_plan(self, plan: Plan[Any], timeout: Optional[float] = None) -> asyncio.Future[Any]:
+        task = asyncio.ensure_future(self._run(plan, timeout))
         self._keep(task)
         return task
 

@@ -9,38 +9,40 @@ import functools
 import logging
 import time
 import weakref
-from collections.abc import Generator, Iterable, Sequence
+from collections.abc import Generator
 from types import TracebackType
-from typing import TYPE_CHECKING, Any, Callable, Optional, TypeVar, Union
+from typing import TYPE_CHECKING, Any, Callable, Optional, TypeVar
 
+from dirwolleu import _calls as calls
 from dirwolleu import _ending as ending
 from dirwolleu import _following as following
-from dirwolleu import _plans as plans
-from dirwolleu import _records as records
 from dirwolleu import _requests as requests
 from dirwolleu import _steps as steps_of
 from dirwolleu._asked import Waiter as AnyWaiter
+from dirwolleu._calls import Wanted
 from dirwolleu._clock import moment
 from dirwolleu._engine import News as AnyNews
-from dirwolleu._plans import Acls, Plan
-from dirwolleu._records import Created, Mode
+from dirwolleu._plans import Plan
 from dirwolleu._requests import Request, Result
 from dirwolleu._retry import Retry
-from dirwolleu._shown import AuthData, Shown, credential_of, parts_of
-from dirwolleu._steps import Ask, Call, Step, Steps, Wait
+from dirwolleu._shown import AuthData, Shown, parts_of
+from dirwolleu._steps import Ask, Call, GetNews, Step, Steps, Wait
 from dirwolleu._trees import MOST_NODES, Tree
 from dirwolleu._waiting import Future, News, Sleepers, Task, Waiter
 from dirwolleu.exceptions import ConnectionClosedError, ZookeeperError
-from dirwolleu.multi_read import Read, ReadOutcome, multi_read
-from dirwolleu.security import ACL, AuthFailedError, Id
+from dirwolleu.security import AuthFailedError
 from dirwolleu.transaction import Transaction
-from dirwolleu.types import Kept, KeptChildren, Stat, State, Watch
+from dirwolleu.types import Kept, KeptChildren, State
 
 if TYPE_CHECKING:
     import ssl as _ssl
 
+    from typing_extensions import Concatenate, ParamSpec
+
     from dirwolleu._driver import Driver
     from dirwolleu._threads import Threads
+
+    Given = ParamSpec("Given")
 
 Returned = TypeVar("Returned")
 
@@ -50,6 +52,28 @@ LONGEST_FAREWELL = 2.0
 """How long `stop` waits for a server to end the session, in seconds."""
 LONGEST_LEAVING = 1.0
 """How long the end of the program waits for the thread of a client that was not stopped, in seconds."""
+
+
+def _waits(call: Callable[Concatenate[Client, Given], Wanted[Result]]) -> Callable[Concatenate[Client, Given], Result]:
+    """What waits for what a call asks for."""
+
+    def waits(client: Client, /, *given: Given.args, **named: Given.kwargs) -> Result:
+        wanted, timeout = call(client, *given, **named)
+        return client._call(wanted, timeout) if isinstance(wanted, Request) else client._run(wanted, timeout)
+
+    return calls.shown(waits, call)
+
+
+def _sends(
+    call: Callable[Concatenate[Client, Given], Wanted[Result]]
+) -> Callable[Concatenate[Client, Given], concurrent.futures.Future[Result]]:
+    """What hands in what a call asks for, and does not wait."""
+
+    def sends(client: Client, /, *given: Given.args, **named: Given.kwargs) -> concurrent.futures.Future[Result]:
+        wanted, timeout = call(client, *given, **named)
+        return client._send(wanted, timeout) if isinstance(wanted, Request) else client._begin_plan(wanted, timeout)
+
+    return calls.shown(sends, call, "_async")
 
 
 class Client(Shown):
@@ -83,6 +107,9 @@ class Client(Shown):
 
     Each call has a second one whose name ends in `_async`, which sends and does not wait: it answers a
     `concurrent.futures.Future`. It is not asked again.
+
+        futures = [client.get_async(f"/config/{name}") for name in names]
+        data = [future.result()[0] for future in futures]
 
         with dirwolleu.Client("zk1:2181,zk2:2181,zk3:2181/app", retry=dirwolleu.Retry()) as client:
             client.ensure_path("/config")
@@ -184,155 +211,41 @@ class Client(Shown):
         finally:
             self._sleepers.wake()
 
-    def exists(self, path: str, watch: Watch = None, *, timeout: Optional[float] = None) -> Optional[Stat]:
-        """What is known of a node, or None where there is none. A watch is left also where there is none."""
-        return self._call(requests.exists(path, watch), timeout)
+    exists = _waits(calls.exists)
+    get = _waits(calls.get)
+    get_children = _waits(calls.get_children)
+    create = _waits(calls.create)
+    create2 = _waits(calls.create2)
+    ensure_path = _waits(calls.ensure_path)
+    set = _waits(calls.set)
+    delete = _waits(calls.delete)
+    sync = _waits(calls.sync)
+    fresh = _waits(calls.fresh)
+    get_ephemerals = _waits(calls.get_ephemerals)
+    get_all_children_number = _waits(calls.get_all_children_number)
+    who_am_i = _waits(calls.who_am_i)
+    multi_read = _waits(calls.multi_read)
+    get_acls = _waits(calls.get_acls)
+    set_acls = _waits(calls.set_acls)
+    add_auth = _waits(calls.add_auth)
 
-    def get(
-        self, path: str, watch: Watch = None, *, timeout: Optional[float] = None
-    ) -> tuple[Optional[bytes], Stat]:
-        """The data of a node, None where they are null, and what is known of it.
-
-        Raises `NoNodeError`; then no watch is left.
-        """
-        return self._call(requests.get(path, watch), timeout)
-
-    def get_children(self, path: str, watch: Watch = None, *, timeout: Optional[float] = None) -> list[str]:
-        """The names of a node's children, in no order. Raises `NoNodeError`; then no watch is left."""
-        return self._call(requests.get_children(path, watch), timeout)
-
-    def create(
-        self,
-        path: str,
-        value: Optional[bytes] = b"",
-        *,
-        acl: Acls = None,
-        ephemeral: bool = False,
-        sequence: bool = False,
-        container: bool = False,
-        ttl: Optional[float] = None,
-        makepath: bool = False,
-        timeout: Optional[float] = None,
-    ) -> str:
-        """Makes a node, open to all unless an ACL is given, and tells its path. None as value is null data.
-
-        An ephemeral node goes with the session. With `sequence` ten digits are added to the path: a path that ends with a slash
-        makes a node whose name is these alone. A `container` is deleted by the servers some time after its last child went, and
-        a node with a `ttl`, in seconds, when it had neither a change nor a child for so long: servers without the option
-        `zookeeper.extendedTypesEnabled` refuse that by `UnimplementedError`. With `makepath` the nodes above it are made too, as
-        far as they are not there. Raises `NodeExistsError`, `NoNodeError` if there is no parent, `NoChildrenForEphemeralsError`,
-        `InvalidACLError`.
-
-        With an ACL, and where the path ends with a slash, it asks by create2, which ZooKeeper has since 3.5; a container by
-        createContainer and a TTL by createTTL, of 3.5 too.
-
-            path = client.create("/queue/job-", b"one", sequence=True, makepath=True)
-        """
-        request = plans.create_request(path, value, acl, Mode.of(ephemeral, sequence, container, ttl))
-        return self._run(plans.create(request, path, acl, makepath), timeout)
-
-    def create2(
-        self,
-        path: str,
-        value: Optional[bytes] = b"",
-        *,
-        acl: Acls = None,
-        ephemeral: bool = False,
-        sequence: bool = False,
-        makepath: bool = False,
-        timeout: Optional[float] = None,
-    ) -> Created:
-        """Makes a node as `create` does, and tells its `path` and its `stat`."""
-        request = records.create2(path, value, acl, Mode(ephemeral, sequence))
-        return self._run(plans.create(request, path, acl, makepath), timeout)
-
-    def ensure_path(self, path: str, *, acl: Acls = None, timeout: Optional[float] = None) -> None:
-        """Makes a node and those above it, as far as they are not there. It does no harm to ask it again."""
-        self._run(plans.ensure_path(path, acl), timeout)
-
-    def set(
-        self, path: str, value: Optional[bytes], version: int = -1, *, timeout: Optional[float] = None
-    ) -> Stat:
-        """Sets the data of a node of this version, where -1 is any. Raises `NoNodeError` and `BadVersionError`."""
-        return self._call(requests.set(path, value, version), timeout)
-
-    def delete(
-        self, path: str, version: int = -1, *, recursive: bool = False, timeout: Optional[float] = None
-    ) -> None:
-        """Deletes a node of this version, where -1 is any.
-
-        Raises `NoNodeError`, `BadVersionError`, `NotEmptyError`. With `recursive` all below it is deleted too, one node
-        after the other, and it is no error where there is no node; another client may see a part of it.
-        """
-        self._run(plans.delete(path, version, recursive), timeout)
-
-    def sync(self, path: str = "/", *, timeout: Optional[float] = None) -> str:
-        """Has the server take in all that was done before it answers, and tells the path.
-
-        A read after it sees each write that any client had an answer to before `sync` was called. It marks no kept
-        answer: what is kept has those writes once a later read or ping is answered.
-        """
-        return self._call(records.sync(path), timeout)
-
-    def fresh(self, *, quorum: bool = False, timeout: Optional[float] = None) -> int:
-        """Sees to it that what is good has each write that was answered before this call, to whichever client.
-
-        It asks a server, by `sync`, for all that was done: the zxid of the answer is not before that. Notices of what has changed come first, so those answers are stale, and what is good after
-        it is what the servers held when it was called, or later. It tells the zxid that was seen.
-
-        A leader of an ensemble that is cut off from the others, and has not found out yet, answers `sync` all the same.
-        With `quorum` an empty transaction is asked for instead, which a majority of the servers has to take.
-
-            client.fresh()
-            kept = client.kept("/config")
-            is_current = kept is not None and kept.mark is dirwolleu.Mark.GOOD
-        """
-        return self._run(self._freshening(quorum), timeout)
-
-    def get_ephemerals(self, prefix: str = "/", *, timeout: Optional[float] = None) -> list[str]:
-        """The paths of the session's ephemeral nodes that begin with a path, in no order. ZooKeeper has it since 3.6."""
-        return self._call(records.get_ephemerals(prefix), timeout)
-
-    def get_all_children_number(self, path: str, *, timeout: Optional[float] = None) -> int:
-        """How many nodes are below a node, at all depths. Raises `NoNodeError`. ZooKeeper has it since 3.6."""
-        return self._call(records.get_all_children_number(path), timeout)
-
-    def who_am_i(self, *, timeout: Optional[float] = None) -> list[Id]:
-        """By which schemes and ids the server knows this client: its address, and its credentials. ZooKeeper has it since 3.7."""
-        return self._call(records.who_am_i(), timeout)
-
-    def multi_read(self, reads: Iterable[Read], *, timeout: Optional[float] = None) -> list[ReadOutcome]:
-        """Reads the data or the names of several nodes at one zxid, and tells what each read has brought: the data and what is
-        known of the node, or the names, or the error of that read, as an error that is not raised. It leaves no watch, and
-        nothing of it is kept. ZooKeeper has it since 3.6.
-
-            config, names = client.multi_read([dirwolleu.Read.data("/config"), dirwolleu.Read.children("/")])
-        """
-        return self._call(multi_read(reads), timeout)
-
-    def get_acls(self, path: str, *, timeout: Optional[float] = None) -> tuple[list[ACL], Stat]:
-        """The ACL of a node, and what is known of it. Raises `NoNodeError`."""
-        return self._call(records.get_acls(path), timeout)
-
-    def set_acls(
-        self, path: str, acls: Sequence[ACL], version: int = -1, *, timeout: Optional[float] = None
-    ) -> Stat:
-        """Sets the ACL of a node whose `aversion` is this one, where -1 is any.
-
-        Raises `NoNodeError`, `BadVersionError`, `InvalidACLError`, `NoAuthError`.
-        """
-        return self._call(records.set_acls(path, acls, version), timeout)
-
-    def add_auth(self, scheme: str, credential: Union[str, bytes], *, timeout: Optional[float] = None) -> None:
-        """Says who the session is, now and on each later connection.
-
-        Raises `AuthFailedError` if the server refuses it or does not know the scheme: the session is over then, as with those
-        of `auth_data`, and it is forgotten. The scheme `digest` takes any `username:password`.
-
-            client.add_auth("digest", "bob:secret")
-            client.create("/bobs", acl=dirwolleu.security.CREATOR_ALL_ACL)
-        """
-        self._run(self._introducing(credential_of(scheme, credential)), timeout)
+    exists_async = _sends(calls.exists)
+    get_async = _sends(calls.get)
+    get_children_async = _sends(calls.get_children)
+    create_async = _sends(calls.create)
+    create2_async = _sends(calls.create2)
+    ensure_path_async = _sends(calls.ensure_path)
+    set_async = _sends(calls.set)
+    delete_async = _sends(calls.delete)
+    sync_async = _sends(calls.sync)
+    fresh_async = _sends(calls.fresh)
+    get_ephemerals_async = _sends(calls.get_ephemerals)
+    get_all_children_number_async = _sends(calls.get_all_children_number)
+    who_am_i_async = _sends(calls.who_am_i)
+    multi_read_async = _sends(calls.multi_read)
+    get_acls_async = _sends(calls.get_acls)
+    set_acls_async = _sends(calls.set_acls)
+    add_auth_async = _sends(calls.add_auth)
 
     def transaction(self) -> Transaction:
         """Several changes that happen together or not at all: see `Transaction`."""
@@ -352,108 +265,6 @@ class Client(Shown):
             except ZookeeperError as error:
                 pause = attempts.after(error)
             time.sleep(pause)
-
-    def exists_async(self, path: str, watch: Watch = None) -> concurrent.futures.Future[Optional[Stat]]:
-        """`exists`, which does not wait."""
-        return self._send(requests.exists(path, watch))
-
-    def get_async(self, path: str, watch: Watch = None) -> concurrent.futures.Future[tuple[Optional[bytes], Stat]]:
-        """`get`, which does not wait.
-
-            futures = [client.get_async(f"/config/{name}") for name in names]
-            data = [future.result()[0] for future in futures]
-        """
-        return self._send(requests.get(path, watch))
-
-    def get_children_async(self, path: str, watch: Watch = None) -> concurrent.futures.Future[list[str]]:
-        """`get_children`, which does not wait."""
-        return self._send(requests.get_children(path, watch))
-
-    def create_async(
-        self,
-        path: str,
-        value: Optional[bytes] = b"",
-        *,
-        acl: Acls = None,
-        ephemeral: bool = False,
-        sequence: bool = False,
-        container: bool = False,
-        ttl: Optional[float] = None,
-        makepath: bool = False,
-    ) -> concurrent.futures.Future[str]:
-        """`create`, which does not wait."""
-        request = plans.create_request(path, value, acl, Mode.of(ephemeral, sequence, container, ttl))
-        return self._begin_plan(plans.create(request, path, acl, makepath)) if makepath else self._send(request)
-
-    def create2_async(
-        self,
-        path: str,
-        value: Optional[bytes] = b"",
-        *,
-        acl: Acls = None,
-        ephemeral: bool = False,
-        sequence: bool = False,
-        makepath: bool = False,
-    ) -> concurrent.futures.Future[Created]:
-        """`create2`, which does not wait."""
-        request = records.create2(path, value, acl, Mode(ephemeral, sequence))
-        return self._begin_plan(plans.create(request, path, acl, makepath)) if makepath else self._send(request)
-
-    def ensure_path_async(self, path: str, *, acl: Acls = None) -> concurrent.futures.Future[None]:
-        """`ensure_path`, which does not wait."""
-        return self._begin_plan(plans.ensure_path(path, acl))
-
-    def set_async(
-        self, path: str, value: Optional[bytes], version: int = -1
-    ) -> concurrent.futures.Future[Stat]:
-        """`set`, which does not wait."""
-        return self._send(requests.set(path, value, version))
-
-    def delete_async(
-        self, path: str, version: int = -1, *, recursive: bool = False
-    ) -> concurrent.futures.Future[None]:
-        """`delete`, which does not wait."""
-        if recursive:
-            return self._begin_plan(plans.delete(path, version, recursive))
-        return self._send(requests.delete(path, version))
-
-    def sync_async(self, path: str = "/") -> concurrent.futures.Future[str]:
-        """`sync`, which does not wait."""
-        return self._send(records.sync(path))
-
-    def get_ephemerals_async(self, prefix: str = "/") -> concurrent.futures.Future[list[str]]:
-        """`get_ephemerals`, which does not wait."""
-        return self._send(records.get_ephemerals(prefix))
-
-    def get_all_children_number_async(self, path: str) -> concurrent.futures.Future[int]:
-        """`get_all_children_number`, which does not wait."""
-        return self._send(records.get_all_children_number(path))
-
-    def who_am_i_async(self) -> concurrent.futures.Future[list[Id]]:
-        """`who_am_i`, which does not wait."""
-        return self._send(records.who_am_i())
-
-    def multi_read_async(self, reads: Iterable[Read]) -> concurrent.futures.Future[list[ReadOutcome]]:
-        """`multi_read`, which does not wait."""
-        return self._send(multi_read(reads))
-
-    def get_acls_async(self, path: str) -> concurrent.futures.Future[tuple[list[ACL], Stat]]:
-        """`get_acls`, which does not wait."""
-        return self._send(records.get_acls(path))
-
-    def set_acls_async(
-        self, path: str, acls: Sequence[ACL], version: int = -1
-    ) -> concurrent.futures.Future[Stat]:
-        """`set_acls`, which does not wait."""
-        return self._send(records.set_acls(path, acls, version))
-
-    def add_auth_async(self, scheme: str, credential: Union[str, bytes]) -> concurrent.futures.Future[None]:
-        """`add_auth`, which does not wait."""
-        return self._begin_plan(self._introducing(credential_of(scheme, credential)))
-
-    def fresh_async(self, *, quorum: bool = False) -> concurrent.futures.Future[int]:
-        """`fresh`, which does not wait."""
-        return self._begin_plan(self._freshening(quorum))
 
     def follow(self, path: str) -> Generator[Kept, None, None]:
         """Yields what a node holds, and again whenever that has changed, through reconnects and new sessions.
@@ -541,8 +352,8 @@ class Client(Shown):
     def _do(self, step: Step, news: News) -> Any:
         if isinstance(step, Wait):
             return news.wait(step.seconds)
-        if isinstance(step, Call):
-            return step.function()
+        if isinstance(step, (Call, GetNews)):
+            return step.function() if isinstance(step, Call) else news
         return self._ask(step.request, timeout=step.timeout) if isinstance(step, Ask) else self._ask(step)
 
     def _ask(
@@ -558,10 +369,10 @@ class Client(Shown):
             waiter.cancel()
             raise
 
-    def _send(self, request: Request[Any]) -> Future:
+    def _send(self, request: Request[Any], timeout: Optional[float] = None) -> Future:
         future = Future(self._tell)
         try:
-            self._hand_in(request, future)
+            self._hand_in(request, future, timeout)
         except ZookeeperError:
             ending.rest()
             raise
@@ -601,7 +412,7 @@ class Client(Shown):
         if self._threads() is not None:
             task.start()
 
-    def _begin_plan(self, plan: Plan[Any]) -> Future:
+    def _begin_plan(self, plan: Plan[Any], timeout: Optional[float] = None) -> Future:
         """Has the thread of the callbacks ask what a plan asks for."""
         self._check_process()
         future = Future(self._tell)
@@ -613,7 +424,8 @@ class Client(Shown):
             else:
                 future.set_result(result)
 
-        Task(self, lambda _: steps_of.run(plan, None, None), end).start()
+        until = steps_of.until_of(timeout)
+        Task(self, lambda _: steps_of.run(plan, None, until), end).start()
         return future
 
     def _later(self, seconds: float, function: Callable[[], object]) -> None:

@@ -7,17 +7,18 @@ from __future__ import annotations
 
 import threading
 from types import TracebackType
-from typing import Any, Callable, Optional, TypeVar, cast, overload
+from typing import TYPE_CHECKING, Any, Callable, Optional, TypeVar, cast, overload
 
 from dirwolleu import _contending as contending
 from dirwolleu import _ending as ending
-from dirwolleu._contending import READING, WRITING, BaseHeld, BaseLock, Holding
+from dirwolleu._calls import shown
+from dirwolleu._contending import READING, WRITING, BaseHeld, BaseLock, BaseTaker, Holding
 from dirwolleu._counting import BaseCounter, Number
 from dirwolleu._gathering import BaseBarrier, BaseDoubleBarrier
 from dirwolleu._leasing import BaseSemaphore
 from dirwolleu._queueing import BaseQueue
 from dirwolleu._registering import BaseRegistration
-from dirwolleu._waiting import News
+from dirwolleu._steps import Result, Steps
 from dirwolleu.client import Client
 
 __all__ = [
@@ -34,19 +35,28 @@ __all__ = [
     "WriteLock",
 ]
 
+if TYPE_CHECKING:
+    from typing_extensions import Concatenate, ParamSpec
+
+    Given = ParamSpec("Given")
+
 Returned = TypeVar("Returned")
+
+
+def _does(call: Callable[Concatenate[Any, Given], Steps[Result]]) -> Callable[Concatenate[Any, Given], Result]:
+    """What does the steps of a recipe, and waits for their end."""
+
+    def does(recipe: Any, /, *given: Given.args, **named: Given.kwargs) -> Result:
+        result: Result = recipe._client._drive(call(recipe, *given, **named))
+        return result
+
+    return shown(does, call)
 
 
 class Held(BaseHeld[Client]):
     """A lock or a lease that was taken: see `Lock`."""
 
-    def release(self) -> None:
-        """Lets go of it. It may be called again. Where its session is over, so is it.
-
-        A lost answer is asked for again, for twice the timeout of the session. Then `ConnectionLoss` or `CallTimeoutError` is
-        raised, and the node may still be there: the client goes on to delete it, for as long as the session lives.
-        """
-        self._client._drive(self._releasing())
+    release = _does(BaseHeld._release)
 
     def __enter__(self) -> Held:
         return self
@@ -57,7 +67,34 @@ class Held(BaseHeld[Client]):
         self.release()
 
 
-class Lock(BaseLock[Client, Held]):
+class _Taker(BaseTaker[Client, Held]):
+    """What is taken, and given back at the end of a `with` block."""
+
+    def acquire(self, timeout: Optional[float] = None) -> Held:
+        """Waits until the lock is held. It is not reentrant: who holds it and takes it again waits for itself.
+
+        Raises `LockTimeout` after `timeout` seconds, and leaves no contender then; a timeout of 0 tries once. Where a
+        contender may be left and there is no connection, it is looked for first, for twice the timeout of the session at
+        most; after that the client goes on to delete it. Lost connections, expired sessions and calls without an answer are lived through: no `CallTimeoutError` is
+        raised. Raises `MixedNamesError` if others contend by other names; `ConnectionClosedError` when the client is stopped;
+        another `ZookeeperError` if a server refuses to make or to show the nodes, and one that says so when their numbers at
+        the path are used up.
+        """
+        return self._client._drive(self._taking(timeout))
+
+    def _held(self, holding: Holding) -> Held:
+        return Held(self._client, holding, self._on_lost)
+
+    def __enter__(self) -> Held:
+        return self._enter(threading.get_ident(), self.acquire())
+
+    def __exit__(
+        self, kind: Optional[type[BaseException]], error: Optional[BaseException], trace: Optional[TracebackType]
+    ) -> None:
+        self._exit(threading.get_ident()).release()
+
+
+class Lock(_Taker, BaseLock[Client, Held]):
     """An exclusive lock: one of those that take it at a path holds it at a time, at each zxid. All contenders of a path use one
     kind of `names`: kazoo's or Curator's.
 
@@ -84,33 +121,7 @@ class Lock(BaseLock[Client, Held]):
                 print(part, "with token", held.token)
     """
 
-    def acquire(self, timeout: Optional[float] = None) -> Held:
-        """Waits until the lock is held. It is not reentrant: who holds it and takes it again waits for itself.
-
-        Raises `LockTimeout` after `timeout` seconds, and leaves no contender then; a timeout of 0 tries once. Where a
-        contender may be left and there is no connection, it is looked for first, for twice the timeout of the session at
-        most; after that the client goes on to delete it. Lost connections, expired sessions and calls without an answer are lived through: no `CallTimeoutError` is
-        raised. Raises `MixedNamesError` if others contend by other names; `ConnectionClosedError` when the client is stopped;
-        another `ZookeeperError` if a server refuses to make or to show the nodes, and one that says so when their numbers at
-        the path are used up.
-        """
-        news = News()
-        return self._client._drive(self._taking(news, timeout), news)
-
-    def contenders(self) -> list[str]:
-        """The identifiers of those that take the lock, in their order: that of the holder first."""
-        return self._client._run(contending.contenders(self._path, self._names))
-
-    def _held(self, holding: Holding) -> Held:
-        return Held(self._client, holding, self._on_lost)
-
-    def __enter__(self) -> Held:
-        return self._enter(threading.get_ident(), self.acquire())
-
-    def __exit__(
-        self, kind: Optional[type[BaseException]], error: Optional[BaseException], trace: Optional[TracebackType]
-    ) -> None:
-        self._exit(threading.get_ident()).release()
+    contenders = _does(BaseLock._contenders)
 
 
 class WriteLock(Lock):
@@ -140,7 +151,7 @@ class ReadLock(Lock):
     _kind = READING
 
 
-class Semaphore(BaseSemaphore[Client, Held]):
+class Semaphore(_Taker, BaseSemaphore[Client, Held]):
     """A lock that `max_leases` hold at a time, at each zxid, by the nodes of kazoo's `Semaphore`. It has no other names: if the
     path has the nodes of Curator's `InterProcessSemaphoreV2`, `acquire` raises `MixedNamesError`.
 
@@ -149,36 +160,16 @@ class Semaphore(BaseSemaphore[Client, Held]):
     which one holds that lock. It has nothing to say of several first ones: the number of leases is tested alone. That the
     node of a lease is there while `check` is quiet is a good answer of the core.
 
-    What is said of `check`, `on_lost` and `keeps_while_suspended` at `Lock` holds here too. The token of a lease is the
-    zxid at which it was made; it is of no use to fence, since others hold beside it.
+    What is said of `acquire`, `check`, `on_lost` and `keeps_while_suspended` at `Lock` holds here too; `acquire` raises
+    `ValueError` if the node says that there are more leases or fewer. The token of a lease is the zxid at which it was made; it is
+    of no use to fence, since others hold beside it.
 
         semaphore = dirwolleu.Semaphore(client, "/downloads", max_leases=3)
         with semaphore as held:
             held.check()
     """
 
-    def acquire(self, timeout: Optional[float] = None) -> Held:
-        """Waits until there is a lease, as `Lock.acquire` does.
-
-        Raises what that raises, and `ValueError` if the node says that there are more leases or fewer.
-        """
-        news = News()
-        return self._client._drive(self._taking(news, timeout), news)
-
-    def lease_holders(self) -> list[str]:
-        """The identifiers of those that hold a lease, in no order."""
-        return self._client._run(self._holders())
-
-    def _held(self, holding: Holding) -> Held:
-        return Held(self._client, holding, self._on_lost)
-
-    def __enter__(self) -> Held:
-        return self._enter(threading.get_ident(), self.acquire())
-
-    def __exit__(
-        self, kind: Optional[type[BaseException]], error: Optional[BaseException], trace: Optional[TracebackType]
-    ) -> None:
-        self._exit(threading.get_ident()).release()
+    lease_holders = _does(BaseSemaphore._lease_holders)
 
 
 class Election:
@@ -250,13 +241,8 @@ class Registration(BaseRegistration[Client]):
         with ending.resting():
             return self._is_there.wait(timeout)
 
-    def set(self, value: bytes) -> None:
-        """Gives the node other data, now and in later sessions."""
-        self._client._drive(self._setting(value))
-
-    def withdraw(self) -> None:
-        """Deletes the node, and makes it no more. Where its session is over, so is the node."""
-        self._client._drive(self._withdrawing())
+    set = _does(BaseRegistration._set)
+    withdraw = _does(BaseRegistration._withdraw)
 
 
 class Barrier(BaseBarrier[Client]):
@@ -268,21 +254,9 @@ class Barrier(BaseBarrier[Client]):
         is_open = barrier.wait(10.0)
     """
 
-    def create(self) -> None:
-        """Puts the barrier up, where it is not."""
-        self._client._drive(self._creating())
-
-    def remove(self) -> bool:
-        """Takes the barrier away, and answers whether it was seen to be there."""
-        return self._client._drive(self._removing())
-
-    def wait(self, timeout: Optional[float] = None) -> bool:
-        """Waits until there is no barrier, for at most this many seconds, and answers whether that came to pass.
-
-        Lost connections and expired sessions are lived through.
-        """
-        news = News()
-        return self._client._drive(self._waiting(news, timeout), news)
+    create = _does(BaseBarrier._create)
+    remove = _does(BaseBarrier._remove)
+    wait = _does(BaseBarrier._wait)
 
 
 class DoubleBarrier(BaseDoubleBarrier[Client]):
@@ -294,18 +268,8 @@ class DoubleBarrier(BaseDoubleBarrier[Client]):
             barrier.leave(60.0)
     """
 
-    def enter(self, timeout: Optional[float] = None) -> bool:
-        """Waits until all have come, for at most this many seconds, and answers whether they have.
-
-        Where they have not, this one is withdrawn. A member whose session ends meanwhile comes again in the next one.
-        """
-        news = News()
-        return self._client._drive(self._entering(news, timeout), news)
-
-    def leave(self, timeout: Optional[float] = None) -> bool:
-        """Waits until all have left, for at most this many seconds, and answers whether they have. This one has."""
-        news = News()
-        return self._client._drive(self._leaving(news, timeout), news)
+    enter = _does(BaseDoubleBarrier._enter)
+    leave = _does(BaseDoubleBarrier._leave)
 
 
 class Counter(BaseCounter[Client, Number]):
@@ -356,20 +320,6 @@ class Queue(BaseQueue[Client]):
         data = queue.get(10.0)
     """
 
-    def put(self, value: bytes, priority: int = 100) -> str:
-        """Adds an entry, and answers its path. A priority is 0 to 999."""
-        return self._client._drive(self._putting(value, priority))
-
-    def get(self, timeout: Optional[float] = None) -> Optional[bytes]:
-        """Takes the first entry out, waits for one for at most this many seconds, and answers its data: None where none
-        came. A timeout of 0 tries once.
-
-        Once it has asked for the delete of an entry, it waits for the answer to that as any call does: so it may take longer
-        than `timeout`. Raises `ConnectionLoss` or `CallTimeoutError`, with `may_have_happened`, if that answer does not come:
-        the entry may be gone, its data are the error's `entry`, and its path is `path`.
-        """
-        news = News()
-        return self._client._drive(self._taking(news, timeout), news)
-
-    def __len__(self) -> int:
-        return self._client._run(self._counting())
+    put = _does(BaseQueue._put)
+    get = _does(BaseQueue._get)
+    __len__ = _does(BaseQueue._size)

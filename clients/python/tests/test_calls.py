@@ -154,6 +154,27 @@ class FutureTest(ClientCase):
             other.result(WAIT)
         self.assertIsNone(client.exists("/unsent"))
 
+    def test_a_future_has_a_limit(self) -> None:
+        """Also where it is several requests, and so it is with asyncio."""
+        partner = self.partner()
+        client = self.client(partner.host, 60.0)
+        partner.do("mute")
+        futures: list[Any] = [client.get_async("/", timeout=0.1), client.ensure_path_async("/a/b", timeout=0.1)]
+        for future in futures:
+            self.assertIsInstance(future.exception(WAIT), CallTimeoutError)
+        partner.do("unmute")
+
+        async def run() -> None:
+            async with aio.Client(partner.host, 60.0) as client:
+                partner.do("mute")
+                futures: list[Any] = [client.get_async("/", timeout=0.1), client.ensure_path_async("/a/b", timeout=0.1)]
+                for future in futures:
+                    with self.assertRaises(CallTimeoutError):
+                        await asyncio.wait_for(future, WAIT)
+                partner.do("unmute")
+
+        asyncio.run(run())
+
     def test_futures_end_with_the_client(self) -> None:
         partner = self.partner()
         client = self.client(partner.host)

@@ -1,4 +1,4 @@
-"""Tests of the machine, by frames that are spelled here as zookeeper.jute has them, and of its layouts by the header.
+"""Tests of the session, by frames that are spelled here as zookeeper.jute has them, and of its layouts by the header.
 """
 
 from __future__ import annotations
@@ -10,8 +10,10 @@ import pathlib
 import shutil
 import struct
 import subprocess
+import sys
 import tempfile
 import threading
+import time
 import unittest
 from unittest import mock
 
@@ -19,9 +21,10 @@ import support
 
 from dirwolleu import _handle as handle
 from dirwolleu import _library as library
+from dirwolleu import _session as of_session
 from dirwolleu._library import Answer, Drop, Report, Send, StateChange
-from dirwolleu._machine import Machine
 from dirwolleu._root import Root
+from dirwolleu._session import NO_LIMIT, Dial, Session, Sign
 from dirwolleu.types import DataStat, Stat
 
 HEADER = support.CLIENTS.parent / "include" / "dirwolleu.h"
@@ -56,12 +59,12 @@ CONNECT_RESPONSE = frame(struct.pack(">iiq", 0, 4000, 0x1234) + buffer(PASSWORD)
 CONNECT_REQUEST = frame(struct.pack(">iqiq", 0, 0, 6000, 0) + buffer(bytes(16)) + b"\0")
 
 
-def connected() -> Machine:
-    machine = Machine(6000)
-    machine.tick(100)
-    machine.opened(100)
-    machine.received(100, CONNECT_RESPONSE)
-    return machine
+def connected(root: Root = Root()) -> Session:
+    session = Session(6000, 1, root=root, addresses=1)
+    session.moment(100)
+    session.opened(100)
+    session.received(100, CONNECT_RESPONSE)
+    return session
 
 
 # What is a union in the header, by one of its fields.
@@ -97,11 +100,11 @@ class NumberTest(unittest.TestCase):
     def test_a_number_that_nobody_knows_says_so(self) -> None:
         wanted = "the library gives the {} 99, which this package does not know: take both of one version"
         for field, what in (("kind", "output"), ("detail", "state")):
-            machine = Machine(6000)
+            session = Session(6000, 1)
             output = library._Output(kind=library.STATE)
             setattr(output, field, 99)
             with self.assertRaises(library.UnknownNumber) as raised:
-                machine._read(handle._fields_of_output(output), b"")
+                session._read(of_session._fields_of_output(output), b"")
             self.assertEqual(str(raised.exception), wanted.format(what))
         with self.assertRaises(library.UnknownNumber):
             library.checked(-99)
@@ -138,127 +141,124 @@ class FindTest(unittest.TestCase):
 
 class MachineTest(unittest.TestCase):
     def test_a_session_begins(self) -> None:
-        machine = Machine(6000)
-        self.assertEqual(machine.state(), library.IDLE)
-        self.assertIsNone(machine.deadline())
-        self.assertEqual(machine.tick(100), [])
-        self.assertEqual(machine.opened(100), [Send(CONNECT_REQUEST), StateChange(library.CONNECTING)])
-        self.assertEqual(machine.deadline(), 4100)
-        self.assertEqual(machine.received(200, CONNECT_RESPONSE), [StateChange(library.CONNECTED)])
-        self.assertEqual((machine.state(), machine.timeout_ms(), machine.last_zxid()), (library.CONNECTED, 4000, 0))
-        self.assertEqual(machine.saved(), struct.pack(">q", 0x1234) + buffer(PASSWORD) + struct.pack(">q", 0))
+        session = Session(6000, 1, addresses=1)
+        self.assertEqual(session.state(), library.IDLE)
+        self.assertEqual(session.moment(100), [Dial(0, 2000)])
+        self.assertEqual(session.opened(100), [Send(CONNECT_REQUEST), StateChange(library.CONNECTING)])
+        self.assertEqual(session.deadline(), 4100)
+        self.assertEqual(session.received(200, CONNECT_RESPONSE), [StateChange(library.CONNECTED)])
+        self.assertEqual((session.state(), session.timeout_ms(), session.last_zxid()), (library.CONNECTED, 4000, 0))
+        self.assertEqual(session.saved(), struct.pack(">q", 0x1234) + buffer(PASSWORD) + struct.pack(">q", 0))
 
     def test_a_read_is_kept_until_it_is_reported(self) -> None:
-        machine = connected()
+        session = connected()
         request = struct.pack(">ii", 1, 4) + buffer(b"/a") + b"\1"
-        self.assertEqual(machine.get_data(200, 7, "/a", True), [Send(frame(request))])
+        self.assertEqual(session.get_data(200, 7, NO_LIMIT, "/a", True), [Send(frame(request))])
         answer = Answer(7, 0, library.DATA, 0, STAT, b"hello", [], 9)
-        self.assertEqual(machine.received(300, reply(1, 9, 0, buffer(b"hello") + STAT_BYTES)), [answer])
+        self.assertEqual(session.received(300, reply(1, 9, 0, buffer(b"hello") + STAT_BYTES)), [answer])
         stat = DataStat(2, 5, 1000, 2000, 3, 0, 5)
-        self.assertEqual(machine.peek_data("/a"), ((library.FULL, 1, stat, b"hello"), 9))
+        self.assertEqual(session.peek_data("/a"), ((library.FULL, 1, stat, b"hello"), 9))
         notice = reply(-1, -1, 0, struct.pack(">ii", 3, 3) + buffer(b"/a"))
-        self.assertEqual(machine.received(400, notice), [Report(library.DATA_CHANGED, library.DATA_SIDE, "/a")])
-        self.assertEqual(machine.peek_data("/a")[0].mark, 2)
-        machine.forget()
-        self.assertEqual(machine.peek_data("/a"), ((library.NOTHING, 0, None, None), 9))
-
-    def test_the_revision_rises_where_something_may_have_changed(self) -> None:
-        self.assertEqual(Machine(6000).revision(), 1)
-        machine = connected()
-        self.assertEqual(machine.revision(), 1 + 2)  # connecting, connected
-        machine.get_data(200, 7, "/a", True)
-        machine.tick(200)
-        self.assertEqual(machine.revision(), 1 + 2)
-        machine.received(300, reply(1, 9, 0, buffer(b"hello") + STAT_BYTES))
-        self.assertEqual(machine.revision(), 1 + 3)
-        notice = reply(-1, -1, 0, struct.pack(">ii", 3, 3) + buffer(b"/a"))
-        machine.received(400, notice)
-        machine.received(400, notice)  # which nobody watches any more
-        machine.forget()
-        self.assertEqual(machine.revision(), 1 + 4)
-        machine.renew(6000)
-        self.assertEqual(machine.revision(), 1 + 5)
-        machine.close()
-        self.assertEqual(machine.revision(), 0)
+        self.assertEqual(session.received(400, notice), [Report(library.DATA_CHANGED, library.DATA_SIDE, "/a")])
+        self.assertEqual(session.peek_data("/a")[0].mark, 2)
+        session.forget()
+        self.assertEqual(session.peek_data("/a"), ((library.NOTHING, 0, None, None), 9))
 
     def test_bytes_may_come_one_at_a_time(self) -> None:
-        machine = connected()
-        machine.get_children(200, 8, "/", True)
+        session = connected()
+        session.get_children(200, 8, NO_LIMIT, "/", True)
         names = struct.pack(">i", 2) + buffer("ö".encode()) + buffer(b"a")
         came = reply(1, 9, 0, names + STAT_BYTES)
-        outputs = [output for byte in came for output in machine.received(300, bytes([byte]))]
+        outputs = [output for byte in came for output in session.received(300, bytes([byte]))]
         self.assertEqual(outputs, [Answer(8, 0, library.NAMES, 0, STAT, None, ["ö", "a"], 9)])
-        self.assertEqual(machine.peek_children("/"), ((1, ("a", "ö"), STAT.pzxid), 9))
+        self.assertEqual(session.peek_children("/"), ((1, ("a", "ö"), STAT.pzxid), 9))
 
     def test_null_data_are_not_empty_data(self) -> None:
-        machine = connected()
+        session = connected()
         create = struct.pack(">ii", 1, 1) + buffer(b"/a") + struct.pack(">i", -1)
-        sent = machine.create(200, 1, "/a", None, library.EPHEMERAL)
+        sent = session.create(200, 1, NO_LIMIT, "/a", None, library.EPHEMERAL)
         self.assertTrue(isinstance(sent[0], Send) and sent[0].frame[4:].startswith(create))
         set_data = struct.pack(">ii", 2, 5) + buffer(b"/a") + buffer(b"") + struct.pack(">i", 4)
-        self.assertEqual(machine.set_data(200, 2, "/a", b"", 4), [Send(frame(set_data))])
-        created = machine.received(300, reply(1, 9, 0, buffer(b"/a")))
+        self.assertEqual(session.set_data(200, 2, NO_LIMIT, "/a", b"", 4), [Send(frame(set_data))])
+        created = session.received(300, reply(1, 9, 0, buffer(b"/a")))
         self.assertEqual(created, [Answer(1, 0, library.CREATED, 0, None, b"/a", [], 9)])
-        machine.received(300, reply(2, 10, -103))
-        machine.get_data(400, 3, "/a", True)
-        answer = machine.received(500, reply(3, 11, 0, struct.pack(">i", -1) + STAT_BYTES))
+        session.received(300, reply(2, 10, -103))
+        session.get_data(400, 3, NO_LIMIT, "/a", True)
+        answer = session.received(500, reply(3, 11, 0, struct.pack(">i", -1) + STAT_BYTES))
         self.assertEqual(answer, [Answer(3, 0, library.DATA, 0, STAT, None, [], 11)])
-        self.assertIsNone(machine.peek_data("/a")[0].data)
+        self.assertIsNone(session.peek_data("/a")[0].data)
 
     def test_what_is_longer_than_the_room_comes_whole(self) -> None:
-        machine, data, name = connected(), bytes(100_000), "n" * 5000
-        machine.get_data(200, 1, "/a", True)
-        answer = machine.received(300, reply(1, 9, 0, buffer(data) + STAT_BYTES))
+        session, data, name = connected(), bytes(100_000), "n" * 5000
+        session.get_data(200, 1, NO_LIMIT, "/a", True)
+        answer = session.received(300, reply(1, 9, 0, buffer(data) + STAT_BYTES))
         self.assertEqual(answer, [Answer(1, 0, library.DATA, 0, STAT, data, [], 9)])
-        self.assertEqual(machine.peek_data("/a")[0].data, data)
+        self.assertEqual(session.peek_data("/a")[0].data, data)
         other = connected()
-        other.get_children(200, 1, "/a", True)
+        other.get_children(200, 1, NO_LIMIT, "/a", True)
         listed = other.received(300, reply(1, 9, 0, struct.pack(">i", 1) + buffer(name.encode()) + STAT_BYTES))
         self.assertEqual(listed, [Answer(1, 0, library.NAMES, 0, STAT, None, [name], 9)])
         self.assertEqual(other.peek_children("/a")[0].names, (name,))
 
     def test_names_of_each_length_are_kept_in_byte_order(self) -> None:
-        machine, names = connected(), ["b", "n" * 300, "", "ö", *map(str, range(2000))]
-        machine.get_children(200, 1, "/a", True)
+        session, names = connected(), ["b", "n" * 300, "", "ö", *map(str, range(2000))]
+        session.get_children(200, 1, NO_LIMIT, "/a", True)
         spelled = struct.pack(">i", len(names)) + b"".join(buffer(name.encode()) for name in names)
-        machine.received(300, reply(1, 9, 0, spelled + STAT_BYTES))
-        self.assertEqual(machine.peek_children("/a"), ((1, tuple(sorted(names)), STAT.pzxid), 9))
-        self.assertEqual(machine.peek_children("/b"), ((0, (), 0), 9))
+        session.received(300, reply(1, 9, 0, spelled + STAT_BYTES))
+        self.assertEqual(session.peek_children("/a"), ((1, tuple(sorted(names)), STAT.pzxid), 9))
+        self.assertEqual(session.peek_children("/b"), ((0, (), 0), 9))
+
+    def test_other_threads_have_turns_while_many_names_are_read(self) -> None:
+        """Though nothing has the one that reads let go of the interpreter."""
+        spelled, turns, is_over = b"".join(buffer(b"%d" % number) for number in range(100_000)), [0], threading.Event()
+
+        def turn() -> None:
+            while not is_over.is_set():
+                turns[0] += 1
+                time.sleep(0)
+
+        self.addCleanup(sys.setswitchinterval, sys.getswitchinterval())
+        sys.setswitchinterval(600)
+        threading.Thread(target=turn, daemon=True).start()
+        before = turns[0]
+        self.assertEqual(handle.texts_in(spelled)[99_999], "99999")
+        is_over.set()
+        self.assertGreater(turns[0], before)
 
     def test_a_subtree_is_told_once_nothing_is_lacking(self) -> None:
-        machine, data_of = connected(), library.DATA_SIDE
-        self.assertEqual(machine.lacking("/a", 9), [("/a", data_of), ("/a", library.CHILDREN_SIDE)])
-        self.assertEqual(machine.subtree("/a", 9), (None, 0))
-        machine.get_data(200, 1, "/a", True)
-        machine.get_children(200, 2, "/a", True)
-        machine.received(300, reply(1, 9, 0, buffer(b"hello") + STAT_BYTES))
-        machine.received(300, reply(2, 9, 0, struct.pack(">i", 1) + buffer("ö".encode()) + STAT_BYTES))
-        self.assertEqual(machine.lacking("/a", 9), [("/a/ö", data_of), ("/a/ö", library.CHILDREN_SIDE)])
-        machine.get_data(400, 3, "/a/ö", True)
-        machine.get_children(400, 4, "/a/ö", True)
-        machine.received(500, reply(3, 9, 0, struct.pack(">i", -1) + STAT_BYTES))
-        machine.received(500, reply(4, 9, 0, struct.pack(">i", 0) + STAT_BYTES))
-        self.assertEqual(machine.lacking("/a", 9), [])
+        session, data_of = connected(), library.DATA_SIDE
+        self.assertEqual(session.lacking("/a", 9), [("/a", data_of), ("/a", library.CHILDREN_SIDE)])
+        self.assertEqual(session.subtree("/a", 9), (None, 0))
+        session.get_data(200, 1, NO_LIMIT, "/a", True)
+        session.get_children(200, 2, NO_LIMIT, "/a", True)
+        session.received(300, reply(1, 9, 0, buffer(b"hello") + STAT_BYTES))
+        session.received(300, reply(2, 9, 0, struct.pack(">i", 1) + buffer("ö".encode()) + STAT_BYTES))
+        self.assertEqual(session.lacking("/a", 9), [("/a/ö", data_of), ("/a/ö", library.CHILDREN_SIDE)])
+        session.get_data(400, 3, NO_LIMIT, "/a/ö", True)
+        session.get_children(400, 4, NO_LIMIT, "/a/ö", True)
+        session.received(500, reply(3, 9, 0, struct.pack(">i", -1) + STAT_BYTES))
+        session.received(500, reply(4, 9, 0, struct.pack(">i", 0) + STAT_BYTES))
+        self.assertEqual(session.lacking("/a", 9), [])
         stat = DataStat(2, 5, 1000, 2000, 3, 0, 5)
         nodes = [handle.SubtreeNode("/a", b"hello", stat, 6), handle.SubtreeNode("/a/ö", None, stat, 6)]
-        self.assertEqual(machine.subtree("/a", 2), (nodes, 9))
+        self.assertEqual(session.subtree("/a", 2), (nodes, 9))
         with self.assertRaises(library.TooManyNodes):
-            machine.subtree("/a", 1)
+            session.subtree("/a", 1)
         with self.assertRaises(ValueError):
-            machine.subtree("a", 1)
+            session.subtree("a", 1)
 
     def test_a_snapshot_is_of_several_paths_that_are_all_good(self) -> None:
-        machine, paths = connected(), ["/none", "/ö", "/known"]
-        self.assertEqual(machine.snapshot(paths, ["/ö"]), (None, 0))
-        machine.exists(200, 1, "/none", True)
-        machine.get_data(200, 2, "/ö", True)
-        machine.exists(200, 3, "/known", True)
-        machine.get_children(200, 4, "/ö", True)
-        machine.received(300, reply(1, 8, -101))
-        machine.received(300, reply(2, 9, 0, buffer(b"hello") + STAT_BYTES))
-        machine.received(300, reply(3, 9, 0, STAT_BYTES))
+        session, paths = connected(), ["/none", "/ö", "/known"]
+        self.assertEqual(session.snapshot(paths, ["/ö"]), (None, 0))
+        session.exists(200, 1, NO_LIMIT, "/none", True)
+        session.get_data(200, 2, NO_LIMIT, "/ö", True)
+        session.exists(200, 3, NO_LIMIT, "/known", True)
+        session.get_children(200, 4, NO_LIMIT, "/ö", True)
+        session.received(300, reply(1, 8, -101))
+        session.received(300, reply(2, 9, 0, buffer(b"hello") + STAT_BYTES))
+        session.received(300, reply(3, 9, 0, STAT_BYTES))
         names = struct.pack(">i", 2) + buffer(b"c") + buffer("ä".encode())
-        machine.received(300, reply(4, 9, 0, names + STAT_BYTES))
+        session.received(300, reply(4, 9, 0, names + STAT_BYTES))
         stat = DataStat(2, 5, 1000, 2000, 3, 0, 5)
         nodes = [
             handle.KeptData(library.ABSENT, library.GOOD, None, None),
@@ -266,112 +266,109 @@ class MachineTest(unittest.TestCase):
             handle.KeptData(library.KNOWN, library.GOOD, stat, None),
         ]
         children = [handle.KeptNames(library.GOOD, ("c", "ä"), 6)]
-        self.assertEqual(machine.snapshot(paths, ["/ö"]), ((nodes, children), 9))
-        self.assertEqual(machine.snapshot([], []), (([], []), 9))
+        self.assertEqual(session.snapshot(paths, ["/ö"]), ((nodes, children), 9))
+        self.assertEqual(session.snapshot([], []), (([], []), 9))
         with self.assertRaisesRegex(ValueError, "^b is no path"):
-            machine.snapshot(["/ö", "b"], ["/ö"])
-        machine.received(400, frame(struct.pack(">iqiii", -1, -1, 0, 3, 3) + buffer("/ö".encode())))
-        self.assertEqual(machine.snapshot(paths, ["/ö"]), (None, 9))
-        self.assertEqual(machine.snapshot(["/none"], ["/ö"]), ((nodes[:1], children), 9))
+            session.snapshot(["/ö", "b"], ["/ö"])
+        session.received(400, frame(struct.pack(">iqiii", -1, -1, 0, 3, 3) + buffer("/ö".encode())))
+        self.assertEqual(session.snapshot(paths, ["/ö"]), (None, 9))
+        self.assertEqual(session.snapshot(["/none"], ["/ö"]), ((nodes[:1], children), 9))
 
     def test_a_snapshot_below_a_root_is_of_its_paths(self) -> None:
-        machine = Machine(6000, root=Root("/app"))
-        machine.opened(100)
-        machine.received(100, CONNECT_RESPONSE)
-        machine.exists(200, 1, "/a", True)
-        machine.received(300, reply(1, 9, 0, STAT_BYTES))
-        found, last_zxid = machine.snapshot(["/a"], [])
+        session = connected(Root("/app"))
+        session.exists(200, 1, NO_LIMIT, "/a", True)
+        session.received(300, reply(1, 9, 0, STAT_BYTES))
+        found, last_zxid = session.snapshot(["/a"], [])
         self.assertTrue(found and found.nodes[0].kind == library.KNOWN and last_zxid == 9)
 
     def test_who_holds_by_the_first_name_of_a_prefix_has_a_token(self) -> None:
-        machine, own = connected(), "/l/lock-0000000007"
-        machine.get_data(200, 1, own, True)
+        session, own = connected(), "/l/lock-0000000007"
+        session.get_data(200, 1, NO_LIMIT, own, True)
         owned = struct.pack(">qqqqiiiqiiq", *Stat(88, 89, 0, 0, 1, 0, 0, 0x1234, 0, 0, 88))
-        machine.received(300, reply(1, 90, 0, buffer(b"") + owned))
-        self.assertIsNone(machine.holder("/l", "lock-", own))
-        machine.get_children(400, 2, "/l", True)
+        session.received(300, reply(1, 90, 0, buffer(b"") + owned))
+        self.assertIsNone(session.holder("/l", "lock-", own))
+        session.get_children(400, 2, NO_LIMIT, "/l", True)
         names = b"".join(map(buffer, (b"lock-0000000007", b"lock-0000000008", b"a")))
-        machine.received(500, reply(2, 90, 0, struct.pack(">i", 3) + names + STAT_BYTES))
-        self.assertEqual(machine.holder("/l", "lock-", own), 88)
-        self.assertIsNone(machine.holder("/l", "", own))
-        self.assertIsNone(machine.holder("/", "lock-", own))
+        session.received(500, reply(2, 90, 0, struct.pack(">i", 3) + names + STAT_BYTES))
+        self.assertEqual(session.holder("/l", "lock-", own), 88)
+        self.assertIsNone(session.holder("/l", "", own))
+        self.assertIsNone(session.holder("/", "lock-", own))
         for directory, path, none in (("l", own, "l"), ("/l", "lock-", "lock-")):
             with self.assertRaisesRegex(ValueError, f"^{none} is no path"):
-                machine.holder(directory, "lock-", path)
+                session.holder(directory, "lock-", path)
 
     def test_who_stands_first_has_a_token_and_others_wait(self) -> None:
-        machine, own, other = connected(), "x-lock-0000000007", "a-lock-0000000008"
-        machine.get_data(200, 1, f"/l/{own}", True)
+        session, own, other = connected(), "x-lock-0000000007", "a-lock-0000000008"
+        session.get_data(200, 1, NO_LIMIT, f"/l/{own}", True)
         owned = struct.pack(">qqqqiiiqiiq", *Stat(88, 88, 0, 0, 0, 0, 0, 0x1234, 0, 0, 88))
-        machine.received(300, reply(1, 90, 0, buffer(b"") + owned))
+        session.received(300, reply(1, 90, 0, buffer(b"") + owned))
         names, markers = [other, own, "y-0000000001"], ["lock-", "lock-"]
-        self.assertEqual(machine.standing("/l", own, names, 90, markers), (88, None))
-        self.assertEqual(machine.standing("/l", own, names, 87, markers), (None, None))
-        self.assertEqual(machine.standing("/l", other, names, 90, markers), (None, own))
+        self.assertEqual(session.standing("/l", own, names, 90, markers), (88, None))
+        self.assertEqual(session.standing("/l", own, names, 87, markers), (None, None))
+        self.assertEqual(session.standing("/l", other, names, 90, markers), (None, own))
         listing = handle.Listing.of(names, 90)
-        self.assertEqual(machine.standing("/l", own, *listing, markers), (88, None))
+        self.assertEqual(session.standing("/l", own, *listing, markers), (88, None))
         with self.assertRaises(ValueError):
-            machine.standing("/l", own, names, 90, [])
+            session.standing("/l", own, names, 90, [])
         with self.assertRaises(ValueError):
-            machine.standing("/l", "a/b", names, 90, markers)
+            session.standing("/l", "a/b", names, 90, markers)
 
     def test_a_bad_frame_ends_the_connection(self) -> None:
-        machine = connected()
-        machine.get_data(200, 1, "/a", False)
-        dropped, lost, idle = machine.received(300, struct.pack(">i", -5))
+        session = connected()
+        session.delete(200, 1, NO_LIMIT, "/a", -1)
+        dropped, *others = session.received(300, struct.pack(">i", -5))
         self.assertTrue(isinstance(dropped, Drop) and dropped.fault == "F1" and dropped.words)
-        self.assertEqual(lost, Answer(1, 1, 0, 0, None, None, []))
-        self.assertEqual(idle, StateChange(library.IDLE))
+        self.assertEqual(others, [Answer(1, 1, 0, 0, None, None, []), StateChange(library.IDLE), Sign.HANG_UP])
 
     def test_a_session_is_put_away_and_taken_up(self) -> None:
         saved = connected().saved()
-        machine = Machine(6000, saved)
-        machine.tick(100)
+        session = Session(6000, 1, saved, addresses=1)
+        session.moment(100)
         request = struct.pack(">iqiq", 0, 0, 6000, 0x1234) + buffer(PASSWORD) + b"\0"
-        self.assertIn(Send(frame(request)), machine.opened(100))
-        self.assertEqual(Machine(6000, saved).saved(), saved)
+        self.assertIn(Send(frame(request)), session.opened(100))
+        self.assertEqual(Session(6000, 1, saved, addresses=1).saved(), saved)
 
     def test_what_is_wrong_is_said(self) -> None:
-        machine = connected()
+        session = connected()
         for path in ("", "a", "/a/", "/a//b", "/a/../b", "/\0"):
             with self.assertRaises(ValueError):
-                machine.get_data(200, 1, path, False)
+                session.get_data(200, 1, NO_LIMIT, path, False)
         with self.assertRaises(ValueError):
-            machine.peek_data("no path")
+            session.peek_data("no path")
         with self.assertRaises(ValueError):
-            machine.create(200, 1, "/a", b"", 4)
+            session.create(200, 1, NO_LIMIT, "/a", b"", 4)
         with self.assertRaises(ValueError):
-            Machine(0)
+            Session(0, 1)
         with self.assertRaises(ValueError):
-            Machine(6000, b"short")
+            Session(6000, 1, b"short")
 
     def test_a_look_up_is_of_one_moment_though_steps_go_on(self) -> None:
-        machine, is_over = connected(), threading.Event()
-        machine.get_data(200, 1, "/a", True)
-        machine.received(300, reply(1, 9, 0, buffer(b"9") + STAT_BYTES))
+        session, is_over = connected(), threading.Event()
+        session.get_data(200, 1, NO_LIMIT, "/a", True)
+        session.received(300, reply(1, 9, 0, buffer(b"9") + STAT_BYTES))
 
         def step() -> None:
             for xid in range(2, 3000):
-                machine.get_data(300, xid, "/a", True)
-                machine.received(300, reply(xid, 8 + xid, 0, buffer(b"%d" % (8 + xid)) + STAT_BYTES))
+                session.get_data(300, xid, NO_LIMIT, "/a", True)
+                session.received(300, reply(xid, 8 + xid, 0, buffer(b"%d" % (8 + xid)) + STAT_BYTES))
             is_over.set()
 
         threading.Thread(target=step, daemon=True).start()
         looks = 0
         while not is_over.is_set():
-            kept, last_zxid = machine.peek_data("/a")
+            kept, last_zxid = session.peek_data("/a")
             self.assertEqual(kept.data, b"%d" % last_zxid)
             looks += 1
         self.assertGreater(looks, 10)
 
     def test_a_closed_machine_says_so(self) -> None:
-        machine = connected()
-        machine.close()
-        machine.close()
-        for use in (lambda: machine.tick(300), lambda: machine.peek_data("/a"), machine.saved, machine.deadline):
+        session = connected()
+        session.close()
+        session.close()
+        for use in (lambda: session.moment(300), lambda: session.peek_data("/a"), session.saved, session.deadline):
             with self.assertRaises(RuntimeError):
                 use()
-        del machine
+        del session
         gc.collect()
 
 

@@ -10,6 +10,7 @@ from test_library import CONNECT_REQUEST, CONNECT_RESPONSE, STAT, STAT_BYTES, bu
 
 from dirwolleu import _handle as handle
 from dirwolleu import _library as library
+from dirwolleu import _session as of_session
 from dirwolleu._library import Answer, Drop, Halted, NoMemory, Report, Send, StateChange
 from dirwolleu._root import Root
 from dirwolleu._session import (
@@ -79,15 +80,23 @@ class SessionTest(unittest.TestCase):
         self.assertEqual({len(set(places[begin : begin + 3])) for begin in range(0, len(places) - 2)}, {3})
 
     def test_a_step_says_more_than_there_was_room_for(self) -> None:
-        session, data = self.connected(), bytes(10_000)
-        session.get_data(100, 1, NO_LIMIT, "/a", False)
-        told = session.received(100, reply(1, 5, body=buffer(data) + STAT_BYTES))
-        self.assertEqual(told, [Answer(1, library.REPLIED, library.DATA, 0, STAT, data, [], 5)])
+        for length in (10_000, 100_000, 200_000):  # the last two are not taken together with what else it says
+            session, data = self.connected(), bytes(length)
+            session.get_data(100, 1, NO_LIMIT, "/a", False)
+            session.get_children(100, 2, NO_LIMIT, "/a", False)
+            came = reply(1, 5, body=buffer(data) + STAT_BYTES) + reply(2, 6, body=names("b", "ö" * 300)) + struct.pack(">i", -5)
+            data_of, names_of, dropped, *_ = session.received(100, memoryview(bytearray(came)))
+            self.assertEqual(data_of, Answer(1, library.REPLIED, library.DATA, 0, STAT, data, [], 5))
+            self.assertEqual(names_of, Answer(2, library.REPLIED, library.NAMES, 0, STAT, None, ["b", "ö" * 300], 6))
+            self.assertTrue(isinstance(dropped, Drop) and dropped.fault == "F1" and dropped.words)
 
-    def test_without_memory_for_what_a_step_says_it_halts(self) -> None:
+    def test_without_memory_for_what_a_step_says_it_is_taken_in_parts(self) -> None:
         session = self.connected()
-        with mock.patch.object(session, "_take_all", return_value=library.NO_MEMORY), self.assertRaises(Halted):
-            session.moment(200)
+        with mock.patch.object(session, "_take_all", return_value=library.NO_MEMORY):
+            self.assertEqual(session.get_data(100, 1, NO_LIMIT, "/a", False), [read(1, "/a")])
+            self.assertEqual(session.get_children(100, 2, NO_LIMIT, "/a", False), [asked(2, 12, "/a", b"\0")])
+            with mock.patch.object(session._calls, "names", return_value=library.NO_MEMORY), self.assertRaises(Halted):
+                session.received(100, reply(1, 5, -101) + reply(2, 6, body=names("b")))
         self.assertEqual(session.moment(200), [])
 
     def test_calls_wait_and_are_answered(self) -> None:
@@ -218,9 +227,9 @@ class SessionTest(unittest.TestCase):
         with self.assertRaises(NoMemory):
             library.checked(library.NO_MEMORY)
         with self.assertRaises(library.UnknownNumber):
-            session._read(handle._fields_of_output(library._Output(kind=99)), b"")
+            session._read(of_session._fields_of_output(library._Output(kind=99)), b"")
         with self.assertRaises(library.UnknownNumber):
-            session._read(handle._fields_of_output(library._Output(kind=library.REFUSED, detail=99)), b"")
+            session._read(of_session._fields_of_output(library._Output(kind=library.REFUSED, detail=99)), b"")
 
 
 if __name__ == "__main__":

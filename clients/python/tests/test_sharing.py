@@ -17,7 +17,7 @@ from dirwolleu import CallTimeoutError, ConnectionLoss, LockLostError, LockTimeo
 from dirwolleu import _requests as requests
 from dirwolleu import _steps as steps
 from dirwolleu._contending import EXCLUSIVE, READING, WRITING
-from dirwolleu._machine import Machine
+from dirwolleu._session import Session
 
 
 DELETE, GET_CHILDREN_2 = 2, 12
@@ -383,7 +383,7 @@ class OrderTest(unittest.TestCase):
             line = [f"{letter}{kind.marker(names)}000000000{letter}" for letter, kind in zip("123456", kinds)]
             listing = [*line[::-1], "7-lock--000000001", "8__lock__-000000001", "other", "latch-0000000000"]
             for own, kind, wanted in zip(line, kinds, (None, 0, 0, 2, 3, 4)):
-                found = Machine(6000).standing("/locks", own, listing, 9, kind.markers(names))
+                found = Session(6000, 1).standing("/locks", own, listing, 9, kind.markers(names))
                 self.assertEqual(found, (None, None if wanted is None else line[wanted]))
 
 
@@ -392,7 +392,7 @@ class OrderTest(unittest.TestCase):
         for names, others in (("kazoo", "curator"), ("curator", "kazoo")):
             for kind, other in itertools.product((EXCLUSIVE, READING, WRITING), repeat=2):
                 own, foreign = f"b{kind.marker(names)}0000000002", f"a{other.marker(others)}0000000001"
-                found = Machine(6000).standing("/locks", own, [foreign, own], 9, kind.markers(names))
+                found = Session(6000, 1).standing("/locks", own, [foreign, own], 9, kind.markers(names))
                 self.assertEqual(found, (None, None))
 
 

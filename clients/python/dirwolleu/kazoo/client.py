@@ -609,7 +609,8 @@ class KazooClient:
             request = records.create2(spelled, value, found, mode)
         else:
             request = plans.create_request(spelled, value, found, mode)
-        return self._run(plans.create(request, spelled, found, makepath), forms.created if include_data else forms.as_it_is)
+        form = forms.created if include_data else forms.as_it_is
+        return self._run(plans.create(request, spelled, found), form) if makepath else self._send(request, form)
 
     def ensure_path(self, path: str, acl: Acls = None) -> bool:
         """Makes a node and those above it, as far as they are not there."""
@@ -638,7 +639,7 @@ class KazooClient:
         """
         check_flags(recursive=recursive)
         if recursive:
-            return bool(self._run(plans.delete(checked_path(path), -1, True), forms.true).get())
+            return bool(self._run(plans.delete_all(checked_path(path), -1), forms.true).get())
         return bool(self.delete_async(path, version).get())
 
     def delete_async(self, path: str, version: int = -1) -> AsyncResult:
