@@ -196,18 +196,18 @@ class ShellTest(PartnerCase):
         self.assertEqual((done.returncode, done.stderr), (4, "error: standard output: no storage space\n"))
 
     def test_what_drives_a_terminal_is_not_shown_as_it_is(self) -> None:
-        """Data are in hex then, and names as a word, with their bytes."""
+        """Data are in hex then, and names as a word, with their bytes. `zk_shell` does so too, except for what changes directions."""
         partner = self.partner()
         client = dirwolleu.Client(partner.host, 60.0)
         self.addCleanup(client.close)
         self.addCleanup(client.stop)
         client.start(WAIT)
-        drives = "\x1b]0;owned\x07", "\x1b[2J", "\x7f", "\x9b", "RED\r"
+        drives = "\x1b]0;owned\x07", "\x1b[2J", "\x7f", "\x9b", "\u202eabc", "\u2066é", "RED\r"
         client.create("/esc", b"\tA\nB\xc3\xa9")
         client.create("/esc/a\u202eb\u200f")
         self.assertEqual(self.printed(partner, "get", "/esc"), "\tA\nBé\n")
-        self.assertEqual(self.printed(partner, "tree", "/esc", "--text"), '/esc "\\tA\\nBé"\n/esc/a\u202eb\u200f ""\n')
-        self.assertEqual(self.printed(partner, "ls", "/esc"), "a\u202eb\u200f\n")
+        self.assertEqual(self.printed(partner, "tree", "/esc", "--text"), '/esc "\\tA\\nBé"\n/esc/a\\xe2\\x80\\xaeb\\xe2\\x80\\x8f ""\n')
+        self.assertEqual(self.printed(partner, "ls", "/esc"), "a\\xe2\\x80\\xaeb\\xe2\\x80\\x8f\n")
         self.assertEqual(json.loads(self.printed(partner, "ls", "/esc", "--json")), {"name": "a\u202eb\u200f"})
         process = self.begin(partner, "watch", "--data", "/esc", "--children", "/esc")
         self.read_until(process, r"^\d+\.\d+ /esc names 1 a\\xe2\\x80\\xaeb\\xe2\\x80\\x8f \d+ good last \d+$")

@@ -37,7 +37,7 @@ CHANGES: list[list[str]] = [
     ["create", "/a/none", "--hex", "abc"], ["create", "/a/none", "--from", "/none"], ["create", "/a/none", "x", "--from", "/none"],
     ["set", "/a", "y", "--version", "0"], ["set", "/a", "z", "--version", "0"], ["set", "/a/null", "w", "--version", "x"],
     ["set", "/none", "w"], ["set", "/a/bytes", "--hex", "\\e"], ["set", "/a/bytes", "--hex", "\\0"], ["set", "/a/bytes"],
-    ["create", "/a/\u202eb", "a\u202eb\u2028c"], ["set", "/a", "caf\udce9 'x'"], ["create", "/\udcff", "x"],
+    ["set", "/a", "caf\udce9 'x'"], ["create", "/\udcff", "x"],
     ["set", "--version=1", "/a", "é x"], ["delete", "/a"], ["delete", "/none"], ["delete", "/a/empty", "--version", "3"], ["delete", "/a/empty"],
 ]  # fmt: skip
 """Each is done by both, each at a server of its own."""

@@ -11,8 +11,10 @@ from dirwolleu.types import DataStat, Stat
 HEX_MARK = "hex:"
 """What stands before hex that is printed instead of a text."""
 
-_CONTROL = re.compile("[\0-\x1f\x7f-\x9f]")
-_HIDDEN = re.compile("[\0-\x08\x0b-\x1f\x7f-\x9f]")
+_DIRECTIONS = "\u061c\u200e\u200f\u2028-\u202e\u2066-\u2069"
+"""The characters that change the direction of what follows, or end a line. `zk_shell` prints these as they are."""
+_CONTROL = re.compile(f"[\0-\x1f\x7f-\x9f{_DIRECTIONS}]")
+_HIDDEN = re.compile(f"[\0-\x08\x0b-\x1f\x7f-\x9f{_DIRECTIONS}]")
 """The same without a tab and a line's end, which data may have."""
 _LETTERS = {"c": 4, "d": 8, "r": 1, "w": 2, "a": 16}
 """The letters of permissions, in ZooKeeper's order."""
