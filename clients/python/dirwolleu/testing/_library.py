@@ -38,6 +38,18 @@ class _Handle(Structure):
 
 _HANDLE = POINTER(_Handle)
 _FUNCTIONS: dict[str, tuple[Any, tuple[Any, ...]]] = {
+    "dw_bench_open": (c_int32, (_HANDLE, c_int64)),
+    "dw_bench_close": (None, (_HANDLE,)),
+    "dw_bench_change": (c_int32, (_HANDLE, c_uint64, c_int32, c_int64, c_void_p, c_size_t, c_void_p, c_size_t)),
+    "dw_bench_learn": (c_int32, (_HANDLE, _HANDLE)),
+    "dw_bench_zxid": (c_int64, (_HANDLE,)),
+    "dw_bench_connect": (c_int32, (_HANDLE, c_int32)),
+    "dw_bench_cut": (c_int32, (_HANDLE,)),
+    "dw_bench_hear": (c_int32, (_HANDLE, c_void_p, c_size_t)),
+    "dw_bench_say": (c_int32, (_HANDLE, c_void_p, c_size_t, POINTER(c_size_t))),
+    "dw_bench_process": (c_int32, (_HANDLE, c_uint64)),
+    "dw_bench_take": (c_int32, (_HANDLE, c_int32)),
+    "dw_bench_expire": (c_int32, (_HANDLE, c_bool)),
 }
 # end of what is made
 
