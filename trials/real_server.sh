@@ -90,6 +90,11 @@ is_line() {
     done
 }
 
+# The lines of a table of tests/real_server.txt.
+table() {
+    awk -v head="@@ $1" '/^@@ / { is = $0 == head; next } is && NF' "$top/tests/real_server.txt" | sed "s/{at}/$at/g; s/{port}/$port/g"
+}
+
 # Checks what a session printed against the lines on standard input.
 expect() {
     local -a want got
@@ -239,122 +244,11 @@ change_at() {
 run_calls() {
     local client
     start_gate hold
-    session alone "$at" "127.0.0.1:$(cat "$folder/hold.port")" <<'EOF' &
-# each call, and what its watches tell
-call 1 create /live 6f6e65 0
-call 2 exists /live 0
-call 3 getdata /live 1
-peek data /live
-call 4 getchildren /live 1
-peek names /live
-call 5 exists /live/b 1
-peek data /live/b
-call 6 setdata /live 74776f 0
-peek data /live
-call 7 setdata /live 78 0
-call 8 create /live/b \0 1
-peek data /live/b
-peek names /live
-call 9 getdata /live/b 1
-call 10 getchildren /live 1
-call 11 create /live/q- 71 2
-call 12 delete /live 1
-call 13 delete /live/q-0000000001 -1
-call 14 create /live/a 61 0
-call 15 create /live/a 61 0
-now 1000
-now 12000
-call 16 getdata /live 1
-call 17 getchildren /live 1
-call 18 exists /live/c 1
-last
-saved
-# a cut, a connection that ends, and the server again
-cut
-call 19 exists /live 0
-peek data /live
-open
-open
-last
-peek data /live
-call 20 exists /live 0
-peek data /live
-peek names /live
-peek data /live/c
-peek data /live/b
-call 21 getdata /live 1
-peek data /live
-# what had not changed is watched again
-call 22 setdata /live/b 62 -1
-forget
-peek data /live/b
-call 23 close
-peek data /live
-call 24 exists /live 0
-EOF
+    session alone "$at" "127.0.0.1:$(cat "$folder/hold.port")" < <(table 'calls: script') &
     client=$!
     change_at hold
     wait "$client" || exit 1
-    expect alone <<'EOF'
-state Connecting
-state Connected
-answer 1 @create created /live
-answer 2 @create stat @create @create @made @made 0 0 0 0 3 0 @create
-answer 3 @create data 6f6e65 @create @create @made @made 0 0 0 0 3 0 @create
-data full 6f6e65 @create @create @made @made 0 0 3 good
-answer 4 @create names 0 @create @create @made @made 0 0 0 0 3 0 @create
-names 0 @create good
-answer 5 @create code -101
-data absent good
-report data DataChanged /live
-answer 6 @two stat @create @two @made @set 1 0 0 0 3 0 @create
-data full 6f6e65 @create @create @made @made 0 0 3 stale
-answer 7 @refused code -103
-report data Created /live/b
-report child ChildrenChanged /live
-answer 8 @b created /live/b
-data absent stale
-names 0 @create stale
-answer 9 @b data \0 @b @b @born @born 0 0 0 @session 0 0 @b
-answer 10 @b names 1 b @create @two @made @set 1 1 0 0 3 1 @b
-report child ChildrenChanged /live
-answer 11 @queue created /live/q-0000000001
-answer 12 @full code -111
-answer 13 @gone done
-answer 14 @a created /live/a
-answer 15 @again code -110
-answer 16 @again data 74776f @create @two @made @set 1 4 0 0 3 2 @a
-answer 17 @again names 2 a b @create @two @made @set 1 4 0 0 3 2 @a
-answer 18 @again code -101
-last @again
-saved @session %password @again
-state Idle
-answer 19 - K4
-data full 74776f @create @two @made @set 1 0 3 good
-state Connecting
-state Idle
-state Connecting
-state Connected
-last @again
-data full 74776f @create @two @made @set 1 0 3 good
-report data DataChanged /live
-report data Created /live/c
-report child ChildrenChanged /live
-answer 20 @later stat @create @three @made @reset 2 6 0 0 5 2 @c
-data full 74776f @create @two @made @set 1 0 3 stale
-names 2 a b @a stale
-data absent stale
-data full \0 @b @b @born @born 0 @session 0 good
-answer 21 @later data 7468726565 @create @three @made @reset 2 6 0 0 5 2 @c
-data full 7468726565 @create @three @made @reset 2 0 5 good
-report data DataChanged /live/b
-answer 22 @write stat @b @write @born @rewritten 1 0 0 @session 1 0 @b
-data none
-answer 23 @closed done
-state Closed
-data none
-answer 24 - K3
-EOF
+    expect alone < <(table 'calls: lines')
     rises @create @two @refused @b @queue @full @gone @a @again @three @c @write @closed
     rises @three @later @write
 }
@@ -407,92 +301,7 @@ run_asks() {
     known=()
     : >"$folder/asks.out"
     seen[asks]=0
-    play asks <<'EOF'
-$ asks 0 create "$at" /asks 'level = 1'
-/asks
-$ asks 6 create "$at" /asks 'level = 1'
-refused: /asks: the node is there (-110)
-$ asks 0 get "$at" /asks
-level = 1
-$ asks 0 get "$at" /asks --hex
-6c6576656c203d2031
-$ asks 0 set "$at" /asks 'level = 2' --version 0
-$ asks 6 set "$at" /asks 'level = 3' --version 0
-refused: /asks: the node has another version (-103)
-$ asks 0 create "$at/asks" /null --null
-/null
-$ asks 0 create "$at/asks" /empty --hex '\e'
-/empty
-$ asks 0 create "$nobody,$at" /asks/bytes 00ff0a --hex
-/asks/bytes
-$ asks 0 get "$at" /asks/null --hex
-\0
-$ asks 0 get "$at/asks" /empty --hex
-\e
-$ asks 0 get "$at" /asks/bytes
-hex:00ff0a
-$ asks 0 ls "$at" /asks
-bytes
-empty
-null
-$ asks 0 stat "$at" /asks
-czxid @made
-mzxid @set
-ctime @ctime
-mtime @mtime
-version 1
-cversion 3
-aversion 0
-ephemeralOwner 0
-dataLength 9
-numChildren 3
-pzxid @last
-$ asks 6 delete "$at" /asks
-refused: /asks: the node has children (-111)
-$ asks 6 delete "$at" /asks/bytes --version 1
-refused: /asks/bytes: the node has another version (-103)
-$ asks 0 delete "$at" /asks/bytes --version 0
-$ asks 5 get "$at/asks" /bytes
-no node: /bytes
-$ printf '\0\377\n\n' >"$folder/bytes"
-$ asks 0 create "$at" /asks/file --from "$folder/bytes"
-/asks/file
-$ asks 0 get "localhost:$port" /asks/file --hex
-00ff0a0a
-$ asks 0 set "nobody.invalid,localhost:$port/asks" /file --from - --wait 30 <"$folder/bytes"
-$ asks 0 get "$at" /asks/file --hex
-00ff0a0a
-$ : >"$folder/bytes"
-$ asks 0 set "$at" /asks/file --from "$folder/bytes" --version 1
-$ asks 0 get "$at" /asks/file --hex
-\e
-$ truncate -s 1048576 "$folder/bytes"
-$ (cd "$folder" && asks 10 set "$at" /asks/file --from bytes)
-unread: bytes: it has more than 1,048,575 bytes
-$ (cd "$folder" && asks 10 set "$at" /asks/file --from none)
-unread: none: there is no such file
-$ (cd "$folder" && asks 10 set "$at" /asks/file --from .)
-unread: .: a read failed
-$ asks 0 tree "$at" /asks
-/asks
-/asks/empty
-/asks/file
-/asks/null
-$ asks 11 tree "$at/asks" / --json --depth 1 --most 2
-{"path":"/"}
-{"path":"/empty"}
-cut off: /: 2 nodes are printed, and there are more
-$ asks 5 tree "$at" /none
-no node: /none
-$ asks 5 create "$at" /none/node x
-no node: /none/node
-$ asks 5 set "$at" /none x
-no node: /none
-$ asks 7 ls "$nobody" /asks --wait 1
-not connected: /asks: no server has answered in time
-$ sees "$nobody: connection refused"
-$ is_over
-EOF
+    play asks < <(table asks)
     rises @made @set @last
 }
 
@@ -504,7 +313,7 @@ without_numbers() {
 # The session of an operator that the cookbook shows: each command after a `$` prints the lines that follow it there.
 run_operator() {
     local line status=0
-    sed -n '/^## An operator/,/^- /p' "$top/docs/COOKBOOK.md" | sed -n '/^```sh$/,/^```$/p' | sed "1d;\$d;s/127\.0\.0\.1:2181/$at/g;s/localhost:2181/localhost:$port/g" >"$folder/page"
+    sed -n '/^## An operator.s session/,/^- /p' "$top/docs/COOKBOOK.md" | sed -n '/^```sh$/,/^```$/p' | sed "1d;\$d;s/127\.0\.0\.1:2181/$at/g;s/localhost:2181/localhost:$port/g" >"$folder/page"
     zk_shell() { timeout 60 "$program" "$@"; }
     while IFS= read -r line; do
         [[ $line == '$ '* ]] || continue
@@ -517,32 +326,7 @@ run_operator() {
 
 # A watch of both sides of a node that is not there at first, that comes, changes, has a child, loses it, and goes.
 run_changes() {
-    play changes <<EOF
-$ watch $at --data /changes --children /changes --timeout 10000
-$ connects $at
-~ /changes does not exist last @
-~ /changes does not exist last @
-$ other create /changes one
-~ /changes data absent stale last @
-~ /changes names none last @
-~ /changes data full 6f6e65 @come @come @made @made 0 0 3 good last @
-~ /changes names 0 @come good last @
-$ other set /changes two
-~ /changes data full 6f6e65 @come @come @made @made 0 0 3 stale last @
-~ /changes data full 74776f @come @changed @made @reset 1 0 3 good last @
-$ other create /changes/a x
-~ /changes names 0 @come stale last @
-~ /changes names 1 a @child good last @
-$ other delete /changes/a
-~ /changes names 1 a @child stale last @
-~ /changes names 0 @gone good last @
-$ other delete /changes
-~ /changes data full 74776f @come @changed @made @reset 1 0 3 stale last @
-~ /changes names 0 @gone stale last @
-~ /changes does not exist last @
-~ /changes does not exist last @
-$ stop
-EOF
+    play changes < <(table changes)
     rises @come @changed @child @gone
 }
 
@@ -585,37 +369,7 @@ EOF
 # A watch of a tree of three nodes at most, beside another node: its root comes later, it grows past the bound, and shrinks.
 run_trees() {
     other create /beside one
-    play trees <<'EOF'
-$ watch $at --tree /trees --most 3 --data /beside --timeout 10000
-$ connects $at
-~ /beside data full 6f6e65 @beside @beside @ @ 0 0 3 good last @
-~ /trees does not exist last @
-~ /trees does not exist last @
-$ other create /trees one
-~ /trees data absent stale last @
-~ /trees names none last @
-~ /trees data full 6f6e65 @root @root @ @ 0 0 3 good last @
-~ /trees names 0 @root good last @
-$ other create /trees/a one
-~ /trees names 0 @root stale last @
-~ /trees names 1 a @child good last @
-~ /trees/a data full 6f6e65 @child @child @ @ 0 0 3 good last @
-~ /trees/a names 0 @child good last @
-$ other create /trees/a/b one
-~ /trees/a names 0 @child stale last @
-~ /trees/a names 1 b @below good last @
-~ /trees/a/b data full 6f6e65 @below @below @ @ 0 0 3 good last @
-~ /trees/a/b names 0 @below good last @
-$ other create /trees/c one
-~ /trees names 1 a @child stale last @
-$ sees_both '~ bound 3 a tree has more nodes: no more of it are watched' '~ /trees names 2 a c @more good last @'
-$ other delete /trees/a/b
-$ prints '/trees/c names 0 .* good'
-$ [[ $(grep -c '/trees/a/b does not exist' "$folder/trees.out") == 2 ]] || fail "trees tells otherwise that a node is gone"
-$ other create /trees/a/b two
-$ prints '/trees/a names 1 b .* good'
-$ stop
-EOF
+    play trees < <(table trees)
     rises @beside @root @child @below @more
     timeout 60 "$program" watch "$at" --tree /trees --most 3 --json --for 2 >"$folder/branches.out" || fail "branches ends with status $?"
     are_branches "$folder/branches.out" || fail "a line of branches is another one: $(cat "$folder/branches.out")"
@@ -648,44 +402,16 @@ EOF
 
 # A watch whose session is idle for three of its timeouts: it stays, and then a change is told. Its time is over, and it is closed.
 run_idle() {
+    local port=$1 at=127.0.0.1:$1
     outside "$1" create "/idle-$1" one
-    play "idle-$1" <<EOF
-$ watch 127.0.0.1:$1 --data /idle-$1 --timeout 4000 --for 25
-$ connects 127.0.0.1:$1
-~ /idle-$1 data full 6f6e65 @made-$1 @made-$1 @ @ 0 0 3 good last @
-$ sleep 13
-$ quiet
-$ outside $1 set /idle-$1 two
-~ /idle-$1 data full 6f6e65 @made-$1 @made-$1 @ @ 0 0 3 stale last @
-~ /idle-$1 data full 74776f @made-$1 @set-$1 @ @ 1 0 3 good last @
-~ state Closed
-~ /idle-$1 data none last @
-$ ends
-EOF
+    play "idle-$1" < <(table idle)
 }
 
 # A watch whose process is stopped until its session has expired: it reads that the server has ended the connection before it tells a late
 # moment, and a new session is begun.
 run_expired() {
     other create /expires one
-    play expires <<EOF
-$ watch_data $at --timeout 4000
-$ kill -STOP "\${begun[expires]}"
-$ sleep 10
-$ other set /expires two
-$ kill -CONT "\${begun[expires]}"
-~ ended $at end of stream
-~ state Idle
-~ dial $at
-~ state Connecting
-~ state Expired
-~ session new
-~ /expires data none last @renewed
-$ connects $at
-~ /expires data full 74776f @expires @twice @ @ 1 0 3 good last @
-$ ((known[@renewed] >= known[@expires])) || fail "the new session has forgotten the last seen zxid"
-$ stop
-EOF
+    play expires < <(table expires)
 }
 
 # A watch whose standard output is closed: it ends at its next line, with the status of a write that failed.
@@ -923,7 +649,7 @@ stop_and_change() {
 # An ensemble of three: the server of the session stops, and the session goes on at the next address that connects.
 # The server that stops, whose session it is, has this mode: leader or follower.
 run_ensemble() {
-    local mode=$1 server='' number port first gate
+    local mode=$1 server='' number port first gate at
     local -a ports others=()
     read -ra ports < <(free_ports 9)
     known=()
@@ -938,54 +664,12 @@ run_ensemble() {
     done
     [[ -n $server ]] || fail "no $mode"
     start_gate "$server"
-    gate=127.0.0.1:$(cat "$folder/$server.port")
-    session "$mode" "$first" "$gate" "$first" "${others[@]}" <<'EOF' &
-call 1 create /live 6f6e65 0
-call 2 getdata /live 1
-call 3 getchildren /live 1
-call 4 exists /live/c 1
-saved
-open
-open
-saved
-peek data /live
-call 5 exists /live 0
-peek data /live
-peek names /live
-call 6 getdata /live 1
-call 7 setdata /live 34 2
-call 8 close
-EOF
+    gate=127.0.0.1:$(cat "$folder/$server.port") at=$first
+    session "$mode" "$first" "$gate" "$first" "${others[@]}" < <(table 'ensemble: script') &
     local client=$!
     stop_and_change "$server" "${others[0]#*:}"
     wait "$client" || exit 1
-    expect "$mode" <<'EOF'
-state Connecting
-state Connected
-answer 1 @create created /live
-answer 2 @create data 6f6e65 @create @create @made @made 0 0 0 0 3 0 @create
-answer 3 @create names 0 @create @create @made @made 0 0 0 0 3 0 @create
-answer 4 @create code -101
-saved @session %password @create
-state Idle
-state Connecting
-state Idle
-state Connecting
-state Connected
-saved @session %password @create
-data full 6f6e65 @create @create @made @made 0 0 3 good
-report data DataChanged /live
-report data Created /live/c
-report child ChildrenChanged /live
-answer 5 @later stat @create @three @made @reset 2 1 0 0 5 1 @c
-data full 6f6e65 @create @create @made @made 0 0 3 stale
-names 0 @create stale
-answer 6 @later data 7468726565 @create @three @made @reset 2 1 0 0 5 1 @c
-report data DataChanged /live
-answer 7 @four stat @create @four @made @again 3 1 0 0 1 1 @c
-answer 8 @closed done
-state Closed
-EOF
+    expect "$mode" < <(table 'ensemble: lines')
     rises @create @three @c @four @closed
     rises @three @later @four
     stop_servers

@@ -1,0 +1,197 @@
+# The parts of scripts/clients that try many sessions at once, for that script, which sources this: on an ensemble whose servers are killed, at a
+# server that is away for longer than an outage, and beside one that hangs back.
+
+# Sets the command that opens many sessions by the client of a language, and builds what it runs.
+set_crowd() {
+    case $1 in
+    c)
+        compile crowd clients/crowd/crowd.c
+        crowd=("$out/crowd")
+        ;;
+    rust)
+        needs cargo
+        bounded 120 cargo build "${rust[@]}" --example crowd
+        crowd=("${CARGO_TARGET_DIR:-clients/rust/target}/debug/examples/crowd")
+        ;;
+    python)
+        needs python3
+        crowd=(python3 clients/crowd/crowd.py)
+        ;;
+    esac
+}
+
+# Opens this many sessions of ten seconds at these hosts, each of which follows the node /follow. What they print is in crowd.log.
+begin_crowd() {
+    "${crowd[@]}" "$1" "$2" /follow >"$folder/crowd.log" 2>"$folder/said.log" &
+    begun[crowd]=$!
+}
+
+end_crowd() {
+    kill "${begun[crowd]}" || fail "the crowd has ended already"
+    wait "${begun[crowd]}" 2>/dev/null || true
+    unset "begun[crowd]"
+}
+
+# Whether this many clients have printed these data.
+have_shown() {
+    [[ $(awk -v data="$2" '$3 == "data" && $4 == data { print $2 }' "$folder/crowd.log" | sort -u | wc -l) == "$1" ]]
+}
+
+# The sessions at all of these ports, and whether there are this many.
+sessions_at_all() {
+    local port
+    for port in "$@"; do
+        sessions_at "$port"
+    done
+}
+
+have_sessions() {
+    local count=$1
+    shift
+    [[ $(sessions_at_all "$@" | wc -l) == "$count" ]]
+}
+
+# Where 50 clients go whose order of servers is random differs at random: in half of all lots one of three servers has more than a
+# fifth more or less than a third. So 20 lots are counted together, which are beyond that in one of 40,000 trials. The last one stays.
+count_lots() {
+    local lot at
+    local -a counts=(0 0 0) found
+    for lot in {1..20}; do
+        begin_crowd "$(printf ',127.0.0.1:%s' "$@" | cut -c 2-)" 50
+        within 60 have_sessions 50 "$@" || fail "50 clients have no 50 sessions"
+        within 60 have_shown 50 0 || fail "50 clients are not shown the node"
+        for at in 0 1 2; do
+            found[at]=$(sessions_at "${@:at + 1:1}" | wc -l)
+            counts[at]=$((counts[at] + found[at]))
+        done
+        echo "lot $lot: ${found[*]}"
+        ((lot == 20)) || end_crowd
+    done
+    clients/crowd/figures spread "${counts[@]}" || fail "they are not within a fifth of even"
+}
+
+# A follower is killed, which has the sessions that are named: each of them has to be connected within a second, the longest pause while a
+# session of ten seconds may live. Half a second more is for the dial and for the word of the server.
+lose_follower() {
+    local server=$1 port=$2 since
+    local -a held
+    mapfile -t held < <(sessions_at "$port")
+    since=$(moment)
+    kill_server "$server"
+    sleep 5
+    echo "a follower is killed:"
+    clients/crowd/figures back "$folder/crowd.log" "$since" "$since" 1.5 "${held[@]}" || fail "sessions of a server that was killed"
+}
+
+# The leader is killed: its server is named, its port, and those of the others. All sessions are cut off, and nobody serves before there is
+# another leader. The first dial after that may be to the server that is gone, so it takes a pause more.
+lose_leader() {
+    local server=$1 since struck
+    local -a held
+    shift
+    mapfile -t held < <(sessions_at_all "$@")
+    struck=$(moment)
+    kill_server "$server"
+    shift
+    since=$(serve_since "$@") || fail "no server serves after the leader was killed"
+    sleep 15
+    echo "the leader is killed, and both others serve again after $(awk "BEGIN { print $since - $struck }") seconds:"
+    clients/crowd/figures back "$folder/crowd.log" "$struck" "$since" 2.5 "${held[@]}" || fail "sessions of an ensemble whose leader was killed"
+}
+
+# An ensemble, and 50 clients at a time: how many sit on each server, and when they are back.
+try_crowd() {
+    local -a ports
+    local leader follower
+    have_servers
+    set_crowd "$1"
+    read -ra ports < <(free_ports 9)
+    start_three three "${ports[@]}"
+    outside "${ports[0]}" create /follow 0
+    count_lots "${ports[@]:0:3}"
+    for leader in 0 1 2; do
+        if [[ $(mode_of "${ports[leader]}") == leader ]]; then
+            break
+        fi
+    done
+    follower=$(((leader + 1) % 3))
+    lose_follower "three-$((follower + 1))" "${ports[follower]}"
+    start_server "three-$((follower + 1))"
+    within 60 serves "${ports[follower]}" || fail "the follower does not serve again"
+    lose_leader "three-$((leader + 1))" "${ports[leader]}" "${ports[follower]}" "${ports[(leader + 2) % 3]}"
+    end_crowd
+}
+
+# The server is killed, and is there again after 30 seconds, with its sessions: 50 of ten seconds have to be connected within two seconds,
+# except those whose connections the server has left open, without a word, as it began.
+try_long_outage() {
+    local port since struck left
+    local -a held
+    have_servers
+    set_crowd "$1"
+    serve_alone one
+    outside "$port" create /follow 0
+    begin_crowd "127.0.0.1:$port" 50
+    within 60 have_shown 50 0 || fail "50 clients are not shown the node"
+    mapfile -t held < <(sessions_at "$port")
+    struck=$(moment)
+    kill_server one
+    sleep 30
+    start_server one
+    since=$(serve_since "$port") || fail "the server does not serve again"
+    sleep 15
+    left=$(grep -c 'removeCnxn.* "this.zkDb" is null' "$folder/one.log" || true)
+    echo "the server serves again after $(awk "BEGIN { print $since - $struck }") seconds, and has left $left connections without a word:"
+    clients/crowd/figures back --but "$left" "$folder/crowd.log" "$struck" "$since" 2 "${held[@]}" || fail "sessions after an outage of 30 seconds"
+    outside "$port" set /follow 1
+    within 30 have_shown 50 1 || fail "50 clients are not shown what has changed"
+    end_crowd
+}
+
+# Three servers, of which the third is cut off from the leader, and hangs back without knowing. Sessions are of the server that began them
+# alone, so where that is killed, the leader says that they have expired, and the server that hangs back begins another one for whoever
+# has seen nothing. It has to begin none for who has.
+try_lagging_follower() {
+    local -a ports held
+    local lines since refused
+    have_servers
+    set_crowd "$1"
+    read -ra ports < <(free_ports 11)
+    lines="localSessionsEnabled=true
+syncLimit=60
+server.1=127.0.0.1:${ports[3]}:${ports[6]}
+server.2=127.0.0.1:${ports[4]}:${ports[7]}
+server.3=127.0.0.1:${ports[5]}:${ports[8]}"
+    configure one 1 "${ports[0]}" "$lines"
+    configure two 2 "${ports[1]}" "$lines"
+    configure three 3 "${ports[2]}" "${lines/:${ports[4]}:/:${ports[9]}:}"
+    start_server one
+    start_server two
+    within 60 serves "${ports[1]}" || fail "two servers do not serve"
+    start_way leader "${ports[9]}" "${ports[4]}"
+    start_server three
+    within 60 serves "${ports[2]}" || fail "the third server does not serve"
+    [[ $(mode_of "${ports[1]}") == leader ]] || fail "the second server does not lead"
+    outside "${ports[0]}" create /follow 1
+    begin_crowd "127.0.0.1:${ports[0]},127.0.0.1:${ports[1]},127.0.0.1:${ports[10]}" 20
+    within 60 have_shown 20 1 || fail "20 clients are not shown the node"
+    touch "$folder/leader.hold"
+    outside "${ports[1]}" set /follow 2
+    within 60 have_shown 20 2 || fail "20 clients are not shown what has changed"
+    outside "${ports[2]}" get /follow
+    grep -qx 1 "$folder/outside.log" || fail "the third server does not serve whoever has seen nothing, or does not hang back"
+    start_way behind "${ports[10]}" "${ports[2]}"
+    mapfile -t held < <(sessions_at "${ports[0]}")
+    since=$(moment)
+    kill_server one
+    within 60 have_sessions 20 "${ports[1]}" || fail "20 clients have no 20 sessions at the leader"
+    clients/crowd/figures renewed "$folder/crowd.log" "$since" "${held[@]}" || fail "sessions beside a server that is behind"
+    refused=$(grep -c 'Refusing session request .* has seen zxid' "$folder/three.log" || true)
+    echo "the server that is behind has refused $refused attempts, and has $(sessions_at "${ports[2]}" | wc -l) sessions of theirs"
+    ((refused >= ${#held[@]})) || fail "not each of them has tried the server that is behind"
+    [[ -z $(sessions_at "${ports[2]}") ]] || fail "a server that is behind has admitted a session"
+    rm "$folder/leader.hold"
+    outside "${ports[1]}" set /follow 3
+    within 60 have_shown 20 3 || fail "20 clients are not shown what has changed"
+    end_crowd
+}
