@@ -16,7 +16,7 @@ import threading
 import unittest
 from typing import Callable
 
-from support import CLIENTS, WAIT
+from support import CLIENTS, WAIT, Peer, RawServer, reply
 
 from dirwolleu.__main__ import main
 from dirwolleu.shell.words import COMMANDS
@@ -262,6 +262,25 @@ class ShellsTest(unittest.TestCase):
                 self._never_connect(f"127.0.0.1:{listener.getsockname()[1]}", line)
                 listener.shutdown(socket.SHUT_RDWR)
                 thread.join(WAIT)
+
+    def test_a_watch_whose_read_is_refused(self) -> None:
+        def serve(peer: Peer) -> None:
+            peer.admit()
+            while True:
+                peer.send(reply(peer.take(), code=-102))
+
+        for form in FORMS:
+            for seconds in ("2", "10", "40"):
+                ends = []
+                for run in (self.run_zk, self.run_python):
+                    server = RawServer(serve)
+                    self.addCleanup(server.stop)
+                    status, printed, said = run(server.host, ["watch", "--data", "/a", "--for", seconds, *form])
+                    ends.append((status, [plain(line) for line in printed.replace(server.host, "HOST").splitlines()], said))
+                if all("refused" in str(lines) for _, lines, _ in ends):
+                    break
+            self.assertEqual(ends[0], ends[1])
+            self.assertEqual(str(ends[0]).count("refused"), 1)
 
     def _never_connect(self, hosts: str, line: str) -> None:
         """Both print the same lines, among them one that begins so."""
