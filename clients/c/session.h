@@ -1172,29 +1172,29 @@ static inline bool dws_keep_text(dws_session *s, dws_call *call, const dw_output
     return true;
 }
 
-/* How many bytes the names of the listing that was told last have, each with a 0 after it. */
-static inline size_t dws_measure_names(dws_session *s, size_t count)
+/* The names that follow one another in this room, each after its length in four bytes, as texts with a 0 after each. */
+static inline void dws_point_at_names(char **names, char *at, size_t count)
 {
-    char none;
-    size_t total = 0;
     for (size_t i = 0; i < count; i++) {
-        total += dw_session_name(&s->machine, i, &none, 0) + 1;
+        size_t length = dws_read_int((const uint8_t *)at);
+        *at = 0;
+        names[i] = at + 4;
+        at += 4 + length;
     }
-    return total;
+    *at = 0;
 }
 
+/* Copies the names of an answer. */
 static inline bool dws_keep_names(dws_session *s, dws_call *call, size_t count)
 {
-    size_t total = dws_measure_names(s, count), table = count * sizeof(char *);
-    if (!dws_reserve(&call->names, &call->names_room, table + total + 1)) {
+    size_t length = 0, table = count * sizeof(char *);
+    uint8_t none;
+    bool is_there = dw_session_names(&s->machine, &none, 0, &length) == DW_OK && dws_reserve(&call->names, &call->names_room, table + length + 1);
+    char *block = is_there ? (char *)call->names + table : NULL;
+    if (!is_there || dw_session_names(&s->machine, (uint8_t *)block, length, &length) != DW_OK) {
         return false;
     }
-    char *at = (char *)call->names + table, *end = at + total;
-    for (size_t i = 0; i < count; i++) {
-        call->names[i] = at;
-        at += dw_session_name(&s->machine, i, at, (size_t)(end - at));
-        *at++ = 0;
-    }
+    dws_point_at_names(call->names, block, count);
     call->count = count;
     return true;
 }
@@ -1936,18 +1936,6 @@ static inline void dws_transmit(dws_session *s)
 }
 
 /* ---- Subjects: nodes that are followed. ---- */
-
-/* The names that follow one another in this room, each after its length in four bytes, as texts with a 0 after each. */
-static inline void dws_point_at_names(char **names, char *at, size_t count)
-{
-    for (size_t i = 0; i < count; i++) {
-        size_t length = dws_read_int((const uint8_t *)at);
-        *at = 0;
-        names[i] = at + 4;
-        at += 4 + length;
-    }
-    *at = 0;
-}
 
 /* Copies the names that are kept of a subject. */
 static inline enum dw_result dws_look_at_names(dws_session *s, dws_subject *subject, const dw_kept_names *kept)
