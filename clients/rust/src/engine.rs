@@ -235,9 +235,11 @@ impl Engine {
         }
     }
 
-    /// It is over with everything: each call is answered.
+    /// It is over with everything: each call is answered. That something has panicked is told still.
     pub(crate) fn stop(&mut self) {
-        self.let_go(Course::Stopped);
+        if self.course != Course::Panicked {
+            self.let_go(Course::Stopped);
+        }
     }
 
     /// The same, since what it is kept alive by has panicked.
@@ -584,6 +586,15 @@ mod tests {
         let saved = engine.machine().saved().unwrap();
         assert_eq!((saved.id(), engine.is_over()), (Some(7), false));
         connect(&mut engine);
+    }
+
+    #[test]
+    fn what_has_panicked_is_told_after_the_thread_has_ended() {
+        let mut engine = connected();
+        engine.panicked();
+        engine.stop();
+        assert_eq!(engine.halt(), Err(Fault::Panicked));
+        assert_eq!(engine.state(Duration::ZERO), None);
     }
 
     /// So it is where as many paths are watched as may be: the read is refused at once.

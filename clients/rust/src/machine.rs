@@ -174,8 +174,9 @@ impl Machine {
     }
 
     /// Follows all nodes at and below a path, of which no more are taken on where there are more than `most`. The data of its root have the
-    /// ticket, and all else has tickets from 2^63 on, which are used for nothing else. What becomes of it is told by [`Action::TakenOn`] and
-    /// those after it. Where there is no root, that is [shown](Action::Shown), and its making is waited for.
+    /// ticket, and all else has tickets from 2^63 on, which are used for nothing else. What becomes of it is told by
+    /// [`Action::TakenOn`](crate::Action::TakenOn) and those after it. Where there is no root, that is [shown](crate::Action::Shown), and
+    /// its making is waited for.
     ///
     /// # Errors
     ///
@@ -191,7 +192,8 @@ impl Machine {
         self.step(|handle| handle.follow_tree(call, most))
     }
 
-    /// The tree of this ticket is followed no more, nor is any node that was taken on for it. Where there is none, the moment alone is noticed.
+    /// The tree of this ticket is followed no more, nor is any node that was taken on for it. Where there is none, the moment alone is
+    /// noticed.
     ///
     /// # Errors
     ///
@@ -200,10 +202,10 @@ impl Machine {
         self.step(|handle| handle.unfollow_tree(now, ticket))
     }
 
-    /// Introduces the session by a credential, of a scheme as `digest` and a secret as `user:password`: at once where there is a connection, and
-    /// on each later one right after the request that opens it, in the order in which credentials were handed in. What a server says of it is
-    /// told by [`Action::Credential`]. Two equal ones are two. The machine keeps it for as long as it lives, and overwrites it then. The bytes of the
-    /// secret are in the frames that are said, too.
+    /// Introduces the session by a credential, of a scheme as `digest` and a secret as `user:password`: at once where there is a
+    /// connection, and on each later one right after the request that opens it, in the order in which credentials were handed in. What a
+    /// server says of it is told by [`Action::Credential`](crate::Action::Credential). Two equal ones are two. The machine keeps it for as
+    /// long as it lives, and overwrites it then. The bytes of the secret are in the frames that are said, too.
     ///
     /// # Errors
     ///
@@ -259,8 +261,8 @@ macro_rules! calls {
 
 /// Steps: calls. Each waits in one line until a server has accepted the connection and fewer than 1,024 are on their way, until a moment at
 /// most, where there is one. It is answered once, or times out once. A read that is lost with its connection is asked again, in its place;
-/// a write is answered [`ConnectionLoss`](crate::NoReply::ConnectionLoss). No other call or subject has or had the ticket. What is to be kept good
-/// is [followed](Machine::follow).
+/// a write is answered [`ConnectionLoss`](crate::NoReply::ConnectionLoss). No other call or subject has or had the ticket. What is to be
+/// kept good is [followed](Machine::follow).
 impl Machine {
     for_each_call! { calls }
 
@@ -315,8 +317,8 @@ impl Machine {
 
     look_ups_of_handle! {}
 
-    /// What a [`subtree`](Machine::subtree) has, as the library spells it. A tree that is looked at again is mostly as long as it was: it is given
-    /// more room than that.
+    /// What a [`subtree`](Machine::subtree) has, as the library spells it. A tree that is looked at again is mostly as long as it was: it
+    /// is given more room than that.
     pub(crate) fn spelled_subtree(
         &self,
         path: &str,
