@@ -6,8 +6,9 @@
 
 from __future__ import annotations
 
+import functools
 from collections.abc import Iterable, Sequence
-from typing import TYPE_CHECKING, Callable, Optional, TypeVar, Union
+from typing import Callable, Optional, TypeVar, Union
 
 from dirwolleu import _plans as plans
 from dirwolleu import _records as records
@@ -31,12 +32,12 @@ Made = TypeVar("Made", bound=Callable[..., object])
 
 def shown(made: Made, call: Callable[..., object], ending: str = "", *, is_awaited: bool = False) -> Made:
     """A function of a client or a recipe, with the name, the parameters and the words of the call that it makes."""
+    functools.update_wrapper(made, call)
     name, words = call.__name__.lstrip("_"), call.__doc__ or ""
     made.__name__ = made.__qualname__ = name + ending
-    made.__doc__ = f"`{name}`, which does not wait." if ending else words
     if is_awaited:
-        made.__doc__ = words.replace(f"client.{name}(", f"await client.{name}(")
-    setattr(made, "__wrapped__", call)
+        words = words.replace(f"client.{name}(", f"await client.{name}(")
+    made.__doc__ = f"`{name}`, which does not wait." if ending else words
     return made
 
 

@@ -40,12 +40,16 @@ class BaseCounter(Generic[AnyClient, Number]):
         """Raises `ValueError` where the data are no number."""
         return type(self._default)(data.decode()) if data else self._default
 
+    def _spelled(self, number: Number) -> bytes:
+        """The data of the node."""
+        return repr(number).encode()
+
     def _changing(self, change: Callable[[Number], Number]) -> Steps[Number]:
         """Changes what the node has, again where another one was first."""
         while True:
             number, version = yield from patiently(self._client._engine, self._read)
             changed = self._own(change(number))
-            if (yield from self._is_set(repr(changed).encode(), version)):
+            if (yield from self._is_set(self._spelled(changed), version)):
                 return changed
 
     def _own(self, number: Any) -> Number:

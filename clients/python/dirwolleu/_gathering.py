@@ -69,12 +69,14 @@ class BaseBarrier(Generic[AnyClient]):
 class BaseDoubleBarrier(Generic[AnyClient]):
     """A double barrier, for both kinds of clients."""
 
-    def __init__(self, client: AnyClient, path: str, num_clients: int, identifier: str = "") -> None:
+    def __init__(
+        self, client: AnyClient, path: str, num_clients: int, identifier: str = "", name: Optional[str] = None
+    ) -> None:
         if num_clients < 1:
             raise ValueError("a double barrier is for one client at least")
         self._client, self._path, self._count = client, checked_path(path), num_clients
         self._data = identified(identifier or f"{socket.getfqdn()}-{os.getpid()}")
-        self._name = plans.new_tag().hex
+        self._name = name or plans.new_tag().hex
         self._own, self._ready = plans.child_of(path, self._name), plans.child_of(path, _READY)
 
     def _enter(self, timeout: Optional[float] = None) -> Steps[bool]:

@@ -39,6 +39,7 @@ from dirwolleu.kazoo.exceptions import (
 )
 from dirwolleu.kazoo.handlers import threading as threads
 from dirwolleu.kazoo.handlers.threading import AsyncResult, KazooTimeoutError, SequentialThreadingHandler
+from dirwolleu.kazoo.hosts import collect_hosts
 from dirwolleu.kazoo.protocol import paths, serialization, states
 from dirwolleu.kazoo.recipe import election, lock, party, watchers
 from dirwolleu.kazoo.recipe.watchers import DataWatch
@@ -273,6 +274,21 @@ class StatesTest(KazooCase):
         zk.start(WAIT)
         self.assertTrue(1.999 < time.monotonic() - begin < WAIT)
 
+    def test_old_names_of_errors(self) -> None:
+        self.assertIs(exceptions.NoNodeException, exceptions.EXCEPTIONS[-101])
+        self.assertIs(exceptions.ConnectionLossException, exceptions.EXCEPTIONS[-4])
+        with self.assertRaises(RuntimeError):
+            exceptions.EXCEPTIONS[666]
+
+    def test_hosts_of_a_text_and_of_a_list(self) -> None:
+        wanted = [("10.0.0.1", 2181), ("fe80::1", 2182)]
+        self.assertEqual(collect_hosts("10.0.0.1, [fe80::1]:2182"), (wanted, None))
+        self.assertEqual(collect_hosts("10.0.0.1,[fe80::1]:2182/app"), (wanted, "/app"))
+        self.assertEqual(collect_hosts(["10.0.0.1", "[fe80::1]:2182", "/app"]), (wanted, "/app"))
+        self.assertEqual(collect_hosts(["10.0.0.1:2181", "[fe80::1]:2182"]), (wanted, None))
+        with self.assertRaises(ValueError):
+            collect_hosts("10.0.0.1,:2181")
+
     def test_start_async(self) -> None:
         zk = self.unstarted()
         event = zk.start_async()
@@ -389,7 +405,7 @@ class KeywordsTest(KazooCase):
             with self.subTest(named), self.assertRaisesRegex(kind, next(iter(named))):
                 self.unstarted(**named)
         zk = self.client(read_only=False)
-        for name in ("Queue", "Semaphore", "SetPartitioner"):
+        for name in ("NonBlockingLease", "Semaphore", "SetPartitioner"):
             with self.assertRaisesRegex(AttributeError, f"no {name}"):
                 getattr(zk, name)
         with self.assertRaisesRegex(NotImplementedError, "reconfig"):
@@ -732,13 +748,12 @@ class InstallTest(KazooCase):
     def test_a_program_runs_unchanged(self) -> None:
         lines = (
             "import sys, kazoo.client, kazoo.recipe.lock\nfrom kazoo.protocol import paths\n"
-            "try:\n    import kazoo.recipe.queue\nexcept ImportError as error:\n    print(error)\n"
+            "try:\n    import kazoo.recipe.partitioner\nexcept ImportError as error:\n    print(error)\n"
             "print(__name__, sys.argv[1:], kazoo.client.KazooClient.__module__, paths.join('a', 'b'))\n"
         )
         printed = self.run_program(lines)
-        self.assertEqual(
-            printed, "No module named 'kazoo.recipe.queue'\n__main__ ['word'] dirwolleu.kazoo.client a/b\n"
-        )
+        absent = "No module named 'kazoo.recipe.partitioner'"
+        self.assertEqual(printed, f"{absent}\n__main__ ['word'] dirwolleu.kazoo.client a/b\n")
 
     def test_after_an_import_of_kazoo(self) -> None:
         lines = (

@@ -11,7 +11,7 @@ from support import WAIT, within
 from test_kazoo import KazooCase
 
 from dirwolleu._handle import Standing
-from dirwolleu.kazoo.exceptions import CancelledError, ConnectionLoss, LockTimeout
+from dirwolleu.kazoo.exceptions import CancelledError, ConnectionClosedError, ConnectionLoss, LockTimeout
 from dirwolleu.kazoo.recipe import election, lock, party
 
 
@@ -162,6 +162,80 @@ class RecipesTest(KazooCase):
             self.assertFalse(party.leave())
             self.assertEqual(list(other), ["other"])
             other.leave()
+
+    def test_a_barrier(self) -> None:
+        barrier = self.one.Barrier("/barrier")
+        self.assertEqual((barrier.wait(), barrier.remove()), (True, False))
+        barrier.create()
+        barrier.create()
+        self.assertFalse(self.other.Barrier("barrier").wait(0))
+        waits = self.in_thread(self.other.Barrier("/barrier").wait)
+        self.assertEqual((waits, barrier.remove()), ([], True))
+        within(lambda: waits == [True])
+
+    def test_a_double_barrier(self) -> None:
+        one, other = self.one.DoubleBarrier("/step", 2, "one"), self.other.DoubleBarrier("/step", 2)
+        come = self.in_thread(one.enter)
+        within(lambda: self.other.exists(one.create_path))
+        self.assertEqual((come, one.participating, self.other.get(one.create_path)[0]), ([], False, b"one"))
+        other.enter()
+        within(lambda: come == [None])
+        self.assertTrue(one.participating and other.participating)
+        gone = self.in_thread(one.leave)
+        other.leave()
+        within(lambda: gone == [None])
+        self.assertFalse(one.participating or other.participating)
+        self.one.create("/ephemeral", ephemeral=True)
+        barred = self.one.DoubleBarrier("/ephemeral/step", 1)
+        barred.enter()
+        self.assertFalse(barred.participating)
+
+    def test_a_counter(self) -> None:
+        counter = self.one.Counter("/counter")
+        self.assertEqual((counter.value, counter.pre_value, counter.post_value), (0, None, None))
+        counter += 5
+        counter -= 2
+        self.assertEqual((counter.value, counter.pre_value, counter.post_value, self.other.get("/counter")[0]), (3, 5, 3, b"3"))
+        with self.assertRaisesRegex(TypeError, "^invalid type for value change$"):
+            counter + 1.5
+        halves = self.one.Counter("/halves", default=0.5) + 1.0
+        self.assertEqual((halves.value, self.other.get("/halves")[0]), (1.5, b"1.5"))
+        curators = self.one.Counter("/curators", support_curator=True) - 2
+        self.assertEqual((curators.value, self.other.get("/curators")[0]), (-2, b"\xff\xff\xff\xfe"))
+        with self.assertRaises(TypeError):
+            self.one.Counter("/curators", 0.5, support_curator=True)
+        self.one.stop()
+        with self.assertRaises(ConnectionClosedError):
+            counter + 1
+
+    def test_a_queue(self) -> None:
+        queue = self.one.Queue("/queue")
+        self.assertEqual((len(queue), queue.get()), (0, None))
+        for value, priority in ((b"third", 100), (b"fourth", 100), (b"first", 0), (b"second", 7)):
+            queue.put(value, priority)
+        self.assertEqual(len(queue), 4)
+        taken = [taker.Queue("/queue").get() for taker in (self.one, self.other) * 2]
+        self.assertEqual(taken, [b"first", b"second", b"third", b"fourth"])
+        refused: list[tuple[Any, type[Exception]]] = [((1,), TypeError), ((b"x", "1"), TypeError), ((b"x", 1000), ValueError)]
+        for wrong, kind in refused:
+            with self.assertRaises(kind):
+                queue.put(*wrong)
+            with self.assertRaises(kind):
+                self.one.LockingQueue("/queue").put(*wrong)
+
+    def test_a_queue_that_locks(self) -> None:
+        one, other = self.one.LockingQueue("/queue"), self.other.LockingQueue("/queue")
+        self.assertEqual((one.get(0), one.consume(), one.release(), one.holds_lock(), len(one)), (None, False, False, False, 0))
+        one.put(b"second")
+        one.put_all([b"first", b""], priority=1)
+        self.assertEqual((one.get(), one.get(), other.get(WAIT), len(other)), (b"first", b"first", b"", 3))
+        self.assertTrue(one.holds_lock() and one.consume() and other.release())
+        self.assertFalse(one.consume() or other.release())
+        self.assertEqual((other.get(WAIT), one.get(WAIT), len(one)), (b"", b"second", 2))
+        waits = self.in_thread(self.client().LockingQueue("/queue").get)
+        self.other.stop()  # what it has locked is another one's
+        within(lambda: waits == [b""])
+        self.assertTrue(one.consume())
 
 
 if __name__ == "__main__":

@@ -24,6 +24,7 @@ from dirwolleu._records import Mode
 from dirwolleu._requests import Request
 from dirwolleu._root import Root
 from dirwolleu._shown import credential_of
+from dirwolleu._steps import Steps
 from dirwolleu.kazoo import _forms as forms
 from dirwolleu.kazoo._checks import Acls, check, check_acls, check_flags, check_watch, checked_path, own_acls, own_key
 from dirwolleu.kazoo._session import PASSWORD_LENGTH, Ask, Identity, Session, Told
@@ -40,9 +41,12 @@ from dirwolleu.kazoo.exceptions import (
 from dirwolleu.kazoo.handlers.threading import AsyncResult, SequentialThreadingHandler
 from dirwolleu.kazoo.protocol.paths import own_path
 from dirwolleu.kazoo.protocol.states import Callback, EventType, KazooState, KeeperState, WatchedEvent, ZnodeStat
+from dirwolleu.kazoo.recipe.barrier import Barrier, DoubleBarrier
+from dirwolleu.kazoo.recipe.counter import Counter
 from dirwolleu.kazoo.recipe.election import Election
 from dirwolleu.kazoo.recipe.lock import Lock, ReadLock, WriteLock
 from dirwolleu.kazoo.recipe.party import Party, ShallowParty
+from dirwolleu.kazoo.recipe.queue import LockingQueue, Queue
 from dirwolleu.kazoo.recipe.watchers import ChildrenWatch, DataWatch
 from dirwolleu.kazoo.retry import KazooRetry
 from dirwolleu.kazoo.security import ACL, OPEN_ACL_UNSAFE
@@ -53,9 +57,12 @@ from dirwolleu.types import WatchedEvent as OwnEvent
 __all__ = [
     "ACL",
     "AsyncResult",
+    "Barrier",
     "Callback",
     "ChildrenWatch",
+    "Counter",
     "DataWatch",
+    "DoubleBarrier",
     "Election",
     "EventType",
     "KazooClient",
@@ -63,8 +70,10 @@ __all__ = [
     "KazooState",
     "KeeperState",
     "Lock",
+    "LockingQueue",
     "OPEN_ACL_UNSAFE",
     "Party",
+    "Queue",
     "ReadLock",
     "SequentialThreadingHandler",
     "ShallowParty",
@@ -79,17 +88,7 @@ log = logging.getLogger(__name__)
 Watch = Optional[Callable[[WatchedEvent], object]]
 Listener = Callable[[str], object]
 
-_LEFT_OUT = (
-    "Barrier",
-    "Counter",
-    "DoubleBarrier",
-    "LockingQueue",
-    "MultiNonBlockingLease",
-    "NonBlockingLease",
-    "Queue",
-    "Semaphore",
-    "SetPartitioner",
-)
+_LEFT_OUT = ("MultiNonBlockingLease", "NonBlockingLease", "Semaphore", "SetPartitioner")
 _VERSION = re.compile(r"zookeeper[. ]version[=:]\s*(\d+(?:\.\d+)+)", re.IGNORECASE)
 _LONGEST_WORDS = 65536
 
@@ -195,11 +194,16 @@ class KazooClient:
         self._connection = Connection(self)
 
     def _begin_recipes(self) -> None:
+        self.Barrier = functools.partial(Barrier, self)
         self.ChildrenWatch = functools.partial(ChildrenWatch, self)
+        self.Counter = functools.partial(Counter, self)
         self.DataWatch = functools.partial(DataWatch, self)
+        self.DoubleBarrier = functools.partial(DoubleBarrier, self)
         self.Election = functools.partial(Election, self)
         self.Lock = functools.partial(Lock, self)
+        self.LockingQueue = functools.partial(LockingQueue, self)
         self.Party = functools.partial(Party, self)
+        self.Queue = functools.partial(Queue, self)
         self.ReadLock = functools.partial(ReadLock, self)
         self.ShallowParty = functools.partial(ShallowParty, self)
         self.WriteLock = functools.partial(WriteLock, self)
@@ -529,6 +533,16 @@ class KazooClient:
 
     def _run(self, plan: Plan[Any], form: Callable[[Any], Any] = forms.as_it_is) -> AsyncResult:
         return _Run(self, plan, form).begin()
+
+    def _drive(self, steps_of: Callable[[Session], Steps[Any]]) -> Any:
+        """Does steps of a recipe of dirwolleu in this thread. Raises kazoo's errors."""
+        session = self._session
+        if session is None:
+            raise ConnectionClosedError("Connection has been closed")
+        try:
+            return session._drive(steps_of(session))
+        except own.ZookeeperError as error:
+            raise error_of(error) from error
 
     def _told(self, watch: Watch) -> Optional[Told]:
         check_watch(watch)

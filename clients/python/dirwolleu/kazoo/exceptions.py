@@ -171,10 +171,22 @@ class ConnectionClosedError(SessionExpiredError):
     """The client is not started, or was stopped."""
 
 
-EXCEPTIONS: dict[int, type[ZookeeperError]] = {
-    kind.code: kind for kind in ZookeeperError.__subclasses__() if kind.code is not None
-}
+class _Exceptions(dict[int, type[ZookeeperError]]):
+    def __missing__(self, code: int) -> type[ZookeeperError]:
+        raise RuntimeError(f"Invalid error code: {code}")
+
+
+EXCEPTIONS = _Exceptions({kind.code: kind for kind in ZookeeperError.__subclasses__() if kind.code is not None})
 """The classes by ZooKeeper's numbers."""
+
+NoNodeException, NodeExistsException, NotEmptyException, BadVersionException = NoNodeError, NodeExistsError, NotEmptyError, BadVersionError
+NoAuthException, AuthFailedException, InvalidACLException = NoAuthError, AuthFailedError, InvalidACLError
+NoChildrenForEphemeralsException, BadArgumentsException = NoChildrenForEphemeralsError, BadArgumentsError
+ConnectionLossException, SessionExpiredException, OperationTimeoutException = ConnectionLoss, SessionExpiredError, OperationTimeoutError
+MarshallingErrorException, UnimplementedException, ApiErrorException = MarshallingError, UnimplementedError, APIError
+SystemErrorException, RuntimeInconsistencyException, DataInconsistencyException = SystemZookeeperError, RuntimeInconsistency, DataInconsistency
+InvalidCallbackException, ZookeeperStoppedError = InvalidCallbackError, ConnectionClosedError
+
 
 def error_of_code(code: int) -> ZookeeperError:
     """The error of a number that a server has answered."""
