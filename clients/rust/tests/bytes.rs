@@ -3,8 +3,8 @@
 mod jute;
 
 use dirwolleu::{
-    Brought, Cause, Children, Client, Code, Contender, DataAnswer, Fault, Kept, Lacking, Mark,
-    Markers, Mode, Moment, NoReply, NodeEvent, Output, Outputs, Reply, SavedSession, Side,
+    Brought, Cause, Children, Client, Code, Contender, DataAnswer, Fault, GivenUp, Kept, Lacking,
+    Mark, Markers, Mode, Moment, NoReply, NodeEvent, Output, Outputs, Reply, SavedSession, Side,
     Standing, State, Subtree, Watch, ANY_VERSION,
 };
 use jute::Record;
@@ -57,6 +57,14 @@ fn reply_to<'a>(ticket: u64, outputs: &'a mut Outputs<'_>) -> Reply<'a> {
             outcome: Ok(reply),
         }) if answered == ticket => reply,
         other => panic!("no reply: {other:?}"),
+    }
+}
+
+/// Why the connection is given up, which is said next.
+fn given_up<'a>(outputs: &'a mut Outputs<'_>) -> GivenUp<'a> {
+    match outputs.next().unwrap() {
+        Some(Output::Drop(given_up)) => given_up,
+        other => panic!("the connection goes on: {other:?}"),
     }
 }
 
@@ -449,9 +457,7 @@ fn pings_and_silence_are_due_at_a_third_and_two_thirds() {
     let silent_at = START.saturating_add(TIMEOUT / 3 * 2);
     assert_eq!(client.deadline(), Some(silent_at));
     let mut outputs = client.tick(silent_at).unwrap();
-    let Some(Output::Drop(given_up)) = outputs.next().unwrap() else {
-        panic!("the connection goes on");
-    };
+    let given_up = given_up(&mut outputs);
     assert_eq!(given_up.cause, Cause::Silence);
     assert_eq!(String::from(given_up.code), "D1");
     assert!(!given_up.words().unwrap().is_empty());
@@ -509,9 +515,7 @@ fn a_reply_that_is_behind_ends_the_connection() {
     let _ = client.exists(START, 8, "/b", Watch::Yes).unwrap();
     let reply = Record::reply(2, 4, 0).stat(4, 0, 0, 0).framed();
     let mut outputs = client.bytes(START, &reply).unwrap();
-    let Some(Output::Drop(given_up)) = outputs.next().unwrap() else {
-        panic!("the connection goes on");
-    };
+    let given_up = given_up(&mut outputs);
     assert_eq!(given_up.cause, Cause::Behind { zxid: 4 });
 }
 
@@ -524,9 +528,7 @@ fn watches_that_are_refused_end_the_connection() {
     let _ = client.bytes(START, &accepted).unwrap();
     let refused = Record::reply(jute::WATCHES_SET, 5, -6).framed();
     let mut outputs = client.bytes(START, &refused).unwrap();
-    let Some(Output::Drop(given_up)) = outputs.next().unwrap() else {
-        panic!("the connection goes on");
-    };
+    let given_up = given_up(&mut outputs);
     assert_eq!(given_up.cause, Cause::WatchesRefused { code: Code(-6) });
 }
 

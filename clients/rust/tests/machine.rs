@@ -323,14 +323,11 @@ fn a_session_is_saved_and_resumed() {
     assert_eq!(saved.id(), Some(SESSION));
     let mut machine = Machine::resume(TIMEOUT, 1, 1, &saved).unwrap();
     let _ = machine.tick(START).unwrap();
-    let mut actions = machine.opened(START).unwrap();
-    let Some(Action::Send(frame)) = actions.next().unwrap() else {
-        panic!("a connection begins with a frame");
-    };
+    let frames = sent(machine.opened(START).unwrap());
     let password: Vec<u8> = (0..16).collect();
     let request = Record::new().int(0).long(0).int(9_000).long(SESSION);
     let request = request.buffer(&password).boolean(false).framed();
-    assert_eq!(frame.to_vec(), request);
+    assert_eq!(frames, [request]);
     let short = SavedSession::from_bytes(vec![0; 19]);
     let resumed = Machine::resume(TIMEOUT, 1, 1, &short);
     assert_eq!(resumed.unwrap_err(), Fault::NotSaved);
@@ -530,12 +527,7 @@ fn a_server_that_is_behind_a_raw_call_is_asked_for_more() {
     let _ = machine.bytes(START, &raw_reply(1, 50, b"")).unwrap();
     let _ = machine.cut(START).unwrap();
     let _ = machine.tick(after(9_000)).unwrap();
-    let (mut actions, mut frames) = (machine.opened(after(9_000)).unwrap(), Vec::new());
-    while let Some(action) = actions.next().unwrap() {
-        if let Action::Send(frame) = action {
-            frames.push(frame.to_vec());
-        }
-    }
+    let frames = sent(machine.opened(after(9_000)).unwrap());
     assert_eq!(frames[0][8..16], 50_i64.to_be_bytes());
 }
 
