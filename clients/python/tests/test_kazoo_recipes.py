@@ -11,8 +11,9 @@ from support import WAIT, within
 from test_kazoo import KazooCase
 
 from dirwolleu._handle import Standing
-from dirwolleu.kazoo.exceptions import CancelledError, ConnectionClosedError, ConnectionLoss, LockTimeout
+from dirwolleu.kazoo.exceptions import CancelledError, ConnectionClosedError, ConnectionLoss, LockTimeout, NoNodeError
 from dirwolleu.kazoo.recipe import election, lock, party
+from dirwolleu.kazoo.recipe.watchers import PatientChildrenWatch
 
 
 class RecipesTest(KazooCase):
@@ -236,6 +237,26 @@ class RecipesTest(KazooCase):
         self.other.stop()  # what it has locked is another one's
         within(lambda: waits == [b""])
         self.assertTrue(one.consume())
+
+    def test_names_that_are_at_rest(self) -> None:
+        self.one.ensure_path("/workers")
+        rests = list[float]()
+
+        def rest(seconds: float) -> None:
+            rests.append(seconds)
+            if len(rests) == 1:  # the names change meanwhile
+                seen = threading.Event()
+                self.one.get_children("/workers", lambda _: seen.set())
+                self.other.create("/workers/a")
+                seen.wait(WAIT)
+
+        with mock.patch.object(self.one.handler, "sleep_func", rest):
+            names, changed = PatientChildrenWatch(self.one, "/workers", 5.0).start().get(timeout=WAIT)
+            self.assertEqual((names, rests, changed.ready()), (["a"], [5.0, 5.0], False))
+            self.other.create("/workers/b")
+            self.assertGreater(changed.get(timeout=WAIT), 0)
+            with self.assertRaises(NoNodeError):
+                PatientChildrenWatch(self.one, "/none").start().get(timeout=WAIT)
 
 
 if __name__ == "__main__":

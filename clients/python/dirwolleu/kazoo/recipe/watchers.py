@@ -10,6 +10,7 @@ import functools
 import inspect
 import logging
 import threading
+import time
 from typing import TYPE_CHECKING, Any, Callable, Optional, TypeVar
 
 from dirwolleu.kazoo.exceptions import ConnectionClosedError, KazooException, NoNodeError
@@ -19,6 +20,7 @@ from dirwolleu.types import Mark
 
 if TYPE_CHECKING:
     from dirwolleu.kazoo.client import KazooClient
+    from dirwolleu.kazoo.handlers.threading import AsyncResult
 
 log = logging.getLogger(__name__)
 
@@ -205,3 +207,35 @@ class ChildrenWatch(_Watch):
                 return names
             if self._is_followed(event, self._told_names is not None):
                 return None
+
+
+class PatientChildrenWatch:
+    """Waits until the names of a node's children have not changed for `time_boundary` seconds.
+
+        names, changed = PatientChildrenWatch(client, "/workers", 5.0).start().get()
+    """
+
+    def __init__(self, client: KazooClient, path: str, time_boundary: float = 30) -> None:
+        self.client, self.path, self.time_boundary = client, path, time_boundary
+
+    def start(self) -> AsyncResult:
+        """Answers a result that is set once the names are at rest: to these, and to a result that is set when they change."""
+        outcome = self.client.handler.async_result()
+        self.client.handler.spawn(self._wait, outcome)
+        return outcome
+
+    def _wait(self, outcome: AsyncResult) -> None:
+        handler, is_at_rest = self.client.handler, False
+        try:
+            while not is_at_rest:
+                changed = handler.async_result()
+                names = self.client.retry(self.client.get_children, self.path, functools.partial(_set_now, changed))
+                handler.sleep_func(self.time_boundary)
+                is_at_rest = not changed.ready()
+            outcome.set((names, changed))
+        except Exception as error:
+            outcome.set_exception(error)
+
+
+def _set_now(changed: AsyncResult, _: WatchedEvent) -> None:
+    changed.set(time.time())
