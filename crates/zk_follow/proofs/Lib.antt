@@ -16,3 +16,4 @@ pub mod Paths
 pub mod Placing
 pub mod Skipping
 pub mod Finding
+pub mod Again

@@ -17,7 +17,7 @@ ghost use Rattle.zk_follow.specs.Following.{AreQuietBut};
 ghost use Rattle.zk_follow.specs.inner.Following.{Asks};
 ghost use Rattle.zk_follow.specs.Places.{AreFound};
 ghost use Rattle.zk_follow.specs.inner.Places.{AreSameBut, IsAscending};
-ghost use Rattle.zk_follow.specs.inner.Resting.{AreCovered, AreLeft};
+ghost use Rattle.zk_follow.specs.inner.Resting.{AreCovered, AreDueBut, AreLeft};
 
 use crate::about::About;
 use crate::index::{Index, fit_all};
@@ -211,6 +211,34 @@ fn begin_all<A: Allocator>(subjects: &mut [Subject<A>])
     }
 }
 
+/// The first of a moment and that at which the subject at this place is read again, if there is one.
+fn first_with<A: Allocator>(
+    first: Option<u64>,
+    subjects: &[Subject<A>],
+    place: usize,
+) -> Option<u64>
+    ensures there { place < length subjects.now
+        → (d : Subject A) → result ≡ first_of first (again_at (slice_index_or subjects.now place d).progress) }
+    ensures beyond { length subjects.now ≤ place → result ≡ first }
+{
+    if place < subjects.len() {
+        return first_of(first, again_at(&subjects[place]));
+    }
+    first
+}
+
+/// The first moment at which one of these is read again, if those are due whose places are not among these.
+fn first_among<A: Allocator>(subjects: &[Subject<A>], places: &[usize]) -> Option<u64>
+    requires { AreDueBut subjects.now places.now }
+    ensures { result ≡ first_again subjects.now }
+{
+    let mut first = None;
+    for place in places {
+        first = first_with(first, subjects, *place);
+    }
+    first
+}
+
 impl<A: Allocator + Copy> Follower<A> {
     /// A client with no subjects.
     pub fn new(alloc: A, client: Client<A>) -> Follower<A>
@@ -316,7 +344,11 @@ impl<A: Allocator + Copy> Follower<A> {
     pub fn deadline(&self) -> Option<u64>
         ensures { result ≡ first_again self.now.subjects.items }
     {
-        first_again(self.subjects.as_slice())
+        let subjects = self.subjects.as_slice();
+        if self.index.count() < subjects.len() {
+            return first_again(subjects);
+        }
+        first_among(subjects, self.awake.as_slice())
     }
 
     /// What there is to tell of each subject since the call before this one, with its ticket, after what `all` has. These outputs are those

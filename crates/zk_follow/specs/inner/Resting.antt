@@ -9,7 +9,7 @@ use Rattle.zk_turns.specs.Turns as turns
 use Rattle.zk_turns.specs.View.{View}
 use Rattle.zk_follow.specs.declared.about.About.{About}
 use Rattle.zk_follow.specs.declared.subject.Subject.{Subject}
-use Rattle.zk_follow.specs.Following.{is_among, is_quiet, is_reported, is_resting}
+use Rattle.zk_follow.specs.Following.{is_among, is_due, is_quiet, is_reported, is_resting}
 use Rattle.zk_follow.specs.inner.Reported.{AreReported}
 
 -- ---- what outputs are about
@@ -31,6 +31,12 @@ AreLeft {A} view outputs subjects places =
     (k : ℕ) (d : Subject A) → k < length subjects → is_among k places ≡ false
     → (is_resting view (slice_index_or subjects k d) ≡ true)
     × (list_any (is_about (slice_index_or subjects k d).ticket (slice_index_or subjects k d).path) outputs ≡ false)
+
+-- Whose place is not among these is due.
+abbrev pub AreDueBut : {A : Type 0} → List (Subject A) → (places : List ℕ) → Type 0
+AreDueBut {A} subjects places =
+    (k : ℕ) (d : Subject A) → k < length subjects → is_among k places ≡ false
+    → is_due (slice_index_or subjects k d).progress ≡ true
 
 -- Whose place is not among these is quiet, and its path is not reported.
 abbrev pub AreTold : {A : Type 0} → View → List Output → List (Subject A) → (places : List ℕ) → Type 0
