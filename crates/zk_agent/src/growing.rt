@@ -64,7 +64,7 @@ impl<A: Allocator + Copy> Agent<A> {
         push_trees(altered, actions)
     }
 
-    /// Comes before a step takes its input: notes which credentials that answers, with which codes, tends trees, and follows or unfollows one.
+    /// Comes before a step takes its input: notes which credentials it answers, with which codes, and grows trees.
     pub(crate) fn prepare(
         &mut self,
         now: u64,
